@@ -1,0 +1,4 @@
+pub mod Rights
+pub mod Fpage
+pub mod Item
+pub mod Control

@@ -1,0 +1,10 @@
+mod Counted
+mod Fields
+mod Digits
+mod Words
+mod Mappings
+mod Sends
+mod Streams
+mod Traces
+mod Replays
+mod Runs

@@ -1,0 +1,26 @@
+-- From the trace that was read to the input that the reader had.
+use Rattle.std.proofs.Common.{◌≡◌, ℕ, zero, suc, Bool, List, Option, Some, None, Result, Ok, Err, IfOk, IfErr, IfSome, ◌∙◌, sym, ap}
+use Rattle.model.specs.Records.{Trace}
+use Rattle.model.specs.FirstPath.{first_trace_of, first_told}
+use Rattle.l4map.specs.declared.run.Summary.{Summary}
+use Rattle.l4map.specs.declared.error.RunError.{RunError}
+use Rattle.l4map.specs.declared.error.RunError.TheVariants.{BadHeader, BadLimits, NoMemory, NoWorker, Unreadable, WriteFailed}
+use Rattle.l4map.specs.Run.{WritesText, WritesReplay, EndsReplay, EndsEarly}
+
+pub replayed : (known : Option (List ℕ)) (bytes : List ℕ) (t : Trace) (old new : Option (List ℕ)) (r : Result Summary RunError) → IfSome known (λ input. bytes ≡ input) → first_trace_of bytes ≡ Ok t
+    → IfOk r (WritesText (first_told t) old new) → IfOk r (λ s. IfSome known (λ input. WritesReplay input old new s))
+replayed None bytes t old new (Ok s) same is w = tt
+replayed (Some input) bytes t old new (Ok s) same is w = record { trace = t; is_trace = ap first_trace_of (sym same) ∙ is; replayed = w }
+replayed known bytes t old new (Err e) same is w = tt
+
+pub ended : (known : Option (List ℕ)) (bytes : List ℕ) (t : Trace) (old new : Option (List ℕ)) (was failed : Bool) (r : Result Summary RunError) → IfSome known (λ input. bytes ≡ input) → first_trace_of bytes ≡ Ok t
+    → IfErr r (EndsReplay (first_told t) old new was failed) → IfErr r (λ e. IfSome known (λ input. EndsEarly input old new e))
+ended known bytes t old new was failed (Ok s) same is w = tt
+ended None bytes t old new was failed (Err e) same is w = tt
+ended (Some input) bytes t old new was failed (Err BadHeader) same is w = absurd w
+ended (Some input) bytes t old new was failed (Err BadLimits) same is w = absurd w
+ended (Some input) bytes t old new was failed (Err (NoMemory zero)) same is w = tt
+ended (Some input) bytes t old new was failed (Err (NoMemory (suc k))) same is w = record { trace = t; is_trace = ap first_trace_of (sym same) ∙ is; stopped = w.0 }
+ended (Some input) bytes t old new was failed (Err (NoWorker n)) same is w = absurd w
+ended (Some input) bytes t old new was failed (Err Unreadable) same is w = absurd w
+ended (Some input) bytes t old new was failed (Err WriteFailed) same is w = record { trace = t; is_trace = ap first_trace_of (sym same) ∙ is }

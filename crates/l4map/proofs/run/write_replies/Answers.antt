@@ -1,0 +1,22 @@
+-- Each record adds its reply.
+use Rattle.std.proofs.Common.{arith, sym, ◌∙◌}
+use Rattle.l4map.proofs.Streams.{not_err}
+use Rattle.l4map.proofs.Replays.{so_far-more, so_far-end, drop_all, drop_next, one_more, at_most_one}
+use Rattle.l4map.proofs.run.write_replies.Goals as goal
+
+pub loop-i-preserved : goal.loop-i-preserved
+loop-i-preserved g c =
+    let ok = sym c.is_err.ensures.value ∙ c.if-is_err.false in
+    let next = drop_next c.args.rows.now c.loop-i.i c.index-rows-i.result c.loop-i-test.true c.index-rows-i.is in
+    let so_far = rw next at c.loop-i.invariant.so_far in
+    let wrote = rw c.as_bytes.ensures.value at (not_err c.write_all.result _ ok c.write_all.ensures.bytes) in
+    let counted = one_more c.in-Ok.is_refused c.from-refused.result c.from-refused.ensures in
+    let few = at_most_one c.in-Ok.is_refused c.from-refused.result counted in
+    record {
+      so_far = rw counted (so_far-more so_far c.in-Ok.ensures (g.W.Sink.contents c.write_all.new.self) wrote);
+      works = not_err c.write_all.result _ ok c.write_all.ensures.ok ∙ c.loop-i.invariant.works;
+      few = omega (arith, c.loop-i.invariant.few, few);
+    }
+
+pub returns-clause-ok : goal.returns-clause-ok
+returns-clause-ok g c = so_far-end (rw (drop_all c.args.rows.now c.loop-i.i c.loop-i-test.false) at c.loop-i.invariant.so_far)

@@ -1,0 +1,106 @@
+-- What a run writes, and what it leaves where it ends early.
+use Rattle.std.specs.Prelude.{◌≡◌, ℕ, zero, suc, ◌≤◌, ⊤, Bool, true, false, List, map, length, take, Option, Ok, Err}
+use Rattle.std.specs.Io.KnownBytes.{Appends, Keeps}
+use Rattle.model.specs.Holdings.{Holdings}
+use Rattle.model.specs.Calls.{Limits}
+use Rattle.model.specs.Replay.{Told, replay}
+use Rattle.model.specs.Records.{Fields, Trace, bad_header, bad_limits}
+use Rattle.model.specs.Text.{text, reply_line, reply_lines, is_refused, refused_count}
+use Rattle.model.specs.FirstPath.{first_request, first_answer, first_trace_of, first_told}
+use Rattle.l4map.specs.declared.run.Summary.{Summary}
+use Rattle.l4map.specs.declared.error.RunError.{RunError}
+use Rattle.l4map.specs.declared.error.RunError.TheVariants.{BadHeader, BadLimits, NoMemory, NoWorker, Unreadable, WriteFailed}
+
+-- one record is answered: its reply line, whether it was refused, and what is held after it
+pub record Answers (limits : Limits) (old : Holdings) (fields : Fields) (number : ℕ) (new : Holdings) (line : List ℕ) (refused : Bool) : Type 0 where
+  pub left : new ≡ (first_answer limits old (first_request limits fields)).left
+  pub line_is : line ≡ reply_line number (first_answer limits old (first_request limits fields)).reply
+  pub refused_is : refused ≡ is_refused (first_answer limits old (first_request limits fields)).reply
+
+-- the replies to these records, and the last holdings
+abbrev pub told_of : Limits → List Fields → Holdings → Told
+told_of limits rows h = replay (first_answer limits) h (map (first_request limits) rows)
+
+-- all reply lines were written
+pub record WritesReplies (t : Told) (old new : Option (List ℕ)) (last : Holdings) (refused : ℕ) : Type 0 where
+  pub left : last ≡ t.last
+  pub written : Appends old new (reply_lines 1 t.replies)
+  pub refused_is : refused ≡ refused_count t.replies
+
+-- the reply lines of the records before number k + 1 were written, and nothing else
+pub record StopsBefore (t : Told) (old new : Option (List ℕ)) (k : ℕ) : Type 0 where
+  pub within : k ≤ length t.replies
+  pub written : Appends old new (reply_lines 1 (take k t.replies))
+
+-- why the replies were not all written; whether the writer had failed, and has
+abbrev pub StopsEarly : Told → Option (List ℕ) → Option (List ℕ) → Bool → Bool → RunError → Type 0
+StopsEarly t old new was is (NoMemory zero) = ⊥
+StopsEarly t old new was is (NoMemory (suc k)) = StopsBefore t old new k × (is ≡ was)
+StopsEarly t old new was is WriteFailed = is ≡ true
+StopsEarly t old new was is BadHeader = ⊥
+StopsEarly t old new was is BadLimits = ⊥
+StopsEarly t old new was is (NoWorker n) = ⊥
+StopsEarly t old new was is Unreadable = ⊥
+
+-- the whole text was written, and its last numbers are told
+pub record WritesText (t : Told) (old new : Option (List ℕ)) (s : Summary) : Type 0 where
+  pub written : Appends old new (text t)
+  pub records : s.records ≡ length t.replies
+  pub refused : s.refused ≡ refused_count t.replies
+
+-- why a replay ended early, from a fresh start
+abbrev pub EndsReplay : Told → Option (List ℕ) → Option (List ℕ) → Bool → Bool → RunError → Type 0
+EndsReplay t old new was is (NoMemory zero) = Keeps old new × (is ≡ was)
+EndsReplay t old new was is (NoMemory (suc k)) = StopsBefore t old new k × (is ≡ was)
+EndsReplay t old new was is WriteFailed = is ≡ true
+EndsReplay t old new was is BadHeader = ⊥
+EndsReplay t old new was is BadLimits = ⊥
+EndsReplay t old new was is (NoWorker n) = ⊥
+EndsReplay t old new was is Unreadable = ⊥
+
+-- ---- a run
+
+-- the input is a trace, and its replay was written
+pub record WritesReplay (input : List ℕ) (old new : Option (List ℕ)) (s : Summary) : Type 0 where
+  pub trace : Trace
+  pub is_trace : first_trace_of input ≡ Ok trace
+  pub replayed : WritesText (first_told trace) old new s
+
+-- the input is a trace, and the reply lines before a record were written
+pub record StopsInReplay (input : List ℕ) (old new : Option (List ℕ)) (k : ℕ) : Type 0 where
+  pub trace : Trace
+  pub is_trace : first_trace_of input ≡ Ok trace
+  pub stopped : StopsBefore (first_told trace) old new k
+
+pub record IsTrace (input : List ℕ) : Type 0 where
+  pub trace : Trace
+  pub is_trace : first_trace_of input ≡ Ok trace
+
+-- what an error says of the input and of what was written
+abbrev pub EndsEarly : List ℕ → Option (List ℕ) → Option (List ℕ) → RunError → Type 0
+EndsEarly input old new BadHeader = first_trace_of input ≡ Err bad_header
+EndsEarly input old new BadLimits = first_trace_of input ≡ Err bad_limits
+EndsEarly input old new (NoMemory zero) = ⊤
+EndsEarly input old new (NoMemory (suc k)) = StopsInReplay input old new k
+EndsEarly input old new (NoWorker n) = ⊥
+EndsEarly input old new Unreadable = ⊤
+EndsEarly input old new WriteFailed = IsTrace input
+
+-- the errors before which nothing was written
+abbrev pub WritesNothing : Option (List ℕ) → Option (List ℕ) → RunError → Type 0
+WritesNothing old new BadHeader = Keeps old new
+WritesNothing old new BadLimits = Keeps old new
+WritesNothing old new (NoMemory zero) = Keeps old new
+WritesNothing old new (NoMemory (suc k)) = ⊤
+WritesNothing old new (NoWorker n) = ⊥
+WritesNothing old new Unreadable = Keeps old new
+WritesNothing old new WriteFailed = ⊤
+
+-- which of reader and writer has failed
+abbrev pub TellsStreams : Bool → Bool → RunError → Type 0
+TellsStreams reader writer Unreadable = (reader ≡ true) × (writer ≡ false)
+TellsStreams reader writer WriteFailed = (reader ≡ false) × (writer ≡ true)
+TellsStreams reader writer BadHeader = (reader ≡ false) × (writer ≡ false)
+TellsStreams reader writer BadLimits = (reader ≡ false) × (writer ≡ false)
+TellsStreams reader writer (NoMemory n) = (reader ≡ false) × (writer ≡ false)
+TellsStreams reader writer (NoWorker n) = ⊥

@@ -1,0 +1,24 @@
+/// The limits that a trace's header names.
+#[derive(Clone, Copy, Debug, PartialEq, Eq)]
+pub struct Limits {
+    pub spaces: u32,
+    /// A space has `2^bits` bytes.
+    pub bits: u32,
+    pub frames: u32,
+}
+
+impl Limits {
+    ghost use Rattle.std.specs.Prelude.{◌≡◌};
+    ghost use Rattle.model.specs.Records.{are_limits};
+    ghost use Rattle.l4map.specs.Meaning.{limits_of};
+
+    /// Whether there are 2 to 512 spaces of 64 to 4096 pages, and 1 frame to as many as a space has pages.
+    pub fn are_served(&self) -> bool
+        ensures { result ≡ are_limits (limits_of self.now) }
+    {
+        (2..=512).contains(&self.spaces)
+            && (18..=24).contains(&self.bits)
+            && self.frames >= 1
+            && self.frames <= 1 << (self.bits - 12)
+    }
+}

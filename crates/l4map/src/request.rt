@@ -1,0 +1,231 @@
+//! What a record asks for.
+
+ghost use Rattle.std.specs.Prelude.{◌≡◌, ◌%◌, length, IfOk, IfSome};
+ghost use Rattle.std.specs.Option.{option_map};
+ghost use Rattle.fpage.specs.Fpage.{IsSpaceBits};
+ghost use Rattle.model.specs.Records.{header_limits, access_fields, access_request, word_fields, send_fields, are_item_words, read_items, send_request};
+ghost use Rattle.model.specs.FirstPath.{first_request};
+ghost use Rattle.l4map.specs.Meaning.{shown, limits_of, access_of, send_of, items_of, request_of};
+
+use crate::call::{Call, Refusal};
+use crate::field;
+use crate::limits::Limits;
+use fpage::{Access, Fpage, FpageError, Item};
+use space::Place;
+use std::alloc::{AllocError, Global};
+
+/// The limits that a header names, if it has the form of one.
+pub fn header(fields: &[&[u8]]) -> Option<Limits>
+    ensures { option_map limits_of result ≡ header_limits (shown fields.now) }
+{
+    let [name, version, spaces, bits, frames] = fields else {
+        return None;
+    };
+    let spaces = field::number(spaces, 10, 7)?;
+    let bits = field::number(bits, 10, 7)?;
+    let frames = field::number(frames, 10, 7)?;
+    if *name == b"l4map".as_slice() && *version == b"1".as_slice() {
+        Some(Limits {
+            spaces,
+            bits,
+            frames,
+        })
+    } else {
+        None
+    }
+}
+
+/// The fields of an access record after its name.
+#[derive(Clone, Copy)]
+struct AccessFields {
+    space: u16,
+    address: u32,
+    kind: Access,
+}
+
+fn access_words(fields: &[&[u8]]) -> Option<AccessFields>
+    ensures { option_map access_of result ≡ access_fields (shown fields.now) }
+{
+    let [space, address, kind] = fields else {
+        return None;
+    };
+    Some(AccessFields {
+        space: field::space(space)?,
+        address: field::word(address)?,
+        kind: field::kind(kind)?,
+    })
+}
+
+/// An access of a page, or the first refusal that fits: `BadRecord`, `NoSuchSpace`, `OutOfSpace`.
+fn access(limits: &Limits, fields: &[&[u8]]) -> Result<Call, Refusal>
+    requires { IsSpaceBits limits.now.bits }
+    ensures { request_of result ≡ access_request (limits_of limits.now) (access_fields (shown fields.now)) }
+{
+    let AccessFields {
+        space,
+        address,
+        kind,
+    } = access_words(fields).ok_or(Refusal::BadRecord)?;
+    if u32::from(space) >= limits.spaces {
+        return Err(Refusal::NoSuchSpace);
+    }
+    if u64::from(address) >= 1 << limits.bits {
+        return Err(Refusal::OutOfSpace);
+    }
+    let place = Place {
+        space,
+        page: address / 4096,
+    };
+    Ok(Call::Access {
+        place,
+        access: kind,
+    })
+}
+
+/// The words of fields, if each is one.
+fn words(alloc: Global, fields: &[&[u8]]) -> Result<Option<Vec<u32>>, AllocError>
+    ensures { IfOk result (λ words. option_map (λ v. v.items) words ≡ word_fields (shown fields.now)) }
+{
+    let mut words = Vec::with_capacity(alloc, fields.len())?;
+    for field in fields {
+        match field::word(field) {
+            Some(word) => words.push(word)?,
+            None => return Ok(None),
+        }
+    }
+    Ok(Some(words))
+}
+
+/// The fields of a send record after its name.
+#[derive(Drop)]
+struct SendFields {
+    from: u16,
+    to: u16,
+    window: u32,
+    words: Vec<u32>,
+}
+
+fn send_words(alloc: Global, fields: &[&[u8]]) -> Result<Option<SendFields>, AllocError>
+    ensures fields { IfOk result (λ send. option_map send_of send ≡ send_fields (shown fields.now)) }
+    ensures pairs { IfOk result (λ send. IfSome send (λ s. length s.words.items % 2 ≡ 0)) }
+{
+    let [from, to, window, rest @ ..] = fields else {
+        return Ok(None);
+    };
+    let Some(from) = field::space(from) else {
+        return Ok(None);
+    };
+    let Some(to) = field::space(to) else {
+        return Ok(None);
+    };
+    let Some(window) = field::word(window) else {
+        return Ok(None);
+    };
+    let Some(words) = words(alloc, rest)? else {
+        return Ok(None);
+    };
+    if words.len() % 2 != 0 || words.len() < 2 || words.len() > 62 {
+        return Ok(None);
+    }
+    Ok(Some(SendFields {
+        from,
+        to,
+        window,
+        words,
+    }))
+}
+
+/// The items of words two by two, or the first refusal.
+fn items(
+    alloc: Global,
+    words: &[u32],
+    bits: u32,
+) -> Result<Result<Vec<Item>, FpageError>, AllocError>
+    requires bits { IsSpaceBits bits }
+    requires pairs { length words.now % 2 ≡ 0 }
+    ensures { IfOk result (λ items. items_of items ≡ read_items bits words.now) }
+{
+    let count = words.len() / 2;
+    let mut items = Vec::with_capacity(alloc, count)?;
+    for i in 0..count {
+        match Item::read(words[2 * i], words[2 * i + 1], bits) {
+            Ok(item) => items.push(item)?,
+            Err(error) => return Ok(Err(error)),
+        }
+    }
+    Ok(Ok(items))
+}
+
+impl From<FpageError> for Refusal {
+    ghost use Rattle.l4map.specs.Meaning.{IsRefusalOf};
+
+    ghost from_gives = { IsRefusalOf };
+
+    fn from(error: FpageError) -> Self {
+        match error {
+            FpageError::BadSize => Refusal::BadSize,
+            FpageError::Misaligned => Refusal::Misaligned,
+            FpageError::OutOfSpace => Refusal::OutOfSpace,
+            FpageError::NotAnItem => Refusal::NotAnItem,
+            FpageError::BadControl => Refusal::BadControl,
+        }
+    }
+}
+
+/// A send, or the first refusal that fits: `BadRecord`, then those of the window, then those of the items in order.
+fn send(
+    alloc: Global,
+    limits: &Limits,
+    fields: &[&[u8]],
+) -> Result<Result<Call, Refusal>, AllocError>
+    requires { IsSpaceBits limits.now.bits }
+    ensures { IfOk result (λ request. request_of request ≡ send_request (limits_of limits.now) (send_fields (shown fields.now))) }
+{
+    let Some(
+        SendFields {
+            from,
+            to,
+            window,
+            words,
+        },
+    ) = send_words(alloc, fields)?
+    else {
+        return Ok(Err(Refusal::BadRecord));
+    };
+    let window = match Fpage::read(window, limits.bits) {
+        Ok(window) => window,
+        Err(error) => return Ok(Err(error.into())),
+    };
+    match items(alloc, &words, limits.bits)? {
+        Ok(items) => Ok(Ok(Call::Send {
+            from,
+            to,
+            window,
+            items,
+        })),
+        Err(error) => Ok(Err(error.into())),
+    }
+}
+
+/// The call that a record means, or the refusal that its words alone decide.
+///
+/// Until Unmap comes, an unmap record is `BadRecord`.
+pub fn request(
+    alloc: Global,
+    limits: &Limits,
+    fields: &[&[u8]],
+) -> Result<Result<Call, Refusal>, AllocError>
+    requires { IsSpaceBits limits.now.bits }
+    ensures { IfOk result (λ request. request_of request ≡ first_request (limits_of limits.now) (shown fields.now)) }
+{
+    let [name, rest @ ..] = fields else {
+        return Ok(Err(Refusal::BadRecord));
+    };
+    if *name == b"send".as_slice() {
+        send(alloc, limits, rest)
+    } else if *name == b"access".as_slice() {
+        Ok(access(limits, rest))
+    } else {
+        Ok(Err(Refusal::BadRecord))
+    }
+}

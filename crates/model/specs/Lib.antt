@@ -1,0 +1,16 @@
+pub mod Holdings
+pub mod Derived
+pub mod Lawful
+pub mod Touch
+pub mod Strip
+pub mod Recursion
+pub mod Items
+pub mod Map
+pub mod Grant
+pub mod Calls
+pub mod Answers
+pub mod Replay
+pub mod Records
+pub mod Text
+pub mod FirstPath
+pub mod Rows

@@ -1,0 +1,626 @@
+#!/usr/bin/env python3
+"""Whole runs of the program: input, what it must write on both streams, and its exit status.
+
+    tests/rows.py [PROGRAM]
+
+The expected texts are worked out by hand from the rules in docs/FORMATS.md and docs/MODEL.md.
+"""
+
+from support.program import Cases, Ended, program_path, run
+
+HEADER = "l4map,1,3,18,16"
+LINKED = "send absent=0 norights=0 origin=0 lost=0 extended=0 linked=1"
+ABSENT = "send absent=1 norights=0 origin=0 lost=0 extended=0 linked=0"
+NO_RIGHTS = "send absent=0 norights=1 origin=0 lost=0 extended=0 linked=0"
+
+
+def lines(*texts):
+    """The texts as lines, each ended by a line feed, in bytes."""
+    return b"".join(it if isinstance(it, bytes) else it.encode() + b"\n" for it in texts)
+
+
+def roots(count, first=0):
+    """The audit lines of untouched pages of space 0 at the start: page i is frame i with all rights."""
+    return lines(*(f"0,{page},{page},rwx,---,-" for page in range(first, first + count)))
+
+
+# Name, input, what the program must write on standard output; it ends with status 0 and a silent standard error.
+WHOLE_RUNS = [
+    (
+        "one page mapped and written to",
+        lines("l4map,1,2,18,1", "send,0,1,10,3008,c6", "access,1,3abc,w"),
+        lines(f"1 {LINKED}", "2 access ok", "0,0,0,rwx,---,-", "1,3,0,rw-,RW-,0:0", "end 2 0"),
+    ),
+    ("header alone", lines(HEADER), lines(roots(16), "end 0 0")),
+    (
+        "smallest fpage into the complete window",
+        lines(HEADER, "send,0,1,10,8,50c6"),
+        lines(f"1 {LINKED}", roots(16), "1,0,5,rw-,---,0:5", "end 1 0"),
+    ),
+    (
+        "send base names the page in a larger window",
+        lines(HEADER, "send,0,1,10,9008,50c7"),
+        lines(f"1 {LINKED}", roots(16), "1,9,5,rwx,---,0:5", "end 1 0"),
+    ),
+    (
+        "no right in common",
+        lines(HEADER, "send,0,1,10,8,50c6", "send,1,2,10,8,c1"),
+        lines(f"1 {LINKED}", f"2 {NO_RIGHTS}", roots(16), "1,0,5,rw-,---,0:5", "end 2 0"),
+    ),
+    (
+        "accesses with, without and past the mapping",
+        lines(
+            HEADER,
+            "send,0,1,10,8,50c6",
+            "access,1,fff,w",
+            "access,1,ffc,x",
+            "access,1,1000,r",
+            "access,1,40000,r",
+            "access,3,0,r",
+        ),
+        lines(
+            f"1 {LINKED}",
+            "2 access ok",
+            "3 access fault",
+            "4 access fault",
+            "5 refused OutOfSpace",
+            "6 refused NoSuchSpace",
+            roots(16),
+            "1,0,5,rw-,RW-,0:5",
+            "end 6 2",
+        ),
+    ),
+    (
+        "chain of two sends",
+        lines(HEADER, "send,0,1,c0,8,50c7", "send,1,2,c0,8,c7"),
+        lines(f"1 {LINKED}", f"2 {LINKED}", roots(16), "1,0,5,rwx,---,0:5", "2,0,5,rwx,---,1:0", "end 2 0"),
+    ),
+    (
+        "rights only shrink along a chain",
+        lines(
+            HEADER,
+            "send,0,1,10,8,50c6",
+            "send,1,2,10,7008,c7",
+            "send,2,0,10,3f008,70c5",
+            "access,0,3f000,w",
+            "access,0,3f000,r",
+        ),
+        lines(
+            f"1 {LINKED}",
+            f"2 {LINKED}",
+            f"3 {LINKED}",
+            "4 access fault",
+            "5 access ok",
+            roots(16),
+            "0,63,5,r--,R--,2:7",
+            "1,0,5,rw-,---,0:5",
+            "2,7,5,rw-,---,1:0",
+            "end 5 0",
+        ),
+    ),
+    (
+        "two mappings of one page in one space",
+        lines(HEADER, "send,0,1,10,1008,50c7", "send,0,1,10,2008,50c4", "send,1,1,10,3008,10c7"),
+        lines(
+            f"1 {LINKED}",
+            f"2 {LINKED}",
+            "3 refused SameSpace",
+            roots(16),
+            "1,1,5,rwx,---,0:5",
+            "1,2,5,r--,---,0:5",
+            "end 3 1",
+        ),
+    ),
+    (
+        "audit by rising space and page, as numbers",
+        lines(
+            "l4map,1,12,18,1",
+            "send,0,11,10,8,c7",
+            "send,0,2,10,a008,c7",
+            "send,0,2,10,9008,c7",
+            "send,0,10,10,3f008,c7",
+            "send,0,2,10,8,c7",
+        ),
+        lines(
+            *(f"{number} {LINKED}" for number in range(1, 6)),
+            roots(1),
+            "2,0,0,rwx,---,0:0",
+            "2,9,0,rwx,---,0:0",
+            "2,10,0,rwx,---,0:0",
+            "10,63,0,rwx,---,0:0",
+            "11,0,0,rwx,---,0:0",
+            "end 5 0",
+        ),
+    ),
+    (
+        "status adds up over accesses",
+        lines(
+            HEADER,
+            "access,0,1000,r",
+            "access,0,2000,w",
+            "access,0,3000,x",
+            "access,0,4000,w",
+            "access,0,4fff,x",
+            "access,0,3000,r",
+        ),
+        lines(
+            *(f"{number} access ok" for number in range(1, 7)),
+            roots(1),
+            "0,1,1,rwx,R--,-",
+            "0,2,2,rwx,RW-,-",
+            "0,3,3,rwx,R-X,-",
+            "0,4,4,rwx,RWX,-",
+            roots(11, first=5),
+            "end 6 0",
+        ),
+    ),
+    (
+        "access marks the accessed page and neither its origin nor what derives from it",
+        lines(HEADER, "send,0,1,c0,8,50c7", "send,1,2,c0,8,c7", "access,1,0,w"),
+        lines(
+            f"1 {LINKED}",
+            f"2 {LINKED}",
+            "3 access ok",
+            roots(16),
+            "1,0,5,rwx,RW-,0:5",
+            "2,0,5,rwx,---,1:0",
+            "end 3 0",
+        ),
+    ),
+    (
+        "status of the source is not copied",
+        lines("l4map,1,2,18,1", "access,0,0,w", "send,0,1,10,8,c7"),
+        lines("1 access ok", f"2 {LINKED}", "0,0,0,rwx,RW-,-", "1,0,0,rwx,---,0:0", "end 2 0"),
+    ),
+    (
+        "ten refused records of every kind",
+        lines(
+            HEADER,
+            "send,1,1,c0,8,c7",
+            "send,0,3,c0,8,c7",
+            "send,0,1,0,8,c7",
+            "send,0,1,c0,6,c7",
+            "send,0,1,c0,8,a7",
+            "send,0,1,c0,8,10d7",
+            "send,0,1,c0,8,400c7",
+            "send,0,1,c0,8",
+            "unmap,0,80,c0",
+            "map,0,1",
+        ),
+        lines(
+            "1 refused SameSpace",
+            "2 refused NoSuchSpace",
+            "3 refused NoWindow",
+            "4 refused NotAnItem",
+            "5 refused BadSize",
+            "6 refused Misaligned",
+            "7 refused OutOfSpace",
+            "8 refused BadRecord",
+            "9 refused BadRecord",
+            "10 refused BadRecord",
+            roots(16),
+            "end 10 10",
+        ),
+    ),
+    (
+        "record numbers of four digits",
+        lines("l4map,1,2,18,1", *["access,1,0,r"] * 1000),
+        lines(*(f"{number} access fault" for number in range(1, 1001)), roots(1), "end 1000 0"),
+    ),
+    (
+        "last space and last page at the upper limits",
+        lines(
+            "l4map,1,512,24,4096",
+            "send,0,511,10,fff008,fff0c7",
+            "access,511,ffffff,x",
+            "access,511,1000000,x",
+            "access,512,0,x",
+        ),
+        lines(
+            f"1 {LINKED}",
+            "2 access ok",
+            "3 refused OutOfSpace",
+            "4 refused NoSuchSpace",
+            roots(4096),
+            "511,4095,4095,rwx,R-X,0:4095",
+            "end 4 2",
+        ),
+    ),
+]
+
+# The same trace in each form that reads as the same records. What the program must write is `SAME_RECORDS`.
+SAME_RECORDS = lines(f"1 {LINKED}", "2 access ok", roots(1), "1,3,0,rw-,RW-,0:0", "end 2 0")
+WAYS_TO_WRITE = [
+    ("line feeds", b"l4map,1,2,18,1\nsend,0,1,10,3008,c6\naccess,1,3abc,w\n"),
+    ("no last line feed", b"l4map,1,2,18,1\nsend,0,1,10,3008,c6\naccess,1,3abc,w"),
+    ("carriage returns with line feeds", b"l4map,1,2,18,1\r\nsend,0,1,10,3008,c6\r\naccess,1,3abc,w\r\n"),
+    ("lone carriage returns", b"l4map,1,2,18,1\rsend,0,1,10,3008,c6\raccess,1,3abc,w\r"),
+    ("no last line end after carriage returns", b"l4map,1,2,18,1\rsend,0,1,10,3008,c6\raccess,1,3abc,w"),
+    ("mixed line ends", b"l4map,1,2,18,1\rsend,0,1,10,3008,c6\r\naccess,1,3abc,w\n"),
+    ("empty lines", b"\n\nl4map,1,2,18,1\n\nsend,0,1,10,3008,c6\n\n\naccess,1,3abc,w\n\n"),
+    ("empty lines of carriage returns", b"\r\n\rl4map,1,2,18,1\r\n\r\nsend,0,1,10,3008,c6\r\raccess,1,3abc,w\r\n\r\n"),
+    ("every field in quotes", b'"l4map","1","2","18","1"\n"send","0","1","10","3008","c6"\n"access","1","3abc","w"\n'),
+    ("some fields in quotes", b'l4map,"1",2,18,"1"\r\n"send",0,1,10,"3008",c6\r\naccess,1,3abc,"w"'),
+    ("quotes round a part of a field", b'l4map,1,2,18,1\n"se"nd,0,1,"1"0,3008,c6\naccess,1,"3"abc,w\n'),
+    ("upper case digits", b"l4map,1,2,18,1\nsend,0,1,10,3008,C6\naccess,1,3ABC,w\n"),
+    ("mixed case digits", b"l4map,1,2,18,1\nsend,0,1,10,3008,C6\naccess,1,3aBc,w\n"),
+    (
+        "leading zeros to the full width",
+        b"l4map,1,0000002,0000018,0000001\nsend,00000,00001,00000010,00003008,000000c6\naccess,00001,00003abc,w\n",
+    ),
+]
+
+# Name, a record, its reply, and the audit lines that it adds in space 2 (none for a fault). The record stands
+# between a mapping of 1:0 and an access to it, as every refused record does below.
+ACCEPTED = [
+    ("send base rounded down to a page", "send,0,2,10,9c08,50c7", LINKED, ["2,9,5,rwx,---,0:5"]),
+    ("send base taken modulo the space", "send,0,2,10,fffff008,50c7", LINKED, ["2,63,5,rwx,---,0:5"]),
+    ("send base taken modulo a window of two pages", "send,0,2,80d0,5008,50c7", LINKED, ["2,9,5,rwx,---,0:5"]),
+    ("send base without effect in a window of one page", "send,0,2,90c0,5008,50c7", LINKED, ["2,9,5,rwx,---,0:5"]),
+    ("window that is complete by its size", "send,0,2,120,9008,50c7", LINKED, ["2,9,5,rwx,---,0:5"]),
+    ("window that ends at the end of the space", "send,0,2,3f0c0,8,50c7", LINKED, ["2,63,5,rwx,---,0:5"]),
+    ("rights and the free bit of the window are ignored", "send,0,2,1f,9008,50c7", LINKED, ["2,9,5,rwx,---,0:5"]),
+    ("free bit of the send fpage is ignored", "send,0,2,10,9008,50cf", LINKED, ["2,9,5,rwx,---,0:5"]),
+    ("lowest bit of the first item word is ignored", "send,0,2,10,9009,50c7", LINKED, ["2,9,5,rwx,---,0:5"]),
+    ("middle bits of the first item word are ignored", "send,0,2,10,93f8,50c7", LINKED, ["2,9,5,rwx,---,0:5"]),
+    ("last page that is held", "send,0,2,10,8,f0c7", LINKED, ["2,0,15,rwx,---,0:15"]),
+    ("first page that is not held", "send,0,2,10,8,100c7", ABSENT, []),
+    ("last page of the space", "send,0,2,10,8,3f0c7", ABSENT, []),
+    ("page of an empty space", "send,2,0,10,3f008,c7", ABSENT, []),
+    ("absent page sent without rights", "send,0,2,10,8,100c0", ABSENT, []),
+    ("send fpage without rights", "send,0,2,10,8,50c0", NO_RIGHTS, []),
+    ("execute right alone", "send,0,2,10,8,50c1", LINKED, ["2,0,5,--x,---,0:5"]),
+    ("write right alone", "send,0,2,10,8,50c2", LINKED, ["2,0,5,-w-,---,0:5"]),
+    ("write and execute", "send,0,2,10,8,50c3", LINKED, ["2,0,5,-wx,---,0:5"]),
+    ("read right alone", "send,0,2,10,8,50c4", LINKED, ["2,0,5,r--,---,0:5"]),
+    ("read and execute", "send,0,2,10,8,50c5", LINKED, ["2,0,5,r-x,---,0:5"]),
+    ("read and write", "send,0,2,10,8,50c6", LINKED, ["2,0,5,rw-,---,0:5"]),
+    ("all rights of a page that has no execute", "send,1,2,10,8,c7", LINKED, ["2,0,5,rw-,---,1:0"]),
+    ("read and execute of a page that has no execute", "send,1,2,10,8,c5", LINKED, ["2,0,5,r--,---,1:0"]),
+    ("write and execute of a page that has no execute", "send,1,2,10,8,c3", LINKED, ["2,0,5,-w-,---,1:0"]),
+    ("execute of a page that has no execute", "send,1,2,10,8,c1", NO_RIGHTS, []),
+    ("execute without the right", "access,1,0,x", "access fault", []),
+    ("read of an absent page", "access,1,1000,r", "access fault", []),
+    ("write to an absent page", "access,1,1000,w", "access fault", []),
+    ("execute of an absent page", "access,2,0,x", "access fault", []),
+    ("read at the last byte of a space", "access,2,3ffff,r", "access fault", []),
+]
+
+# Name, a record, the name of its refusal.
+BAD_WORDS = [
+    ("is empty", b""),
+    ("has nine digits", b"000000010"),
+    ("has a prefix", b"0x10"),
+    ("has a plus sign", b"+8"),
+    ("has a minus sign", b"-8"),
+    ("has a space before it", b" 10"),
+    ("has a space behind it", b"10 "),
+    ("has a tab behind it", b"10\t"),
+    ("has a letter past f", b"1g"),
+    ("has a suffix", b"10h"),
+    ("has an underscore", b"1_0"),
+    ("has a dot", b"1.0"),
+    ("is no text", b"1\xff"),
+    ("has a zero byte", b"1\x000"),
+    ("has digits of another script", "\u0661\u0660".encode()),
+    ("is far too long", b"0" * 100_000),
+]
+BAD_NUMBERS = [
+    ("is empty", b""),
+    ("has six digits", b"000001"),
+    ("is past 65535", b"65536"),
+    ("is the largest of five digits", b"99999"),
+    ("is hexadecimal", b"a"),
+    ("has a prefix", b"0x1"),
+    ("has a plus sign", b"+1"),
+    ("has a minus sign", b"-1"),
+    ("is minus zero", b"-0"),
+    ("has a space before it", b" 1"),
+    ("has a space behind it", b"1 "),
+    ("has a dot", b"1.0"),
+    ("has an exponent", b"1e0"),
+    ("is no text", b"\xff"),
+    ("has a zero byte", b"1\x00"),
+    ("has a digit of another script", "\u0661".encode()),
+    ("is far too long", b"1" * 100_000),
+]
+
+
+def bad_fields():
+    """Each field of a send and of an access in every form that it must not have."""
+    places = [
+        ("sender", b"send,%s,2,10,8,50c7", BAD_NUMBERS),
+        ("receiver", b"send,0,%s,10,8,50c7", BAD_NUMBERS),
+        ("window", b"send,0,2,%s,8,50c7", BAD_WORDS),
+        ("first item word", b"send,0,2,10,%s,50c7", BAD_WORDS),
+        ("second item word", b"send,0,2,10,8,%s", BAD_WORDS),
+        ("word of the second item", b"send,0,2,10,8,50c7,8,%s", BAD_WORDS),
+        ("space of an access", b"access,%s,0,r", BAD_NUMBERS),
+        ("address", b"access,1,%s,r", BAD_WORDS),
+    ]
+    for place, record, forms in places:
+        for form, field in forms:
+            yield f"{place} {form}", record % field, "BadRecord"
+
+
+REFUSED = [
+    *bad_fields(),
+    # records by name and number of fields
+    ("unknown record name", b"map,0,1", "BadRecord"),
+    ("record of a later version", b"clear,1", "BadRecord"),
+    ("second header", b"l4map,1,3,18,16", "BadRecord"),
+    ("upper case name of a send", b"SEND,0,2,10,8,50c7", "BadRecord"),
+    ("capital in the name of an access", b"Access,1,0,r", "BadRecord"),
+    ("space before the name", b" send,0,2,10,8,50c7", "BadRecord"),
+    ("space behind the name", b"send ,0,2,10,8,50c7", "BadRecord"),
+    ("name cut short", b"sen,0,2,10,8,50c7", "BadRecord"),
+    ("name drawn out", b"sends,0,2,10,8,50c7", "BadRecord"),
+    ("empty name", b",0,2,10,8,50c7", "BadRecord"),
+    ("name that is no text", b"send\xff,0,2,10,8,50c7", "BadRecord"),
+    ("name with a zero byte", b"send\x00,0,2,10,8,50c7", "BadRecord"),
+    ("name that is far too long", b"s" * 100_000, "BadRecord"),
+    ("line of one space", b" ", "BadRecord"),
+    ("send of its name alone", b"send", "BadRecord"),
+    ("send without items", b"send,0,2,10", "BadRecord"),
+    ("send with half an item", b"send,0,2,10,8", "BadRecord"),
+    ("send with an item and a half", b"send,0,2,10,8,50c7,8", "BadRecord"),
+    ("send with a last comma", b"send,0,2,10,8,50c7,", "BadRecord"),
+    ("send with two last commas", b"send,0,2,10,8,50c7,,", "BadRecord"),
+    ("send of 32 items", b"send,0,2,10" + b",8,50c7" * 32, "BadRecord"),
+    ("send of 1000 items", b"send,0,2,10" + b",8,50c7" * 1000, "BadRecord"),
+    ("access of its name alone", b"access", "BadRecord"),
+    ("access without a kind", b"access,1,0", "BadRecord"),
+    ("access with a field too many", b"access,1,0,r,r", "BadRecord"),
+    ("access with a last comma", b"access,1,0,r,", "BadRecord"),
+    # kinds of access
+    ("empty kind", b"access,1,0,", "BadRecord"),
+    ("two kinds", b"access,1,0,rw", "BadRecord"),
+    ("kind twice", b"access,1,0,rr", "BadRecord"),
+    ("upper case kind", b"access,1,0,R", "BadRecord"),
+    ("another letter as kind", b"access,1,0,e", "BadRecord"),
+    ("number as kind", b"access,1,0,4", "BadRecord"),
+    ("space before the kind", b"access,1,0, r", "BadRecord"),
+    ("space behind the kind", b"access,1,0,r ", "BadRecord"),
+    ("kind that is no text", b"access,1,0,\xff", "BadRecord"),
+    # quotes
+    ("two quotes are one empty field", b'""', "BadRecord"),
+    ("whole record in one pair of quotes", b'"send,0,2,10,8,50c7"', "BadRecord"),
+    ("quoted comma joins two fields", b'send,0,"2,10",8,50c7', "BadRecord"),
+    ("quoted line feed stays in its field", b'send,0,2,"10\n",8,50c7', "BadRecord"),
+    ("quoted carriage return stays in its field", b'access,1,0,"r\r"', "BadRecord"),
+    ("quoted line end does not end a record", b'access,1,0,"r\naccess,1,0,w"', "BadRecord"),
+    ("doubled quote inside quotes", b'"se""nd",0,2,10,8,50c7', "BadRecord"),
+    ("quoted line end behind a doubled quote", b'access,1,0,"r""\naccess,1,0,w"', "BadRecord"),
+    ("quote inside a plain field", b'se"nd,0,2,10,8,50c7', "BadRecord"),
+    ("apostrophes for quotes", b"'send',0,2,10,8,50c7", "BadRecord"),
+    ("quoted kind with a space", b'access,1,0,"r "', "BadRecord"),
+    ("semicolons for commas", b"send;0;2;10;8;50c7", "BadRecord"),
+    # unmap records
+    ("unmap of one word", b"unmap,0,0,50c2", "BadRecord"),
+    ("unmap of many words", b"unmap,0,3f" + b",17" * 64, "BadRecord"),
+    ("unmap of too many words", b"unmap,0,3f" + b",17" * 65, "BadRecord"),
+    ("unmap without words", b"unmap,0,0", "BadRecord"),
+    ("unmap of its name alone", b"unmap", "BadRecord"),
+    ("unmap with a bad control word", b"unmap,0,80,c0", "BadRecord"),
+    ("unmap with a bad fpage word", b"unmap,0,0,a7", "BadRecord"),
+    ("unmap of an unknown space", b"unmap,3,0,c0", "BadRecord"),
+    ("unmap cut off in its last word", b"unmap,0,0,50c", "BadRecord"),
+    # sends that are still to come
+    ("two items", b"send,0,2,10,8,50c7,1008,60c7", "BadRecord"),
+    ("31 items", b"send,0,2,10" + b",8,50c7" * 31, "BadRecord"),
+    ("grant", b"send,0,2,10,a,50c7", "BadRecord"),
+    ("grant with its lowest bit set", b"send,0,2,10,b,50c7", "BadRecord"),
+    ("send fpage of two pages", b"send,0,2,10,8,40d7", "BadRecord"),
+    ("send fpage of four pages into a window of one", b"send,0,2,80c0,2008,40e7", "BadRecord"),
+    ("complete send fpage", b"send,0,2,10,8,17", "BadRecord"),
+    ("send fpage that is complete by its size", b"send,0,2,10,8,127", "BadRecord"),
+    ("nil send fpage", b"send,0,2,10,8,0", "BadRecord"),
+    ("nil send fpage with rights", b"send,0,2,10,8,f", "BadRecord"),
+    ("held target", b"send,0,1,10,8,60c7", "BadRecord"),
+    ("held target that would gain rights", b"send,0,1,10,8,50c1", "BadRecord"),
+    ("held target that is the source's origin", b"send,1,0,10,5008,c7", "BadRecord"),
+    ("held target and absent source", b"send,0,1,10,8,100c7", "BadRecord"),
+    ("held target and no right in common", b"send,0,1,10,8,60c0", "BadRecord"),
+    # fpage words
+    *((f"window with s {s}", b"send,0,2,%x,8,50c7" % (16 * s), "BadSize") for s in range(2, 12)),
+    ("window with s 0 and a base", b"send,0,2,1000,8,50c7", "BadSize"),
+    ("window with s 0 and a base below a page", b"send,0,2,400,8,50c7", "BadSize"),
+    ("window with s 1 and a base", b"send,0,2,1010,8,50c7", "BadSize"),
+    ("window with s 11 and a base", b"send,0,2,10b0,8,50c7", "BadSize"),
+    *((f"send fpage with s {s}", b"send,0,2,10,8,%x" % (16 * s + 7), "BadSize") for s in range(2, 12)),
+    ("send fpage with s 0 and a base", b"send,0,2,10,8,1007", "BadSize"),
+    ("send fpage with s 0 and a base below a page", b"send,0,2,10,8,407", "BadSize"),
+    ("send fpage with s 1 and a base", b"send,0,2,10,8,1017", "BadSize"),
+    ("send fpage with s 11 and a base", b"send,0,2,10,8,10b7", "BadSize"),
+    ("window of a page between pages", b"send,0,2,4c0,8,50c7", "Misaligned"),
+    ("window of two pages at an odd page", b"send,0,2,10d0,8,50c7", "Misaligned"),
+    ("window of the space's size with a base", b"send,0,2,20120,8,50c7", "Misaligned"),
+    ("send fpage of a page between pages", b"send,0,2,10,8,8c7", "Misaligned"),
+    ("send fpage of two pages at an odd page", b"send,0,2,10,8,10d7", "Misaligned"),
+    ("send fpage of four pages at an even page", b"send,0,2,10,8,20e7", "Misaligned"),
+    ("window at the end of the space", b"send,0,2,400c0,8,50c7", "OutOfSpace"),
+    ("window of twice the space", b"send,0,2,130,8,50c7", "OutOfSpace"),
+    ("window of the largest size", b"send,0,2,3f0,8,50c7", "OutOfSpace"),
+    ("window at the last page of 32 bits", b"send,0,2,fffff0c0,8,50c7", "OutOfSpace"),
+    ("send fpage at the end of the space", b"send,0,2,10,8,400c7", "OutOfSpace"),
+    ("send fpage of twice the space", b"send,0,2,10,8,137", "OutOfSpace"),
+    ("send fpage of the largest size", b"send,0,2,10,8,3f7", "OutOfSpace"),
+    ("send fpage at the last page of 32 bits", b"send,0,2,10,8,fffff0c7", "OutOfSpace"),
+    ("address at the end of the space", b"access,1,40000,r", "OutOfSpace"),
+    ("largest address", b"access,1,ffffffff,r", "OutOfSpace"),
+    # items, spaces, windows
+    *((f"first item word that ends in {n:x}", b"send,0,2,10,900%x,50c7" % n, "NotAnItem") for n in [*range(8), *range(12, 16)]),
+    ("second of two items is none", b"send,0,2,10,8,50c7,0,50c7", "NotAnItem"),
+    ("sender just past the spaces", b"send,3,2,10,8,50c7", "NoSuchSpace"),
+    ("sender with the largest number", b"send,65535,2,10,8,50c7", "NoSuchSpace"),
+    ("receiver just past the spaces", b"send,0,3,10,8,50c7", "NoSuchSpace"),
+    ("receiver with the largest number", b"send,0,65535,10,8,50c7", "NoSuchSpace"),
+    ("access just past the spaces", b"access,3,0,r", "NoSuchSpace"),
+    ("access with the largest number", b"access,65535,0,r", "NoSuchSpace"),
+    ("sender is the receiver", b"send,1,1,c0,8,c7", "SameSpace"),
+    ("sender is the receiver in another spelling", b"send,1,001,c0,8,c7", "SameSpace"),
+    ("nil window", b"send,0,2,0,8,50c7", "NoWindow"),
+    ("nil window with rights", b"send,0,2,7,8,50c7", "NoWindow"),
+    ("nil window with its free bit", b"send,0,2,8,8,50c7", "NoWindow"),
+    # the first cause in the order of refusals is the one that is named
+    ("bad last word before a bad window", b"send,0,2,20,8,+1", "BadRecord"),
+    ("bad number of fields before a bad window", b"send,0,2,20,8", "BadRecord"),
+    ("item and a half before an unknown sender", b"send,3,2,10,8,50c7,8", "BadRecord"),
+    ("32 items before a bad window", b"send,0,2,20" + b",8,50c7" * 32, "BadRecord"),
+    ("bad receiver before an unknown sender", b"send,3,65536,10,8,50c7", "BadRecord"),
+    ("bad size before bad alignment in the window", b"send,0,2,4b0,8,50c7", "BadSize"),
+    ("bad size before the end of the space in the window", b"send,0,2,400b0,8,50c7", "BadSize"),
+    ("bad alignment before the end of the space in the window", b"send,0,2,410d0,8,50c7", "Misaligned"),
+    ("bad alignment of the largest size in the window", b"send,0,2,403f0,8,50c7", "Misaligned"),
+    ("bad size of the window before an item that is none", b"send,0,2,20,0,50c7", "BadSize"),
+    ("bad alignment of the window before an item that is none", b"send,0,2,10d0,0,50c7", "Misaligned"),
+    ("window past the space before an item that is none", b"send,0,2,400c0,0,50c7", "OutOfSpace"),
+    ("window past the space before a bad size in the item", b"send,0,2,400c0,8,27", "OutOfSpace"),
+    ("item that is none before its bad size", b"send,0,2,10,0,27", "NotAnItem"),
+    ("item that is none before its bad alignment", b"send,0,2,10,0,10d7", "NotAnItem"),
+    ("item that is none before the end of the space", b"send,0,2,10,c,400c7", "NotAnItem"),
+    ("bad size before bad alignment in the item", b"send,0,2,10,8,4b7", "BadSize"),
+    ("bad size before the end of the space in the item", b"send,0,2,10,8,400b7", "BadSize"),
+    ("bad alignment before the end of the space in the item", b"send,0,2,10,8,410d7", "Misaligned"),
+    ("fault of the first item before a second that is none", b"send,0,2,10,8,400c7,0,50c7", "OutOfSpace"),
+    ("fault of the second item before a third that is none", b"send,0,2,10,8,50c7,8,10d7,0,50c7", "Misaligned"),
+    ("item that is none before an unknown sender", b"send,3,2,10,0,50c7", "NotAnItem"),
+    ("bad size in the item before an unknown receiver", b"send,0,3,10,8,27", "BadSize"),
+    ("bad alignment in the item before one space twice", b"send,1,1,10,8,10d7", "Misaligned"),
+    ("item past the space before a nil window", b"send,0,2,0,8,400c7", "OutOfSpace"),
+    ("item that is none before a nil window", b"send,0,2,0,0,50c7", "NotAnItem"),
+    ("fault of the last of 31 items before an unknown space", b"send,3,3,0" + b",8,50c7" * 30 + b",8,27", "BadSize"),
+    ("unknown space before one space twice", b"send,3,3,10,8,50c7", "NoSuchSpace"),
+    ("unknown sender before a nil window", b"send,3,2,0,8,50c7", "NoSuchSpace"),
+    ("unknown receiver before a nil window", b"send,0,3,0,8,50c7", "NoSuchSpace"),
+    ("one space twice before a nil window", b"send,1,1,0,8,c7", "SameSpace"),
+    ("unknown space before two items", b"send,3,2,10,8,50c7,8,60c7", "NoSuchSpace"),
+    ("one space twice before a grant", b"send,1,1,10,a,c7", "SameSpace"),
+    ("one space twice before a held target", b"send,1,1,10,8,c7", "SameSpace"),
+    ("nil window before two items", b"send,0,2,0,8,50c7,8,60c7", "NoWindow"),
+    ("nil window before a nil send fpage", b"send,0,2,0,8,0", "NoWindow"),
+    ("nil window before a send fpage of two pages", b"send,0,2,0,8,40d7", "NoWindow"),
+    ("bad kind before an unknown space", b"access,3,40000,q", "BadRecord"),
+    ("bad address before an unknown space", b"access,3,040000000,r", "BadRecord"),
+    ("unknown space before an address past the space", b"access,3,40000,r", "NoSuchSpace"),
+]
+
+# Name and input: the header lacks its form.
+BAD_HEADERS = [
+    ("empty input", b""),
+    ("line feed alone", b"\n"),
+    ("empty lines alone", b"\n\r\n\r\r\n\n"),
+    ("two quotes", b'""\n'),
+    ("version with a leading zero", b"l4map,01,3,18,16\n"),
+    ("version that is to come", b"l4map,2,3,18,16\n"),
+    ("version zero", b"l4map,0,3,18,16\n"),
+    ("empty version", b"l4map,,3,18,16\n"),
+    ("version with a space", b"l4map,1 ,3,18,16\n"),
+    ("upper case name", b"L4MAP,1,3,18,16\n"),
+    ("another name", b"l4maps,1,3,18,16\n"),
+    ("space before the name", b" l4map,1,3,18,16\n"),
+    ("name that is no text", b"l4map\xff,1,3,18,16\n"),
+    ("name alone", b"l4map\n"),
+    ("four fields", b"l4map,1,3,18\n"),
+    ("six fields", b"l4map,1,3,18,16,0\n"),
+    ("last comma", b"l4map,1,3,18,16,\n"),
+    ("header in one pair of quotes", b'"l4map,1,3,18,16"\n'),
+    ("record before the header", b"send,0,1,10,8,50c6\nl4map,1,3,18,16\n"),
+    ("header cut off", b"l4map,1,3,18,"),
+    ("quote that never ends", b'"l4map,1,3,18,16\nsend,0,1,10,8,50c6\n'),
+    ("bad form and bad limits", b"l4map,01,1,17,0\n"),
+    ("bad form of one number and bad limits of another", b"l4map,1,1,+18,16\n"),
+    ("bad header before good records", b"l4map,1,3,18\nsend,0,1,10,8,50c6\n"),
+    *(
+        (f"{place} {form}", b"l4map,1,%s\n" % (numbers % field))
+        for place, numbers in [("spaces", b"%s,18,16"), ("bits", b"3,%s,16"), ("frames", b"3,18,%s")]
+        for form, field in [
+            ("empty", b""),
+            ("with eight digits", b"00000018"),
+            ("with a plus sign", b"+18"),
+            ("with a minus sign", b"-18"),
+            ("with a space before", b" 18"),
+            ("with a space behind", b"18 "),
+            ("hexadecimal", b"1a"),
+            ("with a prefix", b"0x18"),
+            ("with a dot", b"18.0"),
+            ("that is no text", b"18\xff"),
+            ("with a zero byte", b"18\x00"),
+            ("far too long", b"0" * 100_000 + b"18"),
+        ]
+    ),
+]
+
+# Name, spaces, bits and frames outside the limits.
+BAD_LIMITS = [
+    ("no space", "0,18,16"),
+    ("one space", "1,18,16"),
+    ("513 spaces", "513,18,16"),
+    ("largest number of spaces", "9999999,18,16"),
+    ("no bits", "3,0,16"),
+    ("17 bits", "3,17,16"),
+    ("25 bits", "3,25,16"),
+    ("largest number of bits", "3,9999999,16"),
+    ("no frame", "3,18,0"),
+    ("a frame more than pages, 18 bits", "3,18,65"),
+    ("a frame more than pages, 19 bits", "3,19,129"),
+    ("a frame more than pages, 24 bits", "3,24,4097"),
+    ("largest number of frames", "3,24,9999999"),
+    ("all three", "0,0,0"),
+]
+
+# Name, spaces, bits and frames at the limits, and the number of frames.
+GOOD_LIMITS = [
+    ("two spaces", "2,18,1", 1),
+    ("512 spaces", "512,18,1", 1),
+    ("18 bits with all frames", "3,18,64", 64),
+    ("19 bits with all frames", "3,19,128", 128),
+    ("24 bits with one frame", "3,24,1", 1),
+    ("24 bits with all frames", "3,24,4096", 4096),
+    ("512 spaces of 24 bits with all frames", "512,24,4096", 4096),
+    ("seven digits each", "0000003,0000018,0000016", 16),
+]
+
+
+def between(record):
+    """A trace in which the record stands between a mapping of 1:0 and an access to it."""
+    return lines(HEADER, "send,0,1,10,8,50c6") + record + lines("", "access,1,0,w")
+
+
+def main():
+    program, cases = program_path(), Cases()
+
+    def check(name, given, stdout, stderr=b"", status=0):
+        cases.compare(name, Ended(status, stdout, stderr), run(program, given))
+
+    for name, given, stdout in WHOLE_RUNS:
+        check(name, given, stdout)
+    for name, given in WAYS_TO_WRITE:
+        check(f"ways to write a trace: {name}", given, SAME_RECORDS)
+    for name, record, reply, audit in ACCEPTED:
+        around = f"1 {LINKED}", f"2 {reply}", "3 access ok", roots(16), "1,0,5,rw-,RW-,0:5"
+        check(f"accepted: {name}", between(record.encode()), lines(*around, *audit, "end 3 0"))
+    for name, record, refusal in REFUSED:
+        around = f"1 {LINKED}", f"2 refused {refusal}", "3 access ok", roots(16), "1,0,5,rw-,RW-,0:5"
+        check(f"{refusal}: {name}", between(record), lines(*around, "end 3 1"))
+    check(
+        "BadRecord: a quote that never ends takes the rest of the trace",
+        lines(HEADER, 'access,0,0,"r', "access,0,0,r", "access,0,0,r"),
+        lines("1 refused BadRecord", roots(16), "end 1 1"),
+    )
+    check(
+        "BadRecord: last record cut off after a comma",
+        lines(HEADER) + b"access,0,0,",
+        lines("1 refused BadRecord", roots(16), "end 1 1"),
+    )
+    for name, given in BAD_HEADERS:
+        check(f"BadHeader: {name}", given, b"", b"l4map: BadHeader\n", 2)
+    for name, limits in BAD_LIMITS:
+        for records in (b"", b"send,0,1,10,8,50c6\n"):
+            check(f"BadLimits: {name}", lines(f"l4map,1,{limits}") + records, b"", b"l4map: BadLimits\n", 2)
+    for name, limits, frames in GOOD_LIMITS:
+        check(f"limits: {name}", lines(f"l4map,1,{limits}"), lines(roots(frames), "end 0 0"))
+    cases.end()
+
+
+main()
