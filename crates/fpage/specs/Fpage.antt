@@ -1,11 +1,12 @@
 -- Fpage words (L4 X.2, Fpage): which pages a word names, and when it is refused.
-use Rattle.std.specs.Prelude.{ℕ, ◌+◌, ◌-◌, ◌*◌, ◌/◌, ◌%◌, ◌^◌, ◌≤◌, ◌==◌, ◌&&◌, nat_lt, nat_le, Bool, not, if◌then◌else◌, Result, Ok, Err}
+use Rattle.std.specs.Prelude.{ℕ, ◌+◌, ◌-◌, ◌*◌, ◌/◌, ◌%◌, ◌^◌, ◌≤◌, ◌==◌, ◌&&◌, nat_lt, nat_le, Bool, false, not, if◌then◌else◌, Result, Ok, Err}
 use Rattle.fpage.specs.Rights.{of_bits}
 use Rattle.fpage.specs.declared.rights.Rights.{Rights}
 use Rattle.fpage.specs.declared.error.FpageError.{FpageError}
 use Rattle.fpage.specs.declared.error.FpageError.TheVariants.{BadSize, Misaligned, OutOfSpace}
 
--- what an fpage stands for: its first page, how many pages it has, and its rights. Pages have 4096 bytes (profile)
+-- what an fpage stands for: its first page, how many pages it has, and its rights. Pages have 4096 bytes, and bit 3 of
+-- a word is ignored (profile)
 pub record Flexpage : Type 0 where
   pub first : ℕ
   pub count : ℕ
@@ -38,7 +39,7 @@ starts_within size base g = nat_le (1024 * base) (4096 * g) && nat_lt (4096 * g)
 -- page g is one of the pages of a word in a space of 2^bits bytes
 abbrev pub is_page : ℕ → ℕ → ℕ → Bool
 is_page bits word g =
-    if is_nil_word word then nat_lt g 0
+    if is_nil_word word then false
     else if is_complete_word word then nat_lt g (pages_of_space bits)
     else starts_within (size_of word) (base_of word) g
 
@@ -49,7 +50,7 @@ read_sized bits size base rights =
     else if nat_lt (2 ^ bits) (1024 * base + 2 ^ size) then Err OutOfSpace
     else Ok (record { first = base / 4; count = 2 ^ (size - 12); rights = rights })
 
--- the fpage of a word, or the first refusal that fits
+-- the fpage of a word, or the first refusal that fits (the refusals: profile)
 abbrev pub read_fpage : ℕ → ℕ → Result Flexpage FpageError
 read_fpage bits word =
     if is_nil_word word then Ok (record { first = 0; count = 0; rights = of_bits word })
@@ -57,7 +58,7 @@ read_fpage bits word =
     else if nat_lt (size_of word) 12 then Err BadSize
     else read_sized bits (size_of word) (base_of word) (of_bits word)
 
--- the pages are those from the first on
+-- page g is one of the count pages from the first on
 abbrev pub is_page_of : Flexpage → ℕ → Bool
 is_page_of f g = nat_le f.first g && nat_lt g (f.first + f.count)
 

@@ -4,9 +4,11 @@ use Rattle.fpage.specs.declared.rights.Rights.{Rights}
 use Rattle.fpage.specs.declared.rights.Access.{Access}
 use Rattle.fpage.specs.declared.rights.Access.TheVariants.{Read, Write, Execute}
 
+-- r, w and x
 abbrev pub all_rights : Rights
 all_rights = record { read = true; write = true; execute = true }
 
+-- the empty set
 abbrev pub no_rights : Rights
 no_rights = record { read = false; write = false; execute = false }
 
@@ -30,6 +32,7 @@ join a b = record { read = a.read || b.read; write = a.write || b.write; execute
 abbrev pub without : Rights → Rights → Rights
 without a b = record { read = a.read && not b.read; write = a.write && not b.write; execute = a.execute && not b.execute }
 
+-- whether nothing is in the set
 abbrev pub is_empty : Rights → Bool
 is_empty a = not (a.read || a.write || a.execute)
 

@@ -10,13 +10,12 @@ use Rattle.std.specs.BTreeMap.{is_at, insert_entry}
 use Rattle.std.specs.List.{AllByRecursion}
 use Rattle.std.specs.List.Sorted.{IsStrictlySortedBy}
 use Rattle.model.proofs.Places.{places_total}
-use Rattle.fpage.specs.Rights.{is_empty, has}
+use Rattle.fpage.specs.Rights.{has}
 use Rattle.fpage.specs.declared.rights.Access.{Access}
 use Rattle.model.specs.Touch.{can_touch, touch, marked}
 use Rattle.space.specs.declared.place.Place.{Place}
 use Rattle.space.specs.Place.{place_cmp, same_place}
 use Rattle.model.specs.Holdings.{Held, Holdings, at, each}
-use Rattle.model.specs.Lawful.{all_have_rights}
 use Rattle.model.specs.Replay.{root, roots_from}
 use Rattle.l4map.specs.Held.{held_of, holdings_of}
 use Rattle.l4map.specs.declared.mapping.Mapping.{Mapping}
@@ -32,20 +31,6 @@ put_entry (e ∷ es) p m = elim (place_cmp p e.0) as (λ o. holdings_of (match_o
   | Equal ↦ refl
   | Greater ↦ ap (λ rest. (e.0, held_of e.1) ∷ rest) (put_entry es p m)
 ]
-
-both_true : (a b : Bool) → (a && b) ≡ true → (a ≡ true) × (b ≡ true)
-both_true true b h = (refl, h)
-both_true false b h = cc
-
-pub put_rights : (h : Holdings) (p : Place) (m : Held) → is_empty m.rights ≡ false → all_have_rights h ≡ true → all_have_rights (put place_cmp p m h) ≡ true
-put_rights [] p m some rights = rw some refl
-put_rights (e ∷ h) p m some rights =
-    let parts = both_true (not (is_empty e.1.rights)) (all_have_rights h) rights in
-    elim (place_cmp p e.0) as (λ o. all_have_rights (by_order o ((p, m) ∷ e ∷ h) ((e.0, m) ∷ h) (e ∷ put place_cmp p m h)) ≡ true) [
-      | Less ↦ rw some rights
-      | Equal ↦ rw some parts.1
-      | Greater ↦ rw (parts.0, put_rights h p m some parts.1) refl
-    ]
 
 -- a new root goes last
 put_root : (i n : ℕ) → put place_cmp (root (i + n)).0 (root (i + n)).1 (roots_from i n) ≡ roots_from i (n + 1)
@@ -119,15 +104,3 @@ touched es p a m w sorted found is =
       | true ↦ λ is. changed_at es p m w (marked a) sorted found is
       | false ↦ λ is. same_at es p m w found is
     ] is)
-
-marked_rights : (h : Holdings) (p : Place) (a : Access) → all_have_rights h ≡ true → all_have_rights (each (λ q m. Some (if same_place p q then marked a m else m)) h) ≡ true
-marked_rights [] p a rights = refl
-marked_rights (e ∷ h) p a rights =
-    let parts = both_true (not (is_empty e.1.rights)) (all_have_rights h) rights in
-    elim (is_eq (place_cmp p e.0)) as (λ b. (not (is_empty (cond b (marked a e.1) e.1).rights) && all_have_rights (each (λ q m. Some (if same_place p q then marked a m else m)) h)) ≡ true) [
-      | true ↦ rw (parts.0, marked_rights h p a parts.1) refl
-      | false ↦ rw (parts.0, marked_rights h p a parts.1) refl
-    ]
-
-pub touch_rights : (h : Holdings) (p : Place) (a : Access) → all_have_rights h ≡ true → all_have_rights (touch h p a) ≡ true
-touch_rights h p a rights = elim (can_touch h p a) as (λ b. all_have_rights (cond b (each (λ q m. Some (if same_place p q then marked a m else m)) h) h) ≡ true) [ true ↦ marked_rights h p a rights | false ↦ rights ]

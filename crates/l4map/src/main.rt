@@ -13,6 +13,8 @@ mod reply;
 mod request;
 mod run;
 mod stream;
+#[cfg(test)]
+mod tests;
 mod trace;
 
 use error::RunError;

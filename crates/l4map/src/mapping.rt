@@ -40,23 +40,18 @@ pub struct Mappings {
 }
 
 impl Model for Mappings {
-    ghost use Rattle.std.specs.Prelude.{◌≡◌, true};
     ghost use Rattle.model.specs.Holdings.{Holdings};
-    ghost use Rattle.model.specs.Lawful.{all_have_rights};
     ghost use Rattle.l4map.specs.Held.{holdings_of};
 
     ghost Value = { Holdings };
 
     ghost view = { λ m. holdings_of m.held.entries };
-
-    ghost invariant = { λ m. all_have_rights (holdings_of m.held.entries) ≡ true };
 }
 
 impl Mappings {
     ghost use Rattle.std.specs.Prelude.{◌≡◌, false, IfOk, OnOk, OnErr};
     ghost use Rattle.std.specs.Option.{option_map};
     ghost use Rattle.std.specs.FinMap.Entries.{put};
-    ghost use Rattle.fpage.specs.Rights.{is_empty};
     ghost use Rattle.space.specs.Place.{place_cmp};
     ghost use Rattle.model.specs.Holdings.{at, is_held};
     ghost use Rattle.model.specs.Touch.{can_touch, touch};
@@ -105,7 +100,6 @@ impl Mappings {
 
     /// Puts a mapping at a place, in place of what is held there.
     fn put(&mut self, place: Place, mapping: Mapping) -> Result<(), AllocError>
-        requires { is_empty mapping.entry.rights ≡ false }
         ensures ok { OnOk result (self.new ≡ put place_cmp place (held_of mapping) self.old) }
         ensures err { OnErr result (self.new ≡ self.old) }
     {
@@ -142,8 +136,6 @@ impl Mappings {
             ≡ record { counts = counts_of reply; left = self.new }) }
         ensures err { OnErr result (self.new ≡ self.old) }
     {
-        // The mappings have rights, so that no flush of nothing removes one.
-        let _ = &self.held;
         let Some(mapping) = self.get(source) else {
             return Ok(SendReply::absent());
         };

@@ -76,6 +76,14 @@ impl<T> Std<T> {
             failed: false,
         }
     }
+
+    /// Gives the reader or the writer back.
+    pub fn into_inner(self) -> T
+        ensures { result ≡ inner_of self }
+    {
+        let Std { inner, failed: _ } = self;
+        inner
+    }
 }
 
 impl<R: Read> Source for Std<R> {

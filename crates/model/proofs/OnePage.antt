@@ -1,21 +1,19 @@
 -- A MapItem of one page whose target is not held: nothing is flushed, and its one pair is absent, without rights, or linked.
-use Rattle.std.proofs.Common.{◌≡◌, ℕ, zero, suc, nat_lt, ◌==◌, if◌then◌else◌, Ok, Bool, true, false, cond, ◌&&◌, ◌||◌, not, IsTrue, List, [], ◌∷◌, Option, Some, None, is_some, refl, sym, ap, ◌∙◌, ◌<◌, min, arith, add-zero}
+use Rattle.std.proofs.Common.{◌≡◌, ℕ, zero, suc, nat_lt, ◌==◌, if◌then◌else◌, Ok, true, false, ◌&&◌, [], ◌∷◌, Option, Some, None, refl, ap, ◌∙◌, ◌<◌, min, arith, add-zero}
 use Rattle.std.proofs.Math.Bool.{or-false, and-false}
 use Rattle.std.specs.Ordering.{is_eq}
 use Rattle.std.specs.declared.cmp.Ordering.TheVariants.{Less, Equal, Greater}
-use Rattle.std.specs.Cmp.{IsTotalOrder}
-use Rattle.std.specs.FinMap.Entries.{find, put, find_tied}
+use Rattle.std.specs.FinMap.Entries.{put, find_tied}
 use Rattle.fpage.specs.Rights.{no_rights, all_rights, join, meet, is_empty}
 use Rattle.fpage.specs.declared.rights.Rights.{Rights}
-use Rattle.fpage.specs.declared.item.ItemKind.TheVariants.{Map, Grant}
+use Rattle.fpage.specs.declared.item.ItemKind.TheVariants.{Map}
 use Rattle.space.specs.declared.place.Place.{Place}
 use Rattle.space.specs.Place.{place_cmp, same_place}
-use Rattle.model.specs.Holdings.{Held, Holdings, PlaceSet, at, is_held, origin_at, each, only}
-use Rattle.model.specs.Derived.{meets, is_under, is_below}
-use Rattle.model.specs.Lawful.{all_have_rights}
-use Rattle.model.specs.Strip.{strip, stripped, gain_from, passed_to, unless_empty, strip_word}
-use Rattle.model.specs.Items.{Job, one_page, Pair, flush, targets_of, fate, absent as absent_fate, norights as norights_fate, goes as goes_fate, going, counts, counts_of, no_counts, Counts, add_counts, job_of}
-use Rattle.model.specs.Map.{mapped, linked}
+use Rattle.model.specs.Holdings.{Held, Holdings, PlaceSet, at, is_held, origin_at, each}
+use Rattle.model.specs.Derived.{meets, is_below}
+use Rattle.model.specs.Strip.{strip, stripped, gain_from, left_of, is_narrowed}
+use Rattle.model.specs.Items.{one_page, flush, fate, absent as absent_fate, norights as norights_fate, goes as goes_fate, no_counts, Counts, add_counts, job_of}
+use Rattle.model.specs.Map.{linked}
 use Rattle.fpage.specs.Fpage.{Flexpage}
 use Rattle.fpage.specs.Item.{pairs_of}
 use Rattle.fpage.specs.declared.item.Item.{Item}
@@ -24,14 +22,6 @@ use Rattle.model.specs.FirstPath.{first_answer, served_answer, is_served}
 use Rattle.std.proofs.lemmas.Bool.Decides.{nat_tests}
 use Rattle.model.specs.Answers.{Answer, item_answer, SendAnswer, call_answer, call_refusal, unless_refused}
 use Rattle.model.proofs.Places.{places_total}
-
-both_true : (a b : Bool) → (a && b) ≡ true → (a ≡ true) × (b ≡ true)
-both_true true b h = (refl, h)
-both_true false b h = cc
-
-not_true : (a : Bool) → not a ≡ true → a ≡ false
-not_true true h = cc
-not_true false h = refl
 
 -- ---- a set of no places
 
@@ -56,18 +46,17 @@ join_none a = rw (or-false a.read, or-false a.write, or-false a.execute) refl
 stripped_none : (h : Holdings) (set : PlaceSet) (a : Rights) (p : Place) (m : Held) → IsNone set → stripped h set a true p m ≡ m
 stripped_none h set a p m none = rw (none p, meets_none _ h set (origin_at h p) none, gain_none h set p h none, join_none m.status) refl
 
-each_none : (h : Holdings) (set : PlaceSet) (a : Rights) (rest : Holdings) → IsNone set → all_have_rights rest ≡ true → each (λ p m. unless_empty (stripped h set a true p m)) rest ≡ rest
-each_none h set a [] none rights = refl
-each_none h set a (e ∷ rest) none rights =
-    let parts = both_true (not (is_empty e.1.rights)) (all_have_rights rest) rights in
-    let some = not_true (is_empty e.1.rights) parts.0 in
-    let stays : unless_empty e.1 ≡ Some e.1 = rw some refl in
-    let kept : unless_empty (stripped h set a true e.0 e.1) ≡ Some e.1 = ap unless_empty (stripped_none h set a e.0 e.1 none) ∙ stays in
-    rw (kept, each_none h set a rest none parts.1) refl
+each_none : (h : Holdings) (set : PlaceSet) (a : Rights) (rest : Holdings) → IsNone set → each (λ p m. left_of (is_narrowed h set true p) (stripped h set a true p m)) rest ≡ rest
+each_none h set a [] none = refl
+each_none h set a (e ∷ rest) none =
+    let kept : is_narrowed h set true e.0 ≡ false = rw (none e.0, meets_none _ h set (origin_at h e.0) none) refl in
+    let stays : left_of (is_narrowed h set true e.0) (stripped h set a true e.0 e.1) ≡ Some e.1 =
+    ap (λ b. left_of b (stripped h set a true e.0 e.1)) kept ∙ ap Some (stripped_none h set a e.0 e.1 none) in
+    rw (stays, each_none h set a rest none) refl
 
 -- to strip no places changes nothing
-pub strip_none : (h : Holdings) (set : PlaceSet) (a : Rights) → IsNone set → all_have_rights h ≡ true → strip h set a true ≡ h
-strip_none h set a none rights = each_none h set a h none rights
+pub strip_none : (h : Holdings) (set : PlaceSet) (a : Rights) → IsNone set → strip h set a true ≡ h
+strip_none h set a none = each_none h set a h none
 
 -- ---- one pair, of a map, whose target is not held
 
@@ -80,27 +69,27 @@ no_target h q x absent =
       | Greater ↦ λ _. refl
     ] refl
 
-flush_none : (h : Holdings) → all_have_rights h ≡ true → flush h [] ≡ h
-flush_none h rights = strip_none h _ all_rights (λ q. refl) rights
+flush_none : (h : Holdings) → flush h [] ≡ h
+flush_none h = strip_none h _ all_rights (λ q. refl)
 
-flush_one : (h : Holdings) (p q : Place) → at h q ≡ None → all_have_rights h ≡ true → flush h ((p, q) ∷ []) ≡ h
-flush_one h p q absent rights = strip_none h _ all_rights (λ x. rw or-false (no_target h q x absent)) rights
+flush_one : (h : Holdings) (p q : Place) → at h q ≡ None → flush h ((p, q) ∷ []) ≡ h
+flush_one h p q absent = strip_none h _ all_rights (λ x. rw or-false (no_target h q x absent))
 
-module _ (h : Holdings) (r : Rights) (p q : Place) (rights : all_have_rights h ≡ true) (free : at h q ≡ None) where
+module _ (h : Holdings) (r : Rights) (p q : Place) (free : at h q ≡ None) where
   pub page_absent : at h p ≡ None → item_answer h (one_page r p q) ≡ record { counts = record no_counts { absent = 1 }; left = h }
   page_absent absent =
       let is : fate h (one_page r p q) (p, q) ≡ absent_fate = rw absent refl in
-      rw (is, flush_none h rights) refl
+      rw (is, flush_none h) refl
 
   pub page_without_rights : (m : Held) → at h p ≡ Some m → is_empty (meet m.rights r) ≡ true → item_answer h (one_page r p q) ≡ record { counts = record no_counts { norights = 1 }; left = h }
   page_without_rights m held empty =
       let is : fate h (one_page r p q) (p, q) ≡ norights_fate = rw (held, empty) refl in
-      rw (is, flush_none h rights) refl
+      rw (is, flush_none h) refl
 
   pub page_linked : (m : Held) → at h p ≡ Some m → is_empty (meet m.rights r) ≡ false → item_answer h (one_page r p q) ≡ record { counts = record no_counts { linked = 1 }; left = put place_cmp q (linked (one_page r p q) p m) h }
   page_linked m held some =
       let is : fate h (one_page r p q) (p, q) ≡ goes_fate = rw (held, some, free) refl in
-      rw (is, flush_one h p q free rights, held) refl
+      rw (is, flush_one h p q free, held) refl
 
 -- ---- a send of one such item
 

@@ -1,6 +1,5 @@
 -- The order of places is total.
 use Rattle.std.specs.Cmp.{IsTotalOrder}
-use Rattle.std.specs.Ordering.{nat_cmp}
 use Rattle.std.proofs.lemmas.Cmp.{then_total, on_total, nat_cmp_total}
 use Rattle.space.specs.declared.place.Place.{Place}
 use Rattle.space.specs.Place.{place_cmp}

@@ -23,14 +23,16 @@ pub record SendAnswer : Type 0 where
   pub counts : Counts
   pub left : Holdings
 
+-- what an item leaves
 abbrev pub after_job : ItemKind → Holdings → Job → Holdings
 after_job kind.Map h job = mapped h job
 after_job kind.Grant h job = granted h job
 
+-- what an item is answered, and what it leaves
 abbrev pub item_answer : Holdings → Job → SendAnswer
 item_answer h job = record { counts = counts h job; left = after_job job.kind h job }
 
--- the items in order, their counts added (L4 X.2, Map, Grant)
+-- the items in order, their counts added (profile)
 abbrev pub send_answer : ℕ → ℕ → Flexpage → List Item → Holdings → SendAnswer
 send_answer from to window [] h = record { counts = no_counts; left = h }
 send_answer from to window (item ∷ items) h =
@@ -42,12 +44,13 @@ send_answer from to window (item ∷ items) h =
 abbrev pub pages_in : ℕ → Flexpage → PlaceSet
 pages_in space f p = (p.space == space) && is_page_of f p.page
 
--- the words of an Unmap after their status was read, and the holdings after it
+-- the reply words of an Unmap, and the holdings after it
 pub record UnmapAnswer : Type 0 where
   pub words : List ℕ
   pub left : Holdings
 
--- the words in order: each is stripped from the caller's pages, and answered with the status (L4 X.2, Unmap)
+-- the words in order: the caller's pages that a word names are stripped of its rights, and the word comes back with
+-- their status (L4 X.2, Unmap)
 abbrev pub unmap_answer : ℕ → Bool → List Named → Holdings → UnmapAnswer
 unmap_answer space f [] h = record { words = []; left = h }
 unmap_answer space f (w ∷ ws) h =
@@ -55,6 +58,7 @@ unmap_answer space f (w ∷ ws) h =
     let others = unmap_answer space f ws (strip h named w.1.rights f) in
     record { words = with_status w.0 (strip_word h named) ∷ others.words; left = others.left }
 
+-- as the answer to a call
 abbrev pub sent_answer : SendAnswer → Answer
 sent_answer a = record { reply = sent a.counts; left = a.left }
 
@@ -67,14 +71,14 @@ call_answer h (send from to window items) = sent_answer (send_answer from to win
 call_answer h (access p a) = record { reply = accessed (can_touch h p a); left = touch h p a }
 call_answer h (unmap space f words) = unmapped_answer (unmap_answer space f words h)
 
--- why a call is refused: the first that fits
+-- why a call is refused: the first that fits. The space of an access was looked at with its record
 abbrev pub call_refusal : Limits → Call → Option Refusal
 call_refusal limits (send from to window items) =
     if not (nat_lt from limits.spaces && nat_lt to limits.spaces) then Some no_such_space
     else if from == to then Some same_space
     else if window.count == 0 then Some no_window
     else None
-call_refusal limits (access p a) = if nat_lt p.space limits.spaces then None else Some no_such_space
+call_refusal limits (access p a) = None
 call_refusal limits (unmap space f words) = if nat_lt space limits.spaces then None else Some no_such_space
 
 -- a refused call answers its refusal and leaves the holdings

@@ -45,12 +45,13 @@ refusal_of word.OutOfSpace = out_of_space
 refusal_of word.NotAnItem = not_an_item
 refusal_of word.BadControl = bad_control
 
+-- what a record is answered
 pub data Reply : Type 0 where
   sent : Counts → Reply
   accessed : Bool → Reply
   unmapped : List ℕ → Reply
   refused : Refusal → Reply
 
--- what a record asks for: a call, or a refusal that its form alone decides
+-- what a record asks for: a call, or a refusal that its fields and the limits decide
 abbrev pub Request : Type 0
 Request = Result Call Refusal

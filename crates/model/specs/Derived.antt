@@ -1,4 +1,5 @@
--- Derived mappings: those from which a chain of origins leads to a place (L4 X.2, Map, Grant, Unmap).
+-- Derived mappings: those from which a chain of origins leads to a place (L4 X.2, MapItem, Unmap).
+-- Both tests are asked of held places. A chain that does not come back to itself has at most as many places as are held.
 use Rattle.std.specs.Prelude.{ℕ, zero, suc, Bool, false, ◌||◌, length, Option, Some, None}
 use Rattle.space.specs.declared.place.Place.{Place}
 use Rattle.model.specs.Holdings.{Holdings, PlaceSet, origin_at}

@@ -1,4 +1,5 @@
--- Grant: the page goes from the sender to the receiver, with what derives from it (L4 X.2, GrantItem).
+-- Grant: the page goes from the sender to the receiver; what derives from it then derives from its new place
+-- (L4 X.2, GrantItem).
 use Rattle.std.specs.Prelude.{true, List, [], ◌∷◌, filter, Option, Some, None, option_map, unwrap_or, if◌then◌else◌}
 use Rattle.std.specs.FinMap.Entries.{put}
 use Rattle.fpage.specs.Rights.{all_rights, no_rights, without}
@@ -33,13 +34,14 @@ renamed es (e ∷ h) = put place_cmp (moved_to es e.0) (moved es e.0 e.1) (renam
 abbrev pub moving : Holdings → List Pair → List Pair
 moving flushed es = filter (λ e. is_held flushed e.0) es
 
--- the sources lose, with all that derives from them, the rights that the fpage withholds; then they move
+-- the sources lose, with all that derives from them, the rights that the fpage withholds; then they move (profile)
 abbrev pub grant_moving : Holdings → Job → List Pair → Holdings
 grant_moving flushed job es = renamed es (strip flushed (sources_of es) (without all_rights job.rights) true)
 
+-- from the flush on
 abbrev pub grant_flushed : Holdings → Job → List Pair → Holdings
 grant_flushed flushed job es = grant_moving flushed job (moving flushed es)
 
--- one GrantItem, in phases: outcomes, flush, strip of the sources, move
+-- one GrantItem, in phases: outcomes, flush, strip of the sources, move (the phases: profile)
 abbrev pub granted : Holdings → Job → Holdings
 granted h job = let es = going h job in grant_flushed (flush h es) job es

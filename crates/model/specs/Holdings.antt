@@ -29,6 +29,7 @@ only = same_place
 abbrev pub at : Holdings → Place → Option Held
 at h p = find place_cmp p h
 
+-- whether a place holds something
 abbrev pub is_held : Holdings → PlaceSet
 is_held h p = is_some (at h p)
 
@@ -44,6 +45,7 @@ derives_from p m = option_map_or (same_place p) m.origin false
 abbrev pub places : Holdings → List Place
 places h = map (λ e. e.0) h
 
+-- a mapping before the others, or none
 abbrev pub keep : Place → Option Held → Holdings → Holdings
 keep p None h = h
 keep p (Some m) h = (p, m) ∷ h

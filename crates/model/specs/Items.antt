@@ -25,6 +25,7 @@ pub record Job : Type 0 where
   pub rights : Rights
   pub pairs : List Pair
 
+-- the page after it in its space
 abbrev pub next_page : Place → Place
 next_page p = record p { page = p.page + 1 }
 
@@ -33,7 +34,7 @@ abbrev pub pairs_from : ℕ → Place → Place → List Pair
 pairs_from zero source target = []
 pairs_from (suc n) source target = (source, target) ∷ pairs_from n (next_page source) (next_page target)
 
--- the item of a send from one space to another, with the receiver's window
+-- the item of a send from one space to another, with the receiver's window, whose rights are ignored (profile)
 abbrev pub job_of : ℕ → ℕ → Flexpage → Item → Job
 job_of from to window item =
     let runs = pairs_of item window in
@@ -56,6 +57,7 @@ pub data Fate : Type 0 where
   extends : Fate
   goes : Fate
 
+-- whether an item maps; else it grants
 abbrev pub is_map : ItemKind → Bool
 is_map Map = true
 is_map Grant = false
@@ -64,6 +66,7 @@ is_map Grant = false
 abbrev pub has_origin : Holdings → Place → Place → Bool
 has_origin h q p = option_map_or (same_place p) (origin_at h q) false
 
+-- the same, with what the source holds
 abbrev pub fate_of : Holdings → Job → Pair → Option Held → Fate
 fate_of h job e None = absent
 fate_of h job e (Some source) =
@@ -76,6 +79,7 @@ fate_of h job e (Some source) =
 abbrev pub fate : Holdings → Job → Pair → Fate
 fate h job e = fate_of h job e (at h e.0)
 
+-- whether the pair goes
 abbrev pub is_going : Fate → Bool
 is_going absent = false
 is_going norights = false
@@ -87,14 +91,16 @@ is_going goes = true
 abbrev pub going : Holdings → Job → List Pair
 going h job = filter (λ e. is_going (fate h job e)) job.pairs
 
+-- the places that these pairs come from
 abbrev pub sources_of : List Pair → PlaceSet
 sources_of es p = list_any (λ e. same_place e.0 p) es
 
+-- the places that these pairs go to
 abbrev pub targets_of : List Pair → PlaceSet
 targets_of es q = list_any (λ e. same_place e.1 q) es
 
 -- the flush: the held targets of these pairs lose all, with all that derives from them, and no word is returned
--- (a page that is mapped over is replaced: L4 X.2, MapItem)
+-- (profile)
 abbrev pub flush : Holdings → List Pair → Holdings
 flush h es = strip h (λ q. targets_of es q && is_held h q) all_rights true
 
@@ -107,9 +113,11 @@ pub record Counts : Type 0 where
   pub extended : ℕ
   pub linked : ℕ
 
+-- no pair at all
 abbrev pub no_counts : Counts
 no_counts = record { absent = 0; norights = 0; origin = 0; lost = 0; extended = 0; linked = 0 }
 
+-- the pairs of both
 abbrev pub add_counts : Counts → Counts → Counts
 add_counts a b = record {
   absent = a.absent + b.absent;

@@ -1,4 +1,4 @@
--- Lawful holdings: what holds from the start on, after every call.
+-- Lawful holdings: origins are held, chains end, a frame has at most one root, no rights are empty.
 use Rattle.std.specs.Prelude.{ℕ, zero, suc, Bool, true, false, ◌&&◌, ◌||◌, ◌==◌, not, length, Option, Some, None, is_some}
 use Rattle.std.specs.List.{list_all}
 use Rattle.std.specs.FinMap.Entries.{is_sorted}
@@ -18,6 +18,7 @@ abbrev pub is_origin_of : Held → Option Held → Bool
 is_origin_of m None = false
 is_origin_of m (Some o) = (o.frame == m.frame) && is_within m.rights o.rights
 
+-- where there is an origin, it is one that the mapping may have
 abbrev pub has_lawful_origin : Holdings → Held → Option Place → Bool
 has_lawful_origin h m None = true
 has_lawful_origin h m (Some o) = is_origin_of m (at h o)
@@ -26,10 +27,7 @@ has_lawful_origin h m (Some o) = is_origin_of m (at h o)
 abbrev pub is_only_root : Holdings → Place × Held → Bool
 is_only_root h e = is_some e.1.origin || list_all (λ d. is_some d.1.origin || not (d.1.frame == e.1.frame) || same_place d.0 e.0) h
 
--- no rights are empty
-abbrev pub all_have_rights : Holdings → Bool
-all_have_rights h = list_all (λ e. not (is_empty e.1.rights)) h
-
+-- what is asked of one mapping
 abbrev pub is_lawful_at : Holdings → Place × Held → Bool
 is_lawful_at h e = not (is_empty e.1.rights) && has_lawful_origin h e.1 e.1.origin && ends (length h) h e.1.origin && is_only_root h e
 

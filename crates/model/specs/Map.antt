@@ -7,7 +7,8 @@ use Rattle.space.specs.Place.{place_cmp}
 use Rattle.model.specs.Holdings.{Held, Holdings, at}
 use Rattle.model.specs.Items.{Job, Pair, Fate, absent, norights, to_origin, extends, goes, fate, going, flush}
 
--- a new mapping: the source's frame, the source's rights as far as the fpage's go, no status, the source as origin
+-- a new mapping: the source's frame, those of the source's rights that the fpage lets through, no status, and the
+-- source as origin (MapItem)
 abbrev pub linked : Job → Place → Held → Held
 linked job source m = record { frame = m.frame; rights = meet m.rights job.rights; status = no_rights; origin = Some source }
 
@@ -20,11 +21,13 @@ abbrev pub link : Job → Pair → Option Held → Holdings → Holdings
 link job e None h = h
 link job e (Some source) h = put place_cmp e.1 (linked job e.0 source) h
 
+-- a pair that extends
 abbrev pub extend : Job → Pair → Option Held → Option Held → Holdings → Holdings
 extend job e None target h = h
 extend job e (Some source) None h = h
 extend job e (Some source) (Some m) h = put place_cmp e.1 (extended job source m) h
 
+-- one pair, by its outcome
 abbrev pub map_pair : Holdings → Job → Pair → Fate → Holdings → Holdings
 map_pair flushed job e absent h = h
 map_pair flushed job e norights h = h
@@ -37,6 +40,6 @@ abbrev pub map_pairs : Holdings → Holdings → Job → List Pair → Holdings 
 map_pairs start flushed job [] h = h
 map_pairs start flushed job (e ∷ es) h = map_pairs start flushed job es (map_pair flushed job e (fate start job e) h)
 
--- one MapItem, in phases: outcomes, flush, links and extensions
+-- one MapItem, in phases: outcomes, flush, links and extensions (the phases: profile)
 abbrev pub mapped : Holdings → Job → Holdings
 mapped h job = let flushed = flush h (going h job) in map_pairs h flushed job job.pairs flushed

@@ -1,5 +1,5 @@
 -- The bytes of a trace: its header, and what each of its records asks for (docs/FORMATS.md).
-use Rattle.std.specs.Prelude.{ℕ, ◌+◌, ◌-◌, ◌*◌, ◌/◌, ◌%◌, ◌^◌, ◌==◌, nat_lt, nat_le, ◌&&◌, ◌||◌, not, Bool, List, [], ◌∷◌, map, length, codes, Option, Some, None, Result, Ok, Err, if◌then◌else◌}
+use Rattle.std.specs.Prelude.{ℕ, ◌+◌, ◌-◌, ◌*◌, ◌/◌, ◌%◌, ◌^◌, ◌==◌, nat_lt, nat_le, ◌&&◌, not, Bool, List, [], ◌∷◌, map, length, codes, Option, Some, None, Result, Ok, Err, if◌then◌else◌}
 use Rattle.std.specs.Str.{bytes_eq}
 use Rattle.csv.specs.Reading.{default_config, strip_bom, records}
 use Rattle.fpage.specs.Fpage.{Flexpage, read_fpage, pages_of_space}
@@ -9,7 +9,7 @@ use Rattle.fpage.specs.declared.rights.Access.{Access}
 use Rattle.fpage.specs.declared.rights.Access.TheVariants as kind
 use Rattle.fpage.specs.declared.item.Item.{Item}
 use Rattle.fpage.specs.declared.error.FpageError.{FpageError}
-use Rattle.model.specs.Calls.{Limits, Call, send, access, unmap, Named, Refusal, refusal_of, out_of_space, no_such_space, bad_record, Request}
+use Rattle.model.specs.Calls.{Limits, send, access, unmap, Named, refusal_of, out_of_space, no_such_space, bad_record, Request}
 
 -- a record: its fields, each of any bytes
 abbrev pub Fields : Type 0

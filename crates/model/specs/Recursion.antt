@@ -1,18 +1,19 @@
--- Unmap as a recursion over derived mappings, page by page; the law that it is strip says that both mean one thing.
-use Rattle.std.specs.Prelude.{ℕ, zero, suc, Bool, true, false, List, [], ◌∷◌, filter, map, length, Option, Some, None, if◌then◌else◌}
+-- Unmap as a recursion over derived mappings, page by page (profile); it is to give what strip gives.
+use Rattle.std.specs.Prelude.{ℕ, zero, suc, Bool, true, false, List, [], ◌∷◌, filter, length, Option, Some, if◌then◌else◌}
 use Rattle.std.specs.Option.{option_map_or}
-use Rattle.fpage.specs.Rights.{no_rights, join, without}
+use Rattle.fpage.specs.Rights.{no_rights, join}
 use Rattle.fpage.specs.declared.rights.Rights.{Rights}
 use Rattle.space.specs.declared.place.Place.{Place}
 use Rattle.space.specs.Place.{same_place}
-use Rattle.model.specs.Holdings.{Held, Holdings, PlaceSet, at, is_held, origin_at, derives_from, each, places}
-use Rattle.model.specs.Strip.{unless_empty, narrowed}
+use Rattle.model.specs.Holdings.{Holdings, PlaceSet, at, is_held, origin_at, derives_from, each, places}
+use Rattle.model.specs.Strip.{left_of, rights_left}
 
 -- what a visit took, and what it left
 pub record Visited : Type 0 where
   pub word : Rights
   pub left : Holdings
 
+-- with what was taken before
 abbrev pub joined : Rights → Visited → Visited
 joined word v = record { word = join word v.word; left = v.left }
 
@@ -29,7 +30,7 @@ children h p = places (filter (λ e. derives_from p e.1) h)
 abbrev pub taken : Rights → Bool → Place → Holdings → Visited
 taken a narrows p h = record {
   word = option_map_or (λ m. m.status) (at h p) no_rights;
-  left = each (λ q m. if same_place p q then unless_empty (record m { rights = narrowed narrows a m.rights; status = no_rights }) else Some m) h;
+  left = each (λ q m. if same_place p q then left_of narrows (record m { rights = rights_left narrows a m.rights; status = no_rights }) else Some m) h;
 }
 
 -- what derives from the place first, and then the place; at most n places deep

@@ -10,6 +10,7 @@ use Rattle.model.specs.Answers.{Answer}
 abbrev pub root : ℕ → Place × Held
 root i = (record { space = 0; page = i }, record { frame = i; rights = all_rights; status = no_rights; origin = None })
 
+-- so many roots from page i on
 abbrev pub roots_from : ℕ → ℕ → Holdings
 roots_from i zero = []
 roots_from i (suc n) = root i ∷ roots_from (i + 1) n
@@ -23,6 +24,7 @@ pub record Told : Type 0 where
   pub replies : List Reply
   pub last : Holdings
 
+-- an answer before the rest
 abbrev pub told_after : Answer → Told → Told
 told_after a rest = record { replies = a.reply ∷ rest.replies; last = rest.last }
 

@@ -17,8 +17,8 @@ use Rattle.model.specs.Calls.{Limits}
 use Rattle.model.specs.Answers.{pages_in}
 use Rattle.model.specs.Replay.{Told, root}
 use Rattle.model.specs.Records.{Trace, HeaderFault, bad_header, bad_limits, trace_of}
-use Rattle.model.specs.Text.{line_feed, reply_lines, audit_line, audit_lines, text, told, output_of}
-use Rattle.model.specs.FirstPath.{first_trace_of, first_told}
+use Rattle.model.specs.Text.{line_feed, reply_lines, audit_line, audit_lines, told, output_of}
+use Rattle.model.specs.FirstPath.{first_output_of}
 
 -- ---- how a row is written
 
@@ -49,10 +49,12 @@ changed_lines h = audit_lines (filter (λ e. not (is_as_at_start e)) h)
 -- which of n pages of space 0, from page i on, are not held
 abbrev pub pages_gone : ℕ → ℕ → Holdings → List ℕ
 pages_gone i zero h = []
-pages_gone i (suc n) h = filter (λ page. not (is_held h (record { space = 0; page = page }))) (i ∷ []) ++ pages_gone (i + 1) n h
+pages_gone i (suc n) h =
+    (if is_held h (record { space = 0; page = i }) then [] else i ∷ []) ++ pages_gone (i + 1) n h
 
 abbrev pub row_of : ℕ → Told → Row
-row_of frames t = record { replies = reply_lines 1 t.replies; changed = changed_lines t.last; gone = pages_gone 0 frames t.last }
+row_of frames t =
+    record { replies = reply_lines 1 t.replies; changed = changed_lines t.last; gone = pages_gone 0 frames t.last }
 
 abbrev pub row_of_trace : Result Trace HeaderFault → Result Row HeaderFault
 row_of_trace (Ok t) = Ok (row_of t.limits.frames (told t))
@@ -93,7 +95,8 @@ abbrev pub all_pages : ℕ → PlaceSet
 all_pages space = pages_in space (record { first = 0; count = 64; rights = no_rights })
 
 abbrev pub revocation_of_trace : Result Trace HeaderFault → ℕ → ℕ → Bool → Result BothWays HeaderFault
-revocation_of_trace (Ok t) space rights f = Ok (both_ways t.limits.frames (told t).last (all_pages space) (of_bits rights) f)
+revocation_of_trace (Ok t) space rights f =
+    Ok (both_ways t.limits.frames (told t).last (all_pages space) (of_bits rights) f)
 revocation_of_trace (Err e) space rights f = Err e
 
 -- after a trace, rights as a number revoked from all pages of a space, with f or without, by the recursion and by strip
@@ -117,21 +120,15 @@ header bytes = limits_of_trace (trace_of bytes)
 abbrev pub limits : ℕ → ℕ → ℕ → Result Limits HeaderFault
 limits spaces bits frames = Ok (record { spaces = spaces; bits = bits; frames = frames })
 
--- what is written while only the first calls are served
-abbrev pub first_output_of_trace : Result Trace HeaderFault → Result (List ℕ) HeaderFault
-first_output_of_trace (Ok t) = Ok (text (first_told t))
-first_output_of_trace (Err e) = Err e
-
-abbrev pub first_output_of : List ℕ → Result (List ℕ) HeaderFault
-first_output_of bytes = first_output_of_trace (first_trace_of bytes)
-
 abbrev pub place : ℕ → ℕ → Option Place
 place space page = Some (record { space = space; page = page })
 
 -- a space, a page, a frame, rights as a number, an origin
 abbrev pub mapping : ℕ → ℕ → ℕ → ℕ → Option Place → Place × Held
-mapping space page frame rights origin =
-    (record { space = space; page = page }, record { frame = frame; rights = of_bits rights; status = no_rights; origin = origin })
+mapping space page frame rights origin = (
+  record { space = space; page = page },
+  record { frame = frame; rights = of_bits rights; status = no_rights; origin = origin },
+)
 
 abbrev pub numbers_from : ℕ → ℕ → List ℕ
 numbers_from i zero = []
@@ -140,7 +137,8 @@ numbers_from i (suc n) = i ∷ numbers_from (i + 1) n
 -- whether the runs of an item list a pair of pages exactly where the relation has it
 abbrev pub is_listed_alike : Item → Flexpage → ℕ → ℕ → Bool
 is_listed_alike item window p q =
-    if is_pair item window p q then is_pair_of (pairs_of item window) p q else not (is_pair_of (pairs_of item window) p q)
+    let is_listed = is_pair_of (pairs_of item window) p q in
+    if is_pair item window p q then is_listed else not is_listed
 
 -- the same of all pages of a space of 64 pages
 abbrev pub list_same_pairs_of : Result Flexpage FpageError → Result Item FpageError → Bool
@@ -646,7 +644,7 @@ FirstWordsOfItems =
     ∷ codes "2,0,0,rwx,---,-" ∷ [])
     (0 ∷ [])
 
--- two pages in a window of eight; sixteen pages and the complete space cut to a smaller window; a send base between pages
+-- two pages in a window of eight; sixteen pages, and the complete space, cut to a window; a send base between pages
 abbrev pub BlocksOfLargerSide : Type 0
 BlocksOfLargerSide =
     row
@@ -1182,7 +1180,7 @@ HeadersOfRightForm =
     ∷ (codes "l4map,1,2,18,1" ++ 13 ∷ 10 ∷ [])
     ∷ (10 ∷ 13 ∷ 10 ∷ codes "l4map,1,2,18,1")
     ∷ (239 ∷ 187 ∷ 191 ∷ codes "l4map,1,2,18,1") ∷ [])
-    ≡ limits 2 18 1 ∷ limits 512 24 4096 ∷ limits 2 18 64 ∷ limits 2 18 1 ∷ limits 2 18 1 ∷ limits 2 18 1 ∷ limits 2 18 1 ∷ []
+    ≡ limits 2 18 1 ∷ limits 512 24 4096 ∷ limits 2 18 64 ∷ replicate 4 (limits 2 18 1)
 
 -- no record at all, a record of two quotes, another form, another form and bad limits
 abbrev pub HeadersOfWrongForm : Type 0
@@ -1271,7 +1269,8 @@ FirstRun =
     ∷ codes "1,3,0,rw-,RW-,0:0"
     ∷ codes "end 2 0" ∷ []))
 
--- what is not served first: several items, a grant, no page or several pages, a held target, after all other refusals; any unmap
+-- what is not served first: any unmap; several items, a grant, no page or several, a held target, after all other
+-- refusals
 abbrev pub FirstRefusals : Type 0
 FirstRefusals =
     first_output_of (lines
@@ -1322,7 +1321,8 @@ LawfulHoldings =
     ∷ (mapping 0 0 0 1 (place 1 0) ∷ mapping 1 0 0 3 (place 2 0) ∷ mapping 2 0 0 7 None ∷ []) ∷ [])
     ≡ replicate 3 true
 
--- an origin that is not held; chains without end; two roots of one frame; another frame, and more rights, than the origin; no rights; places out of order, and twice
+-- an origin that is not held; chains without end; two roots of one frame; another frame than the origin; more rights
+-- than the origin; no rights; places out of order; a place twice
 abbrev pub UnlawfulHoldings : Type 0
 UnlawfulHoldings =
     map is_lawful
@@ -1337,7 +1337,8 @@ UnlawfulHoldings =
     ∷ (mapping 0 1 1 7 None ∷ mapping 0 1 1 7 (place 0 1) ∷ []) ∷ [])
     ≡ replicate 9 false
 
--- the runs that a send works list the pairs of the relation: one size, a larger window, a larger fpage, the complete space on either side, a nilpage
+-- the runs that a send works list the pairs of the relation: one size, a larger window, a larger fpage, the complete
+-- space on either side, a nilpage
 abbrev pub PairsByRuns : Type 0
 PairsByRuns =
     map list_same_pairs

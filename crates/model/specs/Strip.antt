@@ -1,5 +1,5 @@
--- Strip a set of pages of rights: the rule of Unmap for these pages, all at once (L4 X.2, Unmap).
-use Rattle.std.specs.Prelude.{Bool, ◌&&◌, ◌||◌, List, [], ◌∷◌, Option, Some, None, if◌then◌else◌}
+-- Strip a set of pages of rights: the rule of Unmap for these pages, all at once (L4 X.2, Unmap; all at once: profile).
+use Rattle.std.specs.Prelude.{Bool, ◌&&◌, ◌||◌, [], ◌∷◌, Option, Some, None, if◌then◌else◌}
 use Rattle.fpage.specs.Rights.{no_rights, is_empty, join, without}
 use Rattle.fpage.specs.declared.rights.Rights.{Rights}
 use Rattle.space.specs.declared.place.Place.{Place}
@@ -30,19 +30,21 @@ gain_from h set p (e ∷ rest) =
 abbrev pub passed_to : Holdings → PlaceSet → Place → Rights
 passed_to h set p = gain_from h set p h
 
-abbrev pub narrowed : Bool → Rights → Rights → Rights
-narrowed is_within a rights = if is_within then without rights a else rights
+-- the rights of a mapping that loses some, or of one that does not
+abbrev pub rights_left : Bool → Rights → Rights → Rights
+rights_left loses a rights = if loses then without rights a else rights
 
--- the status is cleared below the set; outside it gains what is passed
+-- the status is cleared below the set; outside it gains what is passed (profile)
 abbrev pub stripped : Holdings → PlaceSet → Rights → Bool → Place → Held → Held
 stripped h set a f p m = record m {
-  rights = narrowed (is_narrowed h set f p) a m.rights;
+  rights = rights_left (is_narrowed h set f p) a m.rights;
   status = if is_below h set p then no_rights else join m.status (passed_to h set p);
 }
 
 -- a mapping whose rights become empty is removed (profile)
-abbrev pub unless_empty : Held → Option Held
-unless_empty m = if is_empty m.rights then None else Some m
+abbrev pub left_of : Bool → Held → Option Held
+left_of loses m = if loses && is_empty m.rights then None else Some m
 
+-- strip the set of rights: what derives from it and, with f set, the set itself (Unmap)
 abbrev pub strip : Holdings → PlaceSet → Rights → Bool → Holdings
-strip h set a f = each (λ p m. unless_empty (stripped h set a f p m)) h
+strip h set a f = each (λ p m. left_of (is_narrowed h set f p) (stripped h set a f p m)) h

@@ -1,5 +1,5 @@
 -- The text of replies and holdings (docs/FORMATS.md).
-use Rattle.std.specs.Prelude.{ℕ, zero, suc, ◌+◌, ◌*◌, ◌/◌, ◌%◌, ◌^◌, nat_lt, Bool, true, false, List, [], ◌∷◌, ◌++◌, length, codes, count_by, Option, Some, None, Result, Ok, Err, if◌then◌else◌}
+use Rattle.std.specs.Prelude.{ℕ, zero, suc, ◌+◌, ◌/◌, ◌%◌, ◌^◌, nat_lt, Bool, true, false, List, [], ◌∷◌, ◌++◌, length, codes, count_by, Option, Some, None, Result, Ok, Err, if◌then◌else◌}
 use Rattle.std.specs.List.{flat_map}
 use Rattle.std.specs.Fmt.{decimal}
 use Rattle.fpage.specs.declared.rights.Rights.{Rights}
@@ -7,7 +7,7 @@ use Rattle.space.specs.declared.place.Place.{Place}
 use Rattle.space.specs.Place.{place_text}
 use Rattle.model.specs.Holdings.{Held, Holdings}
 use Rattle.model.specs.Items.{Counts}
-use Rattle.model.specs.Calls.{Limits, Refusal, bad_size, misaligned, out_of_space, not_an_item, bad_control, no_such_space, same_space, no_window, bad_record, Reply, sent, accessed, unmapped, refused}
+use Rattle.model.specs.Calls.{Refusal, bad_size, misaligned, out_of_space, not_an_item, bad_control, no_such_space, same_space, no_window, bad_record, Reply, sent, accessed, unmapped, refused}
 use Rattle.model.specs.Answers.{answer}
 use Rattle.model.specs.Replay.{Told, replay, start}
 use Rattle.model.specs.Records.{Trace, HeaderFault, trace_of}

@@ -1,4 +1,4 @@
--- An access of a page by its space (profile: the manual leaves when status is set to the hardware).
+-- An access of a page by its space (profile).
 use Rattle.std.specs.Prelude.{Bool, true, false, Some, if◌then◌else◌}
 use Rattle.std.specs.Option.{option_map_or}
 use Rattle.fpage.specs.Rights.{has, join}
@@ -19,6 +19,7 @@ marks Execute = record { read = true; write = false; execute = true }
 abbrev pub can_touch : Holdings → Place → Access → Bool
 can_touch h p a = option_map_or (λ m. has m.rights a) (at h p) false
 
+-- a mapping whose status has the access's marks
 abbrev pub marked : Access → Held → Held
 marked a m = record m { status = join m.status (marks a) }
 

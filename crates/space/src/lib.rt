@@ -1,4 +1,4 @@
-//! Places of pages, and what is entered for a page.
+//! Places, that is pages of spaces, and the entry of a page that is held.
 #![tactic(auto)]
 
 mod place;

@@ -1,16 +1,10 @@
 -- The entry that is inserted is the mapping that is put.
-use Rattle.std.proofs.Common.{◌∙◌, ap}
+use Rattle.std.proofs.Common.{◌≡◌, ◌∙◌, ap}
 use Rattle.std.specs.FinMap.Entries.{put}
 use Rattle.space.specs.Place.{place_cmp}
 use Rattle.l4map.specs.Held.{held_of, holdings_of}
-use Rattle.l4map.proofs.Mappings.{put_entry, put_rights}
+use Rattle.l4map.proofs.Mappings.{put_entry}
 use Rattle.l4map.proofs.mapping.Mappings.put.Goals as goal
-
-pub invariant_of-self : goal.invariant_of-self
-invariant_of-self c = rw (rw c.in_err-insert.was at c.insert.ensures.err) c.self.invariant
-
-pub invariant_of-self-2 : goal.invariant_of-self-2
-invariant_of-self-2 c = rw (c.in_ok-insert.ensures.entries, put_entry c.self.inside.held.entries c.args.place c.args.mapping) (put_rights (holdings_of c.self.inside.held.entries) c.args.place (held_of c.args.mapping) c.requires c.self.invariant)
 
 pub returns-clause-ok : goal.returns-clause-ok
 returns-clause-ok c = ap holdings_of c.in_ok-insert.ensures.entries ∙ put_entry c.self.inside.held.entries c.args.place c.args.mapping ∙ ap (put place_cmp c.args.place (held_of c.args.mapping)) c.self.view_is

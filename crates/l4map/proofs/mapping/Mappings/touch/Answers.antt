@@ -2,7 +2,7 @@
 use Rattle.std.proofs.Common.{◌≡◌, refl, sym, ap, ◌∙◌}
 use Rattle.model.specs.Touch.{touch}
 use Rattle.l4map.specs.Held.{holdings_of}
-use Rattle.l4map.proofs.Mappings.{can_touch_found, can_touch_absent, touched, touch_rights}
+use Rattle.l4map.proofs.Mappings.{can_touch_found, can_touch_absent, touched}
 use Rattle.l4map.proofs.mapping.Mappings.touch.Goals.{in-Some, in-None}
 use Rattle.l4map.proofs.mapping.Mappings.touch.Goals as goal
 
@@ -17,9 +17,6 @@ left c = elim c.match-get_mut.branch [
       let absent = sym (rw w.in-None.is at c.get_mut.ensures.value) in
       rw (w.self-inside-is, c.get_mut.follows.holds-at-none, can_touch_absent c.self.inside.held.entries c.args.place c.args.access absent) refl
 ]
-
-pub invariant_of-self : goal.invariant_of-self
-invariant_of-self c = rw (left c) (touch_rights (holdings_of c.self.inside.held.entries) c.args.place c.args.access c.self.invariant)
 
 pub returns-clause-answer : goal.returns-clause-answer
 returns-clause-answer c = elim c.match-get_mut.branch [

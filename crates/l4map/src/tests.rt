@@ -1,0 +1,243 @@
+//! Whole runs over memory, and streams that fail.
+
+ghost use Rattle.std.specs.Prelude.{◌≡◌, false, true, OnOk, OnErr};
+
+use crate::error::RunError;
+use crate::run::{Summary, run};
+use crate::stream::{Failed, Sink, Source, Std};
+use std::test::Fail;
+
+/// The audit lines of sixteen frames that no call has changed.
+const ROOTS: &str =
+    "0,0,0,rwx,---,-\n0,1,1,rwx,---,-\n0,2,2,rwx,---,-\n0,3,3,rwx,---,-\n0,4,4,rwx,---,-\n0,5,5,rwx,---,-\n0,6,6,rwx,---,-\n0,7,7,rwx,---,-\n0,8,8,rwx,---,-\n0,9,9,rwx,---,-\n0,10,10,rwx,---,-\n0,11,11,rwx,---,-\n0,12,12,rwx,---,-\n0,13,13,rwx,---,-\n0,14,14,rwx,---,-\n0,15,15,rwx,---,-\n";
+
+/// What a run over memory came to, and what it wrote.
+fn outcome_of(rt: &impl AllocGlobal, input: &str) -> (Result<Summary, RunError>, Vec<u8>) {
+    let mut output = Std::new(Vec::new(rt.alloc()));
+    let outcome = run(rt, &mut Std::new(input.as_bytes()), &mut output);
+    (outcome, output.into_inner())
+}
+
+#[test]
+fn writes_the_replies_and_the_audit(rt: HostRuntime) -> Result<(), Fail> {
+    // The records after the header, the reply lines, the audit lines after the roots, and the end line.
+    let cases = [
+        ("", "", "", "end 0 0\n"),
+        (
+            "send,0,1,10,8,50c6\n",
+            "1 send absent=0 norights=0 origin=0 lost=0 extended=0 linked=1\n",
+            "1,0,5,rw-,---,0:5\n",
+            "end 1 0\n",
+        ),
+        (
+            "send,0,1,10,9008,50c7\n",
+            "1 send absent=0 norights=0 origin=0 lost=0 extended=0 linked=1\n",
+            "1,9,5,rwx,---,0:5\n",
+            "end 1 0\n",
+        ),
+        (
+            "send,0,1,10,8,50c6\nsend,1,2,10,8,c1\n",
+            "1 send absent=0 norights=0 origin=0 lost=0 extended=0 linked=1\n2 send absent=0 norights=1 origin=0 lost=0 extended=0 linked=0\n",
+            "1,0,5,rw-,---,0:5\n",
+            "end 2 0\n",
+        ),
+        (
+            "send,0,1,10,8,50c6\naccess,1,fff,w\naccess,1,ffc,x\naccess,1,1000,r\naccess,1,40000,r\naccess,3,0,r\n",
+            "1 send absent=0 norights=0 origin=0 lost=0 extended=0 linked=1\n2 access ok\n3 access fault\n4 access fault\n5 refused OutOfSpace\n6 refused NoSuchSpace\n",
+            "1,0,5,rw-,RW-,0:5\n",
+            "end 6 2\n",
+        ),
+    ];
+    for (records, replies, mappings, end) in cases {
+        let input = format!(in rt.alloc(); "l4map,1,3,18,16\n{records}")?;
+        let (outcome, written) = outcome_of(&rt, input.as_str());
+        assert!(rt; outcome.is_ok(), "{records}");
+        let expected = format!(in rt.alloc(); "{replies}{ROOTS}{mappings}{end}")?;
+        assert_eq!(rt; written.as_slice(), expected.as_bytes(), "{records}");
+    }
+    Ok(())
+}
+
+#[test]
+fn counts_the_records_and_the_refused_ones(rt: HostRuntime) {
+    let (outcome, _) = outcome_of(
+        &rt,
+        "l4map,1,2,18,1\nsend,0,1,10,3008,c6\naccess,2,0,r\nunmap,0,0,10\n",
+    );
+    let summary = Summary {
+        records: 3,
+        refused: 2,
+    };
+    assert_eq!(rt; outcome, Ok(summary));
+}
+
+#[test]
+fn answers_a_bad_header_before_it_writes(rt: HostRuntime) {
+    let cases = [
+        ("", RunError::BadHeader),
+        ("\n\n", RunError::BadHeader),
+        ("l4map,01,3,18,16\n", RunError::BadHeader),
+        ("l4map,1,3,18\n", RunError::BadHeader),
+        ("l4map,1,3,17,+16\n", RunError::BadHeader),
+        ("l4map,1,3,17,16\n", RunError::BadLimits),
+        ("l4map,1,513,18,16\n", RunError::BadLimits),
+        ("l4map,1,3,18,65\n", RunError::BadLimits),
+    ];
+    for (input, error) in cases {
+        let (outcome, written) = outcome_of(&rt, input);
+        assert_eq!(rt; outcome, Err(error), "{input}");
+        assert!(rt; written.is_empty(), "{input}");
+    }
+}
+
+#[test]
+fn tells_each_error_by_its_line_and_status(rt: HostRuntime) -> Result<(), Fail> {
+    let cases = [
+        (RunError::BadHeader, "l4map: BadHeader\n", 2),
+        (RunError::BadLimits, "l4map: BadLimits\n", 2),
+        (RunError::NoMemory(0), "l4map: record 0: NoMemory\n", 3),
+        (
+            RunError::NoWorker(1907),
+            "l4map: record 1907: NoWorker\n",
+            3,
+        ),
+        (RunError::Unreadable, "l4map: Unreadable\n", 4),
+        (RunError::WriteFailed, "l4map: WriteFailed\n", 4),
+    ];
+    for (error, line, status) in cases {
+        let mut output = Std::new(Vec::new(rt.alloc()));
+        error
+            .tell(&mut output)
+            .ok()
+            .ok_or("a write to memory failed")?;
+        assert_eq!(rt; output.into_inner().as_slice(), line.as_bytes());
+        assert_eq!(rt; error.status(), status);
+    }
+    Ok(())
+}
+
+/// A source over memory that fails once so many bytes were read.
+#[derive(Drop)]
+struct FailingSource<'a> {
+    rest: &'a [u8],
+    left: usize,
+    failed: bool,
+}
+
+impl Source for FailingSource<'_> {
+    ghost failed = { λ s. s.failed };
+
+    fn read(&mut self, buf: &mut [u8]) -> Result<usize, Failed> {
+        if self.left == 0 {
+            self.failed = true;
+            return Err(Failed);
+        }
+        let count = self.left.min(self.rest.len()).min(buf.len());
+        let (front, rest) = self.rest.split_at(count);
+        buf[..count].copy_from_slice(front);
+        self.rest = rest;
+        self.left -= count;
+        Ok(count)
+    }
+
+    fn has_failed(&self) -> bool {
+        self.failed
+    }
+}
+
+/// A sink that counts its calls, keeps what was written, and fails at one of its calls.
+#[derive(Drop)]
+struct FailingSink {
+    kept: Vec<u8>,
+    calls: u64,
+    fails_at: u64,
+    failed: bool,
+}
+
+impl FailingSink {
+    fn call(&mut self, bytes: &[u8]) -> Result<(), Failed>
+        ensures ok { OnOk result (self.new.failed ≡ self.old.failed) }
+        ensures err { OnErr result (self.new.failed ≡ true) }
+    {
+        self.calls = self.calls.wrapping_add(1);
+        if self.calls == self.fails_at || self.kept.extend_from_slice(bytes).is_err() {
+            self.failed = true;
+            return Err(Failed);
+        }
+        Ok(())
+    }
+}
+
+impl Sink for FailingSink {
+    ghost failed = { λ s. s.failed };
+
+    fn write_all(&mut self, bytes: &[u8]) -> Result<(), Failed> {
+        self.call(bytes)
+    }
+
+    fn flush(&mut self) -> Result<(), Failed> {
+        self.call(&[])
+    }
+
+    fn has_failed(&self) -> bool {
+        self.failed
+    }
+}
+
+const SHORT: &str = "l4map,1,2,18,1\nsend,0,1,10,3008,c6\naccess,1,3abc,w\n";
+
+const SHORT_OUTPUT: &str =
+    "1 send absent=0 norights=0 origin=0 lost=0 extended=0 linked=1\n2 access ok\n0,0,0,rwx,---,-\n1,3,0,rw-,RW-,0:0\nend 2 0\n";
+
+fn sink(rt: &impl AllocGlobal, fails_at: u64) -> FailingSink
+    ensures { result.failed ≡ false }
+{
+    FailingSink {
+        kept: Vec::new(rt.alloc()),
+        calls: 0,
+        fails_at,
+        failed: false,
+    }
+}
+
+#[test]
+fn a_source_that_fails_after_any_byte_is_unreadable(rt: HostRuntime) {
+    for left in 0..=SHORT.len() {
+        let mut source = FailingSource {
+            rest: SHORT.as_bytes(),
+            left,
+            failed: false,
+        };
+        let mut output = sink(&rt, 0);
+        assert_eq!(rt;
+            run(&rt, &mut source, &mut output),
+            Err(RunError::Unreadable),
+            "{left}"
+        );
+        assert!(rt; output.kept.is_empty(), "{left}");
+    }
+}
+
+#[test]
+fn a_sink_that_fails_at_any_call_is_write_failed(rt: HostRuntime) {
+    let mut undisturbed = sink(&rt, 0);
+    let summary = Summary {
+        records: 2,
+        refused: 0,
+    };
+    assert_eq!(rt;
+        run(&rt, &mut Std::new(SHORT.as_bytes()), &mut undisturbed),
+        Ok(summary)
+    );
+    assert_eq!(rt; undisturbed.kept.as_slice(), SHORT_OUTPUT.as_bytes());
+    for fails_at in 1..undisturbed.calls.saturating_add(1) {
+        let mut output = sink(&rt, fails_at);
+        let outcome = run(&rt, &mut Std::new(SHORT.as_bytes()), &mut output);
+        assert_eq!(rt; outcome, Err(RunError::WriteFailed), "{fails_at}");
+        assert_eq!(rt; output.calls, fails_at);
+        assert!(rt;
+            SHORT_OUTPUT.as_bytes().starts_with(output.kept.as_slice()),
+            "{fails_at}"
+        );
+    }
+}
