@@ -1,7 +1,5 @@
-ghost use Rattle.std.specs.Prelude.{◌≡◌, ℕ, ◌+◌, ◌==◌, IfOk};
-ghost use Rattle.fpage.specs.Fpage.{IsSpaceBits, read_fpage, is_page, is_page_of};
-ghost use Rattle.std.specs.Prelude.{◌≤◌, ◌<◌, ◌^◌};
-ghost use Rattle.fpage.specs.Fpage.{read_sized, starts_within};
+ghost use Rattle.std.specs.Prelude.{◌≡◌, ℕ, ◌+◌, ◌^◌, ◌<◌, ◌≤◌, ◌==◌, IfOk};
+ghost use Rattle.fpage.specs.Fpage.{IsSpaceBits, read_fpage, read_sized, starts_within, is_page, is_page_of};
 
 use crate::error::FpageError;
 use crate::rights::Rights;
@@ -72,6 +70,7 @@ impl Fpage {
         self.first..self.first + self.count
     }
 
+    /// The rights in its word.
     pub fn rights(self) -> Rights
         ensures { result ≡ self.rights }
     {

@@ -1,6 +1,6 @@
 //! One request, answered.
 
-ghost use Rattle.std.specs.Prelude.{◌≡◌, List, Ok, IfOk, OnErr};
+ghost use Rattle.std.specs.Prelude.{◌≡◌, Ok, IfOk, OnErr};
 ghost use Rattle.model.specs.Calls.{send};
 ghost use Rattle.model.specs.FirstPath.{first_answer};
 ghost use Rattle.l4map.specs.Meaning.{limits_of, request_of};

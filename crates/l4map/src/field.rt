@@ -2,7 +2,7 @@
 
 ghost use Rattle.std.specs.Prelude.{◌≡◌, ◌≤◌, ◌<◌, ◌^◌, map, IfOk, IfSome};
 ghost use Rattle.csv.specs.Records.{fields_of};
-ghost use Rattle.model.specs.Records.{digit_in, number_field, word_field, space_field, kind_field, word_fields};
+ghost use Rattle.model.specs.Records.{digit_in, number_field, word_field, space_field, kind_field};
 
 use csv::ByteRecord;
 use fpage::Access;

@@ -107,6 +107,7 @@ impl Mappings {
         Ok(())
     }
 
+    /// Whether a place holds something.
     pub fn is_held(&self, place: Place) -> bool
         ensures { result ≡ is_held self.now place }
     {

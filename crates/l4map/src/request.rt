@@ -3,7 +3,7 @@
 ghost use Rattle.std.specs.Prelude.{◌≡◌, ◌%◌, length, IfOk, IfSome};
 ghost use Rattle.std.specs.Option.{option_map};
 ghost use Rattle.fpage.specs.Fpage.{IsSpaceBits};
-ghost use Rattle.model.specs.Records.{header_limits, access_fields, access_request, word_fields, send_fields, are_item_words, read_items, send_request};
+ghost use Rattle.model.specs.Records.{header_limits, access_fields, access_request, word_fields, send_fields, read_items, send_request};
 ghost use Rattle.model.specs.FirstPath.{first_request};
 ghost use Rattle.l4map.specs.Meaning.{shown, limits_of, access_of, send_of, items_of, request_of};
 

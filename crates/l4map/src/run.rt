@@ -1,9 +1,7 @@
 //! A run: from the bytes of a trace to the text of its replay.
 
-ghost use Rattle.std.specs.Prelude.{◌≡◌, ◌<◌, ◌++◌, length, false, true, map, IfOk, IfErr, IfSome, OnOk, OnErr, string_bytes};
-ghost use Rattle.model.specs.Text.{text, audit_lines, end_line, reply_lines};
-ghost use Rattle.model.specs.Replay.{Told};
-ghost use Rattle.std.specs.Io.KnownBytes.{Keeps};
+ghost use Rattle.std.specs.Prelude.{◌≡◌, ◌<◌, ◌++◌, length, false, map, IfOk, IfErr, IfSome, OnOk, string_bytes};
+ghost use Rattle.model.specs.Text.{text, audit_lines, end_line};
 ghost use Rattle.csv.specs.Records.{fields_of};
 ghost use Rattle.fpage.specs.Fpage.{IsSpaceBits};
 ghost use Rattle.l4map.specs.Meaning.{limits_of};

@@ -67,6 +67,7 @@ pub struct Std<T> {
 impl<T> Std<T> {
     ghost use Rattle.l4map.specs.Std.{inner_of, is_failed};
 
+    /// A reader or a writer that has not failed.
     pub fn new(inner: T) -> Self
         ensures inner { inner_of result ≡ inner }
         ensures works { is_failed result ≡ false }
