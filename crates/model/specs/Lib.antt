@@ -13,4 +13,11 @@ pub mod Replay
 pub mod Records
 pub mod Text
 pub mod FirstPath
+pub mod DerivationLaws
+pub mod IsolationLaws
+pub mod StatusLaws
+pub mod LawfulLaws
+pub mod SendLaws
+pub mod RecursionLaws
+pub mod ReplayLaws
 pub mod Rows

@@ -5,6 +5,8 @@
 //! whose results `worked_rows` shows to be those of the definitions. docs/MODEL.md tells all of it in words.
 #![tactic(auto)]
 
+mod laws;
 mod worked;
 
+pub use laws::{derivation, isolation, lawful, recursion, replays, sends, status};
 pub use worked::worked_rows;

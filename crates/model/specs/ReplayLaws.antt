@@ -1,0 +1,50 @@
+-- What changes nothing, and what a replay of two traces is.
+use Rattle.std.specs.Prelude.{◌≡◌, ℕ, Bool, false, List, [], ◌++◌, IsTrue, IsFalse}
+use Rattle.fpage.specs.Rights.{no_rights}
+use Rattle.fpage.specs.Fpage.{Flexpage}
+use Rattle.fpage.specs.declared.rights.Rights.{Rights}
+use Rattle.fpage.specs.declared.item.Item.{Item}
+use Rattle.space.specs.declared.place.Place.{Place}
+use Rattle.model.specs.Holdings.{Holdings, PlaceSet, is_held}
+use Rattle.model.specs.Lawful.{is_lawful}
+use Rattle.model.specs.Strip.{strip, strip_word}
+use Rattle.model.specs.Items.{job_of, no_counts}
+use Rattle.model.specs.Calls.{Limits, Refusal, Request, refused, accessed}
+use Rattle.model.specs.Answers.{Answer, answer, item_answer, send_answer, unmap_answer}
+use Rattle.model.specs.Replay.{Told, replay}
+
+-- a request that is refused changes nothing
+abbrev pub RefusedChangesNothing : Type 0
+RefusedChangesNothing = (limits : Limits) (h : Holdings) (request : Request) (r : Refusal) → (answer limits h request).reply ≡ refused r → (answer limits h request).left ≡ h
+
+-- nor does an access that is a fault
+abbrev pub FaultChangesNothing : Type 0
+FaultChangesNothing = (limits : Limits) (h : Holdings) (request : Request) → (answer limits h request).reply ≡ accessed false → (answer limits h request).left ≡ h
+
+-- nor does an unmap of pages of which none is held; it returns no status
+abbrev pub NoPageNamed : Type 0
+NoPageNamed =
+    (h : Holdings) → IsTrue (is_lawful h) → (set : PlaceSet) → ((p : Place) → IsTrue (is_held h p) → IsFalse (set p))
+    → (a : Rights) (f : Bool) → (strip h set a f ≡ h) × (strip_word h set ≡ no_rights)
+
+-- nor does an item without pages, which has no pairs
+abbrev pub NilpageSends : Type 0
+NilpageSends =
+    (h : Holdings) → IsTrue (is_lawful h) → (from to : ℕ) (window : Flexpage) (item : Item) → item.sent.count ≡ 0
+    → item_answer h (job_of from to window item) ≡ record { counts = no_counts; left = h }
+
+-- nor do calls without items or words
+abbrev pub NothingAsked : Type 0
+NothingAsked =
+    (h : Holdings) (from to : ℕ) (window : Flexpage) (space : ℕ) (f : Bool)
+    → (send_answer from to window [] h ≡ record { counts = no_counts; left = h }) × (unmap_answer space f [] h ≡ record { words = []; left = h })
+
+-- the second trace from where the first ended
+abbrev pub one_after_another : Told → (Holdings → Told) → Told
+one_after_another first second = let rest = second first.last in record { replies = first.replies ++ rest.replies; last = rest.last }
+
+-- two traces one after the other are the first, and the second from where the first ended
+abbrev pub ReplaysJoin : Type 0
+ReplaysJoin =
+    (answer_one : Holdings → Request → Answer) (h : Holdings) (rs ss : List Request)
+    → replay answer_one h (rs ++ ss) ≡ one_after_another (replay answer_one h rs) (λ last. replay answer_one last ss)

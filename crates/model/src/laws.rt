@@ -1,0 +1,69 @@
+//! The laws of the definitions. Each function does nothing: its contract is a law, proved of all lawful holdings.
+
+ghost use Rattle.model.specs.DerivationLaws.{BelowIsAChain, UnderIsAChain, ChainsEnd, ChainsAreHeld, BelowBothSets, NoneFromItself, NestOrApart};
+ghost use Rattle.model.specs.IsolationLaws.{StripIsolates, DerivedGoesToo};
+ghost use Rattle.model.specs.StatusLaws.{WordIsTheUnion, StatusIsCleared, OutsideGains, NoBitIsLost};
+ghost use Rattle.model.specs.LawfulLaws.{LawfulMeans, DerivedHoldsNoMore, TouchKeepsLawful, StripKeepsLawful, MapKeepsLawful, GrantKeepsLawful, RequestKeepsLawful, StartIsLawful, ReplayIsLawful};
+ghost use Rattle.model.specs.RecursionLaws.{RecursionIsStrip, StripsJoin};
+ghost use Rattle.model.specs.SendLaws.{MapSays, CountsAddUp};
+ghost use Rattle.model.specs.ReplayLaws.{RefusedChangesNothing, FaultChangesNothing, NoPageNamed, NilpageSends, NothingAsked, ReplaysJoin};
+
+/// What derived means.
+pub fn derivation()
+    ensures below_is_a_chain { BelowIsAChain }
+    ensures under_is_a_chain { UnderIsAChain }
+    ensures chains_end { ChainsEnd }
+    ensures chains_are_held { ChainsAreHeld }
+    ensures below_both_sets { BelowBothSets }
+    ensures none_from_itself { NoneFromItself }
+    ensures nest_or_apart { NestOrApart }
+{}
+
+/// What strip does to each page.
+pub fn isolation()
+    ensures strip_isolates { StripIsolates }
+    ensures derived_goes_too { DerivedGoesToo }
+{}
+
+/// Where status goes: it is lost nowhere.
+pub fn status()
+    ensures word_is_the_union { WordIsTheUnion }
+    ensures status_is_cleared { StatusIsCleared }
+    ensures outside_gains { OutsideGains }
+    ensures no_bit_is_lost { NoBitIsLost }
+{}
+
+/// Holdings stay lawful, whatever is done.
+pub fn lawful()
+    ensures lawful_means { LawfulMeans }
+    ensures derived_holds_no_more { DerivedHoldsNoMore }
+    ensures touch_keeps_lawful { TouchKeepsLawful }
+    ensures strip_keeps_lawful { StripKeepsLawful }
+    ensures map_keeps_lawful { MapKeepsLawful }
+    ensures grant_keeps_lawful { GrantKeepsLawful }
+    ensures request_keeps_lawful { RequestKeepsLawful }
+    ensures start_is_lawful { StartIsLawful }
+    ensures replay_is_lawful { ReplayIsLawful }
+{}
+
+/// What changes nothing, and what a replay of two traces is.
+pub fn replays()
+    ensures refused_changes_nothing { RefusedChangesNothing }
+    ensures fault_changes_nothing { FaultChangesNothing }
+    ensures no_page_named { NoPageNamed }
+    ensures nilpage_sends { NilpageSends }
+    ensures nothing_asked { NothingAsked }
+    ensures replays_join { ReplaysJoin }
+{}
+
+/// The recursion is the set definition.
+pub fn recursion()
+    ensures recursion_is_strip { RecursionIsStrip }
+    ensures strips_join { StripsJoin }
+{}
+
+/// What becomes of each page by an item of a send.
+pub fn sends()
+    ensures map_says { MapSays }
+    ensures counts_add_up { CountsAddUp }
+{}
