@@ -19,11 +19,11 @@ use Rattle.model.proofs.Flushes.{strip_absent, lawful_flush, target_gone, was_fl
 use Rattle.model.proofs.Maps.{flushed_for}
 use Rattle.model.proofs.Renames.{moved_cases, MovesApart, WasMoved, renamed_was, renamed_at, lawful_renamed, renamed_mappings}
 
--- what is left of rights that lose all that a set withholds is what is in the set
 both_not : (a b : Bool) → (a && not (true && not b)) ≡ (a && b)
 both_not a b = grind arith
 
-without_withheld : (r s : Rights) → without r (without all_rights s) ≡ meet r s
+-- what is left of rights that lose all that a set withholds is what is in the set
+pub without_withheld : (r s : Rights) → without r (without all_rights s) ≡ meet r s
 without_withheld r s = λ i. record { read = both_not r.read s.read i; write = both_not r.write s.write i; execute = both_not r.execute s.execute i }
 
 module _ (h : Holdings) (job : Job) where

@@ -27,6 +27,8 @@ pub mod Maps
 pub mod LawfulMaps
 pub mod Renames
 pub mod Grants
+pub mod ItemPairs
 pub mod MapOutcomes
+pub mod GrantOutcomes
 pub mod Requests
 pub mod Joins

@@ -1,7 +1,8 @@
 -- What becomes of each page when an item of a send is worked.
-use Rattle.std.specs.Prelude.{◌≡◌, ℕ, true, ◌+◌, ◌==◌, ◌⊎◌, List, [], ◌∷◌, length, filter, IsTrue, IsFalse, Option, Some, None}
+use Rattle.std.specs.Prelude.{◌≡◌, ℕ, true, ◌+◌, ◌==◌, ◌⊎◌, ◌↔◌, List, [], ◌∷◌, length, filter, IsTrue, IsFalse, Option, Some, None, Ok}
 use Rattle.fpage.specs.Rights.{no_rights, all_rights, is_empty, meet, join, without}
-use Rattle.fpage.specs.Fpage.{Flexpage}
+use Rattle.fpage.specs.Fpage.{Flexpage, read_fpage}
+use Rattle.fpage.specs.Item.{read_item, is_pair}
 use Rattle.fpage.specs.declared.rights.Rights.{Rights}
 use Rattle.fpage.specs.declared.item.Item.{Item}
 use Rattle.space.specs.declared.place.Place.{Place}
@@ -17,6 +18,12 @@ use Rattle.model.specs.DerivationLaws.{LeadsInto}
 abbrev pub In : Pair → List Pair → Type 0
 In e [] = ⊥
 In e (d ∷ es) = (e ≡ d) ⊎ In e es
+
+-- the pairs of an item are those of the manual's rule: pages in the same place of their blocks (`is_pair`)
+abbrev pub PairsOfAnItem : Type 0
+PairsOfAnItem =
+    (bits first second third : ℕ) (item : Item) (window : Flexpage) → read_item bits first second ≡ Ok item → read_fpage bits third ≡ Ok window
+    → (from to : ℕ) (e : Pair) → In e (job_of from to window item).pairs ↔ ((e.0.space ≡ from) × (e.1.space ≡ to) × IsTrue (is_pair item window e.0.page e.1.page))
 
 -- a pair of an item that has an outcome
 pub record HasFate (h : Holdings) (job : Job) (f : Fate) (e : Pair) : Type 0 where

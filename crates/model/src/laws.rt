@@ -3,9 +3,9 @@
 ghost use Rattle.model.specs.DerivationLaws.{BelowIsAChain, UnderIsAChain, ChainsEnd, ChainsAreHeld, BelowBothSets, NoneFromItself, NestOrApart};
 ghost use Rattle.model.specs.IsolationLaws.{StripIsolates, DerivedGoesToo};
 ghost use Rattle.model.specs.StatusLaws.{WordIsTheUnion, StatusIsCleared, OutsideGains, NoBitIsLost};
-ghost use Rattle.model.specs.LawfulLaws.{LawfulMeans, DerivedHoldsNoMore, TouchKeepsLawful, StripKeepsLawful, MapKeepsLawful, GrantKeepsLawful, RequestKeepsLawful, StartIsLawful, ReplayIsLawful};
 ghost use Rattle.model.specs.RecursionLaws.{RecursionIsStrip, StripsJoin};
-ghost use Rattle.model.specs.SendLaws.{MapSays, CountsAddUp};
+ghost use Rattle.model.specs.LawfulLaws.{LawfulMeans, DerivedHoldsNoMore, TouchKeepsLawful, StripKeepsLawful, MapKeepsLawful, GrantKeepsLawful, RequestKeepsLawful, StartIsLawful, ReplayIsLawful};
+ghost use Rattle.model.specs.SendLaws.{PairsOfAnItem, MapSays, GrantSays, GrantMovesAll, CountsAddUp};
 ghost use Rattle.model.specs.ReplayLaws.{RefusedChangesNothing, FaultChangesNothing, NoPageNamed, NilpageSends, NothingAsked, ReplaysJoin};
 
 /// What derived means.
@@ -33,6 +33,12 @@ pub fn status()
     ensures no_bit_is_lost { NoBitIsLost }
 {}
 
+/// The recursion is the set definition.
+pub fn recursion()
+    ensures recursion_is_strip { RecursionIsStrip }
+    ensures strips_join { StripsJoin }
+{}
+
 /// Holdings stay lawful, whatever is done.
 pub fn lawful()
     ensures lawful_means { LawfulMeans }
@@ -46,6 +52,15 @@ pub fn lawful()
     ensures replay_is_lawful { ReplayIsLawful }
 {}
 
+/// What becomes of each page by an item of a send.
+pub fn sends()
+    ensures pairs_of_an_item { PairsOfAnItem }
+    ensures map_says { MapSays }
+    ensures grant_says { GrantSays }
+    ensures grant_moves_all { GrantMovesAll }
+    ensures counts_add_up { CountsAddUp }
+{}
+
 /// What changes nothing, and what a replay of two traces is.
 pub fn replays()
     ensures refused_changes_nothing { RefusedChangesNothing }
@@ -54,16 +69,4 @@ pub fn replays()
     ensures nilpage_sends { NilpageSends }
     ensures nothing_asked { NothingAsked }
     ensures replays_join { ReplaysJoin }
-{}
-
-/// The recursion is the set definition.
-pub fn recursion()
-    ensures recursion_is_strip { RecursionIsStrip }
-    ensures strips_join { StripsJoin }
-{}
-
-/// What becomes of each page by an item of a send.
-pub fn sends()
-    ensures map_says { MapSays }
-    ensures counts_add_up { CountsAddUp }
 {}
