@@ -1,21 +1,22 @@
 -- What becomes of each page by a GrantItem.
-use Rattle.std.proofs.Common.{◌≡◌, ℕ, true, false, ◌&&◌, Option, Some, None, option_map, refl, sym, ap, ◌∙◌, subst, arith, ◌⊎◌, inl, inr, if◌then◌else◌}
+use Rattle.std.proofs.Common.{◌≡◌, ℕ, ◌+◌, Bool, true, false, ◌&&◌, Option, Some, None, option_map, refl, sym, ap, ◌∙◌, subst, arith, ◌⊎◌, inl, inr, if◌then◌else◌}
 use Rattle.std.specs.Option.{is_some, option_and_then, option_map_or}
 use Rattle.std.proofs.lemmas.Bool.{false_from_ne_true, or_left, or_parts, and_from, and_left, and_right}
 use Rattle.fpage.specs.Rights.{all_rights, no_rights, meet, without, is_empty}
+use Rattle.fpage.specs.declared.rights.Rights.{Rights}
 use Rattle.space.specs.declared.place.Place.{Place}
-use Rattle.model.specs.Holdings.{Held, Holdings, only, at}
+use Rattle.model.specs.Holdings.{Held, Holdings, PlaceSet, only, at}
 use Rattle.model.specs.Derived.{is_under, is_below}
 use Rattle.model.specs.Strip.{is_narrowed, rights_left, stripped}
 use Rattle.model.specs.Items.{Job, Pair, job_of, goes, fate, fate_of, going, sources_of, targets_of}
 use Rattle.model.specs.Grant.{moved_to, granted}
 use Rattle.model.specs.DerivationLaws.{after_origins, LeadsInto}
-use Rattle.model.specs.SendLaws.{In, HasFate, IsReplaced, IsWorked, HoldsLike, OriginFollows, HoldsAfterGrant, IsGranted, GrantSays, GrantMovesAll}
+use Rattle.model.specs.SendLaws.{In, HasFate, IsReplaced, IsWorked, HoldsLike, OriginFollows, HoldsAfterGrant, IsGranted, GrantSays, lost_of, GrantMovesAll}
 use Rattle.model.proofs.Places.{same_self}
 use Rattle.model.proofs.Lookups.{changed, at_each}
 use Rattle.model.proofs.LawfulParts.{IsLawful, lawful_parts}
 use Rattle.model.proofs.Chains.{below_trans}
-use Rattle.model.proofs.StripAt.{stripping, strip_under, strip_below, is_stripped}
+use Rattle.model.proofs.StripAt.{stripping, strip_even, strip_under, strip_below, is_stripped}
 use Rattle.model.proofs.Narrowings.{not_narrowed}
 use Rattle.model.proofs.Derivations.{below_leads, leads_below, leads_under}
 use Rattle.model.proofs.Jobs.{IsJob, job_is, in_sources, source_in, source_no_target}
@@ -23,6 +24,7 @@ use Rattle.model.proofs.Fates.{in_going, going_in}
 use Rattle.model.proofs.Flushes.{held_targets, flushed_as, strip_absent, lawful_flush}
 use Rattle.model.proofs.Maps.{flushed_for}
 use Rattle.model.proofs.Renames.{moved_cases}
+use Rattle.model.proofs.FrameCounts.{KeepsFrames, left_of_two}
 use Rattle.model.proofs.Grants.{without_withheld, moving_for, withheld_for, in_moving, moving_in, moved_source, granted_was, granted_pair, granted_source, granted_other, granted_mappings}
 use Rattle.model.proofs.MapOutcomes.{stays_flushed, replaced_gone, absent_flushed, flushed_stays, target_replaced}
 
@@ -214,5 +216,16 @@ module _ (h : Holdings) (job : Job) (l : IsLawful h) where
 pub grant_says : GrantSays
 grant_says h lawful from to differ window item = grant_outcomes h (job_of from to window item) (lawful_parts h lawful) (job_is from to window item differ)
 
+-- a strip keeps frames
+strip_keeps : (h : Holdings) → IsLawful h → (set : PlaceSet) (a : Rights) (f : Bool) → KeepsFrames h (stripping h set a f)
+strip_keeps h l set a f p m k held left = (strip_even h set a f l).frame p m k held left
+
 pub grant_moves_all : GrantMovesAll
-grant_moves_all h lawful from to differ window item frame = granted_mappings h (job_of from to window item) (lawful_parts h lawful) (job_is from to window item differ) frame
+grant_moves_all h lawful from to differ window item frame =
+    let job = job_of from to window item in
+    let l = lawful_parts h lawful in
+    let moving = sources_of (moving_for h job) in
+    let withheld = without all_rights job.rights in
+    ap (λ n. n + lost_of frame h (withheld_for h job)) (granted_mappings h job l (job_is from to window item differ) frame)
+    ∙ left_of_two frame (stripping h (held_targets h (going h job)) all_rights true) (stripping (flushed_for h job) moving withheld true) h l.sorted
+    (strip_keeps h l (held_targets h (going h job)) all_rights true) (strip_keeps (flushed_for h job) (lawful_flushed h job l) moving withheld true)

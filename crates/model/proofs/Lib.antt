@@ -29,6 +29,7 @@ pub mod Renames
 pub mod Grants
 pub mod ItemPairs
 pub mod MapOutcomes
+pub mod FrameCounts
 pub mod GrantOutcomes
 pub mod Requests
 pub mod Joins

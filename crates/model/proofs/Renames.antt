@@ -154,11 +154,10 @@ length_kept true e h = omega arith
 length_kept false e h = omega arith
 
 module _ (frame : ℕ) where
-  one_mapping : Held → ℕ
+  abbrev pub one_mapping : Held → ℕ
   one_mapping k = cond (k.frame == frame) 1 0
 
-  first_mapping : (e : Place × Held) (h : Holdings) → mappings_of frame (e ∷ h) ≡ one_mapping e.1 + mappings_of frame h
-  unfolding one_mapping
+  pub first_mapping : (e : Place × Held) (h : Holdings) → mappings_of frame (e ∷ h) ≡ one_mapping e.1 + mappings_of frame h
   first_mapping e h = length_kept (e.1.frame == frame) e (filter (λ e. e.1.frame == frame) h)
 
   -- a mapping that is put at a place that holds nothing is one more of its frame
@@ -178,7 +177,6 @@ module _ (frame : ℕ) where
 
   -- a move keeps the number of mappings of each frame
   pub renamed_mappings : (es : List Pair) (h : Holdings) → Sorted h → MovesApart es h → mappings_of frame (renamed es h) ≡ mappings_of frame h
-  unfolding one_mapping
   renamed_mappings es [] sorted a = refl
   renamed_mappings es (e ∷ h) sorted a =
       let rest = renamed_mappings es h (tail_sorted es e h sorted) (tail_apart es e h sorted a) in

@@ -1,12 +1,12 @@
 -- What becomes of each page when an item of a send is worked.
-use Rattle.std.specs.Prelude.{◌≡◌, ℕ, true, ◌+◌, ◌==◌, ◌⊎◌, ◌↔◌, List, [], ◌∷◌, length, filter, IsTrue, IsFalse, Option, Some, None, Ok}
+use Rattle.std.specs.Prelude.{◌≡◌, ℕ, true, ◌+◌, ◌==◌, ◌&&◌, not, ◌⊎◌, ◌↔◌, List, [], ◌∷◌, length, filter, IsTrue, IsFalse, Option, Some, None, Ok}
 use Rattle.fpage.specs.Rights.{no_rights, all_rights, is_empty, meet, join, without}
 use Rattle.fpage.specs.Fpage.{Flexpage, read_fpage}
 use Rattle.fpage.specs.Item.{read_item, is_pair}
 use Rattle.fpage.specs.declared.rights.Rights.{Rights}
 use Rattle.fpage.specs.declared.item.Item.{Item}
 use Rattle.space.specs.declared.place.Place.{Place}
-use Rattle.model.specs.Holdings.{Held, Holdings, at}
+use Rattle.model.specs.Holdings.{Held, Holdings, at, is_held}
 use Rattle.model.specs.Lawful.{is_lawful}
 use Rattle.model.specs.Strip.{strip}
 use Rattle.model.specs.Items.{Job, Pair, job_of, Fate, extends, goes, fate, going, sources_of, targets_of, flush, Counts, counts}
@@ -125,11 +125,16 @@ before_the_move h job =
     let flushed = flush h (going h job) in
     strip flushed (sources_of (moving flushed (going h job))) (without all_rights job.rights) true
 
--- a frame has as many mappings after a grant as the flush and the strip left
+-- how many mappings of a frame, of those that were held, are held no longer
+abbrev pub lost_of : ℕ → Holdings → Holdings → ℕ
+lost_of frame h left = length (filter (λ e. (e.1.frame == frame) && not (is_held left e.0)) h)
+
+-- of each frame as many mappings are held after a grant as before it, less those that were flushed or stripped away
 abbrev pub GrantMovesAll : Type 0
 GrantMovesAll =
     (h : Holdings) → IsTrue (is_lawful h) → (from to : ℕ) → (from ≡ to → ⊥) → (window : Flexpage) (item : Item) (frame : ℕ)
-    → mappings_of frame (granted h (job_of from to window item)) ≡ mappings_of frame (before_the_move h (job_of from to window item))
+    → let job = job_of from to window item in
+    mappings_of frame (granted h job) + lost_of frame h (before_the_move h job) ≡ mappings_of frame h
 
 -- the pairs of an item, by outcome
 abbrev pub total : Counts → ℕ
