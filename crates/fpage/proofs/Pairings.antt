@@ -1,16 +1,13 @@
 -- Which page of an item goes to which: the pairs that two runs list are the pairs of pages in one place of their blocks.
-use Rattle.std.proofs.Common.{◌≡◌, ℕ, ◌+◌, ◌-◌, ◌*◌, ◌/◌, ◌%◌, ◌^◌, ◌==◌, ◌<◌, ◌≤◌, min, nat_lt, nat_le, true, false, Bool, ◌&&◌, ◌||◌, not, Ok, Err, refl, sym, ap, ◌∙◌, subst, arith, ◌⊎◌, inl, inr, if◌then◌else◌, mul_assoc, mul_comm, mul-add, mul-le-mul_left, mod-lt, mod-eq_of_lt, pow_mono, pow_pos, pow-add}
-use Rattle.std.proofs.Math.Nat.{div-add-mod, mul-add-mod_self_left, mul-mod_right, div-eq_of_lt-le, zero-mod}
+use Rattle.std.proofs.Common.{◌≡◌, ℕ, ◌+◌, ◌-◌, ◌*◌, ◌/◌, ◌%◌, ◌^◌, ◌==◌, ◌<◌, ◌≤◌, min, nat_lt, nat_le, true, false, Bool, ◌&&◌, ◌||◌, not, refl, sym, ap, ◌∙◌, subst, arith, ◌⊎◌, inl, inr, if◌then◌else◌, mul_assoc, mul_comm, mul-add, mul-le-mul_left, mod-lt, mod-eq_of_lt, pow_mono, pow_pos, pow-add}
+use Rattle.std.proofs.Math.Nat.{div-add-mod, mul-add-mod_self_left, div-eq_of_lt-le}
 use Rattle.std.proofs.lemmas.Nat.{div_below}
-use Rattle.std.proofs.lemmas.Bool.{and_parts, and_from, and_left, cases_lt, leb-true, ltb-true, ltb-false, le-leb, lt-ltb, eqb-true, eq-eqb}
+use Rattle.std.proofs.lemmas.Bool.{and_parts, and_from, and_left, cases_lt, leb-true, ltb-true, le-leb, lt-ltb, eqb-true, eq-eqb}
 use Rattle.std.proofs.lemmas.Bool.Decides.{nat_tests}
-use Rattle.fpage.specs.Rights.{of_bits}
-use Rattle.fpage.specs.declared.rights.Rights.{Rights}
-use Rattle.fpage.specs.declared.error.FpageError.TheVariants.{BadSize, Misaligned, OutOfSpace}
-use Rattle.fpage.specs.Fpage.{Flexpage, base_of, size_of, is_nil_word, is_complete_word, pages_of_space, is_page_of, read_sized, read_fpage}
-use Rattle.fpage.proofs.Sizes.{aligned}
+use Rattle.fpage.specs.Fpage.{Flexpage, is_page_of}
 use Rattle.fpage.specs.Item.{is_in_block, is_pair, block_of, run_start, pairs_of, is_pair_of}
 use Rattle.fpage.specs.declared.item.Item.{Item}
+use Rattle.fpage.proofs.Alignments.{IsAligned, no_pages, some_pages}
 use Rattle.fpage.proofs.Truth.{same_truth}
 
 -- ---- numbers
@@ -93,11 +90,6 @@ one_place n s t a b p q even_a even_b = same_truth _ _ there back
         and_from _ _ (and_from _ _ parts.0 (range_to b (b + n) q low high)) (eq-eqb (p % n) (q % n) (mod_in_run n s a p even_a from upto ∙ same ∙ sym (mod_in_run n t b q even_b low high)))
 
 -- ---- fpages
-
--- an fpage as it is read: it has no pages, or a power of two of them, from a multiple of their number on
-pub data IsAligned (f : Flexpage) : Type 0 where
-  no_pages : f.count ≡ 0 → IsAligned f
-  some_pages : (k : ℕ) → f.count ≡ 2 ^ k → f.first % f.count ≡ 0 → IsAligned f
 
 -- an fpage of whole blocks of n pages
 record IsOfBlocks (n : ℕ) (f : Flexpage) : Type 0 where
@@ -209,39 +201,3 @@ module _ (item : Item) (window : Flexpage) (p q : ℕ) where
   same_pairs (no_pages none) window_even = no_pairs (min item.sent.count window.count) (omega arith) (inl none)
   same_pairs (some_pages i sent_count sent_even) (no_pages none) = no_pairs (min item.sent.count window.count) (omega arith) (inr none)
   same_pairs (some_pages i sent_count sent_even) (some_pages j window_count window_even) = powers i j sent_count window_count sent_even window_even
-
--- ---- fpages as they are read
-
-sized_aligned : (bits s b : ℕ) (rights : Rights) (f : Flexpage) → 12 ≤ s → read_sized bits s b rights ≡ Ok f → IsAligned f
-sized_aligned bits s b rights f page is = by (1024 * b % 2 ^ s == 0) refl (nat_lt (2 ^ bits) (1024 * b + 2 ^ s)) is
-  where
-    even : 1024 * b % 2 ^ s ≡ 0 → b / 4 % 2 ^ (s - 12) ≡ 0
-    even none =
-        let whole = aligned b s page none in
-        let quarter : b / 4 ≡ 2 ^ (s - 12) * (1024 * b / 2 ^ s) = omega (arith, whole) in
-        ap (λ x. x % 2 ^ (s - 12)) quarter ∙ mul-mod_right (2 ^ (s - 12)) (1024 * b / 2 ^ s)
-
-    by : (x : Bool) → (1024 * b % 2 ^ s == 0) ≡ x → (y : Bool) → (if not x then Err Misaligned else if y then Err OutOfSpace else Ok (record { first = b / 4; count = 2 ^ (s - 12); rights = rights })) ≡ Ok f → IsAligned f
-    by false _ y is = absurd (cc is)
-    by true _ true is = absurd (cc is)
-    by true none false is =
-        let same : record { first = b / 4; count = 2 ^ (s - 12); rights = rights } ≡ f = cc is in
-        subst IsAligned same (some_pages (s - 12) refl (even (eqb-true (1024 * b % 2 ^ s) 0 none)))
-
--- an fpage that is read is aligned
-pub aligned_read : (bits word : ℕ) (f : Flexpage) → read_fpage bits word ≡ Ok f → IsAligned f
-aligned_read bits word f is = by (is_nil_word word) (is_complete_word word) (nat_lt (size_of word) 12) refl is
-  where
-    by : (nil complete small : Bool) → nat_lt (size_of word) 12 ≡ small
-        → (if nil then Ok (record { first = 0; count = 0; rights = of_bits word })
-        else if complete then Ok (record { first = 0; count = pages_of_space bits; rights = of_bits word })
-        else if small then Err BadSize
-        else read_sized bits (size_of word) (base_of word) (of_bits word)) ≡ Ok f → IsAligned f
-    by true complete small _ is =
-        let same : record { first = 0; count = 0; rights = of_bits word } ≡ f = cc is in
-        subst IsAligned same (no_pages refl)
-    by false true small _ is =
-        let same : record { first = 0; count = pages_of_space bits; rights = of_bits word } ≡ f = cc is in
-        subst IsAligned same (some_pages (bits - 12) refl (zero-mod (pages_of_space bits)))
-    by false false true _ is = absurd (cc is)
-    by false false false large is = sized_aligned bits (size_of word) (base_of word) (of_bits word) f (ltb-false (size_of word) 12 large) is

@@ -1,8 +1,10 @@
 -- The pages of an aligned fpage, by its size and its base in units of 1024 bytes.
-use Rattle.std.proofs.Common.{◌≡◌, refl, ℕ, ◌+◌, ◌-◌, ◌*◌, ◌/◌, ◌%◌, ◌^◌, ◌<◌, ◌≤◌, arith, ap, ◌∙◌, sym, leb, ltb, ◌&&◌}
+use Rattle.std.proofs.Common.{◌≡◌, refl, ℕ, ◌+◌, ◌-◌, ◌*◌, ◌/◌, ◌%◌, ◌^◌, ◌<◌, ◌≤◌, arith, ap, ◌∙◌, sym, leb, ltb, ◌&&◌, IsTrue}
 use Rattle.std.proofs.Math.Pow.{pow-lt, pow_mono, pow-add}
-use Rattle.std.proofs.Math.Nat.{div-add-mod, mod-eq_of_lt}
+use Rattle.std.proofs.Math.Nat.{div-add-mod, mod-eq_of_lt, mul-mod_right}
 use Rattle.std.proofs.lemmas.Bool.Decides.{nat_tests}
+use Rattle.fpage.specs.Fpage.{is_aligned}
+use Rattle.fpage.proofs.Alignments.{power_aligned}
 
 -- the bytes of an fpage of 4096 bytes or more are those of its pages
 pub pages_size : (s : ℕ) → 12 ≤ s → 2 ^ s ≡ 4096 * 2 ^ (s - 12)
@@ -13,11 +15,18 @@ pub size_within : (b s bits : ℕ) → 1024 * b + 2 ^ s ≤ 2 ^ bits → s ≤ b
 size_within b s bits h = grind (arith, pow-lt {i = bits} {j = s})
 
 -- the base of an aligned fpage is a multiple of a page
-pub aligned : (b s : ℕ) → 12 ≤ s → 1024 * b % 2 ^ s ≡ 0 → 1024 * b ≡ 4096 * (2 ^ (s - 12) * (1024 * b / 2 ^ s))
+aligned : (b s : ℕ) → 12 ≤ s → 1024 * b % 2 ^ s ≡ 0 → 1024 * b ≡ 4096 * (2 ^ (s - 12) * (1024 * b / 2 ^ s))
 aligned b s h e =
     let whole : 2 ^ s * (1024 * b / 2 ^ s) ≡ 1024 * b = omega (arith, div-add-mod (1024 * b) (2 ^ s)) in
     let grouped : 4096 * 2 ^ (s - 12) * (1024 * b / 2 ^ s) ≡ 1024 * b = ap (λ n. n * (1024 * b / 2 ^ s)) (sym (pages_size s h)) ∙ whole in
     omega (arith, grouped)
+
+-- its first page is a multiple of the number of its pages
+pub base_even : (b s : ℕ) → 12 ≤ s → 1024 * b % 2 ^ s ≡ 0 → b / 4 % 2 ^ (s - 12) ≡ 0
+base_even b s h e =
+    let whole = aligned b s h e in
+    let quarter : b / 4 ≡ 2 ^ (s - 12) * (1024 * b / 2 ^ s) = omega (arith, whole) in
+    ap (λ x. x % 2 ^ (s - 12)) quarter ∙ mul-mod_right (2 ^ (s - 12)) (1024 * b / 2 ^ s)
 
 -- a page lies in an aligned fpage where its bytes do
 pub same_pages : (m b n bytes c g : ℕ) → 1024 * b ≡ 4096 * m → n ≡ b / 4 → bytes ≡ 4096 * c → (leb n g && ltb g (n + c)) ≡ (leb (1024 * b) (4096 * g) && ltb (4096 * g) (1024 * b + bytes))
@@ -32,6 +41,7 @@ pub record Sized (bits s b : ℕ) : Type 0 where
   pub shift : s - 12 < 32
   pub count : 1 * 2 ^ (s - 12) % 4294967296 ≡ 2 ^ (s - 12)
   pub within : b / 4 + 2 ^ (s - 12) ≤ 2 ^ 20
+  pub aligned : IsTrue (is_aligned (b / 4) (2 ^ (s - 12)))
   pub pages : (g : ℕ) → (leb (b / 4) g && ltb g (b / 4 + 2 ^ (s - 12))) ≡ (leb (1024 * b) (4096 * g) && ltb (4096 * g) (1024 * b + 2 ^ s))
 
 pub sized_pages : (bits s b : ℕ) → bits ≤ 24 → 12 ≤ s → 1024 * b % 2 ^ s ≡ 0 → 1024 * b + 2 ^ s ≤ 2 ^ bits → Sized bits s b
@@ -44,5 +54,6 @@ sized_pages bits s b low page even ends =
       shift = short;
       count = shifted (s - 12) 32 short;
       within = omega arith;
+      aligned = power_aligned (b / 4) (s - 12) (base_even b s page even);
       pages = λ g. same_pages _ b (b / 4) (2 ^ s) (2 ^ (s - 12)) g (aligned b s page even) refl whole;
     }

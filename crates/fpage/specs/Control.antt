@@ -18,6 +18,16 @@ abbrev pub read_control : ℕ → ℕ → Result Bool FpageError
 read_control control given =
     if not (control / 128 == 0) || not (given == words_named control) then Err BadControl else Ok (is_flush control)
 
+-- what a control word tells: whether it flushes, and how many words it names
+pub record ControlWord : Type 0 where
+  pub flush : Bool
+  pub words : ℕ
+
+-- what a control word tells that names so many words, by whether it flushes, or its refusal
+abbrev pub control_with : ℕ → Result Bool FpageError → Result ControlWord FpageError
+control_with words (Ok flush) = Ok (record { flush = flush; words = words })
+control_with words (Err e) = Err e
+
 -- a word with status in place of its rights, all other bits as given (Unmap)
 abbrev pub with_status : ℕ → Rights → ℕ
 with_status word status = word / 8 * 8 + number status

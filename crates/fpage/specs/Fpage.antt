@@ -1,5 +1,6 @@
 -- Fpage words (L4 X.2, Fpage): which pages a word names, and when it is refused.
-use Rattle.std.specs.Prelude.{ℕ, ◌+◌, ◌-◌, ◌*◌, ◌/◌, ◌%◌, ◌^◌, ◌≤◌, ◌==◌, ◌&&◌, nat_lt, nat_le, Bool, false, not, if◌then◌else◌, Result, Ok, Err}
+use Rattle.std.specs.Prelude.{ℕ, ◌+◌, ◌-◌, ◌*◌, ◌/◌, ◌%◌, ◌^◌, ◌≤◌, ◌==◌, ◌&&◌, ◌||◌, nat_lt, nat_le, Bool, false, not, if◌then◌else◌, Result, Ok, Err}
+use Rattle.std.specs.Int.{is_power_of_two}
 use Rattle.fpage.specs.Rights.{of_bits}
 use Rattle.fpage.specs.declared.rights.Rights.{Rights}
 use Rattle.fpage.specs.declared.error.FpageError.{FpageError}
@@ -61,6 +62,11 @@ read_fpage bits word =
 -- page g is one of the count pages from the first on
 abbrev pub is_page_of : Flexpage → ℕ → Bool
 is_page_of f g = nat_le f.first g && nat_lt g (f.first + f.count)
+
+-- what holds of every fpage: it has no pages, or a power of two of them, which begin at a multiple of their number
+-- (Fpage)
+abbrev pub is_aligned : ℕ → ℕ → Bool
+is_aligned first count = (count == 0) || (is_power_of_two count && (first % count == 0))
 
 -- a space has 64 to 4096 pages (profile)
 pub record IsSpaceBits (bits : ℕ) : Type 0 where

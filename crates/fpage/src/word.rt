@@ -1,5 +1,5 @@
-ghost use Rattle.std.specs.Prelude.{◌≡◌, ℕ, ◌+◌, ◌^◌, ◌<◌, ◌≤◌, ◌==◌, IfOk};
-ghost use Rattle.fpage.specs.Fpage.{IsSpaceBits, read_fpage, read_sized, starts_within, is_page, is_page_of};
+ghost use Rattle.std.specs.Prelude.{◌≡◌, ℕ, ◌+◌, ◌^◌, ◌<◌, ◌≤◌, ◌==◌, IfOk, IsTrue};
+ghost use Rattle.fpage.specs.Fpage.{IsSpaceBits, read_fpage, read_sized, starts_within, is_page, is_page_of, is_aligned};
 
 use crate::error::FpageError;
 use crate::rights::Rights;
@@ -18,14 +18,14 @@ pub struct Fpage {
 }
 
 impl Model for Fpage {
-    ghost use Rattle.std.specs.Prelude.{◌+◌, ◌≤◌, ◌^◌};
-    ghost use Rattle.fpage.specs.Fpage.{Flexpage};
+    ghost use Rattle.std.specs.Prelude.{◌+◌, ◌≤◌, ◌^◌, IsTrue};
+    ghost use Rattle.fpage.specs.Fpage.{Flexpage, is_aligned};
 
     ghost Value = { Flexpage };
 
     ghost view = { λ f. record { first = f.first; count = f.count; rights = f.rights } };
 
-    ghost invariant = { λ f. f.first + f.count ≤ 2 ^ 20 };
+    ghost invariant = { λ f. (f.first + f.count ≤ 2 ^ 20) × IsTrue (is_aligned f.first f.count) };
 
     ghost inverse = { λ f. record { first = f.first; count = f.count; rights = f.rights } };
 }
@@ -66,6 +66,7 @@ impl Fpage {
     pub fn pages(self) -> Range<u32>
         ensures start { result.start ≡ self.first }
         ensures end { result.end ≡ self.first + self.count }
+        ensures aligned { IsTrue (is_aligned self.first self.count) }
     {
         self.first..self.first + self.count
     }

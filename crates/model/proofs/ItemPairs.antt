@@ -5,7 +5,8 @@ use Rattle.fpage.specs.Item.{is_item_word, item_with, read_item, is_pair, is_pai
 use Rattle.fpage.specs.declared.item.Item.{Item}
 use Rattle.fpage.specs.declared.error.FpageError.{FpageError}
 use Rattle.fpage.specs.declared.error.FpageError.TheVariants.{NotAnItem}
-use Rattle.fpage.proofs.Pairings.{same_pairs, aligned_read}
+use Rattle.fpage.proofs.Pairings.{same_pairs}
+use Rattle.fpage.proofs.ReadFpages.{aligned_read}
 use Rattle.model.specs.Items.{Pair}
 use Rattle.model.specs.SendLaws.{PairsOfAnItem}
 use Rattle.model.proofs.Jobs.{job_pair_is, job_pair_in}

@@ -20,7 +20,7 @@ pub overflow_shl-result : goal.overflow_shl-result
 overflow_shl-result c = (facts c).shift
 
 pub invariant_of-result : goal.invariant_of-result
-invariant_of-result c = rw (facts c).count (facts c).within
+invariant_of-result c = rw (facts c).count ((facts c).within, (facts c).aligned)
 
 pub returns-clause-read : goal.returns-clause-read
 returns-clause-read c = rw ((facts c).count, eq-eqb _ _ (even c), le-ltb _ _ (ends c)) refl
