@@ -53,12 +53,13 @@ def preloaded(library, **settings):
 
 
 def run(program, given=b"", **how):
-    """Runs the program on the bytes `given`, or with the streams that `how` names."""
+    """Runs the program, a path or a path with its arguments, on the bytes `given`, or with the streams that `how` names."""
     if "stdin" not in how:
         how["input"] = given
     how.setdefault("stdout", subprocess.PIPE)
     how.setdefault("stderr", subprocess.PIPE)
-    ran = subprocess.run([program], timeout=SECONDS, check=False, **how)
+    words = program if isinstance(program, list) else [program]
+    ran = subprocess.run(words, timeout=SECONDS, check=False, **how)
     return Ended(ran.returncode, ran.stdout or b"", ran.stderr or b"")
 
 

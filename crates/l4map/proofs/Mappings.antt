@@ -9,7 +9,7 @@ use Rattle.std.specs.Map.{lookup, set_value}
 use Rattle.std.specs.BTreeMap.{is_at, insert_entry}
 use Rattle.std.specs.List.{AllByRecursion}
 use Rattle.std.specs.List.Sorted.{IsStrictlySortedBy}
-use Rattle.model.proofs.Places.{places_total}
+use Rattle.space.proofs.Places.{places_total}
 use Rattle.fpage.specs.Rights.{has}
 use Rattle.fpage.specs.declared.rights.Access.{Access}
 use Rattle.model.specs.Touch.{can_touch, touch, marked}

@@ -5,7 +5,7 @@ use Rattle.model.specs.Holdings.{Held, Holdings, PlaceSet, at, origin_at}
 use Rattle.model.specs.Derived.{meets, is_under, is_below}
 use Rattle.model.specs.Lawful.{ends}
 use Rattle.model.proofs.LawfulParts.{IsLawful}
-use Rattle.model.proofs.Places.{same_is, same_self}
+use Rattle.space.proofs.Places.{same_is, same_self}
 use Rattle.std.proofs.lemmas.Bool.{or_cases, or_right, false_from_ne_true}
 use Rattle.model.specs.Holdings.{only, is_held}
 use Rattle.std.specs.Option.{option_and_then}

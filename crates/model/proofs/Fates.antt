@@ -8,7 +8,7 @@ use Rattle.model.specs.Holdings.{Held, Holdings, only, at, is_held, origin_at}
 use Rattle.model.specs.Derived.{is_under}
 use Rattle.model.specs.Items.{Job, Pair, Fate, absent, norights, to_origin, extends, goes, is_going, is_map, has_origin, fate_of, fate, going}
 use Rattle.model.specs.SendLaws.{In}
-use Rattle.model.proofs.Places.{same_is}
+use Rattle.space.proofs.Places.{same_is}
 use Rattle.model.proofs.Jobs.{in_filter, in_filter_from}
 
 is_goes : (f : Fate) → is_going f ≡ true → f ≡ goes

@@ -12,7 +12,7 @@ use Rattle.model.specs.Items.{Job, Pair, job_of, goes, fate, fate_of, going, sou
 use Rattle.model.specs.Grant.{moved_to, granted}
 use Rattle.model.specs.DerivationLaws.{after_origins, LeadsInto}
 use Rattle.model.specs.SendLaws.{In, HasFate, IsReplaced, IsWorked, HoldsLike, OriginFollows, HoldsAfterGrant, IsGranted, GrantSays, lost_of, GrantMovesAll}
-use Rattle.model.proofs.Places.{same_self}
+use Rattle.space.proofs.Places.{same_self}
 use Rattle.model.proofs.Lookups.{changed, at_each}
 use Rattle.model.proofs.LawfulParts.{IsLawful, lawful_parts}
 use Rattle.model.proofs.Chains.{below_trans}

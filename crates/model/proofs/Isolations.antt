@@ -10,7 +10,7 @@ use Rattle.model.specs.Holdings.{Held, Holdings, PlaceSet, only, at, origin_at}
 use Rattle.model.specs.Derived.{is_under, is_below}
 use Rattle.model.specs.Strip.{is_narrowed, rights_left, stripped, strip}
 use Rattle.model.specs.IsolationLaws.{Loses, Before, Isolates, StripIsolates, DerivedGoesToo}
-use Rattle.model.proofs.Places.{same_is}
+use Rattle.space.proofs.Places.{same_is}
 use Rattle.fpage.proofs.RightSets.{has-without, within_has, empty_has, empty_from}
 use Rattle.model.proofs.Lookups.{at_each, changed}
 use Rattle.model.proofs.LawfulParts.{IsLawful, lawful_parts}

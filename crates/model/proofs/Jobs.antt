@@ -10,7 +10,7 @@ use Rattle.space.specs.Place.{same_place}
 use Rattle.model.specs.Holdings.{Holdings, is_held}
 use Rattle.model.specs.Items.{Job, Pair, next_page, pairs_from, job_of, Fate, absent, norights, to_origin, extends, goes, fate, going, flush, sources_of, targets_of, Counts, add_counts, counts_of, counts_from, counts}
 use Rattle.model.specs.SendLaws.{In, total}
-use Rattle.model.proofs.Places.{same_is, same_self}
+use Rattle.space.proofs.Places.{same_is, same_self}
 
 -- ---- the pairs of a list
 

@@ -9,7 +9,7 @@ use Rattle.space.specs.declared.place.Place.{Place}
 use Rattle.space.specs.Place.{place_cmp, same_place}
 use Rattle.model.specs.Holdings.{Held, Holdings, at}
 use Rattle.model.specs.Lawful.{ends, is_origin_of, has_lawful_origin, is_only_root, is_lawful_at, is_lawful}
-use Rattle.model.proofs.Places.{same_is, same_self}
+use Rattle.space.proofs.Places.{same_is, same_self}
 use Rattle.model.proofs.Lookups.{Sorted, all_at, all_from}
 
 -- what an origin is

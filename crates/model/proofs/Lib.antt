@@ -1,4 +1,3 @@
-pub mod Places
 pub mod Lookups
 pub mod LawfulParts
 pub mod Chains

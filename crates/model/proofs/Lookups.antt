@@ -9,7 +9,7 @@ use Rattle.std.proofs.lemmas.Bool.{and_parts, and_from}
 use Rattle.space.specs.declared.place.Place.{Place}
 use Rattle.space.specs.Place.{place_cmp, same_place}
 use Rattle.model.specs.Holdings.{Held, Holdings, at, each, keep}
-use Rattle.model.proofs.Places.{places_total, same_is, same_self, same_or_apart}
+use Rattle.space.proofs.Places.{places_total, same_is, same_self, same_or_apart}
 
 -- each place once, by rising place
 abbrev pub Sorted : Holdings → Type 0

@@ -21,7 +21,7 @@ use Rattle.model.specs.Calls.{Limits, send, sent, refused, bad_record}
 use Rattle.model.specs.FirstPath.{first_answer, served_answer, is_served}
 use Rattle.std.proofs.lemmas.Bool.Decides.{nat_tests}
 use Rattle.model.specs.Answers.{Answer, item_answer, SendAnswer, call_answer, call_refusal, unless_refused}
-use Rattle.model.proofs.Places.{places_total}
+use Rattle.space.proofs.Places.{places_total}
 
 -- ---- a set of no places
 

@@ -5,7 +5,7 @@ use Rattle.std.proofs.lemmas.Bool.{false_from_ne_true}
 use Rattle.space.specs.declared.place.Place.{Place}
 use Rattle.space.specs.Place.{place_cmp, same_place}
 use Rattle.model.specs.Holdings.{Held, Holdings, at}
-use Rattle.model.proofs.Places.{places_total, same_is, same_self}
+use Rattle.space.proofs.Places.{places_total, same_is, same_self}
 use Rattle.model.proofs.Lookups.{Sorted}
 
 -- places that are not one do not tie

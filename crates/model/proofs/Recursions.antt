@@ -12,7 +12,7 @@ use Rattle.model.specs.Derived.{is_below}
 use Rattle.model.specs.Strip.{strip_word, passed_to, strip}
 use Rattle.model.specs.Recursion.{Visited, joined, in_turn, visit, passed_up, visit_named, recur}
 use Rattle.model.specs.RecursionLaws.{unmapped, RecursionIsStrip, StripsJoin}
-use Rattle.model.proofs.Places.{same_is, same_self}
+use Rattle.space.proofs.Places.{same_is, same_self}
 use Rattle.fpage.proofs.RightSets.{same_elements, nothing_from, join_nothing}
 use Rattle.model.proofs.Lookups.{changed, each_twice}
 use Rattle.model.proofs.LawfulParts.{IsLawful, lawful_parts}

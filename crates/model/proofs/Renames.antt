@@ -14,7 +14,7 @@ use Rattle.model.specs.Lawful.{ends}
 use Rattle.model.specs.Items.{Pair, sources_of}
 use Rattle.model.specs.Grant.{target_of, moved_to, moved, renamed}
 use Rattle.model.specs.SendLaws.{In, mappings_of}
-use Rattle.model.proofs.Places.{same_is, same_or_apart}
+use Rattle.space.proofs.Places.{same_is, same_or_apart}
 use Rattle.model.proofs.Lookups.{Sorted, below_absent, later, first_held, held_cases}
 use Rattle.model.proofs.LawfulParts.{IsLawful, IsOrigin}
 use Rattle.model.proofs.ChainLengths.{OriginsHeld, IsHeldIfAny, ends_within_length}

@@ -11,7 +11,7 @@ use Rattle.space.specs.Place.{place_cmp, same_place}
 use Rattle.model.specs.Holdings.{Held, Holdings, PlaceSet, only, at, derives_from}
 use Rattle.model.specs.Derived.{is_below}
 use Rattle.model.specs.Strip.{status_over, strip_word, gain_from, passed_to}
-use Rattle.model.proofs.Places.{same_is, same_self}
+use Rattle.space.proofs.Places.{same_is, same_self}
 use Rattle.fpage.proofs.RightSets.{has-join, has-none}
 use Rattle.model.proofs.Lookups.{Sorted, later, first_held, held_cases}
 

@@ -10,7 +10,7 @@ use Rattle.model.specs.Holdings.{Held, Holdings, PlaceSet, only, at, origin_at}
 use Rattle.model.specs.Derived.{is_under, is_below}
 use Rattle.model.specs.Strip.{rights_left, stripped, strip, strip_word, passed_to}
 use Rattle.model.specs.StatusLaws.{HasBit, PassesBit, WordIsTheUnion, StatusIsCleared, OutsideGains, Removal, after_removal, after_removals, IsAnswered, NoBitIsLost}
-use Rattle.model.proofs.Places.{same_is, same_self}
+use Rattle.space.proofs.Places.{same_is, same_self}
 use Rattle.fpage.proofs.RightSets.{has-join}
 use Rattle.model.proofs.LawfulParts.{IsLawful, lawful_parts}
 use Rattle.model.proofs.Chains.{along, below_cases, below_from, held_with_origin, below_within}

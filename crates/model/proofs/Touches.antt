@@ -9,7 +9,7 @@ use Rattle.model.specs.Derived.{is_below}
 use Rattle.model.specs.Touch.{can_touch, marked, touch}
 use Rattle.model.specs.Strip.{strip}
 use Rattle.model.specs.LawfulLaws.{HoldsNoMore, DerivedHoldsNoMore, TouchKeepsLawful, StripKeepsLawful}
-use Rattle.model.proofs.Places.{same_is}
+use Rattle.space.proofs.Places.{same_is}
 use Rattle.fpage.proofs.RightSets.{within_has}
 use Rattle.model.proofs.LawfulParts.{IsLawful, lawful_parts, lawful_from}
 use Rattle.model.proofs.Chains.{along, below_cases, held_with_origin}

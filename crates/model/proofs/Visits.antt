@@ -14,7 +14,7 @@ use Rattle.model.specs.Derived.{is_under, is_below}
 use Rattle.model.specs.Lawful.{ends}
 use Rattle.model.specs.Strip.{is_narrowed, rights_left, left_of, strip_word}
 use Rattle.model.specs.Recursion.{Visited, joined, in_turn, children, taken, visit}
-use Rattle.model.proofs.Places.{same_is, same_self, same_or_apart, apart_back}
+use Rattle.space.proofs.Places.{same_is, same_self, same_or_apart, apart_back}
 use Rattle.fpage.proofs.RightSets.{has-join, has-none, same_elements}
 use Rattle.model.proofs.Lookups.{Sorted, below_absent, changed, at_each, each_twice}
 use Rattle.model.proofs.LawfulParts.{IsLawful}

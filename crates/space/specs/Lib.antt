@@ -1,1 +1,6 @@
 pub mod Place
+pub mod Word
+pub mod EntryLaws
+pub mod Directory
+pub mod Shards
+pub mod ShardLaws

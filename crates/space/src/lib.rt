@@ -1,6 +1,16 @@
-//! Places, that is pages of spaces, and the entry of a page that is held.
+//! Places, that is pages of spaces, the entries of pages that are held, their words, and a map from place to entry.
 #![tactic(auto)]
 
+mod error;
+mod laws;
 mod place;
+mod shards;
+#[cfg(test)]
+mod tests;
+mod word;
 
+pub use error::NoMemory;
+pub use laws::{entry_words, shard_words};
 pub use place::{Entry, Place};
+pub use shards::Shards;
+pub use word::{pack, unpack};

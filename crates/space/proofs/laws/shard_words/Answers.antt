@@ -1,0 +1,12 @@
+-- The laws of shards.
+use Rattle.space.proofs.ShardWords.{places_have_words, words_are_their_own, entries_fit}
+use Rattle.space.proofs.laws.shard_words.Goals as goal
+
+pub returns-clause-places_have_words : goal.returns-clause-places_have_words
+returns-clause-places_have_words c = places_have_words
+
+pub returns-clause-words_are_their_own : goal.returns-clause-words_are_their_own
+returns-clause-words_are_their_own c = words_are_their_own
+
+pub returns-clause-entries_fit : goal.returns-clause-entries_fit
+returns-clause-entries_fit c = entries_fit

@@ -1,0 +1,137 @@
+ghost use Rattle.std.specs.Prelude.{◌≡◌, IfOk, Some, map};
+ghost use Rattle.std.specs.List.{range_with_len};
+ghost use Rattle.std.specs.Option.{ForSome};
+ghost use Rattle.space.specs.Directory.{AreLimits, IsDirectory, AreWords};
+
+use crate::error::NoMemory;
+use crate::place::{Entry, Place};
+use crate::word::{pack, unpack};
+use std::alloc::{AllocError, Global};
+
+/// The bytes of the pages of one shard, as a power of two.
+const SHARD_BITS: u32 = 18;
+
+/// How many pages, of one space, have their words in one shard.
+const SHARD_PAGES: usize = 64;
+
+/// A map from places to entries, kept as entry words (profile).
+///
+/// The words lie one after another in shards of 64 pages of one space. A directory has for each shard of each space
+/// where its words stand.
+#[derive(Drop)]
+pub struct Shards {
+    spaces: u32,
+    bits: u32,
+    directory: Vec<Option<u32>>,
+    /// None while the words are taken.
+    words: Option<Vec<u64>>,
+    ghost limits: { AreLimits spaces bits },
+    ghost found: { IsDirectory spaces bits directory.items },
+    ghost packed: { ForSome words (λ v. AreWords directory.items v.items) },
+}
+
+impl Shards {
+    ghost use Rattle.std.specs.Prelude.{◌≡◌, ◌<◌, ◌≤◌, ◌≢◌, IsTrue, IsFalse, IfOk, None, length, slice_index};
+    ghost use Rattle.std.specs.List.{AllPass};
+    ghost use Rattle.space.specs.declared.place.Place.{Place};
+    ghost use Rattle.space.specs.Word.{word_of, entry_of, is_pack, FrameFits};
+    ghost use Rattle.space.specs.Directory.{AreLimits, shard_of};
+    ghost use Rattle.space.specs.Shards.{shard_count, spaces_of, bits_of, IsPlace, word_count, index_of, is_taken, entry_at, IsLaidOutAs, IsSetAt};
+
+    /// Spaces of `2^bits` bytes in which every page is absent.
+    ///
+    /// Refused, where memory is: `NoMemory`.
+    pub fn new(alloc: Global, spaces: u32, bits: u32) -> Result<Self, NoMemory>
+        requires { AreLimits spaces bits }
+        ensures spaces { IfOk result (λ s. spaces_of s ≡ spaces) }
+        ensures bits { IfOk result (λ s. bits_of s ≡ bits) }
+        ensures absent { IfOk result (λ s. (p : Place) → IsPlace s p → entry_at s p ≡ None) }
+        ensures present { IfOk result (λ s. IsFalse (is_taken s)) }
+    {
+        let shards = spaces << (bits - SHARD_BITS);
+        let directory = in_order(alloc, shards)?;
+        let words = vec![in alloc; 0; shards as usize * SHARD_PAGES]?;
+        Ok(Shards {
+            spaces,
+            bits,
+            directory,
+            words: Some(words),
+        })
+    }
+
+    /// Which word is a place's.
+    pub fn index(&self, place: Place) -> usize
+        requires { IsPlace self.now place }
+        ensures index { result ≡ index_of self.now place }
+        ensures in_range { result < word_count self.now }
+        ensures distinct { (q : Place) → IsPlace self.now q → index_of self.now q ≡ result → q ≡ place }
+    {
+        let position = self.directory[self.shard(place)].unwrap();
+        position as usize * SHARD_PAGES + place.page as usize % SHARD_PAGES
+    }
+
+    /// Which shard has the word of a place.
+    fn shard(&self, place: Place) -> usize
+        requires { IsPlace self.now place }
+        ensures shard { result ≡ shard_of (bits_of self.now) place }
+        ensures in_range { result < shard_count self.now }
+    {
+        let before = usize::from(place.space) << (self.bits - SHARD_BITS);
+        before + place.page as usize / SHARD_PAGES
+    }
+
+    /// What stands at a place.
+    pub fn get(&self, place: Place) -> Option<Entry>
+        requires place { IsPlace self.now place }
+        requires present { IsFalse (is_taken self.now) }
+        ensures { result ≡ entry_at self.now place }
+    {
+        let index = self.index(place);
+        unpack(self.words.as_ref().unwrap()[index])
+    }
+
+    /// Puts an entry at a place, or takes away what stands there.
+    pub fn set(&mut self, place: Place, entry: Option<Entry>)
+        requires place { IsPlace self.old place }
+        requires present { IsFalse (is_taken self.old) }
+        requires frame { FrameFits entry }
+        ensures set { IsSetAt self.old self.new place entry }
+        ensures present { IsFalse (is_taken self.new) }
+        ensures layout { IsLaidOutAs self.old self.new }
+    {
+        let index = self.index(place);
+        let words = self.words.as_mut().unwrap();
+        words[index] = pack(entry);
+    }
+
+    /// Gives the words away, that of each place at its index.
+    pub fn take_words(&mut self) -> Vec<u64>
+        requires { IsFalse (is_taken self.old) }
+        ensures words { (p : Place) → IsPlace self.old p → slice_index result.items (index_of self.old p) ≡ word_of (entry_at self.old p) }
+        ensures count { length result.items ≡ word_count self.old }
+        ensures packs { AllPass is_pack result.items }
+        ensures taken { IsTrue (is_taken self.new) }
+        ensures layout { IsLaidOutAs self.old self.new }
+    {
+        self.words.take().unwrap()
+    }
+
+    /// Takes words in the place of those that were taken.
+    pub fn put_words(&mut self, words: Vec<u64>)
+        requires taken { IsTrue (is_taken self.old) }
+        requires count { length words.items ≡ word_count self.old }
+        requires packs { AllPass is_pack words.items }
+        ensures entries { (p : Place) → IsPlace self.new p → entry_at self.new p ≡ entry_of (slice_index words.items (index_of self.new p)) }
+        ensures present { IsFalse (is_taken self.new) }
+        ensures layout { IsLaidOutAs self.old self.new }
+    {
+        self.words = Some(words);
+    }
+}
+
+/// A directory of so many shards whose words stand in the order of the shards.
+fn in_order(alloc: Global, shards: u32) -> Result<Vec<Option<u32>>, AllocError>
+    ensures { IfOk result (λ directory. directory.items ≡ map Some (range_with_len 0 shards)) }
+{
+    (0..shards).map(Some).collect(alloc)
+}

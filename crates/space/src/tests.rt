@@ -1,0 +1,161 @@
+//! The entry words of the profile's table, and shards at the least and at the largest limits.
+
+ghost use Rattle.std.specs.Prelude.{◌<◌};
+ghost use Rattle.space.specs.Directory.{AreLimits, pages_of};
+
+use crate::place::{Entry, Place};
+use crate::shards::Shards;
+use crate::word::{pack, unpack};
+use fpage::Rights;
+use std::process::Abort;
+use std::test::Fail;
+
+#[test]
+#[tactic(auto, using(crate::proofs::Words::unpack_gives_back))]
+fn packs_and_unpacks_each_word_of_the_table(rt: HostRuntime) {
+    // The frame, the numbers of the rights and of the status, and the word.
+    let rows: [(u16, u32, u32, u64); 4] = [
+        (5, 6, 0, 0x0000_0001_0000_0506),
+        (5, 6, 6, 0x0000_0001_0000_0536),
+        (4095, 7, 7, 0x0000_0001_000f_ff3f),
+        (0, 4, 0, 0x0000_0001_0000_0004),
+    ];
+    for (frame, rights, status, word) in rows {
+        let entry = Some(Entry {
+            frame: u32::from(frame),
+            rights: Rights::of_bits(rights),
+            status: Rights::of_bits(status),
+        });
+        assert_eq!(rt; pack(entry), word, "{word:x}");
+        assert_eq!(rt; unpack(word), entry, "{word:x}");
+    }
+    assert_eq!(rt; pack(None), 0);
+    assert_eq!(rt; unpack(0), None);
+}
+
+/// Sets one place and lets its word change while the words are away; the other place stays absent.
+fn goes_round(
+    rt: &(impl AllocGlobal + Abort),
+    spaces: u32,
+    bits: u32,
+    place: Place,
+    other: Place,
+    words_in_all: usize,
+) -> Result<(), Fail>
+    requires limits { AreLimits spaces bits }
+    requires place_space { place.space < spaces }
+    requires place_page { place.page < pages_of bits }
+    requires other_space { other.space < spaces }
+    requires other_page { other.page < pages_of bits }
+{
+    let all = Rights::all();
+    let unseen = Entry {
+        frame: 5,
+        rights: all,
+        status: Rights::none(),
+    };
+    let mut shards = Shards::new(rt.alloc(), spaces, bits)?;
+    assert_eq!(rt; shards.get(place), None);
+    shards.set(place, Some(unseen));
+    assert_eq!(rt; shards.get(place), Some(unseen));
+    assert_eq!(rt; shards.get(other), None);
+
+    let mut words = shards.take_words();
+    assert_eq!(rt; words.len(), words_in_all);
+    assert_eq!(rt; words[shards.index(place)], 0x1_0000_0507);
+    assert_eq!(rt; words[shards.index(other)], 0);
+    words[shards.index(place)] = 0x1_0000_053f;
+    shards.put_words(words);
+
+    let seen = Entry {
+        status: all,
+        ..unseen
+    };
+    assert_eq!(rt; shards.get(place), Some(seen));
+    assert_eq!(rt; shards.get(other), None);
+    shards.set(place, None);
+    assert_eq!(rt; shards.get(place), None);
+    Ok(())
+}
+
+#[test]
+fn keeps_entries_at_the_least_limits(rt: HostRuntime) -> Result<(), Fail> {
+    goes_round(
+        &rt,
+        2,
+        18,
+        Place { space: 0, page: 0 },
+        Place { space: 1, page: 0 },
+        128,
+    )?;
+    goes_round(
+        &rt,
+        2,
+        18,
+        Place { space: 1, page: 63 },
+        Place { space: 1, page: 62 },
+        128,
+    )
+}
+
+#[test]
+fn keeps_entries_at_the_largest_limits(rt: HostRuntime) -> Result<(), Fail> {
+    goes_round(
+        &rt,
+        512,
+        24,
+        Place {
+            space: 511,
+            page: 4095,
+        },
+        Place {
+            space: 511,
+            page: 4031,
+        },
+        2_097_152,
+    )?;
+    goes_round(
+        &rt,
+        512,
+        24,
+        Place { space: 0, page: 64 },
+        Place { space: 1, page: 0 },
+        2_097_152,
+    )
+}
+
+/// How many pages `keeps_a_million_entries_over_512_spaces` holds.
+const MILLION: u32 = 1_000_000;
+
+/// The places one after another, each in the next space.
+fn nth_place(n: u32) -> Place
+    ensures space { result.space < 512 }
+    ensures page { result.page < pages_of 24 }
+{
+    Place {
+        space: (n % 512) as u16,
+        page: n / 512 % 4096,
+    }
+}
+
+#[test]
+fn keeps_a_million_entries_over_512_spaces(rt: HostRuntime) -> Result<(), Fail> {
+    let mut shards = Shards::new(rt.alloc(), 512, 24)?;
+    for n in 0..MILLION {
+        let entry = Entry {
+            frame: n,
+            rights: Rights::all(),
+            status: Rights::none(),
+        };
+        shards.set(nth_place(n), Some(entry));
+    }
+    let mut frames = 0u64;
+    for n in 0..MILLION {
+        if let Some(entry) = shards.get(nth_place(n)) {
+            frames = frames.wrapping_add(u64::from(entry.frame));
+        }
+    }
+    // 0 + 1 + .. + 999,999
+    assert_eq!(rt; frames, 499_999_500_000);
+    Ok(())
+}
