@@ -6,9 +6,11 @@ use Rattle.l4map.specs.declared.reply.SendReply.{SendReply}
 use Rattle.l4map.specs.declared.reply.Reply.{Reply as TheReply}
 use Rattle.l4map.specs.declared.reply.Reply.TheVariants.{Sent, Accessed, Refused}
 
+-- the six counts that a reply has
 abbrev pub counts_of : SendReply → Counts
 counts_of r = record { absent = r.absent; norights = r.norights; origin = r.origin; lost = r.lost; extended = r.extended; linked = r.linked }
 
+-- the reply that a reply of the program is
 abbrev pub reply_of : TheReply → Reply
 reply_of (Sent r) = sent (counts_of r)
 reply_of (Accessed ok) = accessed ok

@@ -19,15 +19,19 @@ use Rattle.l4map.specs.declared.request.AccessFields.{AccessFields as TheAccessF
 abbrev pub shown : List (Bor (List ℕ)) → Fields
 shown fields = map (λ field. field.now) fields
 
+-- the limits that those of the program are
 abbrev pub limits_of : TheLimits → Limits
 limits_of l = record { spaces = l.spaces; bits = l.bits; frames = l.frames }
 
+-- the fields of an access record
 abbrev pub access_of : TheAccessFields → AccessFields
 access_of a = record { space = a.space; address = a.address; kind = a.kind }
 
+-- the fields of a send record
 abbrev pub send_of : TheSendFields → SendFields
 send_of s = record { from = s.from; to = s.to; window = s.window; words = s.words.items }
 
+-- the refusal that one of the program is
 abbrev pub refusal_of : TheRefusal → Refusal
 refusal_of why.BadSize = bad_size
 refusal_of why.Misaligned = misaligned
@@ -39,14 +43,17 @@ refusal_of why.SameSpace = same_space
 refusal_of why.NoWindow = no_window
 refusal_of why.BadRecord = bad_record
 
+-- the call that one of the program is
 abbrev pub call_of : TheCall → Call
 call_of (Send from to window items) = send from to window items.items
 call_of (Access place kind) = access place kind
 
+-- the request that a call or a refusal of the program is
 abbrev pub request_of : Result TheCall TheRefusal → Request
 request_of (Ok call) = Ok (call_of call)
 request_of (Err e) = Err (refusal_of e)
 
+-- the items that those of the program are
 abbrev pub items_of : Result (Vec Item Global) FpageError → Result (List Item) FpageError
 items_of (Ok items) = Ok items.items
 items_of (Err e) = Err e

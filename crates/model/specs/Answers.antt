@@ -62,6 +62,7 @@ unmap_answer space f (w ∷ ws) h =
 abbrev pub sent_answer : SendAnswer → Answer
 sent_answer a = record { reply = sent a.counts; left = a.left }
 
+-- an unmap's, as the answer to a call
 abbrev pub unmapped_answer : UnmapAnswer → Answer
 unmapped_answer a = record { reply = unmapped a.words; left = a.left }
 

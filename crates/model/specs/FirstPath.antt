@@ -46,6 +46,7 @@ first_trace_of bytes = trace_of_records first_request (records_of bytes)
 abbrev pub first_told : Trace → Told
 first_told t = replay (first_answer t.limits) (start t.limits) t.requests
 
+-- what is written for a trace, or the fault of its header, for that time
 abbrev pub first_output_of_trace : Result Trace HeaderFault → Result (List ℕ) HeaderFault
 first_output_of_trace (Ok t) = Ok (text (first_told t))
 first_output_of_trace (Err e) = Err e

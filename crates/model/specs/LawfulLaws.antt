@@ -54,6 +54,7 @@ pub record AreLawful (h : Holdings) : Type 0 where
   -- a frame has one root at most
   pub root : (p q : Place) (m k : Held) → at h p ≡ Some m → at h q ≡ Some k → m.origin ≡ None → k.origin ≡ None → k.frame ≡ m.frame → q ≡ p
 
+-- the test is true of these holdings, and of no others
 abbrev pub LawfulMeans : Type 0
 LawfulMeans = (h : Holdings) → Decides (is_lawful h) (AreLawful h)
 
@@ -63,9 +64,11 @@ abbrev pub DerivedHoldsNoMore : Type 0
 DerivedHoldsNoMore =
     (h : Holdings) → IsTrue (is_lawful h) → (p q : Place) (m from : Held) → LeadsInto h 0 (only q) p → at h p ≡ Some m → at h q ≡ Some from → HoldsNoMore m from
 
+-- an access
 abbrev pub TouchKeepsLawful : Type 0
 TouchKeepsLawful = (h : Holdings) → IsTrue (is_lawful h) → (p : Place) (a : Access) → IsTrue (is_lawful (touch h p a))
 
+-- a strip of any set
 abbrev pub StripKeepsLawful : Type 0
 StripKeepsLawful = (h : Holdings) → IsTrue (is_lawful h) → (set : PlaceSet) (a : Rights) (f : Bool) → IsTrue (is_lawful (strip h set a f))
 
@@ -74,6 +77,7 @@ abbrev pub MapKeepsLawful : Type 0
 MapKeepsLawful =
     (h : Holdings) → IsTrue (is_lawful h) → (from to : ℕ) → (from ≡ to → ⊥) → (window : Flexpage) (item : Item) → IsTrue (is_lawful (mapped h (job_of from to window item)))
 
+-- the same by a grant
 abbrev pub GrantKeepsLawful : Type 0
 GrantKeepsLawful =
     (h : Holdings) → IsTrue (is_lawful h) → (from to : ℕ) → (from ≡ to → ⊥) → (window : Flexpage) (item : Item) → IsTrue (is_lawful (granted h (job_of from to window item)))

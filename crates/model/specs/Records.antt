@@ -15,6 +15,7 @@ use Rattle.model.specs.Calls.{Limits, send, access, unmap, Named, refusal_of, ou
 abbrev pub Fields : Type 0
 Fields = List (List ℕ)
 
+-- the value of the first, if there is one, for the second
 infixl 10 ◌>>=◌
 abbrev pub ◌>>=◌ : {A B : Type 0} → Option A → (A → Option B) → Option B
 None >>= f = None
@@ -52,11 +53,13 @@ number_field base most field = if nat_lt 0 (length field) && nat_le (length fiel
 abbrev pub word_field : List ℕ → Option ℕ
 word_field = number_field 16 8
 
+-- a space: 1 to 5 decimal digits, at most 65535
 abbrev pub space_field : List ℕ → Option ℕ
 space_field field = do
   space ← number_field 10 5 field
   if nat_le space 65535 then Some space else None
 
+-- r, w or x
 abbrev pub kind_field : List ℕ → Option Access
 kind_field field =
     if bytes_eq field (codes "r") then Some kind.Read
@@ -66,6 +69,7 @@ kind_field field =
 
 -- ---- the header
 
+-- why a header is refused
 pub data HeaderFault : Type 0 where
   bad_header : HeaderFault
   bad_limits : HeaderFault
@@ -86,10 +90,12 @@ are_limits l =
     nat_le 2 l.spaces && nat_le l.spaces 512 && nat_le 18 l.bits && nat_le l.bits 24
     && nat_le 1 l.frames && nat_le l.frames (pages_of_space l.bits)
 
+-- the limits of a header, if it has the form, and if they are served
 abbrev pub checked_limits : Option Limits → Result Limits HeaderFault
 checked_limits None = Err bad_header
 checked_limits (Some l) = if are_limits l then Ok l else Err bad_limits
 
+-- the limits that a header sets, or why it is refused
 abbrev pub read_header : Fields → Result Limits HeaderFault
 read_header fields = checked_limits (header_limits fields)
 
@@ -103,6 +109,7 @@ word_fields (field ∷ fields) = do
   words ← word_fields fields
   Some (word ∷ words)
 
+-- the fields of a send record, read
 pub record SendFields : Type 0 where
   pub from : ℕ
   pub to : ℕ
@@ -123,6 +130,7 @@ send_fields (from ∷ to ∷ window ∷ words) = do
   if are_item_words words then Some (record { from = from; to = to; window = window; words = words }) else None
 send_fields _ = None
 
+-- an item before the others, or the first refusal
 abbrev pub with_item : Result Item FpageError → Result (List Item) FpageError → Result (List Item) FpageError
 with_item (Err e) items = Err e
 with_item (Ok item) (Err e) = Err e
@@ -147,6 +155,7 @@ send_request limits (Some s) =
 
 -- ---- access
 
+-- the fields of an access record, read
 pub record AccessFields : Type 0 where
   pub space : ℕ
   pub address : ℕ
@@ -161,6 +170,7 @@ access_fields (space ∷ address ∷ kind ∷ []) = do
   Some (record { space = space; address = address; kind = kind })
 access_fields _ = None
 
+-- the space is looked at first, and then the address
 abbrev pub access_request : Limits → Option AccessFields → Request
 access_request limits None = Err bad_record
 access_request limits (Some a) =
@@ -170,6 +180,7 @@ access_request limits (Some a) =
 
 -- ---- unmap
 
+-- the fields of an unmap record, read
 pub record UnmapFields : Type 0 where
   pub space : ℕ
   pub control : ℕ
@@ -184,6 +195,7 @@ unmap_fields (space ∷ control ∷ words) = do
   Some (record { space = space; control = control; words = words })
 unmap_fields _ = None
 
+-- a word before the others, or the first refusal
 abbrev pub with_named : ℕ → Result Flexpage FpageError → Result (List Named) FpageError → Result (List Named) FpageError
 with_named word (Err e) named = Err e
 with_named word (Ok pages) (Err e) = Err e
@@ -194,6 +206,7 @@ abbrev pub read_words : ℕ → List ℕ → Result (List Named) FpageError
 read_words bits [] = Ok []
 read_words bits (w ∷ ws) = with_named w (read_fpage bits w) (read_words bits ws)
 
+-- the control word is looked at first, and then the words in order
 abbrev pub unmap_request : Limits → Option UnmapFields → Request
 unmap_request limits None = Err bad_record
 unmap_request limits (Some u) =
@@ -215,10 +228,12 @@ pub record Trace : Type 0 where
   pub limits : Limits
   pub requests : List Request
 
+-- the records after the header, each by the limits that it set
 abbrev pub with_limits : (Limits → Fields → Request) → List Fields → Result Limits HeaderFault → Result Trace HeaderFault
 with_limits read_one rest (Err e) = Err e
 with_limits read_one rest (Ok limits) = Ok (record { limits = limits; requests = map (read_one limits) rest })
 
+-- the first record is the header
 abbrev pub trace_of_records : (Limits → Fields → Request) → List Fields → Result Trace HeaderFault
 trace_of_records read_one [] = Err bad_header
 trace_of_records read_one (header ∷ rest) = with_limits read_one rest (read_header header)

@@ -66,6 +66,7 @@ pub record IsMapped (h : Holdings) (job : Job) (left : Holdings) : Type 0 where
   -- and nothing else is new
   pub none_new : (p : Place) → at h p ≡ None → ((e : Pair) → IsWorked h job e → e.1 ≡ p → ⊥) → at left p ≡ None
 
+-- of a MapItem between two spaces
 abbrev pub MapSays : Type 0
 MapSays =
     (h : Holdings) → IsTrue (is_lawful h) → (from to : ℕ) → (from ≡ to → ⊥) → (window : Flexpage) (item : Item)
@@ -108,6 +109,7 @@ pub record IsGranted (h : Holdings) (job : Job) (left : Holdings) : Type 0 where
   -- and nothing else is new
   pub none_new : (p : Place) → at h p ≡ None → ((e : Pair) → IsWorked h job e → e.1 ≡ p → ⊥) → at left p ≡ None
 
+-- of a GrantItem between two spaces
 abbrev pub GrantSays : Type 0
 GrantSays =
     (h : Holdings) → IsTrue (is_lawful h) → (from to : ℕ) → (from ≡ to → ⊥) → (window : Flexpage) (item : Item)

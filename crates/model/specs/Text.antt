@@ -12,11 +12,13 @@ use Rattle.model.specs.Answers.{answer}
 use Rattle.model.specs.Replay.{Told, replay, start}
 use Rattle.model.specs.Records.{Trace, HeaderFault, trace_of}
 
+-- the end of a line
 abbrev pub line_feed : List ℕ
 line_feed = 10 ∷ []
 
 -- ---- replies
 
+-- the name of a refusal
 abbrev pub refusal_name : Refusal → List ℕ
 refusal_name bad_size = codes "BadSize"
 refusal_name misaligned = codes "Misaligned"
@@ -28,6 +30,7 @@ refusal_name same_space = codes "SameSpace"
 refusal_name no_window = codes "NoWindow"
 refusal_name bad_record = codes "BadRecord"
 
+-- the six counts of a send
 abbrev pub counts_text : Counts → List ℕ
 counts_text c =
     codes "absent=" ++ decimal c.absent ++ codes " norights=" ++ decimal c.norights ++ codes " origin=" ++ decimal c.origin
@@ -42,9 +45,11 @@ abbrev pub hex_digits : ℕ → ℕ → List ℕ
 hex_digits zero n = []
 hex_digits (suc count) n = hex_code (n / 16 ^ count % 16) ∷ hex_digits count n
 
+-- the words of an unmap's reply, each behind a space
 abbrev pub words_text : List ℕ → List ℕ
 words_text words = flat_map (λ w. codes " " ++ hex_digits 8 w) words
 
+-- what follows the number of a reply line
 abbrev pub reply_text : Reply → List ℕ
 reply_text (sent c) = codes "send " ++ counts_text c
 reply_text (accessed true) = codes "access ok"
@@ -52,6 +57,7 @@ reply_text (accessed false) = codes "access fault"
 reply_text (unmapped words) = codes "unmap" ++ words_text words
 reply_text (refused r) = codes "refused " ++ refusal_name r
 
+-- a reply line: number, space, text
 abbrev pub reply_line : ℕ → Reply → List ℕ
 reply_line n r = decimal n ++ codes " " ++ reply_text r ++ line_feed
 
@@ -66,16 +72,20 @@ reply_lines n (r ∷ rs) = reply_line n r ++ reply_lines (n + 1) rs
 abbrev pub letter : Bool → ℕ → ℕ
 letter has c = if has then c else 45
 
+-- rights as they are written
 abbrev pub rights_text : Rights → List ℕ
 rights_text a = letter a.read 114 ∷ letter a.write 119 ∷ letter a.execute 120 ∷ []
 
+-- status as it is written, in capitals
 abbrev pub status_text : Rights → List ℕ
 status_text a = letter a.read 82 ∷ letter a.write 87 ∷ letter a.execute 88 ∷ []
 
+-- an origin as it is written; a root has a dash
 abbrev pub origin_text : Option Place → List ℕ
 origin_text None = codes "-"
 origin_text (Some o) = place_text o
 
+-- a mapping as it is written
 abbrev pub audit_line : Place × Held → List ℕ
 audit_line e =
     decimal e.0.space ++ codes "," ++ decimal e.0.page ++ codes "," ++ decimal e.1.frame ++ codes "," ++ rights_text e.1.rights
@@ -87,15 +97,18 @@ audit_lines h = flat_map audit_line h
 
 -- ---- the whole
 
+-- whether a reply is a refusal
 abbrev pub is_refused : Reply → Bool
 is_refused (sent c) = false
 is_refused (accessed ok) = false
 is_refused (unmapped words) = false
 is_refused (refused r) = true
 
+-- how many replies are refusals
 abbrev pub refused_count : List Reply → ℕ
 refused_count replies = count_by is_refused replies
 
+-- the last line: how many records, and how many were refused
 abbrev pub end_line : ℕ → ℕ → List ℕ
 end_line count refusals = codes "end " ++ decimal count ++ codes " " ++ decimal refusals ++ line_feed
 
@@ -107,6 +120,7 @@ text t = reply_lines 1 t.replies ++ audit_lines t.last ++ end_line (length t.rep
 abbrev pub told : Trace → Told
 told t = replay (answer t.limits) (start t.limits) t.requests
 
+-- what is written for a trace, or the fault of its header
 abbrev pub output_of_trace : Result Trace HeaderFault → Result (List ℕ) HeaderFault
 output_of_trace (Ok t) = Ok (text (told t))
 output_of_trace (Err e) = Err e
