@@ -1,0 +1,6 @@
+pub mod Paths
+pub mod Runs
+pub mod Positions
+pub mod Origin
+pub mod Renaming
+pub mod Insertion

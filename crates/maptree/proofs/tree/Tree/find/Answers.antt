@@ -1,0 +1,12 @@
+-- The position of a place.
+use Rattle.std.proofs.Common.{◌≡◌, [], subst, sym, ap, ◌∙◌, position}
+use Rattle.space.specs.Place.{same_place}
+use Rattle.maptree.specs.declared.node.Node.{Node}
+use Rattle.maptree.specs.Origins.{Shape}
+use Rattle.maptree.proofs.Positions.{position-links}
+use Rattle.maptree.proofs.tree.Tree.find.Goals as goal
+
+pub returns : goal.returns
+returns c =
+    subst (λ (s : Shape). c.placed.result ≡ position (λ o. same_place c.args.place o.0) s.links) c.self.view_is
+    (c.placed.ensures ∙ ap (λ xs. position (λ (n : Node). same_place c.args.place n.place) xs) c.deref.ensures.value ∙ sym (position-links c.args.place [] c.self.inside.nodes.items))

@@ -1,0 +1,20 @@
+-- The place and the depth of a node.
+use Rattle.std.proofs.Common.{◌≡◌, length, [], subst, sym, ap, ◌∙◌, arith}
+use Rattle.space.specs.declared.place.Place.{Place}
+use Rattle.maptree.specs.Origins.{Shape, place_at, HasDepth}
+use Rattle.maptree.proofs.Positions.{node_place, node_depth, length-links}
+use Rattle.maptree.proofs.tree.Tree.node.Goals as goal
+
+pub returns-clause-place : goal.returns-clause-place
+returns-clause-place c =
+    let nodes = c.self.inside.nodes.items in
+    let size : length c.args.self.now.links ≡ length nodes = ap (λ (s : Shape). length s.links) (sym c.self.view_is) ∙ length-links [] nodes in
+    subst (λ (s : Shape). (d : Place) → c.index.result.now.place ≡ place_at s.links c.args.i d) c.self.view_is
+    (node_place nodes c.args.i c.index.result.now (omega (arith, size, c.requires)) c.index.ensures)
+
+pub returns-clause-depth : goal.returns-clause-depth
+returns-clause-depth c =
+    let nodes = c.self.inside.nodes.items in
+    let size : length c.args.self.now.links ≡ length nodes = ap (λ (s : Shape). length s.links) (sym c.self.view_is) ∙ length-links [] nodes in
+    subst (λ (s : Shape). HasDepth s.links c.index.result.now.place c.index.result.now.depth) c.self.view_is
+    (node_depth nodes c.args.i c.index.result.now c.self.invariant (omega (arith, size, c.requires)) c.index.ensures)

@@ -1,0 +1,117 @@
+//! The answers that are known for one tree.
+
+ghost use Rattle.std.specs.Prelude.{◌≡◌, ◌<◌, ◌+◌, length};
+
+use crate::Tree;
+use space::Place;
+use std::alloc::Global;
+use std::process::Abort;
+use std::test::Fail;
+
+fn place(space: u16, page: u32) -> Place {
+    Place { space, page }
+}
+
+/// The position of a place that is in the tree.
+fn position(rt: &impl Abort, tree: &Tree, place: Place) -> usize
+    ensures { result < length tree.now.links }
+{
+    match tree.find(place) {
+        Some(i) => i,
+        None => panic!(rt; "{place} is not in the tree"),
+    }
+}
+
+/// Puts a place below another.
+fn put_below(rt: &impl Abort, tree: &mut Tree, origin: Place, place: Place)
+    requires { 0 < tree.old.room }
+    ensures { tree.new.room + 1 ≡ tree.old.room }
+{
+    let i = position(rt, tree, origin);
+    match tree.find(place) {
+        None => tree.insert_below(i, place),
+        Some(_) => panic!(rt; "{place} is in the tree"),
+    }
+}
+
+/// 0:5 with 1:0 and 2:4 below it, below 1:0 2:0, and below that 1:3.
+fn sample(rt: &impl Abort, alloc: Global) -> Result<Tree, Fail> {
+    let mut tree = Tree::root(alloc, place(0, 5))?;
+    tree.reserve(4)?;
+    put_below(rt, &mut tree, place(0, 5), place(2, 4));
+    put_below(rt, &mut tree, place(0, 5), place(1, 0));
+    put_below(rt, &mut tree, place(1, 0), place(2, 0));
+    put_below(rt, &mut tree, place(2, 0), place(1, 3));
+    Ok(tree)
+}
+
+#[test]
+fn stands_in_preorder(rt: HostRuntime) -> Result<(), Fail> {
+    let tree = sample(&rt, rt.alloc())?;
+    for (i, (space, page), depth) in [
+        (0, (0, 5), 0),
+        (1, (1, 0), 1),
+        (2, (2, 0), 2),
+        (3, (1, 3), 3),
+        (4, (2, 4), 1),
+    ] {
+        let at = position(&rt, &tree, place(space, page));
+        assert_eq!(rt; at, i);
+        let node = tree.node(at);
+        assert_eq!(rt; node.place, place(space, page));
+        assert_eq!(rt; node.depth, depth);
+    }
+    assert_eq!(rt; tree.find(place(2, 5)), None);
+    Ok(())
+}
+
+#[test]
+fn has_runs_and_origins(rt: HostRuntime) -> Result<(), Fail> {
+    let tree = sample(&rt, rt.alloc())?;
+    for ((space, page), run, origin) in [
+        ((0, 5), 0..5, None),
+        ((1, 0), 1..4, Some(0)),
+        ((2, 0), 2..4, Some(1)),
+        ((1, 3), 3..4, Some(2)),
+        ((2, 4), 4..5, Some(0)),
+    ] {
+        let at = position(&rt, &tree, place(space, page));
+        assert_eq!(rt; tree.run_of(at), run);
+        assert_eq!(rt; tree.origin_of(at), origin);
+    }
+    Ok(())
+}
+
+#[test]
+fn tells_origins_at_any_distance(rt: HostRuntime) -> Result<(), Fail> {
+    let tree = sample(&rt, rt.alloc())?;
+    let middle = position(&rt, &tree, place(1, 0));
+    for ((space, page), derives) in [
+        ((0, 5), false),
+        ((1, 0), false),
+        ((2, 0), true),
+        ((1, 3), true),
+        ((2, 4), false),
+    ] {
+        let at = position(&rt, &tree, place(space, page));
+        assert_eq!(rt; tree.is_origin(middle, at), derives);
+    }
+    Ok(())
+}
+
+#[test]
+fn renames_one_node(rt: HostRuntime) -> Result<(), Fail> {
+    let mut tree = sample(&rt, rt.alloc())?;
+    let at = position(&rt, &tree, place(1, 0));
+    let other = place(3, 7);
+    match tree.find(other) {
+        None => tree.rename(at, other),
+        Some(_) => panic!(rt; "{other} is in the tree"),
+    }
+    assert_eq!(rt; tree.find(place(1, 0)), None);
+    let at = position(&rt, &tree, other);
+    assert_eq!(rt; at, 1);
+    assert_eq!(rt; tree.node(at).depth, 1);
+    assert_eq!(rt; tree.run_of(at), 1..4);
+    Ok(())
+}

@@ -1,0 +1,182 @@
+ghost use Rattle.std.specs.Prelude.{◌≡◌, ◌<◌, true, length, position, option_map, IfSome};
+ghost use Rattle.space.specs.Place.{same_place};
+ghost use Rattle.space.specs.declared.place.Place.{Place};
+ghost use Rattle.maptree.specs.Origins.{origin_in, place_at};
+ghost use Rattle.maptree.specs.Nodes.{is_forest, origins_of, run_len};
+
+use crate::node::Node;
+use space::{NoMemory, Place};
+use std::alloc::{AllocError, Global};
+use std::marker::Model;
+use std::ops::Range;
+
+/// The derivation tree of one frame.
+///
+/// Its nodes stand in a list in preorder: what derives from a node stands right behind it, one deeper or more. Contracts
+/// see the places in this order, each with its origin.
+#[derive(Drop)]
+pub struct Tree {
+    nodes: Vec<Node>,
+}
+
+impl Model for Tree {
+    ghost use Rattle.std.specs.Prelude.{◌≡◌, ◌-◌, true, vec_capacity, vec_len};
+    ghost use Rattle.maptree.specs.Origins.{Shape};
+    ghost use Rattle.maptree.specs.Nodes.{is_forest, origins_of};
+
+    ghost Value = { Shape };
+
+    ghost view = { λ t. record { links = origins_of t.nodes.items; room = vec_capacity t.nodes - vec_len t.nodes } };
+
+    ghost invariant = { λ t. is_forest t.nodes.items ≡ true };
+}
+
+#[tactic(auto, using(crate::proofs::Positions::lengths))]
+impl Tree {
+    ghost use Rattle.std.specs.Prelude.{◌≡◌, ℕ, ◌+◌, ◌<◌, ◌≤◌, ◌&&◌, nat_le, nat_lt, Decides};
+    ghost use Rattle.std.specs.Prelude.{[], ◌∷◌, length, insert, position};
+    ghost use Rattle.std.specs.Prelude.{None, Some, option_map, IfSome, IfOk, OnOk, OnErr};
+    ghost use Rattle.space.specs.declared.place.Place.{Place};
+    ghost use Rattle.space.specs.Place.{same_place};
+    ghost use Rattle.maptree.specs.Origins.{origin_in, place_at, renamed, LeadsTo, HasDepth};
+
+    /// A tree of one root.
+    pub fn root(alloc: Global, place: Place) -> Result<Tree, NoMemory>
+        ensures { IfOk result (λ t. t.links ≡ (place, None) ∷ []) }
+    {
+        let nodes = vec![in alloc; Node { place, depth: 0 }].map_err(AllocError::from)?;
+        Ok(Tree { nodes })
+    }
+
+    /// Memory for so many more nodes: after it so many insertions take none.
+    pub fn reserve(&mut self, n: usize) -> Result<(), NoMemory>
+        ensures links { self.new.links ≡ self.old.links }
+        ensures ok { OnOk result (n ≤ self.new.room) }
+        ensures grows { self.old.room ≤ self.new.room }
+        ensures err { OnErr result (self.new.room ≡ self.old.room) }
+    {
+        self.nodes.reserve(n)?;
+        Ok(())
+    }
+
+    /// The position of a place, if it is in the tree.
+    pub fn find(&self, place: Place) -> Option<usize>
+        ensures { result ≡ position (λ o. same_place place o.0) self.now.links }
+    {
+        placed(&self.nodes, place)
+    }
+
+    /// The node at a position.
+    pub fn node(&self, i: usize) -> Node
+        requires { i < length self.now.links }
+        ensures place { (d : Place) → result.place ≡ place_at self.now.links i d }
+        ensures depth { HasDepth self.now.links result.place result.depth }
+    {
+        self.nodes[i]
+    }
+
+    /// The positions of a node and of all that derives from it.
+    pub fn run_of(&self, i: usize) -> Range<usize>
+        requires { i < length self.now.links }
+        ensures start { result.start ≡ i }
+        ensures end { result.end ≤ length self.now.links }
+        ensures run { (j : ℕ) (d : Place) → j < length self.now.links
+            → Decides (nat_le i j && nat_lt j result.end)
+            (LeadsTo self.now.links 0 (place_at self.now.links j d) (place_at self.now.links i d)) }
+    {
+        let depth = self.nodes[i].depth;
+        let derived = deeper(&self.nodes[i + 1..], depth);
+        i..i + 1 + derived
+    }
+
+    /// The position of the origin of a node; none for a root.
+    pub fn origin_of(&self, i: usize) -> Option<usize>
+        requires { i < length self.now.links }
+        ensures before { IfSome result (λ r. r < i) }
+        ensures origin { (d : Place) → origin_in self.now.links (place_at self.now.links i d)
+            ≡ option_map (λ r. place_at self.now.links r d) result }
+    {
+        nearest_above(&self.nodes, i)
+    }
+
+    /// Whether a node is an origin of another, at any distance.
+    pub fn is_origin(&self, a: usize, b: usize) -> bool
+        requires a { a < length self.now.links }
+        requires b { b < length self.now.links }
+        ensures { (d : Place) → Decides result
+            (LeadsTo self.now.links 1 (place_at self.now.links b d) (place_at self.now.links a d)) }
+    {
+        let depth = self.nodes[a].depth;
+        if b <= a {
+            return false;
+        }
+        deeper(&self.nodes[a + 1..b + 1], depth) == b - a
+    }
+
+    /// Another place for a node; its depth and what derives from it stay.
+    pub fn rename(&mut self, i: usize, place: Place)
+        requires within { i < length self.old.links }
+        requires new { position (λ o. same_place place o.0) self.old.links ≡ None }
+        ensures links { (d : Place) →
+            self.new.links ≡ renamed (place_at self.old.links i d) place self.old.links }
+        ensures room { self.new.room ≡ self.old.room }
+    {
+        let node = &mut self.nodes[i];
+        node.place = place;
+    }
+
+    /// Puts a new node directly behind a node, one deeper. This takes no memory.
+    pub fn insert_below(&mut self, i: usize, place: Place)
+        requires within { i < length self.old.links }
+        requires new { position (λ o. same_place place o.0) self.old.links ≡ None }
+        requires room { 0 < self.old.room }
+        ensures links { (d : Place) →
+            self.new.links ≡ insert self.old.links (i + 1) (place, Some (place_at self.old.links i d)) }
+        ensures room { self.new.room + 1 ≡ self.old.room }
+    {
+        let depth = self.nodes[i].depth + 1;
+        let inserted = self.nodes.insert(i + 1, Node { place, depth });
+        prove!(inserted.is_ok());
+    }
+}
+
+/// The position of the nearest node before this one that is less deep.
+fn nearest_above(nodes: &[Node], i: usize) -> Option<usize>
+    requires forest { is_forest nodes.now ≡ true }
+    requires within { i < length nodes.now }
+    ensures before { IfSome result (λ r. r < i) }
+    ensures origin { (d : Place) → origin_in (origins_of nodes.now) (place_at (origins_of nodes.now) i d)
+        ≡ option_map (λ r. place_at (origins_of nodes.now) r d) result }
+{
+    let depth = nodes[i].depth;
+    if depth == 0 {
+        return None;
+    }
+    let mut j = i;
+    while j > 0 {
+        j -= 1;
+        if nodes[j].depth < depth {
+            return Some(j);
+        }
+    }
+    None
+}
+
+/// How many nodes from the front on are deeper than this.
+fn deeper(nodes: &[Node], depth: usize) -> usize
+    ensures { result ≡ run_len depth nodes.now }
+{
+    for i in 0..nodes.len() {
+        if nodes[i].depth <= depth {
+            return i;
+        }
+    }
+    nodes.len()
+}
+
+/// The position of the node with this place.
+fn placed(nodes: &[Node], place: Place) -> Option<usize>
+    ensures { result ≡ position (λ n. same_place place n.place) nodes.now }
+{
+    nodes.iter().position(|node| place == node.place)
+}
