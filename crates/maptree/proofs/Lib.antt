@@ -4,3 +4,4 @@ pub mod Positions
 pub mod Origin
 pub mod Renaming
 pub mod Insertion
+pub mod Outermost

@@ -24,6 +24,12 @@ place_at-links path [] i d = refl
 place_at-links path (n ∷ ns) zero d = refl
 place_at-links path (n ∷ ns) (suc i) d = place_at-links (n.place ∷ above n path) ns i d
 
+-- a read within the list does not depend on what a read past its end would give
+pub read_any : (ns : List Node) (i : ℕ) (a b : Node) → i < length ns → get_or ns i a ≡ get_or ns i b
+read_any [] i a b within = absurd (omega (arith, within))
+read_any (m ∷ ns) zero a b within = refl
+read_any (m ∷ ns) (suc i) a b within = read_any ns i a b (omega (arith, within))
+
 -- the place of the node that is read
 pub place_of_read : (ns : List Node) (i : ℕ) (d : Place) (n : Node) → i < length ns → place_of ns i d ≡ (get_or ns i n).place
 place_of_read [] i d n within = absurd (omega (arith, within))
@@ -89,17 +95,22 @@ take_all (suc n) [] upto = refl
 take_all zero (m ∷ ns) upto = absurd (omega (arith, upto))
 take_all (suc n) (m ∷ ns) upto = ap (λ xs. m ∷ xs) (take_all n ns (omega (arith, upto)))
 
+-- what is counted behind a node is its run
+pub run_is : (ns : List Node) (i r : ℕ) (n : Node) → i < length ns → n ≡ get_or ns i n → r ≡ run_len n.depth (take (length ns - (i + 1)) (drop (i + 1) ns)) → r ≡ run_at ns i
+run_is ns i r n within is run =
+    let one : i + 1 ≡ suc i = omega arith in
+    let dropped = length-drop (i + 1) ns in
+    let whole : take (length ns - (i + 1)) (drop (i + 1) ns) ≡ drop (i + 1) ns = take_all (length ns - (i + 1)) (drop (i + 1) ns) (omega (arith, dropped)) in
+    let depth : depth_of ns i ≡ n.depth = depth_of_read ns i n within ∙ ap (λ m. m.depth) (sym is) in
+    run ∙ ap (run_len n.depth) whole ∙ ap (λ k. run_len n.depth (drop k ns)) one ∙ ap (λ k. run_len k (drop (suc i) ns)) (sym depth) ∙ sym (run_at_read ns i within)
+
 -- the run of a node has the places that derive from it, and its own
 pub run_says : (ns : List Node) (i r : ℕ) (n : Node) → is_forest ns ≡ true → i < length ns → n ≡ get_or ns i n → r ≡ run_len n.depth (take (length ns - (i + 1)) (drop (i + 1) ns))
     → (j : ℕ) (d : Place) → j < length (origins_of ns)
     → Decides (nat_le i j && nat_lt j (i + 1 + r)) (LeadsTo (origins_of ns) 0 (place_at (origins_of ns) j d) (place_at (origins_of ns) i d))
 run_says ns i r n forest within is run j d within_j =
     let size = length-links [] ns in
-    let one : i + 1 ≡ suc i = omega arith in
-    let dropped = length-drop (i + 1) ns in
-    let whole : take (length ns - (i + 1)) (drop (i + 1) ns) ≡ drop (i + 1) ns = take_all (length ns - (i + 1)) (drop (i + 1) ns) (omega (arith, dropped)) in
-    let depth : depth_of ns i ≡ n.depth = depth_of_read ns i n within ∙ ap (λ m. m.depth) (sym is) in
-    let same : r ≡ run_at ns i = run ∙ ap (run_len n.depth) whole ∙ ap (λ k. run_len n.depth (drop k ns)) one ∙ ap (λ k. run_len k (drop (suc i) ns)) (sym depth) ∙ sym (run_at_read ns i within) in
+    let same = run_is ns i r n within is run in
     let at_i = place_at-links [] ns i d in
     let at_j = place_at-links [] ns j d in
     let says = forest_run ns forest i j d within (omega (arith, size, within_j)) in

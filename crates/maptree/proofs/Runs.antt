@@ -14,7 +14,8 @@ use Rattle.maptree.proofs.Paths.{In, IsChain, Agrees, HasPlace, agrees, new_apar
 
 -- ---- parts of paths
 
-in_drop : (p : Place) (k : ℕ) (path : List Place) → In p (drop k path) → In p path
+-- what the end of a path has, the path has
+pub in_drop : (p : Place) (k : ℕ) (path : List Place) → In p (drop k path) → In p path
 in_drop p zero path k = k
 in_drop p (suc n) [] k = k
 in_drop p (suc n) (q ∷ path) k = inr (in_drop p n path k)
@@ -149,7 +150,8 @@ run_at (n ∷ ns) (suc i) = run_at ns i
 abbrev IsApart : List Place → List Node → Type 0
 IsApart path ns = (p : Place) → In p path → HasPlace p ns → ⊥
 
-has_place : (ns : List Node) (j : ℕ) (d : Place) → j < length ns → HasPlace (place_of ns j d) ns
+-- the place at a position is there
+pub has_place : (ns : List Node) (j : ℕ) (d : Place) → j < length ns → HasPlace (place_of ns j d) ns
 has_place [] j d within = absurd (omega (arith, within))
 has_place (n ∷ ns) zero d within = inl refl
 has_place (n ∷ ns) (suc j) d within = inr (has_place ns j d (omega (arith, within)))

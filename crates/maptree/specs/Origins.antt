@@ -1,5 +1,7 @@
 -- A derivation tree as its callers see it: places, each with the place from which it derives.
-use Rattle.std.specs.Prelude.{◌≡◌, ℕ, zero, suc, ◌≤◌, List, [], ◌∷◌, map, Option, Some, None, option_map, if◌then◌else◌}
+use Rattle.std.specs.Prelude.{◌≡◌, ℕ, zero, suc, ◌<◌, ◌≤◌, nat_le, nat_lt, ◌&&◌, true, ◌↔◌, ◌⊎◌, Decides, List, [], ◌∷◌, length, map, Option, Some, None, option_map, if◌then◌else◌}
+use Rattle.std.specs.List.{All, list_any}
+use Rattle.std.specs.declared.ops.Range.{Range}
 use Rattle.std.specs.Option.{option_and_then}
 use Rattle.std.specs.FinMap.Entries.{find}
 use Rattle.space.specs.declared.place.Place.{Place}
@@ -48,3 +50,42 @@ swapped p q x = if same_place p x then q else x
 -- a place replaced, as a place and as an origin
 abbrev pub renamed : Place → Place → Origins → Origins
 renamed p q os = map (λ o. (swapped p q o.0, option_map (swapped p q) o.1)) os
+
+-- a place is one of some named places, or derives from one
+pub record LeadsToOne (os : Origins) (places : List Place) (p : Place) : Type 0 where
+  -- the place from which it derives, or itself
+  pub named : Place
+  -- that place is named
+  pub among : list_any (same_place named) places ≡ true
+  -- its origins lead there
+  pub leads : LeadsTo os 0 p named
+
+-- the range has the positions of one place and of all that derives from it, and no others
+abbrev pub IsRun : Origins → Range ℕ → Type 0
+IsRun os run = (j : ℕ) (d : Place) → j < length os
+    → Decides (nat_le run.start j && nat_lt j run.end) (LeadsTo os 0 (place_at os j d) (place_at os run.start d))
+
+-- the range begins at one of some named places
+abbrev pub BeginsAtOne : Origins → List Place → Range ℕ → Type 0
+BeginsAtOne os places run = (d : Place) → list_any (same_place (place_at os run.start d)) places ≡ true
+
+-- ranges that are not empty, each beginning where the one before ended or later, the last ending by this number
+abbrev pub AreRising : ℕ → List (Range ℕ) → ℕ → Type 0
+AreRising from [] most = from ≤ most
+AreRising from (r ∷ rs) most = (from ≤ r.start) × (r.start < r.end) × AreRising r.end rs most
+
+-- a position lies in one of the ranges
+abbrev pub LiesInOne : ℕ → List (Range ℕ) → Type 0
+LiesInOne j [] = ⊥
+LiesInOne j (r ∷ rs) = ((r.start ≤ j) × (j < r.end)) ⊎ LiesInOne j rs
+
+-- the outermost runs of named places
+pub record AreOuterRuns (os : Origins) (places : List Place) (runs : List (Range ℕ)) : Type 0 where
+  -- they rise, none is empty and no two overlap
+  pub rising : AreRising 0 runs (length os)
+  -- each is the run of a place
+  pub whole : All (IsRun os) runs
+  -- which is named
+  pub named : All (BeginsAtOne os places) runs
+  -- they have the positions of what is named or derives from a named place, and no others
+  pub covers : (j : ℕ) (d : Place) → j < length os → LiesInOne j runs ↔ LeadsToOne os places (place_at os j d)

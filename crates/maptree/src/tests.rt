@@ -100,6 +100,22 @@ fn tells_origins_at_any_distance(rt: HostRuntime) -> Result<(), Fail> {
 }
 
 #[test]
+fn has_outer_runs(rt: HostRuntime) -> Result<(), Fail> {
+    let tree = sample(&rt, rt.alloc())?;
+    let nested = tree.outer_runs(rt.alloc(), &[place(1, 3), place(1, 0)])?;
+    assert_eq!(rt; nested.as_slice(), [1..4].as_slice());
+    let apart = tree.outer_runs(rt.alloc(), &[place(2, 4), place(2, 0)])?;
+    assert_eq!(rt; apart.as_slice(), [2..4, 4..5].as_slice());
+    let root = tree.outer_runs(rt.alloc(), &[place(2, 0), place(0, 5), place(2, 0)])?;
+    assert_eq!(rt; root.as_slice(), [0..5].as_slice());
+    let unknown = tree.outer_runs(rt.alloc(), &[place(2, 5), place(1, 3)])?;
+    assert_eq!(rt; unknown.as_slice(), [3..4].as_slice());
+    let none = tree.outer_runs(rt.alloc(), &[])?;
+    assert_eq!(rt; none.len(), 0);
+    Ok(())
+}
+
+#[test]
 fn renames_one_node(rt: HostRuntime) -> Result<(), Fail> {
     let mut tree = sample(&rt, rt.alloc())?;
     let at = position(&rt, &tree, place(1, 0));

@@ -1,12 +1,14 @@
-ghost use Rattle.std.specs.Prelude.{◌≡◌, ◌<◌, true, length, position, option_map, IfSome};
+ghost use Rattle.std.specs.Prelude.{◌≡◌, ◌<◌, true, length, position, option_map, IfSome, IfOk};
+ghost use Rattle.std.specs.List.{list_any};
 ghost use Rattle.space.specs.Place.{same_place};
 ghost use Rattle.space.specs.declared.place.Place.{Place};
-ghost use Rattle.maptree.specs.Origins.{origin_in, place_at};
+ghost use Rattle.maptree.specs.Origins.{origin_in, place_at, AreOuterRuns};
 ghost use Rattle.maptree.specs.Nodes.{is_forest, origins_of, run_len};
 
 use crate::node::Node;
 use space::{NoMemory, Place};
 use std::alloc::{AllocError, Global};
+use std::collections::BTreeSet;
 use std::marker::Model;
 use std::ops::Range;
 
@@ -38,7 +40,7 @@ impl Tree {
     ghost use Rattle.std.specs.Prelude.{None, Some, option_map, IfSome, IfOk, OnOk, OnErr};
     ghost use Rattle.space.specs.declared.place.Place.{Place};
     ghost use Rattle.space.specs.Place.{same_place};
-    ghost use Rattle.maptree.specs.Origins.{origin_in, place_at, renamed, LeadsTo, HasDepth};
+    ghost use Rattle.maptree.specs.Origins.{origin_in, place_at, renamed, LeadsTo, HasDepth, AreOuterRuns};
 
     /// A tree of one root.
     pub fn root(alloc: Global, place: Place) -> Result<Tree, NoMemory>
@@ -113,6 +115,15 @@ impl Tree {
         deeper(&self.nodes[a + 1..b + 1], depth) == b - a
     }
 
+    /// The outermost runs of the named places, in rising order. Places that are not in the tree are passed over.
+    pub fn outer_runs(&self, alloc: Global, places: &[Place]) -> Result<Vec<Range<usize>>, NoMemory>
+        ensures { IfOk result (λ runs. AreOuterRuns self.now.links places.now runs.items) }
+    {
+        let named = set_of(alloc, places)?;
+        let runs = outermost(&self.nodes, alloc, &named)?;
+        Ok(runs)
+    }
+
     /// Another place for a node; its depth and what derives from it stay.
     pub fn rename(&mut self, i: usize, place: Place)
         requires within { i < length self.old.links }
@@ -179,4 +190,40 @@ fn placed(nodes: &[Node], place: Place) -> Option<usize>
     ensures { result ≡ position (λ n. same_place place n.place) nodes.now }
 {
     nodes.iter().position(|node| place == node.place)
+}
+
+/// A set of these places.
+fn set_of(alloc: Global, places: &[Place]) -> Result<BTreeSet<Place>, NoMemory>
+    ensures { IfOk result (λ set. (q : Place) →
+        list_any (same_place q) set.keys ≡ list_any (same_place q) places.now) }
+{
+    let mut set = BTreeSet::new(alloc);
+    for place in places {
+        set.insert(*place).map_err(AllocError::from)?;
+    }
+    Ok(set)
+}
+
+/// The outermost runs of the nodes whose place is in the set.
+fn outermost(
+    nodes: &[Node],
+    alloc: Global,
+    named: &BTreeSet<Place>,
+) -> Result<Vec<Range<usize>>, NoMemory>
+    requires { is_forest nodes.now ≡ true }
+    ensures { IfOk result (λ runs. AreOuterRuns (origins_of nodes.now) named.now.keys runs.items) }
+{
+    let mut runs = Vec::new(alloc);
+    let mut i = 0;
+    while i < nodes.len() {
+        let node = nodes[i];
+        if named.contains(&node.place) {
+            let end = i + 1 + deeper(&nodes[i + 1..], node.depth);
+            runs.push(i..end).map_err(AllocError::from)?;
+            i = end;
+        } else {
+            i += 1;
+        }
+    }
+    Ok(runs)
 }
