@@ -5,3 +5,7 @@ pub mod Origin
 pub mod Renaming
 pub mod Insertion
 pub mod Outermost
+pub mod Cuttings
+pub mod Keeping
+pub mod Outside
+pub mod Splicing

@@ -38,10 +38,12 @@ pub record HasDepth (os : Origins) (p : Place) (depth : ℕ) : Type 0 where
   pub leads : after_origins depth os p ≡ Some root
   pub ends : origin_in os root ≡ None
 
--- a tree as contracts see it: its places in the order of their positions, and for how many more there is room
+-- a tree as contracts see it: its places in the order of their positions, for how many more there is room, and behind how
+-- many of them each part of the last cut stood
 pub record Shape : Type 0 where
   pub links : Origins
   pub room : ℕ
+  pub gaps : List ℕ
 
 -- one place for another
 abbrev pub swapped : Place → Place → Place → Place

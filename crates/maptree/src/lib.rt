@@ -1,10 +1,13 @@
 //! The derivation tree of a frame, as a list of nodes in preorder with their depths.
 #![tactic(auto)]
 
+mod cutting;
 mod node;
+mod slice;
 #[cfg(test)]
 mod tests;
 mod tree;
 
 pub use node::Node;
+pub use slice::Slice;
 pub use tree::Tree;

@@ -5,7 +5,9 @@ ghost use Rattle.space.specs.declared.place.Place.{Place};
 ghost use Rattle.maptree.specs.Origins.{origin_in, place_at, AreOuterRuns};
 ghost use Rattle.maptree.specs.Nodes.{is_forest, origins_of, run_len};
 
+use crate::cutting::{Cutting, joined};
 use crate::node::Node;
+use crate::slice::Slice;
 use space::{NoMemory, Place};
 use std::alloc::{AllocError, Global};
 use std::collections::BTreeSet;
@@ -19,6 +21,8 @@ use std::ops::Range;
 #[derive(Drop)]
 pub struct Tree {
     nodes: Vec<Node>,
+    /// For each part of the last cut, behind how many of the nodes that were left it stood.
+    gaps: Vec<usize>,
 }
 
 impl Model for Tree {
@@ -28,7 +32,7 @@ impl Model for Tree {
 
     ghost Value = { Shape };
 
-    ghost view = { λ t. record { links = origins_of t.nodes.items; room = vec_capacity t.nodes - vec_len t.nodes } };
+    ghost view = { λ t. record { links = origins_of t.nodes.items; room = vec_capacity t.nodes - vec_len t.nodes; gaps = t.gaps.items } };
 
     ghost invariant = { λ t. is_forest t.nodes.items ≡ true };
 }
@@ -40,14 +44,18 @@ impl Tree {
     ghost use Rattle.std.specs.Prelude.{None, Some, option_map, IfSome, IfOk, OnOk, OnErr};
     ghost use Rattle.space.specs.declared.place.Place.{Place};
     ghost use Rattle.space.specs.Place.{same_place};
-    ghost use Rattle.maptree.specs.Origins.{origin_in, place_at, renamed, LeadsTo, HasDepth, AreOuterRuns};
+    ghost use Rattle.std.specs.Prelude.{filter};
+    ghost use Rattle.std.specs.List.{All};
+    ghost use Rattle.maptree.specs.Origins.{origin_in, place_at, renamed, LeadsTo, HasDepth, IsRun, AreRising, AreOuterRuns};
+    ghost use Rattle.maptree.specs.Cuts.{outside, nodes_of, ArePartsOf, IsCut, AreKept};
 
     /// A tree of one root.
     pub fn root(alloc: Global, place: Place) -> Result<Tree, NoMemory>
         ensures { IfOk result (λ t. t.links ≡ (place, None) ∷ []) }
     {
         let nodes = vec![in alloc; Node { place, depth: 0 }].map_err(AllocError::from)?;
-        Ok(Tree { nodes })
+        let gaps = Vec::new(alloc);
+        Ok(Tree { nodes, gaps })
     }
 
     /// Memory for so many more nodes: after it so many insertions take none.
@@ -122,6 +130,49 @@ impl Tree {
         let named = set_of(alloc, places)?;
         let runs = outermost(&self.nodes, alloc, &named)?;
         Ok(runs)
+    }
+
+    /// Cuts runs out of the tree, in parts of at most so many nodes, each within one run. `splice` puts back what is
+    /// kept of them.
+    ///
+    /// Refused, where memory is: `NoMemory`. Then the tree is as it was.
+    pub fn cut(
+        &mut self,
+        alloc: Global,
+        ranges: &[Range<usize>],
+        most: usize,
+    ) -> Result<Vec<Slice>, NoMemory>
+        requires rising { AreRising 0 ranges.now (length self.old.links) }
+        requires runs { All (IsRun self.old.links) ranges.now }
+        requires most { 1 ≤ most }
+        ensures links { OnOk result (self.new.links ≡ outside 0 ranges.now self.old.links) }
+        ensures parts { IfOk result (λ parts. ArePartsOf self.old.links ranges.now most parts.items) }
+        ensures cut { IfOk result (λ parts. IsCut self.old.links (nodes_of parts.items) self.new) }
+        ensures room { OnOk result (length self.old.links + self.old.room ≤ length self.new.links + self.new.room) }
+        ensures err { OnErr result (self.new ≡ self.old) }
+    {
+        let cutting = Cutting::of(alloc, &self.nodes, self.nodes.capacity(), ranges, most)?;
+        self.nodes = cutting.left;
+        self.gaps = cutting.gaps;
+        Ok(cutting.parts)
+    }
+
+    /// Puts back what is kept of the parts of the last cut: all of them, in their order, each with any nodes left out.
+    /// No other call may come between.
+    ///
+    /// Refused, where memory is: `NoMemory`. Then the tree is as the cut left it, and the parts are gone.
+    pub fn splice(&mut self, parts: Vec<Slice>) -> Result<(), NoMemory>
+        requires { AreKept self.old parts.items }
+        ensures links { OnOk result ((kept : AreKept self.old parts.items) →
+            self.new.links ≡ filter (λ o. kept.keep o.0) kept.whole) }
+        ensures room { OnOk result (length self.old.links + self.old.room ≤ length self.new.links + self.new.room) }
+        ensures err { OnErr result (self.new ≡ self.old) }
+    {
+        let room = self.nodes.capacity();
+        let alloc = *self.nodes.allocator();
+        self.nodes = joined(alloc, &self.nodes, room, &self.gaps, &parts)?;
+        self.gaps = Vec::new(alloc);
+        Ok(())
     }
 
     /// Another place for a node; its depth and what derives from it stay.

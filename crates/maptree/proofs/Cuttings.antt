@@ -1,0 +1,243 @@
+-- Parts are taken out of a list of nodes one after another, and put back in the same way.
+use Rattle.std.proofs.Common.{◌≡◌, ℕ, zero, suc, ◌+◌, ◌-◌, ◌≤◌, ◌<◌, List, [], ◌∷◌, ◌++◌, length, take, drop, min, get_or, refl, sym, ap, ◌∙◌, subst, arith, ◌⊎◌, inl, inr}
+use Rattle.std.specs.List.{slice_range}
+use Rattle.std.specs.Prelude.{Vec, vec_capacity}
+use Rattle.std.specs.declared.alloc.Global.{Global}
+use Rattle.std.specs.declared.ops.Range.{Range}
+use Rattle.std.proofs.Math.Nat.{min-eq_left, min-eq_right}
+use Rattle.std.proofs.lemmas.Bool.{cases_lt}
+use Rattle.std.proofs.lemmas.List.{take-append-drop, drop_more, drop-append-le, take-append-le, length-drop, append_assoc, append-nil, map-append, drop-map, length-append, length-map}
+use Rattle.maptree.specs.declared.node.Node.{Node}
+use Rattle.maptree.specs.declared.slice.Slice.{Slice}
+use Rattle.maptree.specs.declared.cutting.Cutting.{Cutting}
+use Rattle.maptree.specs.Origins.{AreRising}
+use Rattle.maptree.specs.Cuts.{outside, pieces, pieces_of, nodes_of, joined, AreGaps, IsCutting}
+
+-- ---- parts of lists
+
+module _ {A : Type 0} where
+  pub take_all : (n : ℕ) (xs : List A) → length xs ≤ n → take n xs ≡ xs
+  take_all zero [] upto = refl
+  take_all (suc n) [] upto = refl
+  take_all zero (x ∷ xs) upto = absurd (omega (arith, upto))
+  take_all (suc n) (x ∷ xs) upto = ap (λ ys. x ∷ ys) (take_all n xs (omega (arith, upto)))
+
+  pub drop_all : (n : ℕ) (xs : List A) → length xs ≤ n → drop n xs ≡ []
+  drop_all zero [] upto = refl
+  drop_all (suc n) [] upto = refl
+  drop_all zero (x ∷ xs) upto = absurd (omega (arith, upto))
+  drop_all (suc n) (x ∷ xs) upto = drop_all n xs (omega (arith, upto))
+
+  pub drop_drop : (a b : ℕ) (xs : List A) → drop b (drop a xs) ≡ drop (a + b) xs
+  drop_drop zero b xs = let same : b ≡ 0 + b = omega arith in ap (λ n. drop n xs) same
+  drop_drop (suc a) b [] = drop_all b [] (omega arith) ∙ sym (drop_all (suc a + b) [] (omega arith))
+  drop_drop (suc a) b (x ∷ xs) = let more : suc a + b ≡ suc (a + b) = omega arith in drop_drop a b xs ∙ ap (λ n. drop n (x ∷ xs)) (sym more)
+
+  -- the rest of a list, cut at a later place
+  pub split_at : (a b : ℕ) (xs : List A) → a ≤ b → drop a xs ≡ slice_range xs a b ++ drop b xs
+  split_at a b xs upto =
+      let whole : a + (b - a) ≡ b = omega (arith, upto) in
+      sym (take-append-drop (b - a) (drop a xs)) ∙ ap (λ ys. take (b - a) (drop a xs) ++ ys) (drop_drop a (b - a) xs ∙ ap (λ n. drop n xs) whole)
+
+  -- the front of a list up to a later place
+  pub take_more : (a b : ℕ) (xs : List A) → a ≤ b → take b xs ≡ take a xs ++ slice_range xs a b
+  take_more zero b xs upto = let same : b ≡ b - 0 = omega arith in ap (λ n. take n xs) same
+  take_more (suc a) zero xs upto = absurd (omega (arith, upto))
+  take_more (suc a) (suc b) [] upto = sym (take_all (suc b - suc a) [] (omega arith))
+  take_more (suc a) (suc b) (x ∷ xs) upto =
+      let less : suc b - suc a ≡ b - a = omega arith in
+      ap (λ ys. x ∷ ys) (take_more a b xs (omega (arith, upto))) ∙ ap (λ n. x ∷ take a xs ++ take n (drop a xs)) (sym less)
+
+  -- ---- pieces
+
+  -- room for pieces changes nothing where there is enough
+  pieces_same : (n m most : ℕ) (xs : List A) → 1 ≤ most → length xs ≤ n → length xs ≤ m → pieces n most xs ≡ pieces m most xs
+  pieces_same zero zero most [] some upto upto_m = refl
+  pieces_same zero (suc m) most [] some upto upto_m = refl
+  pieces_same (suc n) zero most [] some upto upto_m = refl
+  pieces_same (suc n) (suc m) most [] some upto upto_m = refl
+  pieces_same zero m most (x ∷ xs) some upto upto_m = absurd (omega (arith, upto))
+  pieces_same (suc n) zero most (x ∷ xs) some upto upto_m = absurd (omega (arith, upto_m))
+  pieces_same (suc n) (suc m) most (x ∷ xs) some upto upto_m =
+      let dropped = length-drop most (x ∷ xs) in
+      ap (λ ps. take most (x ∷ xs) ∷ ps) (pieces_same n m most (drop most (x ∷ xs)) some (omega (arith, dropped, some, upto)) (omega (arith, dropped, some, upto_m)))
+
+  -- the first piece, and the others
+  pub first_piece : (most : ℕ) (xs : List A) → 1 ≤ most → 0 < length xs → pieces (length xs) most xs ≡ take (min most (length xs)) xs ∷ pieces (length (drop (min most (length xs)) xs)) most (drop (min most (length xs)) xs)
+  first_piece most [] some more = absurd (omega (arith, more))
+  first_piece most (x ∷ xs) some more =
+      let dropped = length-drop most (x ∷ xs) in
+      let left : length (drop most (x ∷ xs)) ≤ length xs = omega (arith, dropped, some) in
+      ap (λ ps. take most (x ∷ xs) ∷ ps) (pieces_same (length xs) (length (drop most (x ∷ xs))) most (drop most (x ∷ xs)) some left (omega arith))
+      ∙ by (x ∷ xs) (min most (length (x ∷ xs))) (cases most (length (x ∷ xs)))
+    where
+      cases : (m n : ℕ) → (min m n ≡ m) ⊎ ((min m n ≡ n) × (n ≤ m))
+      cases m n = by_order (cases_lt n m)
+        where
+          by_order : (n < m) ⊎ (m ≤ n) → (min m n ≡ m) ⊎ ((min m n ≡ n) × (n ≤ m))
+          by_order (inl less) = inr (min-eq_right (omega (arith, less)), omega (arith, less))
+          by_order (inr upto) = inl (min-eq_left upto)
+
+      by : (ys : List A) (k : ℕ) → (k ≡ most) ⊎ ((k ≡ length ys) × (length ys ≤ most)) → take most ys ∷ pieces (length (drop most ys)) most (drop most ys) ≡ take k ys ∷ pieces (length (drop k ys)) most (drop k ys)
+      by ys k (inl same) = rw same refl
+      by ys k (inr all) = rw (take_all most ys all.1, drop_all most ys all.1, take_all k ys (omega (arith, all.0)), drop_all k ys (omega (arith, all.0))) refl
+
+-- ---- parts and gaps
+
+-- gaps begin within
+pub gaps_within : (from : ℕ) (gaps : List ℕ) (most : ℕ) → AreGaps from gaps most → from ≤ most
+gaps_within from [] most rise = rise
+gaps_within from (gap ∷ gaps) most rise = let rest = gaps_within gap gaps most rise.1 in omega (arith, rest, rise.0)
+
+-- the next gap
+pub next_gap : (from i : ℕ) (gaps : List ℕ) (most d : ℕ) → AreGaps from (drop i gaps) most → i < length gaps → (from ≤ get_or gaps i d) × AreGaps (get_or gaps i d) (drop (i + 1) gaps) most
+next_gap from i gaps most d rise within = subst (λ gs. AreGaps from gs most) (drop_more gaps i d within) rise
+
+-- more nodes are left behind all parts
+pub joined_left : (from : ℕ) (left xs : List Node) (gaps : List ℕ) (parts : List (List Node)) → AreGaps from gaps (length left) → length gaps ≡ length parts → joined from (left ++ xs) gaps parts ≡ joined from left gaps parts ++ xs
+joined_left from left xs [] parts rise same = drop-append-le from left xs rise
+joined_left from left xs (gap ∷ gaps) [] rise same = absurd (omega (arith, same))
+joined_left from left xs (gap ∷ gaps) (part ∷ parts) rise same =
+    let most = gaps_within gap gaps (length left) rise.1 in
+    let dropped = length-drop from left in
+    let front : slice_range (left ++ xs) from gap ≡ slice_range left from gap = ap (take (gap - from)) (drop-append-le from left xs (omega (arith, most, rise.0))) ∙ take-append-le (gap - from) (drop from left) xs (omega (arith, dropped, most)) in
+    rw (front, joined_left gap left xs gaps parts rise.1 (omega (arith, same))) (simp append_assoc)
+
+-- one more part behind all that is left
+pub joined_part : (from : ℕ) (left part : List Node) (gaps : List ℕ) (parts : List (List Node)) → AreGaps from gaps (length left) → length gaps ≡ length parts
+    → joined from left (gaps ++ length left ∷ []) (parts ++ part ∷ []) ≡ joined from left gaps parts ++ part
+joined_part from left part [] [] rise same =
+    let dropped = length-drop from left in
+    rw (take_all (length left - from) (drop from left) (omega (arith, dropped)), drop_all (length left) left (omega arith)) (simp (append_assoc, append-nil))
+joined_part from left part [] (p ∷ parts) rise same = absurd (omega (arith, same))
+joined_part from left part (gap ∷ gaps) [] rise same = absurd (omega (arith, same))
+joined_part from left part (gap ∷ gaps) (p ∷ parts) rise same = rw (joined_part gap left part gaps parts rise.1 (omega (arith, same))) (simp append_assoc)
+
+-- the gaps after it
+pub gaps_part : (from most : ℕ) (gaps : List ℕ) → AreGaps from gaps most → AreGaps from (gaps ++ most ∷ []) most
+gaps_part from most [] rise = (rise, omega arith)
+gaps_part from most (gap ∷ gaps) rise = (rise.0, gaps_part gap most gaps rise.1)
+
+-- the gaps where more nodes are left
+pub gaps_left : (from most more : ℕ) (gaps : List ℕ) → AreGaps from gaps most → most ≤ more → AreGaps from gaps more
+gaps_left from most more [] rise upto = omega (arith, rise, upto)
+gaps_left from most more (gap ∷ gaps) rise upto = (rise.0, gaps_left gap most more gaps rise.1 upto)
+
+-- what `take` has done, when these nodes are still to be taken
+pub record IsTaken (most : ℕ) (start : Cutting) (nodes : List Node) (now : Cutting) (rest : List Node) : Type 0 where
+  pub left : now.left ≡ start.left
+  pub parts : nodes_of now.parts.items ++ pieces (length rest) most rest ≡ nodes_of start.parts.items ++ pieces (length nodes) most nodes
+  pub gaps_are : AreGaps 0 now.gaps.items (length now.left.items)
+  pub each_part : length now.gaps.items ≡ length now.parts.items
+  pub whole : joined 0 now.left.items now.gaps.items (nodes_of now.parts.items) ++ rest ≡ joined 0 start.left.items start.gaps.items (nodes_of start.parts.items) ++ nodes
+
+-- what `joined` has put back of the parts before this one
+pub record IsRejoined (left : List Node) (gaps : List ℕ) (parts : List Slice) (i from : ℕ) (nodes : Vec Node Global) (room : ℕ) : Type 0 where
+  pub gaps_are : AreGaps from (drop i gaps) (length left)
+  pub items : nodes.items ++ joined from left (drop i gaps) (drop i (nodes_of parts)) ≡ joined 0 left gaps (nodes_of parts)
+  pub capacity : room ≤ vec_capacity nodes
+
+-- what `of` has taken out of the ranges before this one
+pub record IsTakenUpTo (most : ℕ) (nodes : List Node) (ranges : List (Range ℕ)) (i from : ℕ) (now : Cutting) (room : ℕ) : Type 0 where
+  pub rising : AreRising from (drop i ranges) (length nodes)
+  pub left : now.left.items ++ outside from (drop i ranges) nodes ≡ outside 0 ranges nodes
+  pub parts : nodes_of now.parts.items ++ pieces_of most (drop i ranges) nodes ≡ pieces_of most ranges nodes
+  pub whole : IsCutting (take from nodes) now.left.items now.gaps.items now.parts.items
+  pub capacity : room ≤ vec_capacity now.left
+
+-- one more part is put back
+pub rejoined_part : (left : List Node) (gaps : List ℕ) (parts : List Slice) (i from d : ℕ) (e : Slice) (nodes next : Vec Node Global) (room : ℕ) → length gaps ≡ length parts → i < length parts
+    → IsRejoined left gaps parts i from nodes room → next.items ≡ (nodes.items ++ slice_range left from (get_or gaps i d)) ++ (get_or parts i e).nodes.items → room ≤ vec_capacity next
+    → IsRejoined left gaps parts (i + 1) (get_or gaps i d) next room
+rejoined_part left gaps parts i from d e nodes next room each_part within so_far items capacity =
+    let within_gaps : i < length gaps = omega (arith, each_part, within) in
+    let gap = drop_more gaps i d within_gaps in
+    let part : drop i (nodes_of parts) ≡ (get_or parts i e).nodes.items ∷ drop (i + 1) (nodes_of parts) =
+    drop-map (λ s. s.nodes.items) i parts ∙ ap nodes_of (drop_more parts i e within) ∙ ap (λ ns. (get_or parts i e).nodes.items ∷ ns) (sym (drop-map (λ s. s.nodes.items) (i + 1) parts)) in
+    record {
+      gaps_are = (next_gap from i gaps (length left) d so_far.gaps_are within_gaps).1;
+      items = ap (λ ns. ns ++ joined (get_or gaps i d) left (drop (i + 1) gaps) (drop (i + 1) (nodes_of parts))) items ∙ regroup ∙ sym (rw (gap, part) refl) ∙ so_far.items;
+      capacity = capacity;
+    }
+  where
+    regroup : ((nodes.items ++ slice_range left from (get_or gaps i d)) ++ (get_or parts i e).nodes.items) ++ joined (get_or gaps i d) left (drop (i + 1) gaps) (drop (i + 1) (nodes_of parts))
+        ≡ nodes.items ++ joined from left (get_or gaps i d ∷ drop (i + 1) gaps) ((get_or parts i e).nodes.items ∷ drop (i + 1) (nodes_of parts))
+    regroup = simp append_assoc
+
+-- one more part is taken out
+pub taken_part : (most : ℕ) (start : Cutting) (nodes : List Node) (now next : Cutting) (rest others part : List Node) (k : ℕ) → 1 ≤ most → 0 < length rest → k ≡ min most (length rest) → part ≡ take k rest → others ≡ drop k rest
+    → IsTaken most start nodes now rest → next.left ≡ now.left → next.gaps.items ≡ now.gaps.items ++ length now.left.items ∷ [] → nodes_of next.parts.items ≡ nodes_of now.parts.items ++ part ∷ []
+    → length next.parts.items ≡ length now.parts.items + 1 → IsTaken most start nodes next others
+taken_part most start nodes now next rest others part k some more least is_part is_others so_far left gaps parts count =
+    let piece : pieces (length rest) most rest ≡ part ∷ pieces (length others) most others = first_piece most rest some more ∙ rw (is_part, is_others, least) refl in
+    let whole : part ++ others ≡ rest = rw (is_part, is_others) (take-append-drop k rest) in
+    let longer = length-append now.gaps.items (length now.left.items ∷ []) in
+    let same_length : length (nodes_of now.parts.items) ≡ length now.parts.items = length-map now.parts.items (λ s. s.nodes.items) in
+    record {
+      left = left ∙ so_far.left;
+      parts = rw parts (simp append_assoc) ∙ ap (λ ps. nodes_of now.parts.items ++ ps) (sym piece) ∙ so_far.parts;
+      gaps_are = rw (gaps, left) (gaps_part 0 (length now.left.items) now.gaps.items so_far.gaps_are);
+      each_part = ap length gaps ∙ omega (arith, longer, so_far.each_part, count);
+      whole = rw (left, gaps, parts) (ap (λ ns. ns ++ others) (joined_part 0 now.left.items part now.gaps.items (nodes_of now.parts.items) so_far.gaps_are (so_far.each_part ∙ sym same_length)))
+          ∙ append_assoc (joined 0 now.left.items now.gaps.items (nodes_of now.parts.items)) part others ∙ ap (λ ns. joined 0 now.left.items now.gaps.items (nodes_of now.parts.items) ++ ns) whole ∙ so_far.whole;
+    }
+
+-- more nodes are left behind what was taken out
+pub more_left : (nodes left xs : List Node) (gaps : List ℕ) (parts : List Slice) → IsCutting nodes left gaps parts → IsCutting (nodes ++ xs) (left ++ xs) gaps parts
+more_left nodes left xs gaps parts is =
+    let longer = length-append left xs in
+    record {
+      gaps_are = gaps_left 0 (length left) (length (left ++ xs)) gaps is.gaps_are (omega (arith, longer));
+      each_part = is.each_part;
+      whole = joined_left 0 left xs gaps (nodes_of parts) is.gaps_are (is.each_part ∙ sym (length-map parts (λ s. s.nodes.items))) ∙ ap (λ ns. ns ++ xs) is.whole;
+    }
+
+-- where the next range is
+pub next_range : (from i : ℕ) (ranges : List (Range ℕ)) (most : ℕ) (d : Range ℕ) → AreRising from (drop i ranges) most → i < length ranges
+    → (from ≤ (get_or ranges i d).start) × ((get_or ranges i d).start < (get_or ranges i d).end) × AreRising (get_or ranges i d).end (drop (i + 1) ranges) most
+next_range from i ranges most d rise within = subst (λ rs. AreRising from rs most) (drop_more ranges i d within) rise
+
+-- rising ranges begin within
+pub rising_within : (from : ℕ) (ranges : List (Range ℕ)) (most : ℕ) → AreRising from ranges most → from ≤ most
+rising_within from [] most rise = rise
+rising_within from (r ∷ ranges) most rise = let rest = rising_within r.end ranges most rise.2 in omega (arith, rest, rise.0, rise.1)
+
+-- one more range is taken out: what lies before it is left, and then the range itself is taken
+pub taken_range : (most : ℕ) (nodes : List Node) (ranges : List (Range ℕ)) (i from : ℕ) (d : Range ℕ) (now next : Cutting) (left : List Node) (room : ℕ) → i < length ranges
+    → IsTakenUpTo most nodes ranges i from now room → left ≡ now.left.items ++ slice_range nodes from (get_or ranges i d).start
+    → next.left.items ≡ left → nodes_of next.parts.items ≡ nodes_of now.parts.items ++ pieces (length (slice_range nodes (get_or ranges i d).start (get_or ranges i d).end)) most (slice_range nodes (get_or ranges i d).start (get_or ranges i d).end)
+    → IsCutting (joined 0 left now.gaps.items (nodes_of now.parts.items) ++ slice_range nodes (get_or ranges i d).start (get_or ranges i d).end) next.left.items next.gaps.items next.parts.items
+    → room ≤ vec_capacity next.left → IsTakenUpTo most nodes ranges (i + 1) (get_or ranges i d).end next room
+taken_range most nodes ranges i from d now next left room within so_far is_left next_left parts whole capacity =
+    let more = drop_more ranges i d within in
+    let at = next_range from i ranges (length nodes) d so_far.rising within in
+    let r = get_or ranges i d in
+    let before = more_left (take from nodes) now.left.items (slice_range nodes from r.start) now.gaps.items now.parts.items so_far.whole in
+    let joined_is : joined 0 left now.gaps.items (nodes_of now.parts.items) ≡ take r.start nodes =
+    ap (λ ns. joined 0 ns now.gaps.items (nodes_of now.parts.items)) is_left ∙ before.whole ∙ sym (take_more from r.start nodes at.0) in
+    record {
+      rising = at.2;
+      left = ap (λ ns. ns ++ outside r.end (drop (i + 1) ranges) nodes) (next_left ∙ is_left) ∙ append_assoc now.left.items (slice_range nodes from r.start) (outside r.end (drop (i + 1) ranges) nodes)
+          ∙ ap (λ rs. now.left.items ++ outside from rs nodes) (sym more) ∙ so_far.left;
+      parts = ap (λ ps. ps ++ pieces_of most (drop (i + 1) ranges) nodes) parts ∙ append_assoc (nodes_of now.parts.items) _ (pieces_of most (drop (i + 1) ranges) nodes)
+          ∙ ap (λ rs. nodes_of now.parts.items ++ pieces_of most rs nodes) (sym more) ∙ so_far.parts;
+      whole = subst (λ ns. IsCutting ns next.left.items next.gaps.items next.parts.items) (ap (λ ns. ns ++ slice_range nodes r.start r.end) joined_is ∙ sym (take_more r.start r.end nodes (omega (arith, at.1)))) whole;
+      capacity = capacity;
+    }
+
+-- one more part in the list of parts
+pub more_parts : (parts : List Slice) (s : Slice) → (nodes_of (parts ++ s ∷ []) ≡ nodes_of parts ++ s.nodes.items ∷ []) × (length (parts ++ s ∷ []) ≡ length parts + 1)
+more_parts parts s = (map-append (λ s. s.nodes.items) parts (s ∷ []), length-append parts (s ∷ []))
+
+-- a list with more behind it is no shorter
+pub longer : (xs ys zs : List Node) → zs ≡ xs ++ ys → length xs ≤ length zs
+longer xs ys zs is = let size = ap length is ∙ length-append xs ys in omega (arith, size)
+
+-- the rest of the nodes is left
+pub all_taken : (nodes : List Node) (from : ℕ) (now : Cutting) (left : List Node) → from ≤ length nodes → IsCutting (take from nodes) now.left.items now.gaps.items now.parts.items
+    → left ≡ now.left.items ++ slice_range nodes from (length nodes) → IsCutting nodes left now.gaps.items now.parts.items
+all_taken nodes from now left within is left_is =
+    let whole : take from nodes ++ slice_range nodes from (length nodes) ≡ nodes = sym (take_more from (length nodes) nodes within) ∙ take_all (length nodes) nodes (omega arith) in
+    subst (λ ns. IsCutting ns left now.gaps.items now.parts.items) whole
+    (subst (λ ns. IsCutting (take from nodes ++ slice_range nodes from (length nodes)) ns now.gaps.items now.parts.items) (sym left_is)
+    (more_left (take from nodes) now.left.items (slice_range nodes from (length nodes)) now.gaps.items now.parts.items is))
