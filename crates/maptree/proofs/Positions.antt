@@ -2,7 +2,7 @@
 use Rattle.std.proofs.Common.{◌≡◌, ℕ, zero, suc, ◌+◌, ◌<◌, ◌≤◌, true, false, Bool, ◌&&◌, nat_lt, nat_le, not, List, [], ◌∷◌, ◌-◌, length, drop, take, get_or, refl, sym, ap, ◌∙◌, subst, arith, ◌⊎◌, inl, inr, if◌then◌else◌, nat_eq}
 use Rattle.std.specs.Prelude.{Decides, position}
 use Rattle.std.specs.List.{prefix_len}
-use Rattle.std.proofs.lemmas.Bool.{lt-ltb, le-ltb}
+use Rattle.std.proofs.lemmas.Bool.{lt-ltb, le-ltb, and_parts}
 use Rattle.std.proofs.lemmas.Bool.Decides.{nat_tests}
 use Rattle.std.proofs.lemmas.List.{length-drop}
 use Rattle.std.proofs.lemmas.List.Sums.{prefix_len-le-length}
@@ -10,8 +10,10 @@ use Rattle.space.specs.declared.place.Place.{Place}
 use Rattle.space.specs.Place.{same_place}
 use Rattle.maptree.specs.declared.node.Node.{Node}
 use Rattle.maptree.specs.Origins.{place_at, LeadsTo, HasDepth}
-use Rattle.maptree.specs.Nodes.{is_forest, above, links, origins_of, run_len}
-use Rattle.maptree.proofs.Runs.{place_of, depth_of, run_at, forest_run, forest_strict, forest_depth}
+use Rattle.maptree.specs.Nodes.{are_depths, is_new, are_distinct, is_forest, above, links, origins_of, run_len}
+use Rattle.maptree.proofs.Runs.{place_of, depth_of, run_at, forest_run, forest_strict, forest_depth, has_place}
+use Rattle.maptree.proofs.Paths.{new_apart}
+use Rattle.space.proofs.Places.{same_self}
 
 -- there are as many places as nodes
 pub length-links : (path : List Place) (ns : List Node) → length (links path ns) ≡ length ns
@@ -121,6 +123,26 @@ run_says ns i r n forest within is run j d within_j =
 -- the place of a node
 pub node_place : (ns : List Node) (i : ℕ) (n : Node) → i < length ns → n ≡ get_or ns i n → (d : Place) → n.place ≡ place_at (origins_of ns) i d
 node_place ns i n within is d = ap (λ m. m.place) is ∙ sym (place_of_read ns i d n within) ∙ sym (place_at-links [] ns i d)
+
+-- each place stands at one position
+one_position : (ns : List Node) → are_distinct ns ≡ true → (i j : ℕ) (d e : Place) → i < length ns → j < length ns → place_of ns i d ≡ place_of ns j e → i ≡ j
+one_position [] distinct i j d e within_i within_j same = absurd (omega (arith, within_i))
+one_position (n ∷ ns) distinct zero zero d e within_i within_j same = refl
+one_position (n ∷ ns) distinct zero (suc j) d e within_i within_j same =
+    let other = new_apart n.place (place_of ns j e) ns (and_parts (is_new n.place ns) (are_distinct ns) distinct).0 (has_place ns j e (omega (arith, within_j))) in
+    absurd (cc (other, ap (same_place n.place) same, same_self n.place))
+one_position (n ∷ ns) distinct (suc i) zero d e within_i within_j same =
+    let other = new_apart n.place (place_of ns i d) ns (and_parts (is_new n.place ns) (are_distinct ns) distinct).0 (has_place ns i d (omega (arith, within_i))) in
+    absurd (cc (other, ap (same_place n.place) same, same_self n.place))
+one_position (n ∷ ns) distinct (suc i) (suc j) d e within_i within_j same =
+    ap suc (one_position ns (and_parts (is_new n.place ns) (are_distinct ns) distinct).1 i j d e (omega (arith, within_i)) (omega (arith, within_j)) same)
+
+-- no other position has the place of a node
+pub node_only : (ns : List Node) (i : ℕ) (n : Node) → is_forest ns ≡ true → i < length ns → n ≡ get_or ns i n → (j : ℕ) (d : Place) → j < length (origins_of ns) → place_at (origins_of ns) j d ≡ n.place → j ≡ i
+node_only ns i n forest within is j d within_j same =
+    let size = length-links [] ns in
+    one_position ns (and_parts (are_depths 0 ns) (are_distinct ns) forest).1 j i d n.place (omega (arith, size, within_j)) within
+    (sym (place_at-links [] ns j d) ∙ same ∙ ap (λ m. m.place) is ∙ sym (place_of_read ns i n.place n within))
 
 -- a node has as many origins as its depth says
 pub node_depth : (ns : List Node) (i : ℕ) (n : Node) → is_forest ns ≡ true → i < length ns → n ≡ get_or ns i n → HasDepth (origins_of ns) n.place n.depth

@@ -76,10 +76,11 @@ impl Tree {
         placed(&self.nodes, place)
     }
 
-    /// The node at a position.
+    /// The node at a position. No other position has its place.
     pub fn node(&self, i: usize) -> Node
         requires { i < length self.now.links }
         ensures place { (d : Place) → result.place ≡ place_at self.now.links i d }
+        ensures only { (j : ℕ) (d : Place) → j < length self.now.links → place_at self.now.links j d ≡ result.place → j ≡ i }
         ensures depth { HasDepth self.now.links result.place result.depth }
     {
         self.nodes[i]

@@ -1,8 +1,8 @@
 -- The place and the depth of a node.
-use Rattle.std.proofs.Common.{◌≡◌, length, [], subst, sym, ap, ◌∙◌, arith}
+use Rattle.std.proofs.Common.{◌≡◌, ◌<◌, ℕ, length, [], subst, sym, ap, ◌∙◌, arith}
 use Rattle.space.specs.declared.place.Place.{Place}
 use Rattle.maptree.specs.Origins.{Shape, place_at, HasDepth}
-use Rattle.maptree.proofs.Positions.{node_place, node_depth, length-links}
+use Rattle.maptree.proofs.Positions.{node_place, node_depth, node_only, length-links}
 use Rattle.maptree.proofs.tree.Tree.node.Goals as goal
 
 pub returns-clause-place : goal.returns-clause-place
@@ -18,3 +18,10 @@ returns-clause-depth c =
     let size : length c.args.self.now.links ≡ length nodes = ap (λ (s : Shape). length s.links) (sym c.self.view_is) ∙ length-links [] nodes in
     subst (λ (s : Shape). HasDepth s.links c.index.result.now.place c.index.result.now.depth) c.self.view_is
     (node_depth nodes c.args.i c.index.result.now c.self.invariant (omega (arith, size, c.requires)) c.index.ensures)
+
+pub returns-clause-only : goal.returns-clause-only
+returns-clause-only c =
+    let nodes = c.self.inside.nodes.items in
+    let size : length c.args.self.now.links ≡ length nodes = ap (λ (s : Shape). length s.links) (sym c.self.view_is) ∙ length-links [] nodes in
+    subst (λ (s : Shape). (j : ℕ) (d : Place) → j < length s.links → place_at s.links j d ≡ c.index.result.now.place → j ≡ c.args.i) c.self.view_is
+    (node_only nodes c.args.i c.index.result.now c.self.invariant (omega (arith, size, c.requires)) c.index.ensures)
