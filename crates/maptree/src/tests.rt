@@ -1,9 +1,14 @@
 //! The answers that are known for one tree.
 
-ghost use Rattle.std.specs.Prelude.{◌≡◌, ◌<◌, ◌+◌, length};
+ghost use Rattle.std.specs.Prelude.{◌≡◌, ◌<◌, ◌+◌, IfOk, length};
+
+mod cases;
+mod cuts;
+mod large;
+mod lists;
 
 use crate::Tree;
-use space::Place;
+use space::{NoMemory, Place};
 use std::alloc::Global;
 use std::process::Abort;
 use std::test::Fail;
@@ -25,7 +30,8 @@ fn position(rt: &impl Abort, tree: &Tree, place: Place) -> usize
 /// Puts a place below another.
 fn put_below(rt: &impl Abort, tree: &mut Tree, origin: Place, place: Place)
     requires { 0 < tree.old.room }
-    ensures { tree.new.room + 1 ≡ tree.old.room }
+    ensures room { tree.new.room + 1 ≡ tree.old.room }
+    ensures one_more { length tree.new.links ≡ length tree.old.links + 1 }
 {
     let i = position(rt, tree, origin);
     match tree.find(place) {
@@ -35,7 +41,9 @@ fn put_below(rt: &impl Abort, tree: &mut Tree, origin: Place, place: Place)
 }
 
 /// 0:5 with 1:0 and 2:4 below it, below 1:0 2:0, and below that 1:3.
-fn sample(rt: &impl Abort, alloc: Global) -> Result<Tree, Fail> {
+fn sample(rt: &impl Abort, alloc: Global) -> Result<Tree, NoMemory>
+    ensures { IfOk result (λ tree. length tree.links ≡ 5) }
+{
     let mut tree = Tree::root(alloc, place(0, 5))?;
     tree.reserve(4)?;
     put_below(rt, &mut tree, place(0, 5), place(2, 4));

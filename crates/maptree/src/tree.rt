@@ -63,7 +63,7 @@ impl Tree {
         ensures links { self.new.links ≡ self.old.links }
         ensures ok { OnOk result (n ≤ self.new.room) }
         ensures grows { self.old.room ≤ self.new.room }
-        ensures err { OnErr result (self.new.room ≡ self.old.room) }
+        ensures err { OnErr result (self.new ≡ self.old) }
     {
         self.nodes.reserve(n)?;
         Ok(())
@@ -159,7 +159,7 @@ impl Tree {
     }
 
     /// Puts back what is kept of the parts of the last cut: all of them, in their order, each with any nodes left out.
-    /// No other call may come between.
+    /// No call that changes the tree may come between.
     ///
     /// Refused, where memory is: `NoMemory`. Then the tree is as the cut left it, and the parts are gone.
     pub fn splice(&mut self, parts: Vec<Slice>) -> Result<(), NoMemory>

@@ -63,7 +63,7 @@ module _ (h : Holdings) (l : IsLawful h) (p : Place) where
 
   module _ (a : Rights) (f : Bool) where
     -- the change that passes the word to the origin
-    abbrev passing : Place → Held → Option Held
+    abbrev pub passing : Place → Held → Option Held
     passing q m = Some (if option_map_or (same_place q) (origin_at h p) false then record m { status = join m.status (strip_word h (only p)) } else m)
 
     passed_at : (q : Place) (m : Held) (x : Bool) → option_map_or (same_place q) (origin_at h p) false ≡ x → changed passing q (clearing h (only p) a f q m) ≡ stripping h (only p) a f q m
@@ -82,7 +82,7 @@ module _ (h : Holdings) (l : IsLawful h) (p : Place) where
         same false outside = rw (outside, passed_to_none q test outside, join_nothing m.status) refl
 
     -- to clear below the place and pass the word to its origin is to strip it
-    passed_is : passed_up (origin_at h p) (cleared h (only p) a f) ≡ unmapped h (only p) a f
+    pub passed_is : passed_up (origin_at h p) (cleared h (only p) a f) ≡ unmapped h (only p) a f
     passed_is =
         let left : each passing (clear h (only p) a f) ≡ strip h (only p) a f = each_twice _ _ _ h l.sorted (λ q m _. passed_at q m (option_map_or (same_place q) (origin_at h p) false) refl) in
         λ i. record { word = strip_word h (only p); left = left i }

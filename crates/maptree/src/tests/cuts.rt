@@ -1,0 +1,202 @@
+//! Runs cut out of a tree in parts, and what is kept of them put back.
+
+ghost use Rattle.std.specs.Prelude.{◌≡◌, ◌≤◌, true, not, map, filter, IfOk, OnOk, length, Some};
+ghost use Rattle.std.specs.List.{All, list_all, list_any};
+ghost use Rattle.space.specs.declared.place.Place.{Place};
+ghost use Rattle.space.specs.Place.{same_place};
+ghost use Rattle.maptree.specs.Origins.{origin_in, AreRising, IsRun};
+ghost use Rattle.maptree.specs.Cuts.{kept_of, nodes_of};
+
+use super::cases::{CASES, Case, SAMPLE};
+use super::lists::{assert_parts, assert_runs, assert_tree, places_of, tree_of};
+use super::{place, sample};
+use crate::{Node, Slice, Tree};
+use space::{NoMemory, Place};
+use std::alloc::{AllocError, Global};
+use std::ops::Range;
+use std::process::Abort;
+use std::test::Fail;
+
+/// Whether a place is one of these.
+fn is_one_of(places: &[Place], place: Place) -> bool
+    ensures { result ≡ list_any (λ q. same_place q place) places.now }
+{
+    places.contains(&place)
+}
+
+/// Whether no node of a tree of so many nodes derives from one of some places and is none of them itself: then what is
+/// left out with them leaves no node without its origin.
+fn are_closed(tree: &Tree, len: usize, gone: &[Place]) -> bool
+    requires { len ≡ length tree.now.links }
+    ensures { result ≡ true → (p o : Place) → origin_in tree.now.links p ≡ Some o
+        → not (list_any (λ q. same_place q p) gone.now) ≡ true
+        → not (list_any (λ q. same_place q o) gone.now) ≡ true }
+{
+    for i in 0..len {
+        if let Some(above) = tree.origin_of(i) {
+            let origin = tree.node(above).place;
+            if is_one_of(gone, origin) && !is_one_of(gone, tree.node(i).place) {
+                return false;
+            }
+        }
+    }
+    true
+}
+
+/// Whether none of some places is in the tree.
+fn are_absent(tree: &Tree, gone: &[Place]) -> bool
+    ensures { result ≡ true
+        → list_all (λ o. not (list_any (λ q. same_place q o.0) gone.now)) tree.now.links ≡ true }
+{
+    for place in gone {
+        if tree.find(*place).is_some() {
+            return false;
+        }
+    }
+    true
+}
+
+/// Nodes without those at some places.
+fn without(alloc: Global, nodes: &[Node], gone: &[Place]) -> Result<Vec<Node>, AllocError>
+    ensures { IfOk result (λ kept.
+        kept.items ≡ filter (λ n. not (list_any (λ q. same_place q n.place) gone.now)) nodes.now) }
+{
+    let mut kept = Vec::new(alloc);
+    for node in nodes {
+        if !is_one_of(gone, node.place) {
+            kept.push(*node)?;
+        }
+    }
+    Ok(kept)
+}
+
+/// Parts without the nodes at some places.
+fn parts_without(alloc: Global, parts: &[Slice], gone: &[Place]) -> Result<Vec<Slice>, AllocError>
+    ensures { IfOk result (λ kept.
+        nodes_of kept.items ≡ kept_of (λ p. not (list_any (λ q. same_place q p) gone.now)) (nodes_of parts.now)) }
+{
+    let mut kept = Vec::new(alloc);
+    for part in parts {
+        let nodes = without(alloc, &part.nodes, gone)?;
+        kept.push(Slice { nodes })?;
+    }
+    Ok(kept)
+}
+
+/// What a call answered, once it is seen that the tree has these nodes of a case if memory was refused.
+fn or_left<T: Drop>(
+    rt: &impl Abort,
+    tree: &Tree,
+    list: &str,
+    case: &Case,
+    answer: Result<T, NoMemory>,
+) -> Result<T, NoMemory>
+    ensures { result ≡ answer }
+{
+    if answer.is_err() {
+        assert_tree(rt, tree, list, case.tree);
+    }
+    answer
+}
+
+/// Asks for memory for many nodes. Given or refused, the tree has its nodes as before.
+fn reserves(rt: &impl Abort, tree: &mut Tree, case: &Case) -> Result<(), NoMemory>
+    ensures { tree.new.links ≡ tree.old.links }
+{
+    let reserved = tree.reserve(1_000);
+    assert_tree(rt, tree, case.tree, case.tree);
+    reserved
+}
+
+/// Works a case on its tree, which has so many nodes.
+fn works(
+    rt: &impl Abort,
+    alloc: Global,
+    tree: &mut Tree,
+    len: usize,
+    case: &Case,
+) -> Result<(), NoMemory>
+    requires { len ≡ length tree.old.links }
+{
+    let named = places_of(rt, alloc, case.named)?;
+    let gone = places_of(rt, alloc, case.gone)?;
+    assert_tree(rt, tree, case.tree, case.tree);
+    if !are_closed(tree, len, &gone) {
+        panic!(rt; "a node would stay without its origin: {}", case.gone);
+    }
+    assert!(rt; 1 <= case.most);
+
+    let runs = tree.outer_runs(alloc, &named);
+    let runs = or_left(rt, tree, case.tree, case, runs)?;
+    assert_runs(rt, &runs, case.runs);
+    let parts = tree.cut(alloc, &runs, case.most);
+    let parts = or_left(rt, tree, case.tree, case, parts)?;
+    assert_parts(rt, &parts, case.parts);
+    assert_tree(rt, tree, case.left, case.tree);
+
+    if !are_absent(tree, &gone) {
+        panic!(rt; "not all in parts: {}", case.gone);
+    }
+    let kept = parts_without(alloc, &parts, &gone)?;
+    let spliced = tree.splice(kept);
+    or_left(rt, tree, case.left, case, spliced)?;
+    assert_tree(rt, tree, case.whole, case.tree);
+    Ok(())
+}
+
+/// Cuts runs out and puts all of them back; how many parts they were.
+pub fn put_back(
+    alloc: Global,
+    tree: &mut Tree,
+    runs: &[Range<usize>],
+    most: usize,
+) -> Result<usize, NoMemory>
+    requires rising { AreRising 0 runs.now (length tree.old.links) }
+    requires runs { All (IsRun tree.old.links) runs.now }
+    requires most { 1 ≤ most }
+    ensures { OnOk result (tree.new.links ≡ tree.old.links) }
+{
+    let parts = tree.cut(alloc, runs, most)?;
+    let count = parts.len();
+    tree.splice(parts)?;
+    Ok(count)
+}
+
+#[test]
+fn puts_back_one_node_of_a_run_of_three(rt: HostRuntime) -> Result<(), Fail> {
+    let mut tree = sample(&rt, rt.alloc())?;
+    reserves(&rt, &mut tree, &SAMPLE)?;
+    works(&rt, rt.alloc(), &mut tree, 5, &SAMPLE)?;
+    Ok(())
+}
+
+#[test]
+fn cuts_runs_and_puts_back_what_is_kept(rt: HostRuntime) -> Result<(), Fail> {
+    for case in CASES {
+        let (mut tree, len) = tree_of(&rt, rt.alloc(), case.tree)?;
+        reserves(&rt, &mut tree, &case)?;
+        works(&rt, rt.alloc(), &mut tree, len, &case)?;
+    }
+    Ok(())
+}
+
+#[test]
+fn stays_as_the_last_cut_left_it_where_nothing_is_put_back(rt: HostRuntime) -> Result<(), Fail> {
+    let alloc = rt.alloc();
+    let mut tree = sample(&rt, alloc)?;
+    for (named, parts, left, parts_then) in [
+        (place(2, 0), 2, "0:5/0 1:0/1 2:4/1", 2),
+        (place(2, 4), 1, "0:5/0 1:0/1", 1),
+        (place(2, 4), 0, "0:5/0 1:0/1", 1),
+        (place(0, 5), 2, "", 0),
+        (place(0, 5), 0, "", 0),
+    ] {
+        let runs = tree.outer_runs(alloc, &[named])?;
+        assert_eq!(rt; tree.cut(alloc, &runs, 1)?.len(), parts, "{left}");
+        assert_tree(&rt, &tree, left, SAMPLE.tree);
+        let rest = tree.outer_runs(alloc, &[place(1, 0), place(2, 4)])?;
+        assert_eq!(rt; put_back(alloc, &mut tree, &rest, 2)?, parts_then, "{left}");
+        assert_tree(&rt, &tree, left, SAMPLE.tree);
+    }
+    Ok(())
+}
