@@ -41,6 +41,7 @@ pub record Sized (bits s b : ℕ) : Type 0 where
   pub shift : s - 12 < 32
   pub count : 1 * 2 ^ (s - 12) % 4294967296 ≡ 2 ^ (s - 12)
   pub within : b / 4 + 2 ^ (s - 12) ≤ 2 ^ 20
+  pub space : b / 4 + 2 ^ (s - 12) ≤ 2 ^ (bits - 12)
   pub aligned : IsTrue (is_aligned (b / 4) (2 ^ (s - 12)))
   pub pages : (g : ℕ) → (leb (b / 4) g && ltb g (b / 4 + 2 ^ (s - 12))) ≡ (leb (1024 * b) (4096 * g) && ltb (4096 * g) (1024 * b + 2 ^ s))
 
@@ -49,11 +50,13 @@ sized_pages bits s b low page even ends =
     let small : s ≤ bits = size_within b s bits ends in
     let whole : 2 ^ s ≡ 4096 * 2 ^ (s - 12) = pages_size s page in
     let space : 2 ^ bits ≤ 2 ^ 24 = pow_mono low in
+    let pages : 2 ^ bits ≡ 4096 * 2 ^ (bits - 12) = pages_size bits (omega arith) in
     let short : s - 12 < 32 = omega arith in
     record {
       shift = short;
       count = shifted (s - 12) 32 short;
       within = omega arith;
+      space = omega (arith, pages, whole, ends);
       aligned = power_aligned (b / 4) (s - 12) (base_even b s page even);
       pages = λ g. same_pages _ b (b / 4) (2 ^ s) (2 ^ (s - 12)) g (aligned b s page even) refl whole;
     }

@@ -72,3 +72,7 @@ is_aligned first count = (count == 0) || (is_power_of_two count && (first % coun
 pub record IsSpaceBits (bits : ℕ) : Type 0 where
   pub low : 18 ≤ bits
   pub high : bits ≤ 24
+
+-- an fpage whose pages lie within a space of 2^bits bytes
+abbrev pub IsFpageOf : ℕ → Flexpage → Type 0
+IsFpageOf bits f = f.first + f.count ≤ pages_of_space bits

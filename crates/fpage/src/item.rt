@@ -1,5 +1,5 @@
-ghost use Rattle.std.specs.Prelude.{◌≡◌};
-ghost use Rattle.fpage.specs.Fpage.{IsSpaceBits};
+ghost use Rattle.std.specs.Prelude.{◌≡◌, IfOk};
+ghost use Rattle.fpage.specs.Fpage.{IsSpaceBits, IsFpageOf};
 ghost use Rattle.fpage.specs.Item.{read_item};
 
 use crate::error::FpageError;
@@ -30,7 +30,8 @@ impl Item {
     /// Refused, the first that fits: `NotAnItem`, and then what `Fpage::read` refuses of the second word.
     pub fn read(first: u32, second: u32, bits: u32) -> Result<Self, FpageError>
         requires { IsSpaceBits bits }
-        ensures { result ≡ read_item bits first second }
+        ensures read { result ≡ read_item bits first second }
+        ensures within { IfOk result (λ item. IsFpageOf bits item.sent) }
     {
         if first / 8 % 2 != 1 || first / 4 % 2 != 0 {
             return Err(FpageError::NotAnItem);

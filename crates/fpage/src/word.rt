@@ -1,5 +1,5 @@
 ghost use Rattle.std.specs.Prelude.{◌≡◌, ℕ, ◌+◌, ◌^◌, ◌<◌, ◌≤◌, ◌==◌, IfOk, IsTrue};
-ghost use Rattle.fpage.specs.Fpage.{IsSpaceBits, read_fpage, read_sized, starts_within, is_page, is_page_of, is_aligned};
+ghost use Rattle.fpage.specs.Fpage.{IsSpaceBits, read_fpage, read_sized, starts_within, is_page, is_page_of, is_aligned, IsFpageOf};
 
 use crate::error::FpageError;
 use crate::rights::Rights;
@@ -38,6 +38,7 @@ impl Fpage {
         requires { IsSpaceBits bits }
         ensures read { result ≡ read_fpage bits word }
         ensures pages { IfOk result (λ f. (g : ℕ) → is_page_of f g ≡ is_page bits word g) }
+        ensures within { IfOk result (IsFpageOf bits) }
     {
         let size = word / 16 % 64;
         let base = word / 1024;
@@ -94,6 +95,7 @@ fn sized(bits: u32, size: u32, base: u32, rights: Rights) -> Result<Fpage, Fpage
     requires base { base < 2 ^ 22 }
     ensures read { result ≡ read_sized bits size base rights }
     ensures pages { IfOk result (λ f. (g : ℕ) → is_page_of f g ≡ starts_within size base g) }
+    ensures within { IfOk result (IsFpageOf bits) }
 {
     let start = 1024 * u64::from(base);
     let bytes = 1u64 << size;

@@ -222,6 +222,22 @@ module _ (h : Holdings) (l : IsLawful h) (X Y : PlaceSet) (same : (p : Place) �
       by : (p : Place) (m : Held) → is_held h p ≡ true → stripping h X a f p m ≡ stripping h Y a f p m
       by p m held = λ i. left_of (narrowed p held i) (narrowed_to (narrowed p held i) a m (if below_same h l X Y same p held i then no_rights else join m.status (passed_same p i)))
 
+-- where two sets have the same below them, and narrow the same
+module _ (h : Holdings) (l : IsLawful h) (X Y : PlaceSet) (below : (p : Place) → is_held h p ≡ true → is_below h X p ≡ is_below h Y p) where
+  -- they have the same word
+  pub word_alike : strip_word h X ≡ strip_word h Y
+  word_alike = same_elements _ _ (word_within h l X Y (λ p held is. sym (below p held) ∙ is)) (word_within h l Y X (λ p held is. below p held ∙ is))
+
+  passed_alike : (p : Place) → passed_to h X p ≡ passed_to h Y p
+  passed_alike p = same_elements _ _ (passed_within h l X Y (λ q held is. sym (below q held) ∙ is) p) (passed_within h l Y X (λ q held is. below q held ∙ is) p)
+
+  -- and to strip them is the same
+  pub strip_alike : (a : Rights) (f : Bool) → ((p : Place) → is_held h p ≡ true → is_narrowed h X f p ≡ is_narrowed h Y f p) → strip h X a f ≡ strip h Y a f
+  strip_alike a f narrowed = same_each _ _ h l.sorted (λ p m is. by p m (rw is refl))
+    where
+      by : (p : Place) (m : Held) → is_held h p ≡ true → stripping h X a f p m ≡ stripping h Y a f p m
+      by p m held = λ i. left_of (narrowed p held i) (narrowed_to (narrowed p held i) a m (if below p held i then no_rights else join m.status (passed_alike p i)))
+
 -- where nothing is below the set there is no word
 pub word_nothing : (h : Holdings) (set : PlaceSet) → IsLawful h → ((p : Place) → is_held h p ≡ true → is_below h set p ≡ false) → strip_word h set ≡ no_rights
 word_nothing h set l nothing = nothing_from (strip_word h set) (λ b bit. let s = word_from h l.sorted set b bit in cc (s.within, nothing s.place (rw (s.is) refl)))

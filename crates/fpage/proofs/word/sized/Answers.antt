@@ -27,3 +27,6 @@ returns-clause-read c = rw ((facts c).count, eq-eqb _ _ (even c), le-ltb _ _ (en
 
 pub returns-clause-pages : goal.returns-clause-pages
 returns-clause-pages c = rw (facts c).count (facts c).pages
+
+pub returns-clause-within : goal.returns-clause-within
+returns-clause-within c = rw (facts c).count (facts c).space

@@ -1,0 +1,15 @@
+pub mod Listing
+pub mod Trees
+pub mod Holders
+pub mod WordChanges
+pub mod NewMappings
+pub mod Accesses
+pub mod Roots
+pub mod Chains
+pub mod Walks
+pub mod Sequences
+pub mod Tidying
+pub mod Outer
+pub mod Frames
+pub mod Named
+pub mod WordByWord

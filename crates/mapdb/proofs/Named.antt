@@ -1,0 +1,279 @@
+-- The pages that a word names, and the groups of one frame among them.
+use Rattle.std.proofs.Common.{◌≡◌, ℕ, zero, suc, ◌+◌, ◌-◌, ◌<◌, ◌≤◌, true, false, Bool, ◌&&◌, ◌||◌, ◌==◌, nat_le, nat_lt, List, [], ◌∷◌, ◌++◌, length, drop, take, get_or, Option, Some, None, is_some, refl, sym, ap, ◌∙◌, subst, arith, ◌⊎◌, inl, inr}
+use Rattle.std.specs.List.{All, list_all, slice_range}
+use Rattle.std.specs.List.Sorted.{IsPermutation}
+use Rattle.std.proofs.lemmas.Bool.{or_cases, or_right, and_parts, and_from, false_from_ne_true, eqb-true, eq-eqb}
+use Rattle.std.proofs.lemmas.Bool.Decides.{nat_tests}
+use Rattle.std.proofs.lemmas.List.{drop_more, length-drop}
+use Rattle.space.specs.Directory.{pages_of}
+use Rattle.model.specs.Calls.{Limits}
+use Rattle.std.proofs.lemmas.List.Elements.{All-nil, All-push}
+use Rattle.std.proofs.lemmas.List.Folds.{list_any-append}
+use Rattle.std.proofs.lemmas.List.Sorted.{list_any-IsPermutation, All-permutation}
+use Rattle.fpage.specs.Fpage.{Flexpage}
+use Rattle.fpage.specs.Rights.{no_rights, join}
+use Rattle.fpage.specs.declared.rights.Rights.{Rights}
+use Rattle.space.specs.declared.place.Place.{Place}
+use Rattle.space.specs.declared.place.Entry.{Entry}
+use Rattle.space.specs.declared.shards.Shards.{Shards}
+use Rattle.space.specs.Place.{same_place}
+use Rattle.space.specs.Shards.{entry_at}
+use Rattle.space.proofs.Places.{same_is, same_self, same_or_apart}
+use Rattle.maptree.specs.Origins.{Shape}
+use Rattle.model.specs.Holdings.{Held, at, is_held}
+use Rattle.model.specs.Answers.{pages_in}
+use Rattle.model.specs.Strip.{strip, strip_word}
+use Rattle.model.proofs.LawfulParts.{IsLawful, lawful_parts}
+use Rattle.model.proofs.StripUnions.{strip-union, word-union, strip_same, word_same, strip_nothing, word_nothing}
+use Rattle.model.proofs.Chains.{below_empty}
+use Rattle.mapdb.specs.declared.pages.HeldPage.{HeldPage}
+use Rattle.mapdb.specs.Held.{is_place, has_frame}
+use Rattle.mapdb.specs.Stripping.{limits_in, holdings_in, any_of, any_page, places_in, has_entry, HasItsFrame, AreHeldPages, AreSound, AreOfFrame}
+use Rattle.mapdb.proofs.Listing.{within_from_place}
+use Rattle.maptree.proofs.Cuttings as lists
+use Rattle.maptree.proofs.Cuttings.{take_all}
+use Rattle.model.proofs.EvenChanges.{was_held}
+use Rattle.model.proofs.StripAt.{stripping, left_is}
+use Rattle.model.specs.Strip.{is_narrowed, stripped}
+use Rattle.std.proofs.lemmas.List.Elements.{All-take, All-drop}
+use Rattle.mapdb.proofs.Holders.{present_within}
+use Rattle.mapdb.specs.Held.{held_of}
+use Rattle.mapdb.proofs.Chains.{entry_held}
+use Rattle.mapdb.proofs.Frames.{stood, loose_from}
+
+-- ---- the held pages
+
+-- those so far
+pub record AreHeldUpTo (shards : Shards) (space first page : ℕ) (pages : List HeldPage) : Type 0 where
+  pub named : (p : Place) → any_page pages p ≡ (((p.space == space) && (nat_le first p.page && nat_lt p.page page)) && has_entry shards p)
+  pub frames : All (HasItsFrame shards) pages
+
+module _ (shards : Shards) (space first : ℕ) where
+  pub none_so_far : AreHeldUpTo shards space first first []
+  none_so_far = record { named = λ p. none (p.space == space) first p.page (has_entry shards p); frames = All-nil (HasItsFrame shards) }
+    where
+      none : (a : Bool) (f g : ℕ) (b : Bool) → false ≡ ((a && (nat_le f g && nat_lt g f)) && b)
+      none a f g b = grind (arith, nat_tests)
+
+  one_page : (page : ℕ) (p : Place) → ((p.space == space) && (nat_le first p.page && nat_lt p.page (page + 1))) ≡ (((p.space == space) && (nat_le first p.page && nat_lt p.page page)) || ((p.space == space) && (nat_le first p.page && (p.page == page))))
+  one_page page p = by (p.space == space) first p.page page
+    where
+      by : (a : Bool) (f g n : ℕ) → (a && (nat_le f g && nat_lt g (n + 1))) ≡ ((a && (nat_le f g && nat_lt g n)) || (a && (nat_le f g && (g == n))))
+      by a f g n = grind (arith, nat_tests)
+
+  -- a page that is not held
+  pub page_absent : (page : ℕ) (pages : List HeldPage) → first ≤ page → entry_at shards (record { space = space; page = page }) ≡ None → AreHeldUpTo shards space first page pages → AreHeldUpTo shards space first (page + 1) pages
+  page_absent page pages least absent so_far = record { named = λ p. so_far.named p ∙ by p (same_or_apart p (record { space = space; page = page })); frames = so_far.frames }
+    where
+      gone : (x y : Bool) → (x && false) ≡ ((x || y) && false)
+      gone x y = grind arith
+
+      apart_from : (p : Place) → same_place p (record { space = space; page = page }) ≡ false → ((p.space == space) && (nat_le first p.page && (p.page == page))) ≡ false
+      apart_from p apart = false_from_ne_true _ (λ is.
+          let parts = and_parts (p.space == space) (nat_le first p.page && (p.page == page)) is in
+          let inner = and_parts (nat_le first p.page) (p.page == page) parts.1 in
+          let same : p ≡ record { space = space; page = page } = same_of p (eqb-true p.space space parts.0) (eqb-true p.page page inner.1) in
+          cc (apart, ap (λ x. same_place x (record { space = space; page = page })) same, same_self (record { space = space; page = page })))
+        where
+          same_of : (p : Place) → p.space ≡ space → p.page ≡ page → p ≡ record { space = space; page = page }
+          same_of p a b = ap (λ s. (record { space = s; page = p.page })) a ∙ ap (λ g. (record { space = space; page = g })) b
+
+      or_none : (x y b : Bool) → y ≡ false → (x && b) ≡ ((x || y) && b)
+      or_none x y b is = grind (arith, is)
+
+      by : (p : Place) → (p ≡ record { space = space; page = page }) ⊎ (same_place p (record { space = space; page = page }) ≡ false)
+          → (((p.space == space) && (nat_le first p.page && nat_lt p.page page)) && has_entry shards p) ≡ (((p.space == space) && (nat_le first p.page && nat_lt p.page (page + 1))) && has_entry shards p)
+      by p (inl same) =
+          let none : has_entry shards p ≡ false = ap (has_entry shards) same ∙ ap is_some absent in
+          rw (none, one_page page p) (gone ((p.space == space) && (nat_le first p.page && nat_lt p.page page)) ((p.space == space) && (nat_le first p.page && (p.page == page))))
+      by p (inr apart) = rw (one_page page p) (or_none ((p.space == space) && (nat_le first p.page && nat_lt p.page page)) ((p.space == space) && (nat_le first p.page && (p.page == page))) (has_entry shards p) (apart_from p apart))
+
+  -- a page that is
+  pub page_held : (page : ℕ) (pages : List HeldPage) (e : Entry) → first ≤ page → entry_at shards (record { space = space; page = page }) ≡ Some e → AreHeldUpTo shards space first page pages
+      → AreHeldUpTo shards space first (page + 1) (pages ++ record { frame = e.frame; place = record { space = space; page = page } } ∷ [])
+  page_held page pages e least held so_far = record {
+    named = λ p. list_any-append (λ h. same_place p h.place) pages (record { frame = e.frame; place = record { space = space; page = page } } ∷ []) ∙ ap (λ b. b || (same_place p (record { space = space; page = page }) || false)) (so_far.named p)
+        ∙ by p (same_or_apart p (record { space = space; page = page }));
+    frames = All-push (HasItsFrame shards) pages (record { frame = e.frame; place = record { space = space; page = page } }) so_far.frames (ap (has_frame e.frame) held ∙ eq-eqb e.frame e.frame refl);
+  }
+    where
+      apart_from : (p : Place) → same_place p (record { space = space; page = page }) ≡ false → ((p.space == space) && (nat_le first p.page && (p.page == page))) ≡ false
+      apart_from p apart = false_from_ne_true _ (λ is.
+          let parts = and_parts (p.space == space) (nat_le first p.page && (p.page == page)) is in
+          let inner = and_parts (nat_le first p.page) (p.page == page) parts.1 in
+          let same : p ≡ record { space = space; page = page } = same_of p (eqb-true p.space space parts.0) (eqb-true p.page page inner.1) in
+          cc (apart, ap (λ x. same_place x (record { space = space; page = page })) same, same_self (record { space = space; page = page })))
+        where
+          same_of : (p : Place) → p.space ≡ space → p.page ≡ page → p ≡ record { space = space; page = page }
+          same_of p a b = ap (λ s. (record { space = s; page = p.page })) a ∙ ap (λ g. (record { space = space; page = g })) b
+
+      or_none : (x y b c : Bool) → y ≡ false → c ≡ false → ((x && b) || (c || false)) ≡ ((x || y) && b)
+      or_none x y b c is other = grind (arith, is, other)
+
+      or_one : (x y b c : Bool) → y ≡ true → b ≡ true → c ≡ true → ((x && b) || (c || false)) ≡ ((x || y) && b)
+      or_one x y b c is has same = grind (arith, is, has, same)
+
+      by : (p : Place) → (p ≡ record { space = space; page = page }) ⊎ (same_place p (record { space = space; page = page }) ≡ false)
+          → ((((p.space == space) && (nat_le first p.page && nat_lt p.page page)) && has_entry shards p) || (same_place p (record { space = space; page = page }) || false)) ≡ (((p.space == space) && (nat_le first p.page && nat_lt p.page (page + 1))) && has_entry shards p)
+      by p (inl same) =
+          let has : has_entry shards p ≡ true = ap (has_entry shards) same ∙ ap is_some held in
+          let here : ((p.space == space) && (nat_le first p.page && (p.page == page))) ≡ true = ap (λ (x : Place). (x.space == space) && (nat_le first x.page && (x.page == page))) same ∙ at_page space first page least in
+          let is : same_place p (record { space = space; page = page }) ≡ true = ap (λ x. same_place x (record { space = space; page = page })) same ∙ same_self (record { space = space; page = page }) in
+          rw (one_page page p) (or_one ((p.space == space) && (nat_le first p.page && nat_lt p.page page)) ((p.space == space) && (nat_le first p.page && (p.page == page))) (has_entry shards p) (same_place p (record { space = space; page = page })) here has is)
+        where
+          at_page : (s f g : ℕ) → f ≤ g → ((s == s) && (nat_le f g && (g == g))) ≡ true
+          at_page s f g upto = grind (arith, nat_tests)
+      by p (inr apart) =
+          rw (one_page page p) (or_none ((p.space == space) && (nat_le first p.page && nat_lt p.page page)) ((p.space == space) && (nat_le first p.page && (p.page == page))) (has_entry shards p) (same_place p (record { space = space; page = page })) (apart_from p apart) apart)
+
+  -- all of them
+  pub all_so_far : (f : Flexpage) (pages : List HeldPage) → f.first ≡ first → AreHeldUpTo shards space first (f.first + f.count) pages → AreHeldPages shards space f pages
+  all_so_far f pages is so_far = record { named = λ p. so_far.named p ∙ ap (λ n. ((p.space == space) && (nat_le n p.page && nat_lt p.page (f.first + f.count))) && has_entry shards p) (sym is); frames = so_far.frames }
+
+-- the same pages in another order
+pub held_in_order : (shards : Shards) (space : ℕ) (f : Flexpage) (pages sorted : List HeldPage) → IsPermutation pages sorted → AreHeldPages shards space f pages → AreHeldPages shards space f sorted
+held_in_order shards space f pages sorted order are = record {
+  named = λ p. sym (list_any-IsPermutation (λ h. same_place p h.place) pages sorted order) ∙ are.named p;
+  frames = All-permutation (HasItsFrame shards) pages sorted order are.frames;
+}
+
+-- ---- groups of one frame
+
+-- what the pages before this one have lost
+pub record AreStrippedUpTo (old : Shards) (old_trees : List Shape) (pages : List HeldPage) (from : ℕ) (a : Rights) (f : Bool) (now : Shards) (now_trees : List Shape) (status : Rights) : Type 0 where
+  pub upto : from ≤ length pages
+  pub word : status ≡ strip_word (holdings_in old old_trees) (any_page (take from pages))
+  pub left : holdings_in now now_trees ≡ strip (holdings_in old old_trees) (any_page (take from pages)) a f
+  pub sound : AreSound now now_trees
+  pub limits : limits_in now now_trees ≡ limits_in old old_trees
+
+-- the places of pages are a set by their places
+any_places : (pages : List HeldPage) (p : Place) → any_of (places_in pages) p ≡ any_page pages p
+any_places [] p = refl
+any_places (h ∷ pages) p = ap (λ b. same_place p h.place || b) (any_places pages p)
+
+module _ (old : Shards) (old_trees : List Shape) (sound : AreSound old old_trees) (space : ℕ) (fpage : Flexpage) (pages : List HeldPage) (are : AreHeldPages old space fpage pages) (a : Rights) (f : Bool) where
+  sound_lawful : IsLawful (holdings_in old old_trees)
+  sound_lawful = lawful_parts (holdings_in old old_trees) sound.kept.lawful
+
+  pub none_of_pages : AreStrippedUpTo old old_trees pages 0 a f old old_trees no_rights
+  none_of_pages =
+      let nothing = below_empty (holdings_in old old_trees) sound_lawful (any_page []) (λ q. refl) in
+      record {
+        upto = omega arith;
+        word = sym (word_nothing (holdings_in old old_trees) (any_page []) sound_lawful (λ q _. nothing q));
+        left = sym (strip_nothing (holdings_in old old_trees) sound_lawful (any_page []) a f (λ q _. nothing q));
+        sound = sound;
+        limits = refl;
+      }
+
+  -- the frame of a page of the list
+  page_frame : (i : ℕ) (d : HeldPage) → i < length pages → (e : Entry) × (entry_at old (get_or pages i d).place ≡ Some e) × (e.frame ≡ (get_or pages i d).frame)
+  page_frame i d within = stood (get_or pages i d).frame (entry_at old (get_or pages i d).place) (are.frames i d within)
+
+  -- a listed page is within the limits, and its frame is one of the frames
+  any_at : (xs : List HeldPage) (i : ℕ) (d : HeldPage) → i < length xs → any_page xs (get_or xs i d).place ≡ true
+  any_at [] i d within = absurd (omega (arith, within))
+  any_at (x ∷ xs) zero d within = rw (same_self x.place) refl
+  any_at (x ∷ xs) (suc i) d within = or_right _ _ (any_at xs i d (omega (arith, within)))
+
+  pub frame_within : (within_space : (p : Place) → pages_in space fpage p ≡ true → is_place (limits_in old old_trees) p ≡ true) → (now : Shards) (now_trees : List Shape) → limits_in now now_trees ≡ limits_in old old_trees
+      → (i : ℕ) (d : HeldPage) → i < length pages → (get_or pages i d).frame < length now_trees
+  frame_within within_space now now_trees limits i d within =
+      let e = page_frame i d within in
+      let named = and_parts (pages_in space fpage (get_or pages i d).place) (has_entry old (get_or pages i d).place) (sym (are.named (get_or pages i d).place) ∙ any_at pages i d within) in
+      let inside = within_from_place (limits_in old old_trees) (get_or pages i d).place (within_space (get_or pages i d).place named.0) in
+      let less = sound.kept.fits.frame (get_or pages i d).place e.0 inside e.1 in
+      subst (λ n. n < length now_trees) e.2 (subst (λ n. e.0.frame < n) (ap (λ l. l.frames) (sym limits)) less)
+
+  -- a group of one frame
+  pub of_frame : (now : Shards) (now_trees : List Shape) (status : Rights) (from to frame : ℕ) → AreStrippedUpTo old old_trees pages from a f now now_trees status → to ≤ length pages
+      → list_all (λ h. h.frame == frame) (slice_range pages from to) ≡ true → AreOfFrame now now_trees frame (places_in (slice_range pages from to))
+  of_frame now now_trees status from to frame so_far within same p e named is_page is =
+      let found = find_page (slice_range pages from to) named same (All-take (HasItsFrame old) (to - from) (drop from pages) (All-drop (HasItsFrame old) from pages are.frames)) in
+      let before = stood found.0.frame (entry_at old found.0.place) found.3 in
+      let inside = within_from_place (limits_in now now_trees) p is_page in
+      let held = present_within (limits_in now now_trees) now now_trees p inside e is in
+      let was = was_held (holdings_in old old_trees) (stripping (holdings_in old old_trees) (any_page (take from pages)) a f) sound_lawful p (held_of now_trees p e) (ap (λ h. at h p) (sym so_far.left) ∙ held) in
+      let kept = (left_is (is_narrowed (holdings_in old old_trees) (any_page (take from pages)) f p) (stripped (holdings_in old old_trees) (any_page (take from pages)) a f p was.before) (held_of now_trees p e) was.left).0 in
+      let old_entry = entry_held old old_trees (loose_from old old_trees sound) p was.before was.held in
+      let one : old_entry.1.0 ≡ before.0 = same_entry old_entry.1.0 before.0 (sym old_entry.1.1 ∙ ap (entry_at old) found.1 ∙ before.1) in
+      ap (λ (m : Held). m.frame) kept ∙ ap (λ (m : Held). m.frame) old_entry.1.2 ∙ ap (λ (x : Entry). x.frame) one ∙ before.2 ∙ eqb-true found.0.frame frame found.2
+    where
+      same_entry : (x y : Entry) → Some x ≡ Some y → x ≡ y
+      same_entry x y is = cc is
+
+      find_page : (xs : List HeldPage) → any_of (places_in xs) p ≡ true → list_all (λ h. h.frame == frame) xs ≡ true → All (HasItsFrame old) xs → (h : HeldPage) × (p ≡ h.place) × ((h.frame == frame) ≡ true) × HasItsFrame old h
+      find_page [] named same all = absurd (cc named)
+      find_page (x ∷ xs) named same all =
+          let parts = and_parts (x.frame == frame) (list_all (λ h. h.frame == frame) xs) same in
+          by (or_cases (same_place p x.place) (any_of (places_in xs) p) named) parts.0 (λ there. find_page xs there parts.1 (λ k d w. all (suc k) d (omega (arith, w))))
+        where
+          by : (same_place p x.place ≡ true) ⊎ (any_of (places_in xs) p ≡ true) → (x.frame == frame) ≡ true
+              → (any_of (places_in xs) p ≡ true → (h : HeldPage) × (p ≡ h.place) × ((h.frame == frame) ≡ true) × HasItsFrame old h) → (h : HeldPage) × (p ≡ h.place) × ((h.frame == frame) ≡ true) × HasItsFrame old h
+          by (inl here) first rest = (x, same_is p x.place here, first, all 0 x (omega arith))
+          by (inr there) first rest = rest there
+
+  -- one group more
+  pub one_group : (now next : Shards) (now_trees next_trees : List Shape) (status more : Rights) (from to : ℕ) → AreStrippedUpTo old old_trees pages from a f now now_trees status → from ≤ to → to ≤ length pages
+      → more ≡ strip_word (holdings_in now now_trees) (any_of (places_in (slice_range pages from to))) → holdings_in next next_trees ≡ strip (holdings_in now now_trees) (any_of (places_in (slice_range pages from to))) a f
+      → AreSound next next_trees → limits_in next next_trees ≡ limits_in now now_trees → AreStrippedUpTo old old_trees pages to a f next next_trees (join status more)
+  one_group now next now_trees next_trees status more from to so_far least within word left next_sound limits =
+      let h = holdings_in old old_trees in
+      let X = any_page (take from pages) in
+      let Y = any_of (places_in (slice_range pages from to)) in
+      let same : (p : Place) → any_page (take to pages) p ≡ (X p || Y p) = λ p.
+      ap (λ xs. any_page xs p) (lists.take_more from to pages least) ∙ list_any-append (λ (x : HeldPage). same_place p x.place) (take from pages) (slice_range pages from to) ∙ ap (λ b. any_page (take from pages) p || b) (sym (any_places (slice_range pages from to) p)) in
+      record {
+        upto = within;
+        word = ap (λ r. join r more) so_far.word ∙ ap (join (strip_word h X)) (word ∙ ap (λ k. strip_word k Y) so_far.left) ∙ word-union h sound_lawful X a f Y ∙ sym (word_same h sound_lawful (any_page (take to pages)) (λ p. X p || Y p) (λ p _. same p));
+        left = left ∙ ap (λ k. strip k Y a f) so_far.left ∙ strip-union h sound_lawful X a f Y ∙ sym (strip_same h sound_lawful (any_page (take to pages)) (λ p. X p || Y p) (λ p _. same p) a f);
+        sound = next_sound;
+        limits = limits ∙ so_far.limits;
+      }
+
+  -- all groups
+  pub all_groups : (now : Shards) (now_trees : List Shape) (status : Rights) (from : ℕ) → AreStrippedUpTo old old_trees pages from a f now now_trees status → length pages ≤ from
+      → (status ≡ strip_word (holdings_in old old_trees) (pages_in space fpage)) × (holdings_in now now_trees ≡ strip (holdings_in old old_trees) (pages_in space fpage) a f)
+  all_groups now now_trees status from so_far end =
+      let h = holdings_in old old_trees in
+      let same : (p : Place) → is_held h p ≡ true → any_page (take from pages) p ≡ pages_in space fpage p = λ p held.
+      ap (λ xs. any_page xs p) (take_all from pages end) ∙ are.named p ∙ by (pages_in space fpage p) (has_entry old p) (held_has p held) in
+      (so_far.word ∙ word_same h sound_lawful (any_page (take from pages)) (pages_in space fpage) same, so_far.left ∙ strip_same h sound_lawful (any_page (take from pages)) (pages_in space fpage) same a f)
+    where
+      by : (x y : Bool) → y ≡ true → (x && y) ≡ x
+      by x y is = grind (arith, is)
+
+      held_has : (p : Place) → is_held (holdings_in old old_trees) p ≡ true → has_entry old p ≡ true
+      held_has p held = from_held (at (holdings_in old old_trees) p) refl held
+        where
+          from_held : (m : Option Held) → at (holdings_in old old_trees) p ≡ m → is_some m ≡ true → has_entry old p ≡ true
+          from_held None is some = absurd (cc some)
+          from_held (Some m) is some = ap is_some (entry_held old old_trees (loose_from old old_trees sound) p m is).1.1
+
+-- a page and those behind it of the same frame are a group
+pub group_all : (pages : List HeldPage) (from n frame : ℕ) (d : HeldPage) → from < length pages → (get_or pages from d).frame ≡ frame → n ≤ length (take (length pages - (from + 1)) (drop (from + 1) pages))
+    → list_all (λ h. h.frame == frame) (take n (take (length pages - (from + 1)) (drop (from + 1) pages))) ≡ true
+    → (from + 1 + n ≤ length pages) × (list_all (λ h. h.frame == frame) (slice_range pages from (from + 1 + n)) ≡ true)
+group_all pages from n frame d within is most all =
+    let dropped = length-drop (from + 1) pages in
+    let whole : take (length pages - (from + 1)) (drop (from + 1) pages) ≡ drop (from + 1) pages = take_all (length pages - (from + 1)) (drop (from + 1) pages) (omega (arith, dropped)) in
+    let most_there : n ≤ length (drop (from + 1) pages) = subst (λ xs. n ≤ length xs) whole most in
+    let span : from + 1 + n - from ≡ suc n = omega arith in
+    let front : slice_range pages from (from + 1 + n) ≡ get_or pages from d ∷ take n (drop (from + 1) pages) = ap (λ k. take k (drop from pages)) span ∙ ap (take (suc n)) (drop_more pages from d within) in
+    (omega (arith, most_there, dropped, within), ap (list_all (λ (h : HeldPage). h.frame == frame)) front ∙ and_from _ _ (eq-eqb (get_or pages from d).frame frame is) (ap (λ xs. list_all (λ (h : HeldPage). h.frame == frame) (take n xs)) (sym whole) ∙ all))
+
+-- the pages that an fpage of the space names are within the limits
+pub named_within : (limits : Limits) (space : ℕ) (f : Flexpage) → space < limits.spaces → f.first + f.count ≤ pages_of limits.bits → (p : Place) → pages_in space f p ≡ true → is_place limits p ≡ true
+named_within limits space f less most p named = by p.space space f.first p.page f.count limits.spaces (pages_of limits.bits) less most named
+  where
+    by : (s t first g count n m : ℕ) → t < n → first + count ≤ m → ((s == t) && (nat_le first g && nat_lt g (first + count))) ≡ true → (nat_lt s n && nat_lt g m) ≡ true
+    by s t first g count n m less most is = grind (arith, nat_tests)
+
+-- the same of pages that are shown
+pub group_shown : (pages shown : List HeldPage) (from n frame : ℕ) (d : HeldPage) → shown ≡ pages → from < length pages → (get_or pages from d).frame ≡ frame → n ≤ length (take (length shown - (from + 1)) (drop (from + 1) shown))
+    → list_all (λ h. h.frame == frame) (take n (take (length shown - (from + 1)) (drop (from + 1) shown))) ≡ true
+    → (from + 1 + n ≤ length pages) × (list_all (λ h. h.frame == frame) (slice_range pages from (from + 1 + n)) ≡ true)
+group_shown pages shown from n frame d same within is most all =
+    group_all pages from n frame d within is (subst (λ xs. n ≤ length (take (length xs - (from + 1)) (drop (from + 1) xs))) same most)
+    (subst (λ xs. list_all (λ (h : HeldPage). h.frame == frame) (take n (take (length xs - (from + 1)) (drop (from + 1) xs))) ≡ true) same all)

@@ -1,0 +1,12 @@
+-- The pages so far are stripped.
+use Rattle.std.proofs.Common.{length, ◌-◌}
+use Rattle.mapdb.specs.Stripping.{AreHeldPages}
+use Rattle.mapdb.proofs.Named.{AreStrippedUpTo}
+use Rattle.mapdb.proofs.pages.strip_pages.Given as goal
+
+abbrev pub invariant-loop-from : goal.invariant-loop-from
+invariant-loop-from l = AreHeldPages l.fn.shards l.space l.fpage l.pages.items × AreStrippedUpTo l.fn.shards l.fn.trees l.pages.items l.from l.fpage.rights l.first_too l.shards l.trees l.status
+
+-- each page comes once
+abbrev pub decreases-loop-from : goal.decreases-loop-from
+decreases-loop-from l = length l.pages.items - l.from

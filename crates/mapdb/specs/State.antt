@@ -1,0 +1,68 @@
+-- A database as its callers see it.
+use Rattle.std.specs.Prelude.{ℕ, Bool, false, true, Result, Ok, Err, if◌then◌else◌, List, [], ◌∷◌}
+use Rattle.fpage.specs.declared.rights.Access.{Access}
+use Rattle.space.specs.declared.place.Place.{Place}
+use Rattle.space.specs.declared.place.Entry.{Entry}
+use Rattle.space.specs.declared.shards.Shards.{Shards}
+use Rattle.maptree.specs.Origins.{Shape}
+use Rattle.model.specs.Calls.{Limits}
+use Rattle.model.specs.Holdings.{Held, Holdings}
+use Rattle.fpage.specs.Fpage.{Flexpage}
+use Rattle.fpage.specs.declared.rights.Rights.{Rights}
+use Rattle.model.specs.Strip.{strip, strip_word}
+use Rattle.model.specs.Answers.{pages_in}
+use Rattle.model.specs.Replay.{start}
+use Rattle.model.specs.Touch.{can_touch, touch}
+use Rattle.mapdb.specs.Held.{holdings_of}
+use Rattle.mapdb.specs.declared.error.DbError.{DbError}
+use Rattle.mapdb.specs.declared.error.DbError.TheVariants.{Halted}
+
+-- its limits, what is held, and whether a call before wanted memory
+pub record State : Type 0 where
+  pub limits : Limits
+  pub holdings : Holdings
+  pub is_halted : Bool
+
+-- what the fields of a database say: the holdings are those of its words and trees
+abbrev pub state_of : Limits → Shards → List Shape → Bool → State
+state_of limits shards trees is_halted = record { limits = limits; holdings = holdings_of limits shards trees; is_halted = is_halted }
+
+-- a new database
+abbrev pub new_state : Limits → State
+new_state limits = record { limits = limits; holdings = start limits; is_halted = false }
+
+-- after a call that wanted memory
+abbrev pub halted : State → State
+halted s = record s { is_halted = true }
+
+-- after a call that changed what is held
+abbrev pub left_with : State → Holdings → State
+left_with s h = record s { holdings = h }
+
+-- frame, rights and status of what is held
+abbrev pub entry_of : Held → Entry
+entry_of m = record { frame = m.frame; rights = m.rights; status = m.status }
+
+-- what accesses leave, one after another
+abbrev pub touched_all : Holdings → List (Place × Access) → Holdings
+touched_all h [] = h
+touched_all h (a ∷ rest) = touched_all (touch h a.0 a.1) rest
+
+-- which accesses are made, each of what those before it left
+abbrev pub access_answers : Holdings → List (Place × Access) → List Bool
+access_answers h [] = []
+access_answers h (a ∷ rest) = can_touch h a.0 a.1 ∷ access_answers (touch h a.0 a.1) rest
+
+-- an answer of a call that changes nothing: that it is halted, or this
+abbrev pub unless_halted : {A : Type 0} → State → A → Result A DbError
+unless_halted s answer = if s.is_halted then Err Halted else Ok answer
+
+-- the status that each word of an unmap gives back, one word after another
+abbrev pub unmap_status : ℕ → Bool → List Flexpage → Holdings → List Rights
+unmap_status space f [] h = []
+unmap_status space f (w ∷ ws) h = let named = pages_in space w in strip_word h named ∷ unmap_status space f ws (strip h named w.rights f)
+
+-- what the words of an unmap leave, one after another
+abbrev pub unmap_left : ℕ → Bool → List Flexpage → Holdings → Holdings
+unmap_left space f [] h = h
+unmap_left space f (w ∷ ws) h = let named = pages_in space w in unmap_left space f ws (strip h named w.rights f)

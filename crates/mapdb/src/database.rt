@@ -1,0 +1,272 @@
+use crate::error::DbError;
+use crate::limits::Limits;
+use crate::pages::unmap_words;
+use crate::reply::SendReply;
+use crate::start::{root_trees, root_words};
+use crate::tree;
+use crate::words::marks;
+use fpage::{Access, Control, Fpage, Rights};
+use maptree::Tree;
+use space::{Entry, Place, Shards};
+use std::alloc::Global;
+use std::marker::Model;
+
+/// A mapping database. A contract sees its limits, its holdings, and whether it is halted.
+///
+/// Frame, rights and status of a page are in its word, its origin in the derivation tree of its frame. After a call
+/// that wanted memory the database is halted: every later call is refused.
+#[derive(Drop)]
+pub struct Database {
+    limits: Limits,
+    shards: Shards,
+    /// The tree of each frame, at its number.
+    trees: Vec<Tree>,
+    halted: bool,
+}
+
+impl Model for Database {
+    ghost use Rattle.std.specs.Prelude.{◌≡◌, false};
+    ghost use Rattle.mapdb.specs.Meaning.{limits_of};
+    ghost use Rattle.mapdb.specs.Sound.{IsSound};
+    ghost use Rattle.mapdb.specs.State.{State, state_of};
+
+    ghost Value = { State };
+
+    ghost view = { λ d. state_of (limits_of d.limits) d.shards d.trees.items d.halted };
+
+    ghost invariant = { λ d. d.halted ≡ false → IsSound (limits_of d.limits) d.shards d.trees.items };
+}
+
+impl Database {
+    ghost use Rattle.std.specs.Prelude.{◌≡◌, ◌↔◌, ◌⊎◌, true, false, option_map};
+    ghost use Rattle.std.specs.Prelude.{IfOk, OnOk, IfErr, OnErr, IsErrOf, IsOkUnless};
+    ghost use Rattle.std.specs.List.{All};
+    ghost use Rattle.model.specs.Holdings.{at, origin_at, is_held};
+    ghost use Rattle.model.specs.Records.{are_limits};
+    ghost use Rattle.model.specs.Touch.{can_touch, touch};
+    ghost use Rattle.model.specs.Items.{one_page};
+    ghost use Rattle.model.specs.Answers.{item_answer};
+    ghost use Rattle.mapdb.specs.Meaning.{limits_of, counts_of};
+    ghost use Rattle.std.specs.Prelude.{◌≤◌};
+    ghost use Rattle.fpage.specs.Fpage.{IsFpageOf};
+    ghost use Rattle.mapdb.specs.State.{unmap_status, unmap_left};
+    ghost use Rattle.mapdb.specs.declared.error.DbError.TheVariants.{NoSuchSpace};
+    ghost use Rattle.mapdb.specs.Held.{IsWithin};
+    ghost use Rattle.mapdb.specs.State.{new_state, halted, left_with, entry_of, unless_halted};
+    ghost use Rattle.mapdb.specs.State.{touched_all, access_answers};
+    ghost use Rattle.mapdb.specs.declared.error.DbError.TheVariants.{BadLimits, NoMemory, Halted};
+
+    /// The database at the start: page `i` of space 0 holds frame `i` with all rights, for each frame.
+    ///
+    /// Refused first where the limits are not served, `BadLimits`, and then where memory is, `NoMemory`.
+    pub fn new(alloc: Global, spaces: u32, bits: u32, frames: u32) -> Result<Self, DbError>
+        ensures bad_limits { IsErrOf result BadLimits
+            ↔ (are_limits (record { spaces = spaces; bits = bits; frames = frames }) ≡ false) }
+        ensures errors { IfErr result (λ e. (e ≡ BadLimits) ⊎ (e ≡ NoMemory)) }
+        ensures ok { IfOk result (λ database.
+            database ≡ new_state (record { spaces = spaces; bits = bits; frames = frames })) }
+    {
+        let limits = Limits {
+            spaces,
+            bits,
+            frames,
+        };
+        if !limits.are_served() {
+            return Err(DbError::BadLimits);
+        }
+        let shards = root_words(alloc, &limits)?;
+        let trees = root_trees(alloc, frames)?;
+        Ok(Database {
+            limits,
+            shards,
+            trees,
+            halted: false,
+        })
+    }
+
+    /// The limits that the database was made with.
+    pub fn limits(&self) -> Limits
+        ensures { limits_of result ≡ self.now.limits }
+    {
+        self.limits
+    }
+
+    /// Whether a call wanted memory: every later call is then refused.
+    pub fn is_halted(&self) -> bool
+        ensures { result ≡ self.now.is_halted }
+    {
+        self.halted
+    }
+
+    /// Frame, rights and status of what a page holds.
+    ///
+    /// Refused where the database is halted, `Halted`. Takes no memory.
+    pub fn entry(&self, place: Place) -> Result<Option<Entry>, DbError>
+        requires { IsWithin self.now.limits place }
+        ensures { result ≡ unless_halted self.now (option_map entry_of (at self.now.holdings place)) }
+    {
+        if self.halted {
+            return Err(DbError::Halted);
+        }
+        Ok(self.shards.get(place))
+    }
+
+    /// The page from which a page came; none for a root, and where nothing is held.
+    ///
+    /// Refused where the database is halted, `Halted`. Takes no memory.
+    pub fn origin(&self, place: Place) -> Result<Option<Place>, DbError>
+        requires { IsWithin self.now.limits place }
+        ensures { result ≡ unless_halted self.now (origin_at self.now.holdings place) }
+    {
+        if self.halted {
+            return Err(DbError::Halted);
+        }
+        let Some(entry) = self.shards.get(place) else {
+            return Ok(None);
+        };
+        Ok(tree::origin(&self.trees[entry.frame as usize], place))
+    }
+
+    /// Makes accesses one after another, and says of each whether it was made; otherwise it was a fault.
+    ///
+    /// Refused where the database is halted, `Halted`, and where memory is, `NoMemory`: then the database is halted.
+    pub fn access_all(
+        &mut self,
+        alloc: Global,
+        accesses: &[(Place, Access)],
+    ) -> Result<Vec<bool>, DbError>
+        requires { All (λ access. IsWithin self.old.limits access.0) accesses.now }
+        ensures halted { IsErrOf result Halted ↔ (self.old.is_halted ≡ true) }
+        ensures errors { IfErr result (λ e. (e ≡ Halted) ⊎ (e ≡ NoMemory)) }
+        ensures err { OnErr result (self.new ≡ halted self.old) }
+        ensures answers { IfOk result (λ answers.
+            answers.items ≡ access_answers self.old.holdings accesses.now) }
+        ensures left { OnOk result (self.new ≡ left_with self.old (touched_all self.old.holdings accesses.now)) }
+    {
+        if self.halted {
+            return Err(DbError::Halted);
+        }
+        let Ok(mut answers) = Vec::with_capacity(alloc, accesses.len()) else {
+            return Err(self.halt());
+        };
+        for (place, access) in accesses {
+            let pushed = answers.push(self.touch(*place, *access));
+            prove!(pushed.is_ok());
+        }
+        Ok(answers)
+    }
+
+    /// Makes one access, if the page is held with the right for it, and says whether it was.
+    fn touch(&mut self, place: Place, access: Access) -> bool
+        requires running { self.old.is_halted ≡ false }
+        requires within { IsWithin self.old.limits place }
+        ensures answer { result ≡ can_touch self.old.holdings place access }
+        ensures left { self.new ≡ left_with self.old (touch self.old.holdings place access) }
+    {
+        let Some(entry) = self.shards.get(place) else {
+            return false;
+        };
+        if !entry.rights.holds(access) {
+            return false;
+        }
+        let status = entry.status.join(marks(access));
+        self.shards.set(place, Some(Entry { status, ..entry }));
+        true
+    }
+
+    /// Takes rights from the pages of a space that each fpage names, if the control word says so, and from all that derives
+    /// from them: the rights in the fpage's word, word after word. Gives back, for each word, the status of its pages and
+    /// of all that derives from them; theirs is cleared, and what it was is added to that of the page from which they
+    /// come. A page that has no rights left is no longer held (L4 X.2, Unmap).
+    ///
+    /// Refused, the first that fits: `Halted`; `NoSuchSpace`, where nothing changes; and where memory is, `NoMemory`:
+    /// then the database is halted.
+    pub fn unmap(
+        &mut self,
+        alloc: Global,
+        space: u16,
+        control: Control,
+        fpages: &[Fpage],
+    ) -> Result<Vec<Rights>, DbError>
+        requires fpages { All (IsFpageOf self.old.limits.bits) fpages.now }
+        ensures halted { IsErrOf result Halted ↔ (self.old.is_halted ≡ true) }
+        ensures no_such_space { IsErrOf result NoSuchSpace ↔ ((self.old.is_halted ≡ false) × (self.old.limits.spaces ≤ space)) }
+        ensures errors { IfErr result (λ e. (e ≡ Halted) ⊎ (e ≡ NoSuchSpace) ⊎ (e ≡ NoMemory)) }
+        ensures refused { IsErrOf result NoSuchSpace → self.new ≡ self.old }
+        ensures no_memory { IsErrOf result NoMemory → (self.new.is_halted ≡ true) × (self.new.limits ≡ self.old.limits) }
+        ensures status { IfOk result (λ status.
+            status.items ≡ unmap_status space control.flush fpages.now self.old.holdings) }
+        ensures left { OnOk result (self.new ≡
+            left_with self.old (unmap_left space control.flush fpages.now self.old.holdings)) }
+    {
+        if self.halted {
+            return Err(DbError::Halted);
+        }
+        if u32::from(space) >= self.limits.spaces {
+            return Err(DbError::NoSuchSpace);
+        }
+        let flush = control.is_flush();
+        let status = unmap_words(
+            alloc,
+            &mut self.shards,
+            &mut self.trees,
+            space,
+            flush,
+            fpages,
+        );
+        self.halted = status.is_err();
+        Ok(status?)
+    }
+
+    /// Maps a page to a place that is not held, with its rights as far as `rights` go.
+    ///
+    /// Refused where memory is, `NoMemory`: then the database is halted.
+    pub(crate) fn map_page(
+        &mut self,
+        source: Place,
+        target: Place,
+        rights: Rights,
+    ) -> Result<SendReply, DbError>
+        requires running { self.old.is_halted ≡ false }
+        requires source { IsWithin self.old.limits source }
+        requires target { IsWithin self.old.limits target }
+        requires free { is_held self.old.holdings target ≡ false }
+        ensures errors { IsOkUnless result NoMemory }
+        ensures err { OnErr result (self.new ≡ halted self.old) }
+        ensures ok { IfOk result (λ reply. item_answer self.old.holdings (one_page rights source target)
+            ≡ record { counts = counts_of reply; left = self.new.holdings }) }
+        ensures left { OnOk result (self.new ≡ left_with self.old self.new.holdings) }
+    {
+        let Some(entry) = self.shards.get(source) else {
+            return Ok(SendReply::absent());
+        };
+        let rights = entry.rights.meet(rights);
+        if rights.is_empty() {
+            return Ok(SendReply::norights());
+        }
+        let tree = &mut self.trees[entry.frame as usize];
+        if tree::derive(tree, source, target).is_err() {
+            return Err(self.halt());
+        }
+        let status = Rights::none();
+        let frame = entry.frame;
+        self.shards.set(
+            target,
+            Some(Entry {
+                frame,
+                rights,
+                status,
+            }),
+        );
+        Ok(SendReply::linked())
+    }
+
+    /// Halts the database: memory was refused.
+    fn halt(&mut self) -> DbError
+        ensures error { result ≡ NoMemory }
+        ensures left { self.new ≡ halted self.old }
+    {
+        self.halted = true;
+        DbError::NoMemory
+    }
+}

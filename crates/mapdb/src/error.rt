@@ -1,0 +1,36 @@
+use space::NoMemory;
+use thiserror::Error;
+
+/// Why a call of the database was refused.
+#[derive(Clone, Copy, Debug, PartialEq, Eq, Error)]
+pub enum DbError {
+    /// The limits are not served.
+    #[error("BadLimits")]
+    BadLimits,
+    /// A space is named that there is not.
+    #[error("NoSuchSpace")]
+    NoSuchSpace,
+    /// Sender and receiver are one space.
+    #[error("SameSpace")]
+    SameSpace,
+    /// The receiver's window is nil.
+    #[error("NoWindow")]
+    NoWindow,
+    /// Memory was refused. A call of a database leaves it halted.
+    #[error("NoMemory")]
+    NoMemory,
+    /// The database was halted by a call before.
+    #[error("Halted")]
+    Halted,
+}
+
+impl From<NoMemory> for DbError {
+    ghost use Rattle.std.specs.Prelude.{◌≡◌};
+    ghost use Rattle.mapdb.specs.declared.error.DbError.TheVariants.{NoMemory};
+
+    ghost from_gives = { λ _ e. e ≡ NoMemory };
+
+    fn from(_: NoMemory) -> Self {
+        DbError::NoMemory
+    }
+}

@@ -1,0 +1,32 @@
+//! The derivation tree of a frame.
+
+ghost use Rattle.std.specs.Prelude.{◌≡◌, true, false, OnOk, OnErr};
+ghost use Rattle.maptree.specs.Origins.{origin_in};
+ghost use Rattle.mapdb.specs.Derivation.{stands_in, IsDerived};
+
+use maptree::Tree;
+use space::{NoMemory, Place};
+
+/// The place from which a place of the tree derives; none for a root, and for a place that is not in the tree.
+pub fn origin(tree: &Tree, place: Place) -> Option<Place>
+    ensures { result ≡ origin_in tree.now.links place }
+{
+    let i = tree.find(place)?;
+    let origin = tree.origin_of(i)?;
+    Some(tree.node(origin).place)
+}
+
+/// Puts a place into the tree that derives from another.
+///
+/// Refused where memory is, `NoMemory`: then the tree is as it was.
+pub fn derive(tree: &mut Tree, origin: Place, place: Place) -> Result<(), NoMemory>
+    requires origin { stands_in tree.old.links origin ≡ true }
+    requires new { stands_in tree.old.links place ≡ false }
+    ensures ok { OnOk result (IsDerived tree.old.links tree.new.links origin place) }
+    ensures err { OnErr result (tree.new ≡ tree.old) }
+{
+    tree.reserve(1)?;
+    let i = tree.find(origin).unwrap();
+    tree.insert_below(i, place);
+    Ok(())
+}
