@@ -193,6 +193,7 @@ impl Database {
         ensures no_such_space { IsErrOf result NoSuchSpace ↔ ((self.old.is_halted ≡ false) × (self.old.limits.spaces ≤ space)) }
         ensures errors { IfErr result (λ e. (e ≡ Halted) ⊎ (e ≡ NoSuchSpace) ⊎ (e ≡ NoMemory)) }
         ensures refused { IsErrOf result NoSuchSpace → self.new ≡ self.old }
+        ensures stays_halted { IsErrOf result Halted → self.new ≡ self.old }
         ensures no_memory { IsErrOf result NoMemory → (self.new.is_halted ≡ true) × (self.new.limits ≡ self.old.limits) }
         ensures status { IfOk result (λ status.
             status.items ≡ unmap_status space control.flush fpages.now self.old.holdings) }

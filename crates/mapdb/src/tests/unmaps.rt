@@ -5,7 +5,7 @@ ghost use Rattle.std.specs.List.{All};
 ghost use Rattle.space.specs.Directory.{pages_of};
 ghost use Rattle.fpage.specs.Fpage.{IsFpageOf};
 
-use crate::Database;
+use crate::{Database, DbError};
 use fpage::{Access, Control, Fpage, Rights, with_status};
 use space::{Entry, Place};
 use std::alloc::Global;
@@ -187,7 +187,10 @@ fn map(
     let target = page(rt, target);
     match database.entry(target)? {
         None => {
-            let reply = database.map_page(source, target, Rights::all())?;
+            let reply = match database.map_page(source, target, Rights::all()) {
+                Ok(reply) => reply,
+                Err(error) => return Err(halted(rt, database, error)),
+            };
             assert_eq!(rt; reply.linked, 1);
         }
         Some(_) => panic!(rt; "{target} is held"),
@@ -206,9 +209,24 @@ fn touch(
     requires { database.old.limits ≡ record { spaces = 3; bits = 18; frames = 16 } }
     ensures { OnOk result (database.new.limits ≡ record { spaces = 3; bits = 18; frames = 16 }) }
 {
-    let answers = database.access_all(alloc, &[(page(rt, at), access)])?;
+    let answers = match database.access_all(alloc, &[(page(rt, at), access)]) {
+        Ok(answers) => answers,
+        Err(error) => return Err(halted(rt, database, error)),
+    };
     assert_eq!(rt; answers.as_slice(), [true].as_slice());
     Ok(())
+}
+
+/// Looks at a database that wanted memory: it is halted, and says so to every call.
+fn halted(rt: &impl Abort, database: &Database, error: DbError) -> Fail
+    requires { database.now.limits ≡ record { spaces = 3; bits = 18; frames = 16 } }
+{
+    assert_eq!(rt; error, DbError::NoMemory);
+    assert!(rt; database.is_halted());
+    let root = page(rt, (0, 5));
+    assert_eq!(rt; database.entry(root), Err(DbError::Halted));
+    assert_eq!(rt; database.origin(root), Err(DbError::Halted));
+    error.into()
 }
 
 /// The fpages of words in spaces of the least size.
@@ -220,7 +238,9 @@ fn fpages(rt: &impl Abort, alloc: Global, words: &[u32]) -> Result<Vec<Fpage>, F
         let Ok(fpage) = Fpage::read(*word, 18) else {
             panic!(rt; "the word {word} is refused");
         };
-        fpages.push(fpage)?;
+        if fpages.push(fpage).is_err() {
+            return Err(DbError::NoMemory.into());
+        }
     }
     Ok(fpages)
 }
@@ -242,10 +262,15 @@ fn unmap(
         panic!(rt; "the control word {control} is refused");
     };
     let fpages = fpages(rt, alloc, words)?;
-    let status = database.unmap(alloc, space, control, &fpages)?;
+    let status = match database.unmap(alloc, space, control, &fpages) {
+        Ok(status) => status,
+        Err(error) => return Err(halted(rt, database, error)),
+    };
     let mut replied = Vec::new(alloc);
     for (word, status) in words.iter().zip(&status) {
-        replied.push(with_status(*word, *status))?;
+        if replied.push(with_status(*word, *status)).is_err() {
+            return Err(DbError::NoMemory.into());
+        }
     }
     assert_eq!(rt; replied.as_slice(), reply);
     Ok(())
