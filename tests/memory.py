@@ -23,6 +23,7 @@ send,0,1,400c0,8,c7
 access,2,0,x
 send,0,2,10,5008,10c7
 access,2,5fff,x
+unmap,0,1,c2,10c0
 """
 REPLIES = [
     b"1 send absent=0 norights=0 origin=0 lost=0 extended=0 linked=1\n",
@@ -33,14 +34,15 @@ REPLIES = [
     b"6 access fault\n",
     b"7 send absent=0 norights=0 origin=0 lost=0 extended=0 linked=1\n",
     b"8 access ok\n",
+    b"9 unmap 000000c6 000010c5\n",
 ]
 AUDIT = b"""\
 0,0,0,rwx,---,-
 0,1,1,rwx,---,-
-1,3,0,rw-,RW-,0:0
+1,3,0,r--,---,0:0
 2,0,0,r--,---,1:3
-2,5,1,rwx,R-X,0:1
-end 8 2
+2,5,1,rwx,---,0:1
+end 9 2
 """
 UNDISTURBED = Ended(0, b"".join(REPLIES) + AUDIT, b"")
 MOST_ALLOCATIONS = 100_000

@@ -24,6 +24,10 @@ def roots(count, first=0):
     return lines(*(f"0,{page},{page},rwx,---,-" for page in range(first, first + count)))
 
 
+# A chain of mappings: 0:5, then 1:0, then 2:0, each with all rights.
+CHAIN = "send,0,1,c0,8,50c7", "send,1,2,c0,8,c7"
+CHAINED = f"1 {LINKED}", f"2 {LINKED}"
+
 # Name, input, what the program must write on standard output; it ends with status 0 and a silent standard error.
 WHOLE_RUNS = [
     (
@@ -173,6 +177,130 @@ WHOLE_RUNS = [
         lines("1 access ok", f"2 {LINKED}", "0,0,0,rwx,RW-,-", "1,0,0,rwx,---,0:0", "end 2 0"),
     ),
     (
+        "one page mapped, written to and narrowed",
+        lines("l4map,1,2,18,1", "send,0,1,10,3008,c6", "access,1,3abc,w", "unmap,0,0,c2"),
+        lines(
+            f"1 {LINKED}", "2 access ok", "3 unmap 000000c6", "0,0,0,rwx,---,-", "1,3,0,r--,---,0:0", "end 3 0"
+        ),
+    ),
+    (
+        "unmap narrows all that derives from a page",
+        lines(HEADER, *CHAIN, "unmap,0,0,50c2"),
+        lines(*CHAINED, "3 unmap 000050c0", roots(16), "1,0,5,r-x,---,0:5", "2,0,5,r-x,---,1:0", "end 3 0"),
+    ),
+    (
+        "unmap passes status on to the origin outside of its pages",
+        lines(HEADER, *CHAIN, "access,2,0,w", "unmap,1,0,10", "unmap,1,0,10", "unmap,0,0,10"),
+        lines(
+            *CHAINED,
+            "3 access ok",
+            "4 unmap 00000016",
+            "5 unmap 00000010",
+            "6 unmap 00000016",
+            roots(16),
+            "1,0,5,rwx,---,0:5",
+            "2,0,5,rwx,---,1:0",
+            "end 6 0",
+        ),
+    ),
+    (
+        "unmap narrows a mapping that derives within the caller's own space",
+        lines(HEADER, *CHAIN, "send,2,1,30c0,8,c7", "unmap,1,0,12"),
+        lines(
+            *CHAINED,
+            f"3 {LINKED}",
+            "4 unmap 00000010",
+            roots(16),
+            "1,0,5,rwx,---,0:5",
+            "1,3,5,r-x,---,2:0",
+            "2,0,5,r-x,---,1:0",
+            "end 4 0",
+        ),
+    ),
+    (
+        "two branches add to the word of one origin",
+        lines(
+            HEADER,
+            "send,0,1,c0,8,50c7",
+            "send,0,1,30c0,8,50c7",
+            "access,1,0,r",
+            "access,1,3000,x",
+            "unmap,1,0,10",
+            "unmap,0,0,50c0",
+        ),
+        lines(
+            *CHAINED,
+            "3 access ok",
+            "4 access ok",
+            "5 unmap 00000015",
+            "6 unmap 000050c5",
+            roots(16),
+            "1,0,5,rwx,---,0:5",
+            "1,3,5,rwx,---,0:5",
+            "end 6 0",
+        ),
+    ),
+    (
+        "unmap of a nilpage gives its word back",
+        lines(HEADER, "unmap,1,1,10", "unmap,1,0,0", "unmap,1,0,f"),
+        lines("1 refused BadControl", "2 unmap 00000000", "3 unmap 00000008", roots(16), "end 3 1"),
+    ),
+    (
+        "unmap cut off in its last word",
+        lines(HEADER) + b"unmap,0,0,50c",
+        lines("1 refused Misaligned", roots(16), "end 1 1"),
+    ),
+    (
+        "flush of the complete space by the space of all frames",
+        lines(HEADER, *CHAIN, "unmap,0,40,17"),
+        lines(*CHAINED, "3 unmap 00000010", "end 3 0"),
+    ),
+    (
+        "flush by two words that take all rights between them",
+        lines(HEADER, *CHAIN, "access,2,0,x", "unmap,1,41,c2,c5"),
+        lines(
+            *CHAINED,
+            "3 access ok",
+            "4 unmap 000000c5 000000c0",
+            roots(5),
+            "0,5,5,rwx,R-X,-",
+            roots(10, first=6),
+            "end 4 0",
+        ),
+    ),
+    (
+        "words of one unmap one after another",
+        lines(HEADER, *CHAIN, "unmap,0,1,50c2,50c4"),
+        lines(
+            *CHAINED, "3 unmap 000050c0 000050c0", roots(16), "1,0,5,--x,---,0:5", "2,0,5,--x,---,1:0", "end 3 0"
+        ),
+    ),
+    (
+        "unmap of 64 words",
+        lines(HEADER, *CHAIN, "unmap,2,3f" + ",c0" * 64),
+        lines(
+            *CHAINED,
+            "3 unmap" + " 000000c0" * 64,
+            roots(16),
+            "1,0,5,rwx,---,0:5",
+            "2,0,5,rwx,---,1:0",
+            "end 3 0",
+        ),
+    ),
+    (
+        "page that was taken is mapped again",
+        lines(HEADER, *CHAIN, "unmap,0,0,50c7", "access,2,0,r", "send,0,2,c0,8,70c4"),
+        lines(
+            *CHAINED,
+            "3 unmap 000050c0",
+            "4 access fault",
+            f"5 {LINKED}",
+            roots(16),
+            "2,0,7,r--,---,0:7",
+            "end 5 0",
+        ),
+    ),
+    (
         "ten refused records of every kind",
         lines(
             HEADER,
@@ -196,7 +324,7 @@ WHOLE_RUNS = [
             "6 refused Misaligned",
             "7 refused OutOfSpace",
             "8 refused BadRecord",
-            "9 refused BadRecord",
+            "9 refused BadControl",
             "10 refused BadRecord",
             roots(16),
             "end 10 10",
@@ -327,7 +455,7 @@ BAD_NUMBERS = [
 
 
 def bad_fields():
-    """Each field of a send and of an access in every form that it must not have."""
+    """Each field of a send, an access and an unmap in every form that it must not have."""
     places = [
         ("sender", b"send,%s,2,10,8,50c7", BAD_NUMBERS),
         ("receiver", b"send,0,%s,10,8,50c7", BAD_NUMBERS),
@@ -337,6 +465,10 @@ def bad_fields():
         ("word of the second item", b"send,0,2,10,8,50c7,8,%s", BAD_WORDS),
         ("space of an access", b"access,%s,0,r", BAD_NUMBERS),
         ("address", b"access,1,%s,r", BAD_WORDS),
+        ("space of an unmap", b"unmap,%s,0,c0", BAD_NUMBERS),
+        ("control word", b"unmap,1,%s,c0", BAD_WORDS),
+        ("word of an unmap", b"unmap,1,0,%s", BAD_WORDS),
+        ("second word of an unmap", b"unmap,1,1,c0,%s", BAD_WORDS),
     ]
     for place, record, forms in places:
         for form, field in forms:
@@ -396,15 +528,21 @@ REFUSED = [
     ("quoted kind with a space", b'access,1,0,"r "', "BadRecord"),
     ("semicolons for commas", b"send;0;2;10;8;50c7", "BadRecord"),
     # unmap records
-    ("unmap of one word", b"unmap,0,0,50c2", "BadRecord"),
-    ("unmap of many words", b"unmap,0,3f" + b",17" * 64, "BadRecord"),
-    ("unmap of too many words", b"unmap,0,3f" + b",17" * 65, "BadRecord"),
-    ("unmap without words", b"unmap,0,0", "BadRecord"),
     ("unmap of its name alone", b"unmap", "BadRecord"),
-    ("unmap with a bad control word", b"unmap,0,80,c0", "BadRecord"),
-    ("unmap with a bad fpage word", b"unmap,0,0,a7", "BadRecord"),
-    ("unmap of an unknown space", b"unmap,3,0,c0", "BadRecord"),
-    ("unmap cut off in its last word", b"unmap,0,0,50c", "BadRecord"),
+    ("unmap without a control word", b"unmap,0", "BadRecord"),
+    ("unmap with a last comma", b"unmap,0,0,50c2,", "BadRecord"),
+    ("upper case name of an unmap", b"UNMAP,0,0,50c2", "BadRecord"),
+    ("unmap without words", b"unmap,0,0", "BadControl"),
+    ("unmap with a word too few", b"unmap,0,1,50c2", "BadControl"),
+    ("unmap with a word too many", b"unmap,0,0,50c2,50c4", "BadControl"),
+    ("unmap of 65 words", b"unmap,0,3f" + b",17" * 65, "BadControl"),
+    ("control word with the bit above its fields", b"unmap,0,80,50c2", "BadControl"),
+    ("control word with its highest bit", b"unmap,0,80000000,50c2", "BadControl"),
+    ("unmap with a bad size", b"unmap,0,0,a7", "BadSize"),
+    ("unmap of a page between pages", b"unmap,0,0,50c", "Misaligned"),
+    ("unmap past the space", b"unmap,0,0,400c7", "OutOfSpace"),
+    ("unmap by a space just past the spaces", b"unmap,3,0,c0", "NoSuchSpace"),
+    ("unmap by the space with the largest number", b"unmap,65535,0,c0", "NoSuchSpace"),
     # sends that are still to come
     ("two items", b"send,0,2,10,8,50c7,1008,60c7", "BadRecord"),
     ("31 items", b"send,0,2,10" + b",8,50c7" * 31, "BadRecord"),
@@ -503,6 +641,14 @@ REFUSED = [
     ("bad kind before an unknown space", b"access,3,40000,q", "BadRecord"),
     ("bad address before an unknown space", b"access,3,040000000,r", "BadRecord"),
     ("unknown space before an address past the space", b"access,3,40000,r", "NoSuchSpace"),
+    ("bad space before a bad control word", b"unmap,65536,80,c0", "BadRecord"),
+    ("bad last word before a bad control word", b"unmap,0,80,+1", "BadRecord"),
+    ("bad control word before a bad size", b"unmap,0,80,a7", "BadControl"),
+    ("bad number of words before a bad size", b"unmap,0,1,a7", "BadControl"),
+    ("bad control word before an unknown space", b"unmap,3,80,c0", "BadControl"),
+    ("fault of the first word before that of the second", b"unmap,0,1,a7,10d7", "BadSize"),
+    ("fault of the second word before an unknown space", b"unmap,3,1,c0,10d7", "Misaligned"),
+    ("fault of the last of 64 words before an unknown space", b"unmap,3,3f" + b",c0" * 63 + b",400c7", "OutOfSpace"),
 ]
 
 # Name and input: the header lacks its form.

@@ -2,7 +2,10 @@ mod Counted
 mod Fields
 mod Digits
 mod Words
-mod Mappings
+mod Hex
+mod Unmaps
+mod Pages
+mod Audits
 mod Sends
 mod Streams
 mod Traces

@@ -2,18 +2,17 @@
 use Rattle.std.specs.Prelude.{◌≡◌, ℕ, List, [], ◌∷◌, map, length, ◌<◌, drop, Result, Ok, Err}
 use Rattle.csv.specs.Records.{fields_of}
 use Rattle.fpage.specs.Fpage.{IsSpaceBits}
-use Rattle.model.specs.Records.{Fields, Trace, HeaderFault, bad_header, bad_limits, read_header}
+use Rattle.model.specs.Records.{Fields, Trace, HeaderFault, bad_header, bad_limits, read_header, request, trace_of}
 use Rattle.model.specs.Calls.{Limits}
-use Rattle.l4map.specs.declared.limits.Limits.{Limits as TheLimits}
-use Rattle.model.specs.FirstPath.{first_request, first_trace_of}
-use Rattle.l4map.specs.Meaning.{limits_of}
+use Rattle.mapdb.specs.declared.limits.Limits.{Limits as TheLimits}
+use Rattle.mapdb.specs.Meaning.{limits_of}
 use Rattle.l4map.specs.declared.trace.Trace.{Trace as TheTrace}
 use Rattle.l4map.specs.declared.trace.TraceError.{TraceError}
 use Rattle.l4map.specs.declared.trace.TraceError.TheVariants.{BadHeader, BadLimits, NoMemory}
 
 -- the requests of the records after the header
 abbrev pub trace_from : TheTrace → Trace
-trace_from t = record { limits = limits_of t.limits; requests = map (first_request (limits_of t.limits)) (map fields_of (drop 1 t.rows.items)) }
+trace_from t = record { limits = limits_of t.limits; requests = map (request (limits_of t.limits)) (map fields_of (drop 1 t.rows.items)) }
 
 -- the limits that the header names
 abbrev pub limits_from : List Fields → Result Limits HeaderFault
@@ -31,12 +30,12 @@ IsLimitsFaultOf rows NoMemory = Unit {0}
 
 -- the trace that the bytes are, within limits that are served
 pub record IsTraceOf (bytes : List ℕ) (t : TheTrace) : Type 0 where
-  pub trace : first_trace_of bytes ≡ Ok (trace_from t)
+  pub trace : trace_of bytes ≡ Ok (trace_from t)
   pub bits : IsSpaceBits t.limits.bits
   pub header : 0 < length t.rows.items
 
 -- why the bytes are no trace, unless memory was wanting
 abbrev pub IsFaultOf : List ℕ → TraceError → Type 0
-IsFaultOf bytes BadHeader = first_trace_of bytes ≡ Err bad_header
-IsFaultOf bytes BadLimits = first_trace_of bytes ≡ Err bad_limits
+IsFaultOf bytes BadHeader = trace_of bytes ≡ Err bad_header
+IsFaultOf bytes BadLimits = trace_of bytes ≡ Err bad_limits
 IsFaultOf bytes NoMemory = Unit {0}

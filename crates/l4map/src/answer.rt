@@ -1,34 +1,37 @@
 //! One request, answered.
 
-ghost use Rattle.std.specs.Prelude.{◌≡◌, Ok, IfOk, OnErr};
-ghost use Rattle.model.specs.Calls.{send};
-ghost use Rattle.model.specs.FirstPath.{first_answer};
-ghost use Rattle.l4map.specs.Meaning.{limits_of, request_of};
+ghost use Rattle.std.specs.Prelude.{◌≡◌, Ok, map, length, IfOk, OnOk};
+ghost use Rattle.std.specs.List.{All, zip};
+ghost use Rattle.fpage.specs.Fpage.{IsFpageOf};
+ghost use Rattle.fpage.specs.Control.{with_status};
+ghost use Rattle.model.specs.Calls.{send, access, unmap};
+ghost use Rattle.model.specs.FirstPath.{first_answer, is_decided};
+ghost use Rattle.mapdb.specs.Held.{IsWithin};
+ghost use Rattle.mapdb.specs.State.{left_with};
+ghost use Rattle.l4map.specs.Meaning.{request_of, IsWithinLimits};
 ghost use Rattle.l4map.specs.Counts.{reply_of};
 
 use crate::call::{Call, Refusal};
-use crate::limits::Limits;
-use crate::mapping::Mappings;
 use crate::reply::Reply;
-use fpage::{Fpage, Item, ItemKind, pair};
+use fpage::{Access, Control, Fpage, Item, ItemKind, Rights, pair, with_status};
+use mapdb::{Database, DbError};
 use space::Place;
-use std::alloc::AllocError;
+use std::alloc::{AllocError, Global};
 
-/// Answers a request, and leaves what it changed. Only want of memory is an error, and it changes nothing.
+/// Answers a request, and leaves what it changed. Only want of memory is an error.
 pub fn answer(
-    mappings: &mut Mappings,
-    limits: &Limits,
+    alloc: Global,
+    database: &mut Database,
     request: &Result<Call, Refusal>,
 ) -> Result<Reply, AllocError>
-    ensures ok { IfOk result (λ reply. first_answer (limits_of limits.now) mappings.old (request_of request.now)
-        ≡ record { reply = reply_of reply; left = mappings.new }) }
-    ensures err { OnErr result (mappings.new ≡ mappings.old) }
+    requires { IfOk request.now (IsWithinLimits database.old.limits) }
+    ensures ok { IfOk result (λ reply. first_answer database.old.limits database.old.holdings (request_of request.now)
+        ≡ record { reply = reply_of reply; left = database.new.holdings }) }
+    ensures keeps { OnOk result (database.new ≡ left_with database.old database.new.holdings) }
 {
     match request {
         Err(refusal) => Ok(Reply::Refused(*refusal)),
-        Ok(Call::Access { place, access }) => {
-            Ok(Reply::Accessed(mappings.touch(*place, *access)))
-        }
+        Ok(Call::Access { place, access }) => access_page(alloc, database, *place, *access),
         Ok(
             Call::Send {
                 from,
@@ -36,52 +39,125 @@ pub fn answer(
                 window,
                 items,
             },
-        ) => send_items(mappings, limits, *from, *to, window, items),
+        ) => send_items(database, *from, *to, window, items),
+        Ok(
+            Call::Unmap {
+                space,
+                control,
+                words,
+                fpages,
+            },
+        ) => unmap_pages(alloc, database, *space, *control, words, fpages),
     }
+}
+
+/// An access of a page.
+fn access_page(
+    alloc: Global,
+    database: &mut Database,
+    place: Place,
+    kind: Access,
+) -> Result<Reply, AllocError>
+    requires { IsWithin database.old.limits place }
+    ensures ok { IfOk result (λ reply. first_answer database.old.limits database.old.holdings (Ok (access place kind))
+        ≡ record { reply = reply_of reply; left = database.new.holdings }) }
+    ensures keeps { OnOk result (database.new ≡ left_with database.old database.new.holdings) }
+{
+    let Ok(answers) = database.access_all(alloc, &[(place, kind)]) else {
+        return Err(AllocError);
+    };
+    Ok(Reply::Accessed(answers[0]))
 }
 
 /// A send. Until whole fpages and grants come, it is `BadRecord` unless it is of one MapItem of one page to a page that
 /// is not held.
 fn send_items(
-    mappings: &mut Mappings,
-    limits: &Limits,
+    database: &mut Database,
     from: u16,
     to: u16,
     window: &Fpage,
     items: &[Item],
 ) -> Result<Reply, AllocError>
-    ensures ok { IfOk result (λ reply. first_answer (limits_of limits.now) mappings.old (Ok (send from to window.now items.now))
-        ≡ record { reply = reply_of reply; left = mappings.new }) }
-    ensures err { OnErr result (mappings.new ≡ mappings.old) }
+    requires window { IsFpageOf database.old.limits.bits window.now }
+    requires items { All (λ item. IsFpageOf database.old.limits.bits item.sent) items.now }
+    ensures ok { IfOk result (λ reply. first_answer database.old.limits database.old.holdings (Ok (send from to window.now items.now))
+        ≡ record { reply = reply_of reply; left = database.new.holdings }) }
+    ensures keeps { OnOk result (database.new ≡ left_with database.old database.new.holdings) }
 {
-    if u32::from(from) >= limits.spaces || u32::from(to) >= limits.spaces {
-        return Ok(Reply::Refused(Refusal::NoSuchSpace));
+    if !is_decided(database, from, to, window, items)? {
+        return Ok(Reply::Refused(Refusal::BadRecord));
     }
-    if from == to {
-        return Ok(Reply::Refused(Refusal::SameSpace));
+    match database.send(from, to, window, items) {
+        Ok(reply) => Ok(Reply::Sent(reply)),
+        Err(DbError::NoSuchSpace) => Ok(Reply::Refused(Refusal::NoSuchSpace)),
+        Err(DbError::SameSpace) => Ok(Reply::Refused(Refusal::SameSpace)),
+        Err(DbError::NoWindow) => Ok(Reply::Refused(Refusal::NoWindow)),
+        Err(DbError::BadLimits | DbError::NoMemory | DbError::Halted) => Err(AllocError),
     }
-    if window.is_nil() {
-        return Ok(Reply::Refused(Refusal::NoWindow));
+}
+
+/// Whether a send is refused for another cause than its items, or is of one MapItem of one page to a page that is not
+/// held.
+fn is_decided(
+    database: &Database,
+    from: u16,
+    to: u16,
+    window: &Fpage,
+    items: &[Item],
+) -> Result<bool, AllocError>
+    requires window { IsFpageOf database.now.limits.bits window.now }
+    ensures { IfOk result (λ is. is ≡ is_decided database.now.limits database.now.holdings (send from to window.now items.now)) }
+{
+    let spaces = database.limits().spaces;
+    if u32::from(from) >= spaces || u32::from(to) >= spaces || from == to || window.is_nil() {
+        return Ok(true);
     }
     let [item] = items else {
-        return Ok(Reply::Refused(Refusal::BadRecord));
+        return Ok(false);
     };
     let sent = item.sent.pages();
     if item.kind != ItemKind::Map || sent.end - sent.start != 1 {
-        return Ok(Reply::Refused(Refusal::BadRecord));
+        return Ok(false);
     }
-    let pages = pair(item, window);
     let target = Place {
         space: to,
-        page: pages.target,
+        page: pair(item, window).target,
     };
-    if mappings.is_held(target) {
-        return Ok(Reply::Refused(Refusal::BadRecord));
+    match database.entry(target) {
+        Ok(entry) => Ok(entry.is_none()),
+        Err(_) => Err(AllocError),
     }
-    let source = Place {
-        space: from,
-        page: pages.source,
-    };
-    let reply = mappings.map_page(source, target, item.sent.rights())?;
-    Ok(Reply::Sent(reply))
+}
+
+/// An unmap, whose words come with the fpage of each.
+fn unmap_pages(
+    alloc: Global,
+    database: &mut Database,
+    space: u16,
+    control: Control,
+    words: &[u32],
+    fpages: &[Fpage],
+) -> Result<Reply, AllocError>
+    requires within { All (IsFpageOf database.old.limits.bits) fpages.now }
+    requires count { length fpages.now ≡ length words.now }
+    ensures ok { IfOk result (λ reply. first_answer database.old.limits database.old.holdings (Ok (unmap space control.flush (zip words.now fpages.now)))
+        ≡ record { reply = reply_of reply; left = database.new.holdings }) }
+    ensures keeps { OnOk result (database.new ≡ left_with database.old database.new.holdings) }
+{
+    match database.unmap(alloc, space, control, fpages) {
+        Ok(status) => Ok(Reply::Unmapped(reply_words(alloc, words, &status)?)),
+        Err(DbError::NoSuchSpace) => Ok(Reply::Refused(Refusal::NoSuchSpace)),
+        Err(_) => Err(AllocError),
+    }
+}
+
+/// Each word with its status in place of its rights.
+fn reply_words(alloc: Global, words: &[u32], status: &[Rights]) -> Result<Vec<u32>, AllocError>
+    ensures { IfOk result (λ reply. reply.items ≡ map (λ e. with_status e.0 e.1) (zip words.now status.now)) }
+{
+    let mut reply = Vec::with_capacity(alloc, words.len())?;
+    for (word, status) in words.iter().zip(status) {
+        reply.push(with_status(*word, *status))?;
+    }
+    Ok(reply)
 }

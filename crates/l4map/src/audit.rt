@@ -1,8 +1,8 @@
 //! The audit: a line for each mapping.
 
-use crate::mapping::{Mapping, Mappings};
 use fpage::Rights;
-use space::Place;
+use mapdb::Database;
+use space::{Entry, Place};
 use std::alloc::{AllocError, Global};
 use std::fmt;
 use std::fmt::Write;
@@ -77,7 +77,8 @@ impl fmt::Display for OriginText {
 #[derive(Clone, Copy)]
 struct Line {
     place: Place,
-    mapping: Mapping,
+    entry: Entry,
+    origin: Option<Place>,
 }
 
 impl fmt::Display for Line {
@@ -85,32 +86,76 @@ impl fmt::Display for Line {
     ghost use Rattle.model.specs.Text.{audit_line};
     ghost use Rattle.l4map.specs.Held.{held_of};
 
-    ghost output = { λ line. Some (audit_line (line.place, held_of line.mapping)) };
+    ghost output = { λ line. Some (audit_line (line.place, held_of line.entry line.origin)) };
 
     fn fmt<W: fmt::Write>(&self, f: &mut fmt::Formatter<W>) -> fmt::Result {
         let Place { space, page } = self.place;
-        let frame = self.mapping.entry.frame;
-        let rights = RightsText(self.mapping.entry.rights);
-        let status = StatusText(self.mapping.entry.status);
-        let origin = OriginText(self.mapping.origin);
+        let frame = self.entry.frame;
+        let rights = RightsText(self.entry.rights);
+        let status = StatusText(self.entry.status);
+        let origin = OriginText(self.origin);
         write!(f, "{space},{page},{frame},{rights},{status},{origin}\n")
     }
 }
 
-ghost use Rattle.std.specs.Prelude.{◌≡◌, IfOk, string_bytes};
+ghost use Rattle.std.specs.Prelude.{◌≡◌, ◌<◌, ◌++◌, [], false, IfOk, OnOk, string_bytes};
+ghost use Rattle.space.specs.Directory.{pages_of};
+ghost use Rattle.model.specs.Holdings.{at, keep};
 ghost use Rattle.model.specs.Text.{audit_lines};
+ghost use Rattle.mapdb.specs.Held.{IsWithin, listed, pages_from};
 
 /// The lines of all mappings, by rising place.
-pub fn audit(alloc: Global, mappings: &Mappings) -> Result<String, AllocError>
-    ensures { IfOk result (λ text. string_bytes text ≡ audit_lines mappings.now) }
+pub fn audit(alloc: Global, database: &Database) -> Result<String, AllocError>
+    requires { database.now.is_halted ≡ false }
+    ensures { IfOk result (λ text. string_bytes text ≡ audit_lines database.now.holdings) }
 {
+    let limits = database.limits();
+    let pages = 1 << (limits.bits - 12);
     let mut text = String::new(alloc);
-    for (place, mapping) in mappings.entries() {
-        let line = Line {
-            place: *place,
-            mapping: *mapping,
-        };
-        write!(text, "{line}")?;
+    for space in 0..limits.spaces {
+        push_space(&mut text, database, space as u16, pages)?;
     }
     Ok(text)
+}
+
+/// Adds the lines of the mappings of a space.
+fn push_space(
+    text: &mut String,
+    database: &Database,
+    space: u16,
+    pages: u32,
+) -> Result<(), AllocError>
+    requires space { space < database.now.limits.spaces }
+    requires pages { pages ≡ pages_of database.now.limits.bits }
+    ensures { OnOk result (string_bytes text.new
+        ≡ string_bytes text.old ++ audit_lines (listed (at database.now.holdings) (pages_from space 0 pages))) }
+{
+    for page in 0..pages {
+        push_page(text, database, Place { space, page })?;
+    }
+    Ok(())
+}
+
+/// Adds the line of a page, if it holds something.
+fn push_page(text: &mut String, database: &Database, place: Place) -> Result<(), AllocError>
+    requires { IsWithin database.now.limits place }
+    ensures { OnOk result (string_bytes text.new
+        ≡ string_bytes text.old ++ audit_lines (keep place (at database.now.holdings place) [])) }
+{
+    let Ok(entry) = database.entry(place) else {
+        return Err(AllocError);
+    };
+    let Ok(origin) = database.origin(place) else {
+        return Err(AllocError);
+    };
+    let Some(entry) = entry else {
+        return Ok(());
+    };
+    let line = Line {
+        place,
+        entry,
+        origin,
+    };
+    write!(text, "{line}")?;
+    Ok(())
 }

@@ -1,4 +1,4 @@
-use fpage::{Access, Fpage, Item};
+use fpage::{Access, Control, Fpage, Item};
 use space::Place;
 
 /// A call on the mapping database.
@@ -15,6 +15,15 @@ pub enum Call {
     Access {
         place: Place,
         access: Access,
+    },
+    /// Takes rights from pages of a space, and from all that derives from them.
+    Unmap {
+        space: u16,
+        control: Control,
+        /// The fpage words as given.
+        words: Vec<u32>,
+        /// The fpage of each word.
+        fpages: Vec<Fpage>,
     },
 }
 

@@ -6,8 +6,6 @@ mod audit;
 mod call;
 mod error;
 mod field;
-mod limits;
-mod mapping;
 mod records;
 mod reply;
 mod request;

@@ -1,65 +1,17 @@
 //! Replies to records.
 
-ghost use Rattle.std.specs.Prelude.{◌≡◌};
-ghost use Rattle.model.specs.Items.{no_counts};
-ghost use Rattle.l4map.specs.Counts.{counts_of};
-
 use crate::call::Refusal;
+use mapdb::SendReply;
 use std::fmt;
 
-/// How many pairs of a send had which outcome.
-#[derive(Clone, Copy, Debug, PartialEq, Eq)]
-pub struct SendReply {
-    pub absent: u64,
-    pub norights: u64,
-    pub origin: u64,
-    pub lost: u64,
-    pub extended: u64,
-    pub linked: u64,
-}
-
-/// No pairs.
-const NONE: SendReply = SendReply {
-    absent: 0,
-    norights: 0,
-    origin: 0,
-    lost: 0,
-    extended: 0,
-    linked: 0,
-};
-
-impl SendReply {
-    /// One pair, whose source is not held.
-    pub fn absent() -> Self
-        ensures { counts_of result ≡ record no_counts { absent = 1 } }
-    {
-        SendReply { absent: 1, ..NONE }
-    }
-
-    /// One pair, for which no right is left.
-    pub fn norights() -> Self
-        ensures { counts_of result ≡ record no_counts { norights = 1 } }
-    {
-        SendReply {
-            norights: 1,
-            ..NONE
-        }
-    }
-
-    /// One pair, which made a new mapping.
-    pub fn linked() -> Self
-        ensures { counts_of result ≡ record no_counts { linked = 1 } }
-    {
-        SendReply { linked: 1, ..NONE }
-    }
-}
-
 /// The answer to a record.
-#[derive(Clone, Copy, Debug, PartialEq, Eq)]
+#[derive(Debug, Drop)]
 pub enum Reply {
     Sent(SendReply),
     /// Whether the access was made; otherwise it was a fault.
     Accessed(bool),
+    /// The words of an unmap, each with the status of its pages in place of its rights.
+    Unmapped(Vec<u32>),
     Refused(Refusal),
 }
 
@@ -85,12 +37,16 @@ impl fmt::Display for Refusal {
     }
 }
 
-impl fmt::Display for SendReply {
+/// The six counts of a send, each with its name.
+#[derive(Clone, Copy)]
+struct CountsText(SendReply);
+
+impl fmt::Display for CountsText {
     ghost use Rattle.std.specs.Prelude.{Some};
     ghost use Rattle.model.specs.Text.{counts_text};
-    ghost use Rattle.l4map.specs.Counts.{counts_of};
+    ghost use Rattle.mapdb.specs.Meaning.{counts_of};
 
-    ghost output = { λ reply. Some (counts_text (counts_of reply)) };
+    ghost output = { λ counts. Some (counts_text (counts_of counts.0)) };
 
     fn fmt<W: fmt::Write>(&self, f: &mut fmt::Formatter<W>) -> fmt::Result {
         let SendReply {
@@ -100,11 +56,46 @@ impl fmt::Display for SendReply {
             lost,
             extended,
             linked,
-        } = *self;
+        } = self.0;
         write!(
             f,
             "absent={absent} norights={norights} origin={origin} lost={lost} extended={extended} linked={linked}"
         )
+    }
+}
+
+/// A word as 8 hexadecimal digits.
+#[derive(Clone, Copy)]
+struct WordText(u32);
+
+impl fmt::Display for WordText {
+    ghost use Rattle.std.specs.Prelude.{Some};
+    ghost use Rattle.model.specs.Text.{hex_digits};
+
+    ghost output = { λ word. Some (hex_digits 8 word.0) };
+
+    fn fmt<W: fmt::Write>(&self, f: &mut fmt::Formatter<W>) -> fmt::Result {
+        let [a, b, c, d] = self.0.to_be_bytes();
+        write!(f, "{a:02x}{b:02x}{c:02x}{d:02x}")
+    }
+}
+
+/// Words, each behind a space.
+#[derive(Clone, Copy)]
+struct WordsText<'a>(&'a [u32]);
+
+impl fmt::Display for WordsText<'_> {
+    ghost use Rattle.std.specs.Prelude.{Some};
+    ghost use Rattle.model.specs.Text.{words_text};
+
+    ghost output = { λ words. Some (words_text words.0.now) };
+
+    fn fmt<W: fmt::Write>(&self, f: &mut fmt::Formatter<W>) -> fmt::Result {
+        for word in self.0 {
+            let word = WordText(*word);
+            write!(f, " {word}")?;
+        }
+        Ok(())
     }
 }
 
@@ -117,9 +108,16 @@ impl fmt::Display for Reply {
 
     fn fmt<W: fmt::Write>(&self, f: &mut fmt::Formatter<W>) -> fmt::Result {
         match self {
-            Reply::Sent(counts) => write!(f, "send {counts}"),
+            Reply::Sent(counts) => {
+                let counts = CountsText(*counts);
+                write!(f, "send {counts}")
+            }
             Reply::Accessed(true) => f.write_str("access ok"),
             Reply::Accessed(false) => f.write_str("access fault"),
+            Reply::Unmapped(words) => {
+                let words = WordsText(words);
+                write!(f, "unmap{words}")
+            }
             Reply::Refused(refusal) => write!(f, "refused {refusal}"),
         }
     }

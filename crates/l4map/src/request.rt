@@ -2,15 +2,17 @@
 
 ghost use Rattle.std.specs.Prelude.{◌≡◌, ◌%◌, length, IfOk, IfSome};
 ghost use Rattle.std.specs.Option.{option_map};
-ghost use Rattle.fpage.specs.Fpage.{IsSpaceBits};
+ghost use Rattle.std.specs.List.{All};
+ghost use Rattle.fpage.specs.Fpage.{IsSpaceBits, IsFpageOf};
 ghost use Rattle.model.specs.Records.{header_limits, access_fields, access_request, word_fields, send_fields, read_items, send_request};
-ghost use Rattle.model.specs.FirstPath.{first_request};
-ghost use Rattle.l4map.specs.Meaning.{shown, limits_of, access_of, send_of, items_of, request_of};
+ghost use Rattle.model.specs.Records.{unmap_fields, read_words, unmap_request, request};
+ghost use Rattle.mapdb.specs.Meaning.{limits_of};
+ghost use Rattle.l4map.specs.Meaning.{shown, access_of, send_of, items_of, unmap_of, named_of, request_of, IsWithinLimits};
 
 use crate::call::{Call, Refusal};
 use crate::field;
-use crate::limits::Limits;
-use fpage::{Access, Fpage, FpageError, Item};
+use fpage::{Access, Control, Fpage, FpageError, Item};
+use mapdb::Limits;
 use space::Place;
 use std::alloc::{AllocError, Global};
 
@@ -59,7 +61,8 @@ fn access_words(fields: &[&[u8]]) -> Option<AccessFields>
 /// An access of a page, or the first refusal that fits: `BadRecord`, `NoSuchSpace`, `OutOfSpace`.
 fn access(limits: &Limits, fields: &[&[u8]]) -> Result<Call, Refusal>
     requires { IsSpaceBits limits.now.bits }
-    ensures { request_of result ≡ access_request (limits_of limits.now) (access_fields (shown fields.now)) }
+    ensures request { request_of result ≡ access_request (limits_of limits.now) (access_fields (shown fields.now)) }
+    ensures within { IfOk result (IsWithinLimits (limits_of limits.now)) }
 {
     let AccessFields {
         space,
@@ -143,7 +146,8 @@ fn items(
 ) -> Result<Result<Vec<Item>, FpageError>, AllocError>
     requires bits { IsSpaceBits bits }
     requires pairs { length words.now % 2 ≡ 0 }
-    ensures { IfOk result (λ items. items_of items ≡ read_items bits words.now) }
+    ensures items { IfOk result (λ items. items_of items ≡ read_items bits words.now) }
+    ensures within { IfOk result (λ items. IfOk items (λ is. All (λ item. IsFpageOf bits item.sent) is.items)) }
 {
     let count = words.len() / 2;
     let mut items = Vec::with_capacity(alloc, count)?;
@@ -179,7 +183,8 @@ fn send(
     fields: &[&[u8]],
 ) -> Result<Result<Call, Refusal>, AllocError>
     requires { IsSpaceBits limits.now.bits }
-    ensures { IfOk result (λ request. request_of request ≡ send_request (limits_of limits.now) (send_fields (shown fields.now))) }
+    ensures request { IfOk result (λ request. request_of request ≡ send_request (limits_of limits.now) (send_fields (shown fields.now))) }
+    ensures within { IfOk result (λ request. IfOk request (IsWithinLimits (limits_of limits.now))) }
 {
     let Some(
         SendFields {
@@ -207,16 +212,101 @@ fn send(
     }
 }
 
+/// The fields of an unmap record after its name.
+#[derive(Drop)]
+struct UnmapFields {
+    space: u16,
+    control: u32,
+    words: Vec<u32>,
+}
+
+fn unmap_words(alloc: Global, fields: &[&[u8]]) -> Result<Option<UnmapFields>, AllocError>
+    ensures { IfOk result (λ unmap. option_map unmap_of unmap ≡ unmap_fields (shown fields.now)) }
+{
+    let [space, control, rest @ ..] = fields else {
+        return Ok(None);
+    };
+    let Some(space) = field::space(space) else {
+        return Ok(None);
+    };
+    let Some(control) = field::word(control) else {
+        return Ok(None);
+    };
+    let Some(words) = words(alloc, rest)? else {
+        return Ok(None);
+    };
+    Ok(Some(UnmapFields {
+        space,
+        control,
+        words,
+    }))
+}
+
+/// The fpage of each word, or the first refusal.
+fn fpages(
+    alloc: Global,
+    words: &[u32],
+    bits: u32,
+) -> Result<Result<Vec<Fpage>, FpageError>, AllocError>
+    requires { IsSpaceBits bits }
+    ensures fpages { IfOk result (λ fpages. named_of words.now fpages ≡ read_words bits words.now) }
+    ensures count { IfOk result (λ fpages. IfOk fpages (λ fs. length fs.items ≡ length words.now)) }
+    ensures within { IfOk result (λ fpages. IfOk fpages (λ fs. All (IsFpageOf bits) fs.items)) }
+{
+    let mut fpages = Vec::with_capacity(alloc, words.len())?;
+    for word in words {
+        match Fpage::read(*word, bits) {
+            Ok(fpage) => fpages.push(fpage)?,
+            Err(error) => return Ok(Err(error)),
+        }
+    }
+    Ok(Ok(fpages))
+}
+
+/// An unmap, or the first refusal that fits: `BadRecord`, then `BadControl`, then those of the words in order.
+fn unmap(
+    alloc: Global,
+    limits: &Limits,
+    fields: &[&[u8]],
+) -> Result<Result<Call, Refusal>, AllocError>
+    requires { IsSpaceBits limits.now.bits }
+    ensures request { IfOk result (λ request. request_of request ≡ unmap_request (limits_of limits.now) (unmap_fields (shown fields.now))) }
+    ensures within { IfOk result (λ request. IfOk request (IsWithinLimits (limits_of limits.now))) }
+{
+    let Some(
+        UnmapFields {
+            space,
+            control,
+            words,
+        },
+    ) = unmap_words(alloc, fields)?
+    else {
+        return Ok(Err(Refusal::BadRecord));
+    };
+    let control = match Control::read(control, words.len()) {
+        Ok(control) => control,
+        Err(error) => return Ok(Err(error.into())),
+    };
+    match fpages(alloc, &words, limits.bits)? {
+        Ok(fpages) => Ok(Ok(Call::Unmap {
+            space,
+            control,
+            words,
+            fpages,
+        })),
+        Err(error) => Ok(Err(error.into())),
+    }
+}
+
 /// The call that a record means, or the refusal that its words alone decide.
-///
-/// Until Unmap comes, an unmap record is `BadRecord`.
 pub fn request(
     alloc: Global,
     limits: &Limits,
     fields: &[&[u8]],
 ) -> Result<Result<Call, Refusal>, AllocError>
     requires { IsSpaceBits limits.now.bits }
-    ensures { IfOk result (λ request. request_of request ≡ first_request (limits_of limits.now) (shown fields.now)) }
+    ensures request { IfOk result (λ asked. request_of asked ≡ request (limits_of limits.now) (shown fields.now)) }
+    ensures within { IfOk result (λ asked. IfOk asked (IsWithinLimits (limits_of limits.now))) }
 {
     let [name, rest @ ..] = fields else {
         return Ok(Err(Refusal::BadRecord));
@@ -225,6 +315,8 @@ pub fn request(
         send(alloc, limits, rest)
     } else if *name == b"access".as_slice() {
         Ok(access(limits, rest))
+    } else if *name == b"unmap".as_slice() {
+        unmap(alloc, limits, rest)
     } else {
         Ok(Err(Refusal::BadRecord))
     }

@@ -4,7 +4,7 @@ ghost use Rattle.std.specs.Prelude.{◌≡◌, ◌<◌, ◌++◌, length, false,
 ghost use Rattle.model.specs.Text.{text, audit_lines, end_line};
 ghost use Rattle.csv.specs.Records.{fields_of};
 ghost use Rattle.fpage.specs.Fpage.{IsSpaceBits};
-ghost use Rattle.l4map.specs.Meaning.{limits_of};
+ghost use Rattle.mapdb.specs.State.{left_with};
 ghost use Rattle.l4map.specs.Run.{Answers, told_of, WritesReplies, WritesText, StopsEarly, EndsReplay, WritesReplay, EndsEarly, WritesNothing, TellsStreams};
 ghost use Rattle.l4map.specs.Trace.{trace_from};
 ghost use Rattle.model.specs.FirstPath.{first_told};
@@ -13,13 +13,12 @@ use crate::answer::answer;
 use crate::audit::audit;
 use crate::error::RunError;
 use crate::field::fields;
-use crate::limits::Limits;
-use crate::mapping::Mappings;
 use crate::reply::Reply;
 use crate::request::request;
 use crate::stream::{Sink, Source, read_to_end};
 use crate::trace::{Trace, read_trace};
 use csv::ByteRecord;
+use mapdb::Database;
 use std::alloc::{AllocError, Global};
 use std::fmt::Write;
 
@@ -35,19 +34,20 @@ pub struct Summary {
 /// Answers one record, and writes its reply line over `line`.
 fn reply_line(
     alloc: Global,
-    mappings: &mut Mappings,
-    limits: &Limits,
+    database: &mut Database,
     row: &ByteRecord,
     number: u64,
     line: &mut String,
 ) -> Result<bool, AllocError>
-    requires { IsSpaceBits limits.now.bits }
-    ensures { IfOk result (λ refused. Answers (limits_of limits.now) mappings.old (fields_of row.now) number
-        mappings.new (string_bytes line.new) refused) }
+    requires { database.old.is_halted ≡ false }
+    ensures answers { IfOk result (λ refused. Answers database.old.limits database.old.holdings (fields_of row.now) number
+        database.new.holdings (string_bytes line.new) refused) }
+    ensures keeps { OnOk result (database.new ≡ left_with database.old database.new.holdings) }
 {
+    let limits = database.limits();
     let fields = fields(alloc, row)?;
-    let request = request(alloc, limits, &fields)?;
-    let reply = answer(mappings, limits, &request)?;
+    let request = request(alloc, &limits, &fields)?;
+    let reply = answer(alloc, database, &request)?;
     line.clear();
     write!(line, "{number} {reply}\n")?;
     Ok(matches!(reply, Reply::Refused(_)))
@@ -56,23 +56,23 @@ fn reply_line(
 /// Answers the records in order, writes their reply lines, and counts those that were refused.
 fn write_replies<W: Sink>(
     alloc: Global,
-    mappings: &mut Mappings,
-    limits: &Limits,
+    database: &mut Database,
     rows: &[ByteRecord],
     writer: &mut W,
 ) -> Result<u64, RunError>
-    requires { IsSpaceBits limits.now.bits }
-    ensures ok { IfOk result (λ refused. WritesReplies (told_of (limits_of limits.now) (map fields_of rows.now) mappings.old)
-        (W.contents writer.old) (W.contents writer.new) mappings.new refused) }
+    requires { database.old.is_halted ≡ false }
+    ensures ok { IfOk result (λ refused. WritesReplies (told_of database.old.limits (map fields_of rows.now) database.old.holdings)
+        (W.contents writer.old) (W.contents writer.new) database.new.holdings refused) }
+    ensures keeps { OnOk result (database.new ≡ left_with database.old database.new.holdings) }
     ensures works { OnOk result (W.failed writer.new ≡ W.failed writer.old) }
-    ensures err { IfErr result (StopsEarly (told_of (limits_of limits.now) (map fields_of rows.now) mappings.old)
+    ensures err { IfErr result (StopsEarly (told_of database.old.limits (map fields_of rows.now) database.old.holdings)
         (W.contents writer.old) (W.contents writer.new) (W.failed writer.old) (W.failed writer.new)) }
 {
     let mut line = String::new(alloc);
     let mut refused = 0;
     for (i, row) in rows.iter().enumerate() {
         let number = i as u64 + 1;
-        let Ok(is_refused) = reply_line(alloc, mappings, limits, row, number, &mut line) else {
+        let Ok(is_refused) = reply_line(alloc, database, row, number, &mut line) else {
             return Err(RunError::NoMemory(number));
         };
         if writer.write_all(line.as_bytes()).is_err() {
@@ -86,21 +86,20 @@ fn write_replies<W: Sink>(
 /// Writes the text of the replay of these records: the reply lines, the audit lines and the end line.
 fn write_replay<W: Sink>(
     alloc: Global,
-    mappings: &mut Mappings,
-    limits: &Limits,
+    database: &mut Database,
     rows: &[ByteRecord],
     writer: &mut W,
 ) -> Result<Summary, RunError>
-    requires { IsSpaceBits limits.now.bits }
-    ensures ok { IfOk result (WritesText (told_of (limits_of limits.now) (map fields_of rows.now) mappings.old)
+    requires { database.old.is_halted ≡ false }
+    ensures ok { IfOk result (WritesText (told_of database.old.limits (map fields_of rows.now) database.old.holdings)
         (W.contents writer.old) (W.contents writer.new)) }
     ensures works { OnOk result (W.failed writer.new ≡ W.failed writer.old) }
-    ensures err { IfErr result (StopsEarly (told_of (limits_of limits.now) (map fields_of rows.now) mappings.old)
+    ensures err { IfErr result (StopsEarly (told_of database.old.limits (map fields_of rows.now) database.old.holdings)
         (W.contents writer.old) (W.contents writer.new) (W.failed writer.old) (W.failed writer.new)) }
 {
-    let refused = write_replies(alloc, mappings, limits, rows, writer)?;
+    let refused = write_replies(alloc, database, rows, writer)?;
     let records = rows.len() as u64;
-    let Ok(text) = closing_text(alloc, mappings, records, refused) else {
+    let Ok(text) = closing_text(alloc, database, records, refused) else {
         return Err(RunError::NoMemory(records + 1));
     };
     if writer.write_all(text.as_bytes()).is_err() {
@@ -112,13 +111,14 @@ fn write_replay<W: Sink>(
 /// The audit lines and the end line.
 fn closing_text(
     alloc: Global,
-    mappings: &Mappings,
+    database: &Database,
     records: u64,
     refused: u64,
 ) -> Result<String, AllocError>
-    ensures { IfOk result (λ text. string_bytes text ≡ audit_lines mappings.now ++ end_line records refused) }
+    requires { database.now.is_halted ≡ false }
+    ensures { IfOk result (λ text. string_bytes text ≡ audit_lines database.now.holdings ++ end_line records refused) }
 {
-    let mut text = audit(alloc, mappings)?;
+    let mut text = audit(alloc, database)?;
     write!(text, "end {records} {refused}\n")?;
     Ok(text)
 }
@@ -160,16 +160,12 @@ fn replay<W: Sink>(alloc: Global, trace: &Trace, writer: &mut W) -> Result<Summa
     ensures err { IfErr result (EndsReplay (first_told (trace_from trace.now)) (W.contents writer.old) (W.contents writer.new)
         (W.failed writer.old) (W.failed writer.new)) }
 {
-    let Ok(mut mappings) = Mappings::start(alloc, trace.limits.frames) else {
+    let limits = trace.limits;
+    // The limits are served, so what is wanting is memory.
+    let Ok(mut database) = Database::new(alloc, limits.spaces, limits.bits, limits.frames) else {
         return Err(RunError::NoMemory(0));
     };
-    let outcome = write_replay(
-        alloc,
-        &mut mappings,
-        &trace.limits,
-        &trace.rows[1..],
-        writer,
-    );
+    let outcome = write_replay(alloc, &mut database, &trace.rows[1..], writer);
     match outcome {
         Ok(_) | Err(RunError::NoMemory(_)) => {
             if writer.flush().is_err() {

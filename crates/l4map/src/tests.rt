@@ -47,6 +47,30 @@ fn writes_the_replies_and_the_audit(rt: HostRuntime) -> Result<(), Fail> {
             "1,0,5,rw-,RW-,0:5\n",
             "end 6 2\n",
         ),
+        (
+            "send,0,1,c0,8,50c7\nsend,1,2,c0,8,c7\nunmap,0,0,50c2\n",
+            "1 send absent=0 norights=0 origin=0 lost=0 extended=0 linked=1\n2 send absent=0 norights=0 origin=0 lost=0 extended=0 linked=1\n3 unmap 000050c0\n",
+            "1,0,5,r-x,---,0:5\n2,0,5,r-x,---,1:0\n",
+            "end 3 0\n",
+        ),
+        (
+            "send,0,1,c0,8,50c7\nsend,1,2,c0,8,c7\naccess,2,0,w\nunmap,1,0,10\nunmap,1,0,10\nunmap,0,0,10\n",
+            "1 send absent=0 norights=0 origin=0 lost=0 extended=0 linked=1\n2 send absent=0 norights=0 origin=0 lost=0 extended=0 linked=1\n3 access ok\n4 unmap 00000016\n5 unmap 00000010\n6 unmap 00000016\n",
+            "1,0,5,rwx,---,0:5\n2,0,5,rwx,---,1:0\n",
+            "end 6 0\n",
+        ),
+        (
+            "send,0,1,c0,8,50c7\nsend,1,2,c0,8,c7\nunmap,0,1,50c2,50c4\n",
+            "1 send absent=0 norights=0 origin=0 lost=0 extended=0 linked=1\n2 send absent=0 norights=0 origin=0 lost=0 extended=0 linked=1\n3 unmap 000050c0 000050c0\n",
+            "1,0,5,--x,---,0:5\n2,0,5,--x,---,1:0\n",
+            "end 3 0\n",
+        ),
+        (
+            "unmap,1,1,10\nunmap,1,0,0\nunmap,1,0,f\nunmap,3,0,10\n",
+            "1 refused BadControl\n2 unmap 00000000\n3 unmap 00000008\n4 refused NoSuchSpace\n",
+            "",
+            "end 4 2\n",
+        ),
     ];
     for (records, replies, mappings, end) in cases {
         let input = format!(in rt.alloc(); "l4map,1,3,18,16\n{records}")?;
@@ -62,7 +86,7 @@ fn writes_the_replies_and_the_audit(rt: HostRuntime) -> Result<(), Fail> {
 fn counts_the_records_and_the_refused_ones(rt: HostRuntime) {
     let (outcome, _) = outcome_of(
         &rt,
-        "l4map,1,2,18,1\nsend,0,1,10,3008,c6\naccess,2,0,r\nunmap,0,0,10\n",
+        "l4map,1,2,18,1\nsend,0,1,10,3008,c6\naccess,2,0,r\nunmap,0,80,10\n",
     );
     let summary = Summary {
         records: 3,

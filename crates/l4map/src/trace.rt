@@ -4,10 +4,10 @@ ghost use Rattle.std.specs.Prelude.{MatchResult, map};
 ghost use Rattle.csv.specs.Records.{fields_of};
 ghost use Rattle.l4map.specs.Trace.{IsTraceOf, IsFaultOf, AreLimitsOf, IsLimitsFaultOf};
 
-use crate::limits::Limits;
 use crate::records::read_records;
 use crate::{field, request};
 use csv::ByteRecord;
+use mapdb::Limits;
 use std::alloc::{AllocError, AllocFailed, Global};
 use thiserror::Error;
 

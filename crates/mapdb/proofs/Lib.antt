@@ -5,6 +5,7 @@ pub mod WordChanges
 pub mod NewMappings
 pub mod Accesses
 pub mod Roots
+pub mod Sends
 pub mod Chains
 pub mod Walks
 pub mod Sequences

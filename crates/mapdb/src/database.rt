@@ -5,7 +5,7 @@ use crate::reply::SendReply;
 use crate::start::{root_trees, root_words};
 use crate::tree;
 use crate::words::marks;
-use fpage::{Access, Control, Fpage, Rights};
+use fpage::{Access, Control, Fpage, Item, Rights, pair};
 use maptree::Tree;
 use space::{Entry, Place, Shards};
 use std::alloc::Global;
@@ -38,23 +38,22 @@ impl Model for Database {
 }
 
 impl Database {
-    ghost use Rattle.std.specs.Prelude.{◌≡◌, ◌↔◌, ◌⊎◌, true, false, option_map};
+    ghost use Rattle.std.specs.Prelude.{◌≡◌, ◌≤◌, ◌↔◌, ◌⊎◌, true, false, Some, option_map};
     ghost use Rattle.std.specs.Prelude.{IfOk, OnOk, IfErr, OnErr, IsErrOf, IsOkUnless};
     ghost use Rattle.std.specs.List.{All};
     ghost use Rattle.model.specs.Holdings.{at, origin_at, is_held};
     ghost use Rattle.model.specs.Records.{are_limits};
     ghost use Rattle.model.specs.Touch.{can_touch, touch};
     ghost use Rattle.model.specs.Items.{one_page};
-    ghost use Rattle.model.specs.Answers.{item_answer};
-    ghost use Rattle.mapdb.specs.Meaning.{limits_of, counts_of};
-    ghost use Rattle.std.specs.Prelude.{◌≤◌};
+    ghost use Rattle.model.specs.Answers.{item_answer, call_refusal, send_answer};
+    ghost use Rattle.model.specs.Calls.{send, no_such_space, same_space, no_window};
+    ghost use Rattle.model.specs.FirstPath.{is_decided};
     ghost use Rattle.fpage.specs.Fpage.{IsFpageOf};
-    ghost use Rattle.mapdb.specs.State.{unmap_status, unmap_left};
-    ghost use Rattle.mapdb.specs.declared.error.DbError.TheVariants.{NoSuchSpace};
-    ghost use Rattle.mapdb.specs.Held.{IsWithin};
+    ghost use Rattle.mapdb.specs.Meaning.{limits_of, counts_of};
+    ghost use Rattle.mapdb.specs.Held.{IsWithin, listing};
     ghost use Rattle.mapdb.specs.State.{new_state, halted, left_with, entry_of, unless_halted};
-    ghost use Rattle.mapdb.specs.State.{touched_all, access_answers};
-    ghost use Rattle.mapdb.specs.declared.error.DbError.TheVariants.{BadLimits, NoMemory, Halted};
+    ghost use Rattle.mapdb.specs.State.{touched_all, access_answers, unmap_status, unmap_left};
+    ghost use Rattle.mapdb.specs.declared.error.DbError.TheVariants.{BadLimits, NoSuchSpace, SameSpace, NoWindow, NoMemory, Halted};
 
     /// The database at the start: page `i` of space 0 holds frame `i` with all rights, for each frame.
     ///
@@ -86,7 +85,9 @@ impl Database {
 
     /// The limits that the database was made with.
     pub fn limits(&self) -> Limits
-        ensures { limits_of result ≡ self.now.limits }
+        ensures limits { limits_of result ≡ self.now.limits }
+        ensures served { self.now.is_halted ≡ false → are_limits self.now.limits ≡ true }
+        ensures held { self.now.holdings ≡ listing self.now.limits (at self.now.holdings) }
     {
         self.limits
     }
@@ -156,22 +157,59 @@ impl Database {
         Ok(answers)
     }
 
-    /// Makes one access, if the page is held with the right for it, and says whether it was.
-    fn touch(&mut self, place: Place, access: Access) -> bool
-        requires running { self.old.is_halted ≡ false }
-        requires within { IsWithin self.old.limits place }
-        ensures answer { result ≡ can_touch self.old.holdings place access }
-        ensures left { self.new ≡ left_with self.old (touch self.old.holdings place access) }
+    /// Maps the pages of items to pages of the receiver's window: of a send of one page by one MapItem to a page that is
+    /// not held.
+    ///
+    /// Refused, the first that fits: `Halted`; `NoSuchSpace`; `SameSpace`; `NoWindow`, for a nil window; and where memory
+    /// is, `NoMemory`: then the database is halted.
+    pub fn send(
+        &mut self,
+        from: u16,
+        to: u16,
+        window: &Fpage,
+        items: &[Item],
+    ) -> Result<SendReply, DbError>
+        requires window { IsFpageOf self.old.limits.bits window.now }
+        requires items { All (λ item. IsFpageOf self.old.limits.bits item.sent) items.now }
+        requires served { is_decided self.old.limits self.old.holdings (send from to window.now items.now) ≡ true }
+        ensures halted { IsErrOf result Halted ↔ (self.old.is_halted ≡ true) }
+        ensures no_such_space { IsErrOf result NoSuchSpace ↔ ((self.old.is_halted ≡ false)
+            × (call_refusal self.old.limits (send from to window.now items.now) ≡ Some no_such_space)) }
+        ensures same_space { IsErrOf result SameSpace ↔ ((self.old.is_halted ≡ false)
+            × (call_refusal self.old.limits (send from to window.now items.now) ≡ Some same_space)) }
+        ensures no_window { IsErrOf result NoWindow ↔ ((self.old.is_halted ≡ false)
+            × (call_refusal self.old.limits (send from to window.now items.now) ≡ Some no_window)) }
+        ensures errors { IfErr result (λ e. (e ≡ Halted) ⊎ (e ≡ NoSuchSpace) ⊎ (e ≡ SameSpace) ⊎ (e ≡ NoWindow) ⊎ (e ≡ NoMemory)) }
+        ensures refused { IfErr result (λ e. (e ≡ NoMemory) ⊎ (self.new ≡ self.old)) }
+        ensures no_memory { IsErrOf result NoMemory → self.new ≡ halted self.old }
+        ensures counts { IfOk result (λ reply.
+            counts_of reply ≡ (send_answer from to window.now items.now self.old.holdings).counts) }
+        ensures left { OnOk result (
+            self.new ≡ left_with self.old (send_answer from to window.now items.now self.old.holdings).left) }
     {
-        let Some(entry) = self.shards.get(place) else {
-            return false;
-        };
-        if !entry.rights.holds(access) {
-            return false;
+        if self.halted {
+            return Err(DbError::Halted);
         }
-        let status = entry.status.join(marks(access));
-        self.shards.set(place, Some(Entry { status, ..entry }));
-        true
+        if u32::from(from) >= self.limits.spaces || u32::from(to) >= self.limits.spaces {
+            return Err(DbError::NoSuchSpace);
+        }
+        if from == to {
+            return Err(DbError::SameSpace);
+        }
+        if window.is_nil() {
+            return Err(DbError::NoWindow);
+        }
+        let item = &items[0];
+        let pages = pair(item, window);
+        let source = Place {
+            space: from,
+            page: pages.source,
+        };
+        let target = Place {
+            space: to,
+            page: pages.target,
+        };
+        self.map_page(source, target, item.sent.rights())
     }
 
     /// Takes rights from the pages of a space that each fpage names, if the control word says so, and from all that derives
@@ -188,7 +226,7 @@ impl Database {
         control: Control,
         fpages: &[Fpage],
     ) -> Result<Vec<Rights>, DbError>
-        requires fpages { All (IsFpageOf self.old.limits.bits) fpages.now }
+        requires bits { All (IsFpageOf self.old.limits.bits) fpages.now }
         ensures halted { IsErrOf result Halted ↔ (self.old.is_halted ≡ true) }
         ensures no_such_space { IsErrOf result NoSuchSpace ↔ ((self.old.is_halted ≡ false) × (self.old.limits.spaces ≤ space)) }
         ensures errors { IfErr result (λ e. (e ≡ Halted) ⊎ (e ≡ NoSuchSpace) ⊎ (e ≡ NoMemory)) }
@@ -217,6 +255,24 @@ impl Database {
         );
         self.halted = status.is_err();
         Ok(status?)
+    }
+
+    /// Makes one access, if the page is held with the right for it, and says whether it was.
+    fn touch(&mut self, place: Place, access: Access) -> bool
+        requires running { self.old.is_halted ≡ false }
+        requires within { IsWithin self.old.limits place }
+        ensures answer { result ≡ can_touch self.old.holdings place access }
+        ensures left { self.new ≡ left_with self.old (touch self.old.holdings place access) }
+    {
+        let Some(entry) = self.shards.get(place) else {
+            return false;
+        };
+        if !entry.rights.holds(access) {
+            return false;
+        }
+        let status = entry.status.join(marks(access));
+        self.shards.set(place, Some(Entry { status, ..entry }));
+        true
     }
 
     /// Maps a page to a place that is not held, with its rights as far as `rights` go.

@@ -20,7 +20,7 @@ use Rattle.fpage.specs.declared.item.Item.{Item}
 use Rattle.model.specs.Calls.{Limits, send, sent, refused, bad_record}
 use Rattle.model.specs.FirstPath.{first_answer, served_answer, is_served}
 use Rattle.std.proofs.lemmas.Bool.Decides.{nat_tests}
-use Rattle.model.specs.Answers.{Answer, item_answer, SendAnswer, call_answer, call_refusal, unless_refused}
+use Rattle.model.specs.Answers.{Answer, item_answer, SendAnswer, send_answer, call_answer, call_refusal, unless_refused}
 use Rattle.space.proofs.Places.{places_total}
 
 -- ---- a set of no places
@@ -102,6 +102,14 @@ one_pair : (from to : ℕ) (window : Flexpage) (item : Item) → item.kind ≡ M
 one_pair from to window item map one some =
     let count : min item.sent.count window.count ≡ 1 = omega arith in
     rw (map, count) refl
+
+-- a send of one such item is answered as its one pair is
+pub answer_one : (from to : ℕ) (window : Flexpage) (item : Item) (h : Holdings) → item.kind ≡ Map → item.sent.count ≡ 1 → 0 < window.count
+    → send_answer from to window (item ∷ []) h
+    ≡ item_answer h (one_page item.sent.rights (record { space = from; page = (pairs_of item window).source }) (record { space = to; page = (pairs_of item window).target }))
+answer_one from to window item h map one some =
+    ap (λ (a : SendAnswer). record { counts = add_counts a.counts no_counts; left = a.left }) (ap (item_answer h) (one_pair from to window item map one some))
+    ∙ rw (add_none (item_answer h (one_page item.sent.rights (record { space = from; page = (pairs_of item window).source }) (record { space = to; page = (pairs_of item window).target }))).counts) refl
 
 -- the answer to a send whose one item gives this
 abbrev answer_of : SendAnswer → Answer

@@ -1,7 +1,6 @@
--- What is served until Unmap, grants and whole fpages come: one call for that time. The rest is answered BadRecord,
--- after all other refusals; an unmap record is BadRecord whatever else is wrong with it.
-use Rattle.std.specs.Prelude.{ℕ, Bool, true, false, ◌&&◌, ◌==◌, not, List, [], ◌∷◌, codes, Result, Ok, Err, if◌then◌else◌}
-use Rattle.std.specs.Str.{bytes_eq}
+-- What is served until grants and whole fpages come: one call for that time. A send that is not of one page by one MapItem
+-- to a page that is not held is answered BadRecord, after all other refusals.
+use Rattle.std.specs.Prelude.{ℕ, Bool, true, false, ◌&&◌, ◌||◌, ◌==◌, not, is_some, List, [], ◌∷◌, Result, Ok, Err, if◌then◌else◌}
 use Rattle.fpage.specs.Item.{pairs_of}
 use Rattle.model.specs.Holdings.{Holdings, is_held}
 use Rattle.model.specs.Items.{is_map}
@@ -9,16 +8,20 @@ use Rattle.model.specs.Calls.{Limits, Call, send, access, unmap, bad_record, ref
 use Rattle.model.specs.Answers.{Answer, call_answer, call_refusal, unless_refused}
 use Rattle.model.specs.Replay.{Told, replay, start}
 use Rattle.model.specs.Text.{text}
-use Rattle.model.specs.Records.{Fields, Trace, HeaderFault, request, records_of, trace_of_records}
+use Rattle.model.specs.Records.{Trace, HeaderFault, trace_of}
 
--- an access, or a send of one MapItem of one page to a target that is not held
+-- an access, an unmap, or a send of one MapItem of one page to a target that is not held
 abbrev pub is_served : Holdings → Call → Bool
 is_served h (send from to window []) = false
 is_served h (send from to window (item ∷ [])) =
     is_map item.kind && (item.sent.count == 1) && not (is_held h (record { space = to; page = (pairs_of item window).target }))
 is_served h (send from to window (item ∷ next ∷ items)) = false
 is_served h (access p a) = true
-is_served h (unmap space f words) = false
+is_served h (unmap space f words) = true
+
+-- whether a call is refused for another cause, or served
+abbrev pub is_decided : Limits → Holdings → Call → Bool
+is_decided limits h call = is_some (call_refusal limits call) || is_served h call
 
 -- a call that is not served is refused and changes nothing
 abbrev pub served_answer : Holdings → Call → Answer
@@ -28,19 +31,6 @@ served_answer h call = if is_served h call then call_answer h call else record {
 abbrev pub first_answer : Limits → Holdings → Request → Answer
 first_answer limits h (Err r) = record { reply = refused r; left = h }
 first_answer limits h (Ok call) = unless_refused (call_refusal limits call) h (served_answer h call)
-
--- whether the first field is the word unmap
-abbrev pub is_unmap_record : Fields → Bool
-is_unmap_record [] = false
-is_unmap_record (name ∷ fields) = bytes_eq name (codes "unmap")
-
--- what a record asks for, for that time
-abbrev pub first_request : Limits → Fields → Request
-first_request limits fields = if is_unmap_record fields then Err bad_record else request limits fields
-
--- the trace that the bytes are, for that time
-abbrev pub first_trace_of : List ℕ → Result Trace HeaderFault
-first_trace_of bytes = trace_of_records first_request (records_of bytes)
 
 -- the replies and the last holdings of a trace, for that time
 abbrev pub first_told : Trace → Told
@@ -53,4 +43,4 @@ first_output_of_trace (Err e) = Err e
 
 -- what is written for the bytes of a trace, for that time
 abbrev pub first_output_of : List ℕ → Result (List ℕ) HeaderFault
-first_output_of bytes = first_output_of_trace (first_trace_of bytes)
+first_output_of bytes = first_output_of_trace (trace_of bytes)

@@ -1269,8 +1269,7 @@ FirstRun =
     ∷ codes "1,3,0,rw-,RW-,0:0"
     ∷ codes "end 2 0" ∷ []))
 
--- what is not served first: any unmap; several items, a grant, no page or several, a held target, after all other
--- refusals
+-- what is not served first: several items, a grant, no page or several, a held target, after all other refusals
 abbrev pub FirstRefusals : Type 0
 FirstRefusals =
     first_output_of (lines
@@ -1291,8 +1290,8 @@ FirstRefusals =
     ∷ codes "send,0,1,10,8,10c7"
     ∷ codes "send,1,0,c0,8,c1" ∷ []))
     ≡ Ok (lines
-    (codes "1 refused BadRecord"
-    ∷ codes "2 refused BadRecord"
+    (codes "1 unmap 000000c0"
+    ∷ codes "2 refused BadControl"
     ∷ codes "3 refused BadRecord"
     ∷ codes "4 refused BadRecord"
     ∷ codes "5 refused BadRecord"
@@ -1308,7 +1307,7 @@ FirstRefusals =
     ∷ codes "15 refused BadRecord"
     ∷ codes "0,0,0,rwx,---,-"
     ∷ codes "1,0,0,rw-,---,0:0"
-    ∷ codes "end 15 13" ∷ []))
+    ∷ codes "end 15 12" ∷ []))
 
 -- ---- lawful holdings, and pairs
 

@@ -1,5 +1,5 @@
 -- The rows are the records of the bytes, and the first one is a good header.
-use Rattle.l4map.specs.Meaning.{limits_of}
+use Rattle.mapdb.specs.Meaning.{limits_of}
 use Rattle.l4map.proofs.Traces.{traced, has_header}
 use Rattle.l4map.proofs.trace.read_trace.Goals as goal
 

@@ -1,0 +1,62 @@
+-- The words that an unmap gives back, and what it leaves.
+use Rattle.std.proofs.Common.{◌≡◌, ◌≤◌, nat_lt, true, false, Ok, ℕ, Bool, List, [], ◌∷◌, ◌++◌, map, length, ◌⊎◌, inl, inr, refl, sym, ap, ◌∙◌, append_assoc, append-nil, arith}
+use Rattle.std.specs.List.{zip}
+use Rattle.std.proofs.lemmas.Bool.Decides.{nat_tests}
+use Rattle.fpage.specs.Fpage.{Flexpage}
+use Rattle.fpage.specs.Control.{with_status}
+use Rattle.fpage.specs.declared.rights.Rights.{Rights}
+use Rattle.model.specs.Holdings.{Holdings}
+use Rattle.model.specs.Strip.{strip, strip_word}
+use Rattle.model.specs.Calls.{Limits, unmap, unmapped}
+use Rattle.model.specs.Answers.{Answer, UnmapAnswer, unmap_answer, unmapped_answer, pages_in}
+use Rattle.model.specs.FirstPath.{first_answer}
+use Rattle.mapdb.specs.State.{unmap_status, unmap_left}
+
+-- ---- each word with its status
+
+-- words with their status
+abbrev pub told : List ℕ → List Rights → List ℕ
+told words status = map (λ e. with_status e.0 e.1) (zip words status)
+
+-- one word more
+pub told_more : (front : List ℕ) (w : ℕ) (s : Rights) (words : List ℕ) (status : List Rights) (all : List ℕ) → front ++ told (w ∷ words) (s ∷ status) ≡ all → (front ++ (with_status w s ∷ [])) ++ told words status ≡ all
+told_more front w s words status all is = append_assoc front (with_status w s ∷ []) (told words status) ∙ is
+
+none_told : (words : List ℕ) (status : List Rights) → (words ≡ []) ⊎ (status ≡ []) → told words status ≡ []
+none_told words status (inl none) = rw none refl
+none_told [] status (inr none) = refl
+none_told (w ∷ words) status (inr none) = rw none refl
+
+-- the last one
+pub told_end : (front words : List ℕ) (status : List Rights) (all : List ℕ) → front ++ told words status ≡ all → (words ≡ []) ⊎ (status ≡ []) → front ≡ all
+told_end front words status all is none = sym (append-nil front) ∙ ap (λ l. front ++ l) (sym (none_told words status none)) ∙ is
+
+-- ---- an unmap
+
+-- its answer, in the parts that the database gives
+pub unmap_told : (space : ℕ) (f : Bool) (words : List ℕ) (fpages : List Flexpage) (h : Holdings) → length fpages ≡ length words
+    → unmap_answer space f (zip words fpages) h ≡ record { words = told words (unmap_status space f fpages h); left = unmap_left space f fpages h }
+unmap_told space f [] [] h same = refl
+unmap_told space f [] (p ∷ fpages) h same = absurd (omega (arith, same))
+unmap_told space f (w ∷ words) [] h same = absurd (omega (arith, same))
+unmap_told space f (w ∷ words) (p ∷ fpages) h same =
+    let named = pages_in space p in
+    ap (λ (a : UnmapAnswer). record { words = with_status w (strip_word h named) ∷ a.words; left = a.left })
+    (unmap_told space f words fpages (strip h named p.rights f) (omega (arith, same)))
+
+-- a space that is not refused is there
+pub space_there : (halted : Bool) (space spaces : ℕ) → (halted ≡ true → ⊥) → ((halted ≡ false) × (spaces ≤ space) → ⊥) → nat_lt space spaces ≡ true
+space_there true space spaces running there = absurd (running refl)
+space_there false space spaces running there = by (nat_lt space spaces) refl
+  where
+    by : (b : Bool) → nat_lt space spaces ≡ b → b ≡ true
+    by true is = refl
+    by false is = absurd (there (refl, grind (arith, nat_tests)))
+
+-- the answer to an unmap, from what the database gave and left
+pub unmap_answered : (limits : Limits) (h : Holdings) (space : ℕ) (f : Bool) (words : List ℕ) (fpages : List Flexpage) (status : List Rights) (left : Holdings) (reply : List ℕ)
+    → nat_lt space limits.spaces ≡ true → length fpages ≡ length words → status ≡ unmap_status space f fpages h → left ≡ unmap_left space f fpages h → reply ≡ told words status
+    → first_answer limits h (Ok (unmap space f (zip words fpages))) ≡ record { reply = unmapped reply; left = left }
+unmap_answered limits h space f words fpages status left reply there same status_is left_is reply_is =
+    let answer : UnmapAnswer → Answer = λ a. unmapped_answer a in
+    rw there (ap answer (unmap_told space f words fpages h same) ∙ (λ i. record { reply = unmapped ((ap (told words) (sym status_is) ∙ sym reply_is) i); left = sym left_is i }))
