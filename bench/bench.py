@@ -1,5 +1,5 @@
 #!/usr/bin/env python3
-"""Time and peak memory of the proved program on traces of 1,000, 10,000 and 100,000 records.
+"""Time and peak memory of the proved program on traces of four kinds, each at three sizes.
 
     bench/bench.py [PROGRAM]
 
@@ -16,29 +16,93 @@ import time
 
 TOP = os.path.dirname(os.path.dirname(os.path.abspath(__file__)))
 HEADER = "l4map,1,512,24,4096"
+SPACES = 512
 PAGES = 4096
 SIZES = [1_000, 10_000, 100_000]
 RUNS = 5
 GNU_TIME = "/usr/bin/time"
 
+FIRST_PAGE = 0x0C7  # the fpage of page 0, all rights
+FIRST_PAGES = 0x140  # the fpage of pages 0 to 255, no rights: an unmap of it reads and clears status
 
-def trace(records):
-    """A trace of so many records: half of them sends of one page to a fresh place, half accesses.
+
+def send(sender, receiver, page, target):
+    """Page `page` of the sender to page `target` of the receiver, with all rights."""
+    return f"send,{sender},{receiver},10,{target:x}008,{page:x}0c7"
+
+
+def access(space, page, kind, offset=0):
+    return f"access,{space},{page:x}{offset:03x},{kind}"
+
+
+def unmap(space, word):
+    """An unmap of one fpage word that takes nothing from the caller's own pages."""
+    return f"unmap,{space},0,{word:x}"
+
+
+def mixed(records):
+    """Half sends of one page to a fresh place, half accesses.
 
     The sends map page after page of space 0 to the same page of space 1, then those of space 1 on to space 2, and so
     forth. An access goes to the page that was mapped last or to any that was mapped before.
     """
-    chance = random.Random(1)
-    lines, mapped = [HEADER], []
+    chance, mapped = random.Random(1), []
     for number in range(records):
         if number % 2 == 0:
             sender, page = divmod(number // 2, PAGES)
-            lines.append(f"send,{sender},{sender + 1},10,{page:x}008,{page:x}0c7")
+            yield send(sender, sender + 1, page, page)
             mapped.append((sender + 1, page))
         else:
             space, page = mapped[-1] if chance.random() < 0.5 else chance.choice(mapped)
-            lines.append(f"access,{space},{page:x}{chance.randrange(PAGES):03x},{chance.choice('rwx')}")
-    return "\n".join(lines) + "\n"
+            yield access(space, page, chance.choice("rwx"), chance.randrange(PAGES))
+
+
+def chain(records):
+    """A page goes from space to space through all of them, and space 0 takes it back from all; again and again."""
+    while records > 0:
+        length = min(records, SPACES)
+        for space in range(length - 1):
+            yield send(space, space + 1, 0, 0)
+        yield unmap(0, FIRST_PAGE)
+        records -= length
+
+
+def fan(records):
+    """One page goes to 2,000 pages of two spaces, and space 0 takes it back from all; again and again."""
+    while records > 0:
+        length = min(records, 2001)
+        for target in range(length - 1):
+            yield send(0, 1 + target % 2, 0, target // 2)
+        yield unmap(0, FIRST_PAGE)
+        records -= length
+
+
+def pager(records):
+    """A pager that ages its clients' pages: it has 256 pages and has passed each on to 2 clients.
+
+    Then it reads and clears the status of all its pages after every 63 accesses of the clients.
+    """
+    chance = random.Random(2)
+    pages, clients = min(256, records // 4), [2, 3]
+    made = 0
+    for page in range(pages):
+        yield send(0, 1, page, page)
+        for client in clients:
+            yield send(1, client, page, page)
+        made += 1 + len(clients)
+    for number in range(made, records):
+        if number % 64 == 0:
+            yield unmap(1, FIRST_PAGES)
+        else:
+            yield access(chance.choice(clients), chance.randrange(pages), chance.choice("rw"))
+
+
+KINDS = [mixed, chain, fan, pager]
+
+
+def trace(kind, records):
+    """A trace of so many records."""
+    return "\n".join([HEADER, *kind(records)]) + "\n"
 
 
 def seconds_of(program, path, output, records):
@@ -64,11 +128,11 @@ def peak_kilobytes(program, path):
     return int(ran.stderr.split()[-1])
 
 
-def measure(program, records, room):
+def measure(program, kind, records, room):
     """The median time and the peak memory on a trace of so many records."""
     path = os.path.join(room, "trace.csv")
     with open(path, "w", encoding="ascii") as it:
-        it.write(trace(records))
+        it.write(trace(kind, records))
     output = os.path.join(room, "output")
     times = [seconds_of(program, path, output, records) for _ in range(RUNS)]
     return statistics.median(times), peak_kilobytes(program, path)
@@ -80,18 +144,26 @@ def main():
     if not os.access(program, os.X_OK):
         sys.exit(f"bench.py: there is no program {program}: ./test.sh proves it and builds it")
     print(f"median time of {RUNS} runs each; peak memory of one run")
-    print(f"{'records':>9} {'seconds':>10} {'records/s':>11} {'peak MiB':>9}  growth from the size before")
+    print(f"{'records':>16} {'seconds':>10} {'records/s':>11} {'peak MiB':>9}  growth from the size before")
     with tempfile.TemporaryDirectory() as room:
-        before = None
-        for records in [0, *SIZES]:
-            taken, peak = measure(program, records, room)
-            rate = f"{records / taken:,.0f}" if records else "-"
-            memory = f"{peak / 1024:.1f}" if peak is not None else "unknown"
-            growth = ""
-            if before:
-                growth = f"{records / before[0]:g} times the records in {taken / before[1]:.1f} times the time"
-            print(f"{records:>9,} {taken:>10.4f} {rate:>11} {memory:>9}  {growth}".rstrip(), flush=True)
-            before = (records, taken) if records else None
+        report(program, mixed, [0], room)
+        for kind in KINDS:
+            report(program, kind, SIZES, room)
+
+
+def report(program, kind, sizes, room):
+    """A line for each size."""
+    before = None
+    for records in sizes:
+        taken, peak = measure(program, kind, records, room)
+        name = kind.__name__ if records else ""
+        rate = f"{records / taken:,.0f}" if records else "-"
+        memory = f"{peak / 1024:.1f}" if peak is not None else "unknown"
+        growth = ""
+        if before:
+            growth = f"{records / before[0]:g} times the records in {taken / before[1]:.1f} times the time"
+        print(f"{name:>5} {records:>10,} {taken:>10.4f} {rate:>11} {memory:>9}  {growth}".rstrip(), flush=True)
+        before = (records, taken)
 
 
 main()
