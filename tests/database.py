@@ -10,4 +10,4 @@ halted or does not say so to every later call. Allocations fail by the preloaded
 
 from support.short_of_memory import try_tests
 
-try_tests("mapdb", ["holds_each_frame_once_at_the_start", "maps_a_page_on", "unmaps::revokes_what_derives"])
+try_tests("mapdb", ["holds_each_frame_once_at_the_start", "maps_a_page_on", "unmaps::revokes_what_derives", "unmaps::revokes_by_recursion"])

@@ -8,9 +8,13 @@ pub mod Roots
 pub mod Sends
 pub mod Chains
 pub mod Walks
+pub mod Visits
 pub mod Sequences
 pub mod Tidying
 pub mod Outer
 pub mod Frames
 pub mod Named
 pub mod WordByWord
+pub mod PageByPage
+pub mod OnePlace
+pub mod PlainWords

@@ -41,7 +41,7 @@ same_sym p q = by (same_or_apart p q)
     by (inr apart) = apart ∙ sym (apart_back p q apart)
 
 -- one more place of a list
-any_more : (ps : List Place) (c q : Place) → any_of (ps ++ c ∷ []) q ≡ (any_of ps q || only c q)
+pub any_more : (ps : List Place) (c q : Place) → any_of (ps ++ c ∷ []) q ≡ (any_of ps q || only c q)
 any_more ps c q = list_any-append (same_place q) ps (c ∷ []) ∙ ap (λ b. any_of ps q || b) (last (same_place q c) ∙ same_sym q c)
   where
     last : (b : Bool) → (b || false) ≡ b

@@ -94,7 +94,7 @@ take_one p (suc m) (o ∷ os) d within = ap (λ b. same_place p o.0 || b) (take_
     regroup x y z = grind arith
 
 -- a place of the list is the next one, or was there before
-among_more : (os : Origins) (a i : ℕ) (p d : Place) → a ≤ i → i < length os → is_among os a (i + 1) p ≡ (is_among os a i p || same_place p (place_at os i d))
+pub among_more : (os : Origins) (a i : ℕ) (p d : Place) → a ≤ i → i < length os → is_among os a (i + 1) p ≡ (is_among os a i p || same_place p (place_at os i d))
 among_more os a i p d least within =
     let size = length-drop a os in
     let one : i + 1 - a ≡ suc (i - a) = omega (arith, least) in
@@ -106,15 +106,18 @@ among_more os a i p d least within =
 abbrev pub walked : Bool → Bool → Rights → Option Entry → Option Entry
 walked done loses a entry = if done then option_and_then (narrowed loses a) entry else entry
 
--- the walk so far: the places before have lost, the others are as they were
-pub record IsWalked (old : Shards) (trees : List Shape) (frame start : ℕ) (c : Place) (a : Rights) (f : Bool) (i : ℕ) (now : Shards) (status : Rights) : Type 0 where
-  pub least : start ≤ i
+-- these places have lost, the others are as they were
+pub record AreTaken (old : Shards) (trees : List Shape) (c : Place) (a : Rights) (f : Bool) (done : PlaceSet) (now : Shards) (status : Rights) : Type 0 where
   pub layout : IsLaidOutAs old now
   pub present : IsFalse (is_taken now)
-  pub entries : (p : Place) → IsPlace old p → entry_at now p ≡ walked (is_among (links_in trees frame) start i p) (f || not (same_place p c)) a (entry_at old p)
-  pub gathered : status ≡ status_over (is_among (links_in trees frame) start i) (holdings_in old trees)
+  pub entries : (p : Place) → IsPlace old p → entry_at now p ≡ walked (done p) (f || not (same_place p c)) a (entry_at old p)
+  pub gathered : status ≡ status_over done (holdings_in old trees)
 
-module _ (old : Shards) (trees : List Shape) (loose : AreLoose old trees) (frame start : ℕ) (c : Place) (a : Rights) (f : Bool) where
+-- the walk so far: the places before have lost
+abbrev pub IsWalked : Shards → List Shape → ℕ → ℕ → Place → Rights → Bool → ℕ → Shards → Rights → Type 0
+IsWalked old trees frame start c a f i now status = AreTaken old trees c a f (is_among (links_in trees frame) start i) now status
+
+module _ (old : Shards) (trees : List Shape) (loose : AreLoose old trees) (c : Place) (a : Rights) (f : Bool) where
   -- what a place within the limits has is what is held there
   status_held : (q : Place) → IsPlace old q → option_map_or (λ m. m.status) (at (holdings_in old trees) q) no_rights ≡ status_of (entry_at old q)
   status_held q place = ap (λ o. option_map_or (λ (m : Held). m.status) o no_rights) (held_within (limits_in old trees) old trees q (record { space = place.space; page = place.page })) ∙ by (entry_at old q)
@@ -123,57 +126,77 @@ module _ (old : Shards) (trees : List Shape) (loose : AreLoose old trees) (frame
       by None = refl
       by (Some e) = refl
 
+  -- before the first place
+  pub none_taken : (done : PlaceSet) → ((p : Place) → done p ≡ false) → AreTaken old trees c a f done old no_rights
+  none_taken done none = record {
+    layout = record { spaces = refl; bits = refl; count = refl; index = λ p. refl };
+    present = loose.fits.present;
+    entries = λ p place. rw (none p) refl;
+    gathered = sym (over_none (holdings_in old trees) (lawful_parts (holdings_in old trees) loose.lawful) done none);
+  }
+
+  -- the same places
+  pub same_taken : (done done' : PlaceSet) (now : Shards) (status : Rights) → ((p : Place) → done p ≡ done' p) → AreTaken old trees c a f done now status → AreTaken old trees c a f done' now status
+  same_taken done done' now status same taken = record {
+    layout = taken.layout;
+    present = taken.present;
+    entries = λ p place. taken.entries p place ∙ ap (λ b. walked b (f || not (same_place p c)) a (entry_at old p)) (same p);
+    gathered = taken.gathered ∙ over_same (holdings_in old trees) (lawful_parts (holdings_in old trees) loose.lawful) done done' (λ p m held. same p);
+  }
+
+  -- one place more
+  pub one_taken : (done done' : PlaceSet) (now next : Shards) (status more : Rights) (q : Place) (loses : Bool) → AreTaken old trees c a f done now status
+      → IsPlace old q → done q ≡ false → ((p : Place) → done' p ≡ (done p || same_place p q))
+      → loses ≡ (f || not (same_place q c)) → more ≡ status_of (entry_at now q) → IsSetAt now next q (option_and_then (narrowed loses a) (entry_at now q)) → IsFalse (is_taken next) → IsLaidOutAs now next
+      → AreTaken old trees c a f done' next (join status more)
+  one_taken done done' now next status more q loses so_far q_place was_not one_more loses_is more_is set present layout =
+      let stood : entry_at now q ≡ entry_at old q = so_far.entries q q_place ∙ rw was_not refl in
+      record {
+        layout = record { spaces = layout.spaces ∙ so_far.layout.spaces; bits = layout.bits ∙ so_far.layout.bits; count = layout.count ∙ so_far.layout.count; index = λ p. layout.index p ∙ so_far.layout.index p };
+        present = present;
+        entries = λ p p_place. entry p p_place stood (same_or_apart p q);
+        gathered = ap (λ r. join r more) so_far.gathered ∙ ap (join (status_over done (holdings_in old trees))) (more_is ∙ ap status_of stood ∙ sym (status_held q q_place))
+            ∙ sym (over_more (holdings_in old trees) (lawful_parts (holdings_in old trees) loose.lawful) done done' q one_more);
+      }
+    where
+      entry : (p : Place) → IsPlace old p → entry_at now q ≡ entry_at old q → (p ≡ q) ⊎ (same_place p q ≡ false) → entry_at next p ≡ walked (done' p) (f || not (same_place p c)) a (entry_at old p)
+      entry p p_place stood (inl same) =
+          let is_done : done' q ≡ true = one_more q ∙ or_right _ _ (same_self q) in
+          rw (same, is_done) (set.there ∙ ap (option_and_then (narrowed loses a)) stood ∙ ap (λ b. option_and_then (narrowed b a) (entry_at old q)) loses_is)
+      entry p p_place stood (inr apart) =
+          let unchanged : done' p ≡ done p = one_more p ∙ ap (λ b. done p || b) apart ∙ or_false _ in
+          let place_now : IsPlace now p = record { space = subst (λ n. p.space < n) (sym so_far.layout.spaces) p_place.space; page = subst (λ b. p.page < pages_of b) (sym so_far.layout.bits) p_place.page } in
+          set.elsewhere p place_now (λ same. cc (apart, ap (λ x. same_place x q) same, same_self q)) ∙ so_far.entries p p_place ∙ ap (λ b. walked b (f || not (same_place p c)) a (entry_at old p)) (sym unchanged)
+        where
+          or_false : (b : Bool) → (b || false) ≡ b
+          or_false b = grind arith
+
+-- a position behind those so far has another place than they
+pub not_among : (os : Origins) (start i : ℕ) (q : Place) → ((j : ℕ) (d : Place) → j < length os → place_at os j d ≡ q → j ≡ i) → is_among os start i q ≡ false
+not_among os start i q only_there = false_from_ne_true _ (λ among.
+    let there = among_at os start i q q among in
+    absurd (omega (arith, there.2, only_there there.0 q there.3 there.4)))
+
+module _ (old : Shards) (trees : List Shape) (loose : AreLoose old trees) (frame start : ℕ) (c : Place) (a : Rights) (f : Bool) where
   -- before the first step
   pub walk_begins : IsWalked old trees frame start c a f start old no_rights
-  walk_begins =
-      let none : (p : Place) → is_among (links_in trees frame) start start p ≡ false = λ p. nothing p in
-      record {
-        least = omega arith;
-        layout = record { spaces = refl; bits = refl; count = refl; index = λ p. refl };
-        present = loose.fits.present;
-        entries = λ p place. rw (none p) refl;
-        gathered = sym (over_none (holdings_in old trees) (lawful_parts (holdings_in old trees) loose.lawful) (is_among (links_in trees frame) start start) none);
-      }
+  walk_begins = none_taken old trees loose c a f (is_among (links_in trees frame) start start) nothing
     where
       nothing : (p : Place) → is_among (links_in trees frame) start start p ≡ false
       nothing p = let same : start - start ≡ 0 = omega arith in ap (λ n. list_any (λ (o : Place × Option Place). same_place p o.0) (take n (drop start (links_in trees frame)))) same
 
   -- one step
   pub walk_goes : (i : ℕ) (now next : Shards) (status more : Rights) (q : Place) (loses : Bool) → IsWalked old trees frame start c a f i now status
-      → i < length (links_in trees frame) → ((d : Place) → place_at (links_in trees frame) i d ≡ q) → ((j : ℕ) (d : Place) → j < length (links_in trees frame) → place_at (links_in trees frame) j d ≡ q → j ≡ i)
+      → start ≤ i → i < length (links_in trees frame) → ((d : Place) → place_at (links_in trees frame) i d ≡ q) → ((j : ℕ) (d : Place) → j < length (links_in trees frame) → place_at (links_in trees frame) j d ≡ q → j ≡ i)
       → loses ≡ (f || not (same_place q c)) → more ≡ status_of (entry_at now q) → IsSetAt now next q (option_and_then (narrowed loses a) (entry_at now q)) → IsFalse (is_taken next) → IsLaidOutAs now next
       → IsWalked old trees frame start c a f (i + 1) next (join status more)
-  walk_goes i now next status more q loses so_far within place only_there loses_is more_is set present layout =
+  walk_goes i now next status more q loses so_far least within place only_there loses_is more_is set present layout =
       let links = links_in trees frame in
-      let was_not : is_among links start i q ≡ false = false_from_ne_true _ (λ among.
-      let there = among_at links start i q q among in
-      absurd (omega (arith, there.2, only_there there.0 q there.3 there.4))) in
       let listed : is_listed trees frame q ≡ true = subst (λ p. is_listed trees frame p ≡ true) (place q) (listed_at links i q within) in
       let inside = within_from_place (limits_in old trees) q (loose.within frame q listed) in
-      let q_place : IsPlace old q = record { space = inside.space; page = inside.page } in
-      let stood : entry_at now q ≡ entry_at old q = so_far.entries q q_place ∙ rw was_not refl in
-      let more_among : (p : Place) → is_among links start (i + 1) p ≡ (is_among links start i p || same_place p q) = λ p. among_more links start i p q so_far.least within ∙ ap (λ r. is_among links start i p || same_place p r) (place q) in
-      record {
-        least = omega (arith, so_far.least);
-        layout = record { spaces = layout.spaces ∙ so_far.layout.spaces; bits = layout.bits ∙ so_far.layout.bits; count = layout.count ∙ so_far.layout.count; index = λ p. layout.index p ∙ so_far.layout.index p };
-        present = present;
-        entries = λ p p_place. entry p p_place more_among stood (same_or_apart p q);
-        gathered = ap (λ r. join r more) so_far.gathered ∙ ap (join (status_over (is_among links start i) (holdings_in old trees))) (more_is ∙ ap status_of stood ∙ sym (status_held q q_place))
-            ∙ sym (over_more (holdings_in old trees) (lawful_parts (holdings_in old trees) loose.lawful) (is_among links start i) (is_among links start (i + 1)) q more_among);
-      }
-    where
-      entry : (p : Place) → IsPlace old p → ((p : Place) → is_among (links_in trees frame) start (i + 1) p ≡ (is_among (links_in trees frame) start i p || same_place p q)) → entry_at now q ≡ entry_at old q → (p ≡ q) ⊎ (same_place p q ≡ false)
-          → entry_at next p ≡ walked (is_among (links_in trees frame) start (i + 1) p) (f || not (same_place p c)) a (entry_at old p)
-      entry p p_place more_among stood (inl same) =
-          let done : is_among (links_in trees frame) start (i + 1) q ≡ true = more_among q ∙ or_right _ _ (same_self q) in
-          rw (same, done) (set.there ∙ ap (option_and_then (narrowed loses a)) stood ∙ ap (λ b. option_and_then (narrowed b a) (entry_at old q)) loses_is)
-      entry p p_place more_among stood (inr apart) =
-          let unchanged : is_among (links_in trees frame) start (i + 1) p ≡ is_among (links_in trees frame) start i p = more_among p ∙ ap (λ b. is_among (links_in trees frame) start i p || b) apart ∙ or_false _ in
-          let place_now : IsPlace now p = record { space = subst (λ n. p.space < n) (sym so_far.layout.spaces) p_place.space; page = subst (λ b. p.page < pages_of b) (sym so_far.layout.bits) p_place.page } in
-          set.elsewhere p place_now (λ same. cc (apart, ap (λ x. same_place x q) same, same_self q)) ∙ so_far.entries p p_place ∙ ap (λ b. walked b (f || not (same_place p c)) a (entry_at old p)) (sym unchanged)
-        where
-          or_false : (b : Bool) → (b || false) ≡ b
-          or_false b = grind arith
+      one_taken old trees loose c a f (is_among links start i) (is_among links start (i + 1)) now next status more q loses so_far (record { space = inside.space; page = inside.page })
+      (not_among links start i q only_there) (λ p. among_more links start i p q least within ∙ ap (λ r. is_among links start i p || same_place p r) (place q))
+      loses_is more_is set present layout
 
 -- ---- the end of a walk
 

@@ -1,6 +1,6 @@
 -- The words of an unmap, one after another.
-use Rattle.std.proofs.Common.{◌≡◌, ℕ, ◌+◌, ◌<◌, Bool, List, [], ◌∷◌, ◌++◌, length, drop, get_or, sym, ap, ◌∙◌}
-use Rattle.std.proofs.lemmas.List.{drop_more, append_assoc}
+use Rattle.std.proofs.Common.{◌≡◌, ℕ, ◌+◌, ◌<◌, ◌≤◌, Bool, List, [], ◌∷◌, ◌++◌, length, drop, get_or, sym, ap, ◌∙◌}
+use Rattle.std.proofs.lemmas.List.{drop_more, drop_all, append_assoc, append-nil}
 use Rattle.fpage.specs.Fpage.{Flexpage}
 use Rattle.fpage.specs.declared.rights.Rights.{Rights}
 use Rattle.space.specs.declared.shards.Shards.{Shards}
@@ -34,3 +34,12 @@ one_word h space f fpages i d old now next old_trees now_trees next_trees status
       sound = sound;
       limits = limits ∙ so_far.limits;
     }
+
+-- all words
+pub all_words : (h : Holdings) (space : ℕ) (f : Bool) (fpages : List Flexpage) (i : ℕ) (old now : Shards) (old_trees now_trees : List Shape) (status : List Rights) → AreWorkedUpTo h space f fpages i old now old_trees now_trees status → length fpages ≤ i
+    → (status ≡ unmap_status space f fpages h) × (holdings_in now now_trees ≡ unmap_left space f fpages h)
+all_words h space f fpages i old now old_trees now_trees status so_far end =
+    let none = drop_all i fpages end in (
+      sym (append-nil status) ∙ ap (λ ws. status ++ unmap_status space f ws (holdings_in now now_trees)) (sym none) ∙ so_far.given,
+      ap (λ ws. unmap_left space f ws (holdings_in now now_trees)) (sym none) ∙ so_far.left,
+    )

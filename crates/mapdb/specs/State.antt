@@ -10,6 +10,7 @@ use Rattle.model.specs.Holdings.{Held, Holdings}
 use Rattle.fpage.specs.Fpage.{Flexpage}
 use Rattle.fpage.specs.declared.rights.Rights.{Rights}
 use Rattle.model.specs.Strip.{strip, strip_word}
+use Rattle.model.specs.Recursion.{recur}
 use Rattle.model.specs.Answers.{pages_in}
 use Rattle.model.specs.Replay.{start}
 use Rattle.model.specs.Touch.{can_touch, touch}
@@ -66,3 +67,12 @@ unmap_status space f (w ∷ ws) h = let named = pages_in space w in strip_word h
 abbrev pub unmap_left : ℕ → Bool → List Flexpage → Holdings → Holdings
 unmap_left space f [] h = h
 unmap_left space f (w ∷ ws) h = let named = pages_in space w in unmap_left space f ws (strip h named w.rights f)
+
+-- the same words, each by the recursion page by page
+abbrev pub plain_status : ℕ → Bool → List Flexpage → Holdings → List Rights
+plain_status space f [] h = []
+plain_status space f (w ∷ ws) h = let visited = recur h (pages_in space w) w.rights f in visited.word ∷ plain_status space f ws visited.left
+
+abbrev pub plain_left : ℕ → Bool → List Flexpage → Holdings → Holdings
+plain_left space f [] h = h
+plain_left space f (w ∷ ws) h = let visited = recur h (pages_in space w) w.rights f in plain_left space f ws visited.left

@@ -1,6 +1,7 @@
 use crate::error::DbError;
 use crate::limits::Limits;
 use crate::pages::unmap_words;
+use crate::plain::visit_words;
 use crate::reply::SendReply;
 use crate::start::{root_trees, root_words};
 use crate::tree;
@@ -52,7 +53,7 @@ impl Database {
     ghost use Rattle.mapdb.specs.Meaning.{limits_of, counts_of};
     ghost use Rattle.mapdb.specs.Held.{IsWithin, listing};
     ghost use Rattle.mapdb.specs.State.{new_state, halted, left_with, entry_of, unless_halted};
-    ghost use Rattle.mapdb.specs.State.{touched_all, access_answers, unmap_status, unmap_left};
+    ghost use Rattle.mapdb.specs.State.{touched_all, access_answers, unmap_status, unmap_left, plain_status, plain_left};
     ghost use Rattle.mapdb.specs.declared.error.DbError.TheVariants.{BadLimits, NoSuchSpace, SameSpace, NoWindow, NoMemory, Halted};
 
     /// The database at the start: page `i` of space 0 holds frame `i` with all rights, for each frame.
@@ -255,6 +256,53 @@ impl Database {
         );
         self.halted = status.is_err();
         Ok(status?)
+    }
+
+    /// The same as `unmap`, by recursion: page by page of those that an fpage names and that are still held, first what
+    /// derives from the page, and then the page itself. It takes longer.
+    ///
+    /// Refused as `unmap` is.
+    pub fn unmap_plain(
+        &mut self,
+        alloc: Global,
+        space: u16,
+        control: Control,
+        fpages: &[Fpage],
+    ) -> Result<Vec<Rights>, DbError>
+        requires bits { All (IsFpageOf self.old.limits.bits) fpages.now }
+        ensures halted { IsErrOf result Halted ↔ (self.old.is_halted ≡ true) }
+        ensures no_such_space { IsErrOf result NoSuchSpace ↔ ((self.old.is_halted ≡ false) × (self.old.limits.spaces ≤ space)) }
+        ensures errors { IfErr result (λ e. (e ≡ Halted) ⊎ (e ≡ NoSuchSpace) ⊎ (e ≡ NoMemory)) }
+        ensures refused { IsErrOf result NoSuchSpace → self.new ≡ self.old }
+        ensures stays_halted { IsErrOf result Halted → self.new ≡ self.old }
+        ensures no_memory { IsErrOf result NoMemory → (self.new.is_halted ≡ true) × (self.new.limits ≡ self.old.limits) }
+        ensures status { IfOk result (λ status.
+            status.items ≡ plain_status space control.flush fpages.now self.old.holdings) }
+        ensures left { OnOk result (self.new ≡
+            left_with self.old (plain_left space control.flush fpages.now self.old.holdings)) }
+
+        // It gives and leaves what `unmap` does.
+        ensures as_unmap { self.old.is_halted ≡ false →
+            (plain_status space control.flush fpages.now self.old.holdings ≡ unmap_status space control.flush fpages.now self.old.holdings)
+            × (plain_left space control.flush fpages.now self.old.holdings ≡ unmap_left space control.flush fpages.now self.old.holdings) }
+    {
+        if self.halted {
+            return Err(DbError::Halted);
+        }
+        if u32::from(space) >= self.limits.spaces {
+            return Err(DbError::NoSuchSpace);
+        }
+        let first_too = control.is_flush();
+        let visited = visit_words(
+            alloc,
+            &mut self.shards,
+            &mut self.trees,
+            space,
+            first_too,
+            fpages,
+        );
+        self.halted = visited.is_err();
+        Ok(visited?)
     }
 
     /// Makes one access, if the page is held with the right for it, and says whether it was.

@@ -5,6 +5,7 @@ mod database;
 mod error;
 mod limits;
 mod pages;
+mod plain;
 mod reply;
 mod start;
 mod strip;

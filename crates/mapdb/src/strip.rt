@@ -113,7 +113,7 @@ ghost use Rattle.mapdb.specs.Words.{narrowed, status_of, with_status};
 
 /// Takes rights from what a page holds, if it is to lose them, clears its status and gives it back. With no rights left
 /// the page goes.
-fn narrow(shards: &mut Shards, place: Place, revoked: Rights, loses: bool) -> Rights
+pub fn narrow(shards: &mut Shards, place: Place, revoked: Rights, loses: bool) -> Rights
     requires place { IsPlace shards.old place }
     requires present { IsFalse (is_taken shards.old) }
     ensures status { result ≡ status_of (entry_at shards.old place) }
@@ -151,7 +151,7 @@ fn left_of(entry: Entry, revoked: Rights, loses: bool) -> Option<Entry>
 }
 
 /// Adds status to what a page holds.
-fn add_status(shards: &mut Shards, place: Place, status: Rights)
+pub fn add_status(shards: &mut Shards, place: Place, status: Rights)
     requires place { IsPlace shards.old place }
     requires present { IsFalse (is_taken shards.old) }
     ensures set { IsSetAt shards.old shards.new place (option_map (with_status status) (entry_at shards.old place)) }

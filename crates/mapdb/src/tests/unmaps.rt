@@ -245,7 +245,7 @@ fn fpages(rt: &impl Abort, alloc: Global, words: &[u32]) -> Result<Vec<Fpage>, F
     Ok(fpages)
 }
 
-/// Unmaps words, and looks at the words that come back.
+/// Unmaps words, by recursion or not, and looks at the words that come back.
 fn unmap(
     rt: &impl Abort,
     database: &mut Database,
@@ -254,6 +254,7 @@ fn unmap(
     control: u32,
     words: &[u32],
     reply: &[u32],
+    plain: bool,
 ) -> Result<(), Fail>
     requires { database.old.limits ≡ record { spaces = 3; bits = 18; frames = 16 } }
     ensures { OnOk result (database.new.limits ≡ record { spaces = 3; bits = 18; frames = 16 }) }
@@ -262,7 +263,12 @@ fn unmap(
         panic!(rt; "the control word {control} is refused");
     };
     let fpages = fpages(rt, alloc, words)?;
-    let status = match database.unmap(alloc, space, control, &fpages) {
+    let answer = if plain {
+        database.unmap_plain(alloc, space, control, &fpages)
+    } else {
+        database.unmap(alloc, space, control, &fpages)
+    };
+    let status = match answer {
         Ok(status) => status,
         Err(error) => return Err(halted(rt, database, error)),
     };
@@ -277,7 +283,13 @@ fn unmap(
 }
 
 /// Does one step.
-fn work(rt: &impl Abort, database: &mut Database, alloc: Global, step: Step) -> Result<(), Fail>
+fn work(
+    rt: &impl Abort,
+    database: &mut Database,
+    alloc: Global,
+    step: Step,
+    plain: bool,
+) -> Result<(), Fail>
     requires { database.old.limits ≡ record { spaces = 3; bits = 18; frames = 16 } }
     ensures { OnOk result (database.new.limits ≡ record { spaces = 3; bits = 18; frames = 16 }) }
 {
@@ -285,10 +297,19 @@ fn work(rt: &impl Abort, database: &mut Database, alloc: Global, step: Step) -> 
         Step::Map(source, target) => map(rt, database, source, target),
         Step::Touch(at, access) => touch(rt, database, alloc, at, access),
         Step::Unmap(space, control, word, reply) => {
-            unmap(rt, database, alloc, space, control, &[word], &[reply])
+            unmap(
+                rt,
+                database,
+                alloc,
+                space,
+                control,
+                &[word],
+                &[reply],
+                plain,
+            )
         }
         Step::UnmapTwo(space, control, words, reply) => {
-            unmap(rt, database, alloc, space, control, &words, &reply)
+            unmap(rt, database, alloc, space, control, &words, &reply, plain)
         }
     }
 }
@@ -325,20 +346,30 @@ fn expect(
     Ok(())
 }
 
-#[test]
-fn revokes_what_derives(rt: HostRuntime) -> Result<(), Fail> {
+/// Works all cases, by recursion or not, and looks at what is left.
+fn work_cases(rt: &impl Abort, alloc: Global, plain: bool) -> Result<(), Fail> {
     for case in CASES {
-        let mut database = Database::new(rt.alloc(), 3, 18, 16)?;
+        let mut database = Database::new(alloc, 3, 18, 16)?;
         for step in CHAIN {
-            work(&rt, &mut database, rt.alloc(), step)?;
+            work(rt, &mut database, alloc, step, plain)?;
         }
         for step in case.steps {
-            work(&rt, &mut database, rt.alloc(), *step)?;
+            work(rt, &mut database, alloc, *step, plain)?;
         }
         for (at, held) in case.left {
-            expect(&rt, &database, case.name, *at, *held)?;
+            expect(rt, &database, case.name, *at, *held)?;
         }
         assert!(rt; !database.is_halted());
     }
     Ok(())
+}
+
+#[test]
+fn revokes_what_derives(rt: HostRuntime) -> Result<(), Fail> {
+    work_cases(&rt, rt.alloc(), false)
+}
+
+#[test]
+fn revokes_by_recursion(rt: HostRuntime) -> Result<(), Fail> {
+    work_cases(&rt, rt.alloc(), true)
 }

@@ -23,7 +23,7 @@ loop-i-init c = λ p first.
     let within : c.args.run.now.start < length (links_in c.args.trees.now c.args.frame) = omega (arith, c.requires.some, c.requires.within) in
     let here : c.node.result.place ≡ p = c.node.ensures.place p ∙ ap (λ os. place_at os c.args.run.now.start p) (sym links) ∙ first p in
     walk_goes c.args.shards.now c.args.trees.now c.requires.loose c.args.frame c.args.run.now.start p c.args.revoked c.args.first_too c.args.run.now.start c.args.shards.now c.narrow-status.new.shards no_rights c.narrow-status.result
-    c.node.result.place c.args.first_too (walk_begins c.args.shards.now c.args.trees.now c.requires.loose c.args.frame c.args.run.now.start p c.args.revoked c.args.first_too) within
+    c.node.result.place c.args.first_too (walk_begins c.args.shards.now c.args.trees.now c.requires.loose c.args.frame c.args.run.now.start p c.args.revoked c.args.first_too) (omega arith) within
     (λ d. ap (λ os. place_at os c.args.run.now.start d) links ∙ sym (c.node.ensures.place d))
     (λ j d within_j is. c.node.ensures.only j d (subst (λ os. j < length os) links within_j) (ap (λ os. place_at os j d) (sym links) ∙ is))
     (rw (here, same_self p) (of_first c.args.first_too)) c.narrow-status.ensures.status c.narrow-status.ensures.set c.narrow-status.ensures.present c.narrow-status.ensures.layout
@@ -65,7 +65,7 @@ loop-i-preserved c = λ p first.
     absurd (omega (arith, at_start, c.loop-i.auto.i))) in
     subst (IsWalked c.args.shards.now c.args.trees.now c.args.frame c.args.run.now.start p c.args.revoked c.args.first_too (c.loop-i.i + 1) c.narrow.new.shards) (sym c.join-status.ensures)
     (walk_goes c.args.shards.now c.args.trees.now c.requires.loose c.args.frame c.args.run.now.start p c.args.revoked c.args.first_too c.loop-i.i c.loop-i.shards c.narrow.new.shards c.loop-i.status c.narrow.result
-    c.node-in-loop-i.result.place true (c.loop-i.invariant p first) within
+    c.node-in-loop-i.result.place true (c.loop-i.invariant p first) (omega (arith, c.loop-i.auto.i)) within
     (λ d. ap (λ os. place_at os c.loop-i.i d) links ∙ sym (c.node-in-loop-i.ensures.place d)) only_there
     (rw other (of_other c.args.first_too)) c.narrow.ensures.status c.narrow.ensures.set c.narrow.ensures.present c.narrow.ensures.layout)
   where

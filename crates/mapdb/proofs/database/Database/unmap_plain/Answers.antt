@@ -1,0 +1,21 @@
+-- What is held is lawful, so the recursion and strip give and leave the same.
+use Rattle.std.proofs.Common.{subst}
+use Rattle.model.proofs.LawfulParts.{IsLawful, lawful_parts}
+use Rattle.mapdb.specs.State.{State}
+use Rattle.mapdb.proofs.PlainWords.{plain_status_is, plain_left_is}
+use Rattle.mapdb.proofs.database.Database.unmap_plain.Goals as goal
+
+pub returns-then-from-self-clause-as_unmap : goal.returns-then-from-self-clause-as_unmap
+returns-then-from-self-clause-as_unmap c = λ running.
+    let l : IsLawful c.args.self.now.holdings = subst (λ (s : State). IsLawful s.holdings) c.self.view_is (lawful_parts _ (c.self.invariant c.if-self.false).kept.lawful) in
+    (plain_status_is c.args.space c.args.control.flush c.args.fpages.now c.args.self.now.holdings l, plain_left_is c.args.space c.args.control.flush c.args.fpages.now c.args.self.now.holdings l)
+
+pub returns-in_err-visited-clause-as_unmap : goal.returns-in_err-visited-clause-as_unmap
+returns-in_err-visited-clause-as_unmap c = λ running.
+    let l : IsLawful c.args.self.now.holdings = subst (λ (s : State). IsLawful s.holdings) c.self.view_is (lawful_parts _ (c.self.invariant c.if-self.false).kept.lawful) in
+    (plain_status_is c.args.space c.args.control.flush c.args.fpages.now c.args.self.now.holdings l, plain_left_is c.args.space c.args.control.flush c.args.fpages.now c.args.self.now.holdings l)
+
+pub returns-clause-as_unmap : goal.returns-clause-as_unmap
+returns-clause-as_unmap c = λ running.
+    let l : IsLawful c.args.self.now.holdings = subst (λ (s : State). IsLawful s.holdings) c.self.view_is (lawful_parts _ (c.self.invariant c.if-self.false).kept.lawful) in
+    (plain_status_is c.args.space c.args.control.flush c.args.fpages.now c.args.self.now.holdings l, plain_left_is c.args.space c.args.control.flush c.args.fpages.now c.args.self.now.holdings l)

@@ -1,0 +1,189 @@
+//! Unmap as a recursion, page by page.
+
+ghost use Rattle.std.specs.Prelude.{◌≡◌, ◌<◌, ◌≤◌, true, ◌||◌, not, [], ◌∷◌, ◌++◌, length, IfOk, OnOk, IfSome, IfNone, IsFalse};
+ghost use Rattle.std.specs.List.{All};
+ghost use Rattle.std.specs.Option.{option_and_then};
+ghost use Rattle.space.specs.declared.place.Place.{Place};
+ghost use Rattle.space.specs.Place.{same_place};
+ghost use Rattle.space.specs.Shards.{IsPlace, IsSetAt, IsLaidOutAs, entry_at, is_taken, bits_of, spaces_of};
+ghost use Rattle.fpage.specs.Fpage.{IsFpageOf};
+ghost use Rattle.maptree.specs.Origins.{place_at, IsRun};
+ghost use Rattle.model.specs.Holdings.{only};
+ghost use Rattle.model.specs.Answers.{pages_in};
+ghost use Rattle.model.specs.Strip.{strip, strip_word};
+ghost use Rattle.mapdb.specs.Held.{is_listed, links_in};
+ghost use Rattle.mapdb.specs.Words.{narrowed, status_of};
+ghost use Rattle.mapdb.specs.State.{plain_status, plain_left};
+ghost use Rattle.mapdb.specs.Stripping.{limits_in, holdings_in, AreSound, AreLoose};
+
+use crate::strip::{add_status, narrow};
+use crate::tidy::tidy;
+use fpage::{Fpage, Rights};
+use maptree::{Node, Tree};
+use space::{NoMemory, Place, Shards};
+use std::alloc::{AllocError, Global};
+use std::ops::Range;
+
+/// Works the words of an unmap one after another, page by page. Each gives back the status of its pages and of all that
+/// derives from them, and these lose its rights; with `first_too` the pages themselves do.
+///
+/// Refused, where memory is: `NoMemory`.
+pub fn visit_words(
+    alloc: Global,
+    shards: &mut Shards,
+    trees: &mut [Tree],
+    space: u16,
+    first_too: bool,
+    fpages: &[Fpage],
+) -> Result<Vec<Rights>, NoMemory>
+    requires sound { AreSound shards.old trees.old }
+    requires space { space < spaces_of shards.old }
+    requires fpages { All (IsFpageOf (bits_of shards.old)) fpages.now }
+    ensures status { IfOk result (λ status. status.items ≡ plain_status space first_too fpages.now (holdings_in shards.old trees.old)) }
+    ensures left { OnOk result (holdings_in shards.new trees.new ≡ plain_left space first_too fpages.now (holdings_in shards.old trees.old)) }
+    ensures sound { OnOk result (AreSound shards.new trees.new) }
+    ensures limits { OnOk result (limits_in shards.new trees.new ≡ limits_in shards.old trees.old) }
+{
+    let mut status = Vec::with_capacity(alloc, fpages.len())?;
+    for fpage in fpages {
+        let word = visit_pages(alloc, shards, trees, space, fpage, first_too)?;
+        status.push(word).map_err(AllocError::from)?;
+    }
+    Ok(status)
+}
+
+/// Visits the pages of a space that an fpage names, by rising page, each that is still held by then.
+fn visit_pages(
+    alloc: Global,
+    shards: &mut Shards,
+    trees: &mut [Tree],
+    space: u16,
+    fpage: &Fpage,
+    first_too: bool,
+) -> Result<Rights, NoMemory>
+    requires sound { AreSound shards.old trees.old }
+    requires space { space < spaces_of shards.old }
+    requires fpage { IsFpageOf (bits_of shards.old) fpage.now }
+    ensures status { IfOk result (λ status. status ≡ strip_word (holdings_in shards.old trees.old) (pages_in space fpage.now)) }
+    ensures left { OnOk result (holdings_in shards.new trees.new ≡ strip (holdings_in shards.old trees.old) (pages_in space fpage.now) fpage.now.rights first_too) }
+    ensures sound { OnOk result (AreSound shards.new trees.new) }
+    ensures limits { OnOk result (limits_in shards.new trees.new ≡ limits_in shards.old trees.old) }
+{
+    let mut status = Rights::none();
+    let named = fpage.pages();
+    for page in named.start..named.end {
+        let place = Place { space, page };
+        let Some(entry) = shards.get(place) else {
+            continue;
+        };
+        let frame = entry.frame as usize;
+        let word = visit_place(
+            alloc,
+            shards,
+            trees,
+            frame,
+            place,
+            fpage.rights(),
+            first_too,
+        )?;
+        status = status.join(word);
+    }
+    Ok(status)
+}
+
+/// Visits a place, takes out of its tree what is gone then, and gives back the status that was gathered.
+fn visit_place(
+    alloc: Global,
+    shards: &mut Shards,
+    trees: &mut [Tree],
+    frame: usize,
+    place: Place,
+    revoked: Rights,
+    first_too: bool,
+) -> Result<Rights, NoMemory>
+    requires sound { AreSound shards.old trees.old }
+    requires frame { frame < length trees.old }
+    requires listed { is_listed trees.old frame place ≡ true }
+    ensures status { IfOk result (λ status. status ≡ strip_word (holdings_in shards.old trees.old) (only place)) }
+    ensures left { OnOk result (holdings_in shards.new trees.new ≡ strip (holdings_in shards.old trees.old) (only place) revoked first_too) }
+    ensures sound { OnOk result (AreSound shards.new trees.new) }
+    ensures limits { OnOk result (limits_in shards.new trees.new ≡ limits_in shards.old trees.old) }
+{
+    let tree = &trees[frame];
+    let i = tree.find(place).unwrap();
+    let run = tree.run_of(i);
+    let status = visit(alloc, shards, trees, frame, &run, revoked, first_too)?;
+    tidy(alloc, shards, &mut trees[frame], &[run])?;
+    Ok(status)
+}
+
+/// Visits the first place of a run: first what derives from it directly, each in the same way, and then the place itself
+/// loses the rights, if it is to, and its status is taken. What the visit took is added to the status of the origin.
+///
+/// The tree stays: it may then list places that hold nothing.
+fn visit(
+    alloc: Global,
+    shards: &mut Shards,
+    trees: &[Tree],
+    frame: usize,
+    run: &Range<usize>,
+    revoked: Rights,
+    first_too: bool,
+) -> Result<Rights, AllocError>
+    requires loose { AreLoose shards.old trees.now }
+    requires frame { frame < length trees.now }
+    requires run { IsRun (links_in trees.now frame) run.now }
+    requires some { run.now.start < run.now.end }
+    requires within { run.now.end ≤ length (links_in trees.now frame) }
+    ensures status { IfOk result (λ status. (d : Place) → status ≡ strip_word (holdings_in shards.old trees.now) (only (place_at (links_in trees.now frame) run.now.start d))) }
+    ensures left { OnOk result ((d : Place) → holdings_in shards.new trees.now ≡ strip (holdings_in shards.old trees.now) (only (place_at (links_in trees.now frame) run.now.start d)) revoked first_too) }
+    ensures loose { OnOk result (AreLoose shards.new trees.now) }
+    ensures layout { OnOk result (IsLaidOutAs shards.old shards.new) }
+{
+    let tree = &trees[frame];
+    let first = tree.node(run.start).place;
+    let mut status = Rights::none();
+    // The pages whose visit has begun and not ended, each derived from the one before it: the stack of the recursion.
+    let mut begun = Vec::with_capacity(alloc, run.end - run.start)?;
+    for i in run.start..run.end {
+        let node = tree.node(i);
+        // This page derives from none that stands as deep, so their visits end.
+        while let Some(page) = pop_from(&mut begun, node.depth) {
+            status = status.join(take(shards, page.place, first, revoked, first_too));
+        }
+        begun.push(node)?;
+    }
+    while let Some(page) = begun.pop() {
+        status = status.join(take(shards, page.place, first, revoked, first_too));
+    }
+    if let Some(origin) = tree.origin_of(run.start) {
+        add_status(shards, tree.node(origin).place, status);
+    }
+    Ok(status)
+}
+
+/// Takes the last page off, if it stands at least so deep.
+fn pop_from(begun: &mut Vec<Node>, depth: usize) -> Option<Node>
+    ensures some { IfSome result (λ page. begun.old.items ≡ begun.new.items ++ page ∷ []) }
+    ensures none { IfNone result (begun.new ≡ begun.old) }
+{
+    let last = begun.last()?;
+    if last.depth < depth {
+        return None;
+    }
+    begun.pop()
+}
+
+/// Ends the visit of a place: what it holds loses the rights, unless it is the first place of the recursion and is to keep
+/// them, and its status is cleared and given back.
+fn take(shards: &mut Shards, place: Place, first: Place, revoked: Rights, first_too: bool) -> Rights
+    requires place { IsPlace shards.old place }
+    requires present { IsFalse (is_taken shards.old) }
+    ensures status { result ≡ status_of (entry_at shards.old place) }
+    ensures set { IsSetAt shards.old shards.new place (option_and_then (narrowed (first_too || not (same_place place first)) revoked) (entry_at shards.old place)) }
+    ensures present { IsFalse (is_taken shards.new) }
+    ensures layout { IsLaidOutAs shards.old shards.new }
+{
+    let loses = first_too || place != first;
+    narrow(shards, place, revoked, loses)
+}
