@@ -28,6 +28,9 @@ def roots(count, first=0):
 CHAIN = "send,0,1,c0,8,50c7", "send,1,2,c0,8,c7"
 CHAINED = f"1 {LINKED}", f"2 {LINKED}"
 
+# The same with 1:9 in place of 1:0.
+CHAIN_FROM_PAGE_9 = "send,0,1,90c0,8,50c7", "send,1,2,c0,8,90c7"
+
 # Name, input, what the program must write on standard output; it ends with status 0 and a silent standard error.
 WHOLE_RUNS = [
     (
@@ -285,6 +288,69 @@ WHOLE_RUNS = [
             "1,0,5,rwx,---,0:5",
             "2,0,5,rwx,---,1:0",
             "end 3 0",
+        ),
+    ),
+    (
+        "status passes from level to level up to the origin outside",
+        lines(
+            HEADER,
+            *CHAIN,
+            "send,2,1,30c0,8,c7",
+            "access,1,3000,w",
+            "unmap,2,0,c0",
+            "unmap,2,0,c0",
+            "unmap,1,0,c0",
+            "unmap,1,0,c0",
+            "unmap,0,0,50c0",
+            "unmap,0,0,50c0",
+        ),
+        lines(
+            *CHAINED,
+            f"3 {LINKED}",
+            "4 access ok",
+            "5 unmap 000000c6",
+            "6 unmap 000000c0",
+            "7 unmap 000000c6",
+            "8 unmap 000000c0",
+            "9 unmap 000050c6",
+            "10 unmap 000050c0",
+            roots(16),
+            "1,0,5,rwx,---,0:5",
+            "1,3,5,rwx,---,2:0",
+            "2,0,5,rwx,---,1:0",
+            "end 10 0",
+        ),
+    ),
+    (
+        "mapping that derives within the caller's own space has the lower page",
+        lines(HEADER, *CHAIN_FROM_PAGE_9, "send,2,1,30c0,8,c7", "unmap,1,0,12"),
+        lines(
+            *CHAINED,
+            f"3 {LINKED}",
+            "4 unmap 00000010",
+            roots(16),
+            "1,3,5,r-x,---,2:0",
+            "1,9,5,rwx,---,0:5",
+            "2,0,5,r-x,---,1:9",
+            "end 4 0",
+        ),
+    ),
+    (
+        "flush of a mapping with the lower page that derives within the caller's own space",
+        lines(HEADER, *CHAIN_FROM_PAGE_9, "send,2,1,30c0,8,c7", "unmap,1,40,30c2", "unmap,1,40,12", "unmap,1,40,90c7"),
+        lines(*CHAINED, f"3 {LINKED}", "4 unmap 000030c0", "5 unmap 00000010", "6 unmap 000090c0", roots(16), "end 6 0"),
+    ),
+    (
+        "root that its own space revokes",
+        lines(HEADER, *CHAIN, "access,1,0,r", "unmap,0,40,50c2", "unmap,0,40,50c5"),
+        lines(
+            *CHAINED,
+            "3 access ok",
+            "4 unmap 000050c4",
+            "5 unmap 000050c0",
+            roots(5),
+            roots(10, first=6),
+            "end 5 0",
         ),
     ),
     (
@@ -733,6 +799,23 @@ def between(record):
     return lines(HEADER, "send,0,1,10,8,50c6") + record + lines("", "access,1,0,w")
 
 
+def rights_text(bits):
+    """Rights as the audit writes them: read is 4, write 2, execute 1."""
+    return "".join(name if bits & bit else "-" for name, bit in (("r", 4), ("w", 2), ("x", 1)))
+
+
+def revocation(flush, revoked):
+    """Space 1 takes these rights from all that derives from its page, and with `flush` from the page itself: the trace
+    and what must be written. Space 2 has written to its page before, which leaves R and W."""
+    left = rights_text(7 & ~revoked)
+    own = left if flush else "rwx"
+    held = [f"1,0,5,{own},---,0:5"] if own != "---" else []
+    held += [f"2,0,5,{left},---,1:0"] if left != "---" else []
+    given = lines(HEADER, *CHAIN, "access,2,0,w", f"unmap,1,{'40' if flush else '0'},c{revoked}")
+    around = roots(5), "0,5,5,rwx,RW-,-", roots(10, first=6)
+    return given, lines(*CHAINED, "3 access ok", "4 unmap 000000c6", *around, *held, "end 4 0")
+
+
 def main():
     program, cases = program_path(), Cases()
 
@@ -741,6 +824,10 @@ def main():
 
     for name, given, stdout in WHOLE_RUNS:
         check(name, given, stdout)
+    for flush in (False, True):
+        for revoked in range(8):
+            name = f"{'flush' if flush else 'unmap'} of the rights {rights_text(revoked)}"
+            check(name, *revocation(flush, revoked))
     for name, given in WAYS_TO_WRITE:
         check(f"ways to write a trace: {name}", given, SAME_RECORDS)
     for name, record, reply, audit in ACCEPTED:
