@@ -1,5 +1,6 @@
 -- The pages that a word names, and the groups of one frame among them.
-use Rattle.std.proofs.Common.{◌≡◌, ℕ, zero, suc, ◌+◌, ◌-◌, ◌<◌, ◌≤◌, true, false, Bool, ◌&&◌, ◌||◌, ◌==◌, nat_le, nat_lt, List, [], ◌∷◌, ◌++◌, length, drop, take, get_or, Option, Some, None, is_some, refl, sym, ap, ◌∙◌, subst, arith, ◌⊎◌, inl, inr}
+use Rattle.std.proofs.Common.{◌≡◌, ℕ, zero, suc, ◌+◌, ◌-◌, ◌<◌, ◌≤◌, true, false, Bool, ◌&&◌, ◌||◌, ◌==◌, nat_le, nat_lt, List, [], ◌∷◌, ◌++◌, length, drop, take, get_or, Option, Some, None, is_some, Ok, Err, refl, sym, ap, ◌∙◌, subst, arith, ◌⊎◌, inl, inr}
+use Rattle.std.specs.Prelude.{Result, IfOk, OnOk}
 use Rattle.std.specs.List.{All, list_all, slice_range}
 use Rattle.std.specs.List.Sorted.{IsPermutation}
 use Rattle.std.proofs.lemmas.Bool.{or_cases, or_right, and_parts, and_from, false_from_ne_true, eqb-true, eq-eqb}
@@ -16,11 +17,12 @@ use Rattle.fpage.specs.declared.rights.Rights.{Rights}
 use Rattle.space.specs.declared.place.Place.{Place}
 use Rattle.space.specs.declared.place.Entry.{Entry}
 use Rattle.space.specs.declared.shards.Shards.{Shards}
+use Rattle.space.specs.declared.error.NoMemory.{NoMemory}
 use Rattle.space.specs.Place.{same_place}
 use Rattle.space.specs.Shards.{entry_at}
 use Rattle.space.proofs.Places.{same_is, same_self, same_or_apart}
 use Rattle.maptree.specs.Origins.{Shape}
-use Rattle.model.specs.Holdings.{Held, at, is_held}
+use Rattle.model.specs.Holdings.{Held, Holdings, PlaceSet, at, is_held}
 use Rattle.model.specs.Answers.{pages_in}
 use Rattle.model.specs.Strip.{strip, strip_word}
 use Rattle.model.proofs.LawfulParts.{IsLawful, lawful_parts}
@@ -130,13 +132,6 @@ module _ (shards : Shards) (space first : ℕ) where
   pub all_so_far : (f : Flexpage) (pages : List HeldPage) → f.first ≡ first → AreHeldUpTo shards space first (f.first + f.count) pages → AreHeldPages shards space f pages
   all_so_far f pages is so_far = record { named = λ p. so_far.named p ∙ ap (λ n. ((p.space == space) && (nat_le n p.page && nat_lt p.page (f.first + f.count))) && has_entry shards p) (sym is); frames = so_far.frames }
 
--- the same pages in another order
-pub held_in_order : (shards : Shards) (space : ℕ) (f : Flexpage) (pages sorted : List HeldPage) → IsPermutation pages sorted → AreHeldPages shards space f pages → AreHeldPages shards space f sorted
-held_in_order shards space f pages sorted order are = record {
-  named = λ p. sym (list_any-IsPermutation (λ h. same_place p h.place) pages sorted order) ∙ are.named p;
-  frames = All-permutation (HasItsFrame shards) pages sorted order are.frames;
-}
-
 -- ---- groups of one frame
 
 -- what the pages before this one have lost
@@ -152,7 +147,23 @@ any_places : (pages : List HeldPage) (p : Place) → any_of (places_in pages) p 
 any_places [] p = refl
 any_places (h ∷ pages) p = ap (λ b. same_place p h.place || b) (any_places pages p)
 
-module _ (old : Shards) (old_trees : List Shape) (sound : AreSound old old_trees) (space : ℕ) (fpage : Flexpage) (pages : List HeldPage) (are : AreHeldPages old space fpage pages) (a : Rights) (f : Bool) where
+-- pages that are held, each with its frame, within the limits
+pub record ArePages (shards : Shards) (trees : List Shape) (pages : List HeldPage) : Type 0 where
+  pub frames : All (HasItsFrame shards) pages
+  pub places : All (λ h. is_place (limits_in shards trees) h.place ≡ true) pages
+
+-- the same pages in another order
+pub pages_in_order : (shards : Shards) (trees : List Shape) (pages sorted : List HeldPage) → IsPermutation pages sorted → ArePages shards trees pages → ArePages shards trees sorted
+pages_in_order shards trees pages sorted order are = record {
+  frames = All-permutation (HasItsFrame shards) pages sorted order are.frames;
+  places = All-permutation (λ h. is_place (limits_in shards trees) h.place ≡ true) pages sorted order are.places;
+}
+
+-- they are the same set
+pub same_pages : (pages sorted : List HeldPage) → IsPermutation pages sorted → any_page pages ≡ any_page sorted
+same_pages pages sorted order i p = list_any-IsPermutation (λ h. same_place p h.place) pages sorted order i
+
+module _ (old : Shards) (old_trees : List Shape) (sound : AreSound old old_trees) (pages : List HeldPage) (are : ArePages old old_trees pages) (a : Rights) (f : Bool) where
   sound_lawful : IsLawful (holdings_in old old_trees)
   sound_lawful = lawful_parts (holdings_in old old_trees) sound.kept.lawful
 
@@ -171,18 +182,11 @@ module _ (old : Shards) (old_trees : List Shape) (sound : AreSound old old_trees
   page_frame : (i : ℕ) (d : HeldPage) → i < length pages → (e : Entry) × (entry_at old (get_or pages i d).place ≡ Some e) × (e.frame ≡ (get_or pages i d).frame)
   page_frame i d within = stood (get_or pages i d).frame (entry_at old (get_or pages i d).place) (are.frames i d within)
 
-  -- a listed page is within the limits, and its frame is one of the frames
-  any_at : (xs : List HeldPage) (i : ℕ) (d : HeldPage) → i < length xs → any_page xs (get_or xs i d).place ≡ true
-  any_at [] i d within = absurd (omega (arith, within))
-  any_at (x ∷ xs) zero d within = rw (same_self x.place) refl
-  any_at (x ∷ xs) (suc i) d within = or_right _ _ (any_at xs i d (omega (arith, within)))
-
-  pub frame_within : (within_space : (p : Place) → pages_in space fpage p ≡ true → is_place (limits_in old old_trees) p ≡ true) → (now : Shards) (now_trees : List Shape) → limits_in now now_trees ≡ limits_in old old_trees
-      → (i : ℕ) (d : HeldPage) → i < length pages → (get_or pages i d).frame < length now_trees
-  frame_within within_space now now_trees limits i d within =
+  -- its frame is one of the frames
+  pub frame_within : (now : Shards) (now_trees : List Shape) → limits_in now now_trees ≡ limits_in old old_trees → (i : ℕ) (d : HeldPage) → i < length pages → (get_or pages i d).frame < length now_trees
+  frame_within now now_trees limits i d within =
       let e = page_frame i d within in
-      let named = and_parts (pages_in space fpage (get_or pages i d).place) (has_entry old (get_or pages i d).place) (sym (are.named (get_or pages i d).place) ∙ any_at pages i d within) in
-      let inside = within_from_place (limits_in old old_trees) (get_or pages i d).place (within_space (get_or pages i d).place named.0) in
+      let inside = within_from_place (limits_in old old_trees) (get_or pages i d).place (are.places i d within) in
       let less = sound.kept.fits.frame (get_or pages i d).place e.0 inside e.1 in
       subst (λ n. n < length now_trees) e.2 (subst (λ n. e.0.frame < n) (ap (λ l. l.frames) (sym limits)) less)
 
@@ -234,22 +238,44 @@ module _ (old : Shards) (old_trees : List Shape) (sound : AreSound old old_trees
 
   -- all groups
   pub all_groups : (now : Shards) (now_trees : List Shape) (status : Rights) (from : ℕ) → AreStrippedUpTo old old_trees pages from a f now now_trees status → length pages ≤ from
-      → (status ≡ strip_word (holdings_in old old_trees) (pages_in space fpage)) × (holdings_in now now_trees ≡ strip (holdings_in old old_trees) (pages_in space fpage) a f)
+      → (status ≡ strip_word (holdings_in old old_trees) (any_page pages)) × (holdings_in now now_trees ≡ strip (holdings_in old old_trees) (any_page pages) a f)
   all_groups now now_trees status from so_far end =
-      let h = holdings_in old old_trees in
-      let same : (p : Place) → is_held h p ≡ true → any_page (take from pages) p ≡ pages_in space fpage p = λ p held.
-      ap (λ xs. any_page xs p) (take_all from pages end) ∙ are.named p ∙ by (pages_in space fpage p) (has_entry old p) (held_has p held) in
-      (so_far.word ∙ word_same h sound_lawful (any_page (take from pages)) (pages_in space fpage) same, so_far.left ∙ strip_same h sound_lawful (any_page (take from pages)) (pages_in space fpage) same a f)
+      let all = take_all from pages end in
+      (so_far.word ∙ ap (λ xs. strip_word (holdings_in old old_trees) (any_page xs)) all, so_far.left ∙ ap (λ xs. strip (holdings_in old old_trees) (any_page xs) a f) all)
+
+-- what is held has an entry
+pub held_has : (shards : Shards) (trees : List Shape) → AreSound shards trees → (p : Place) → is_held (holdings_in shards trees) p ≡ true → has_entry shards p ≡ true
+held_has shards trees sound p held = by (at (holdings_in shards trees) p) refl held
+  where
+    by : (m : Option Held) → at (holdings_in shards trees) p ≡ m → is_some m ≡ true → has_entry shards p ≡ true
+    by None is some = absurd (cc some)
+    by (Some m) is some = ap is_some (entry_held shards trees (loose_from shards trees sound) p m is).1.1
+
+-- the pages of a list that are the held ones of a set are as good as the set
+module _ (shards : Shards) (trees : List Shape) (sound : AreSound shards trees) (pages : List HeldPage) (set : PlaceSet) (named : (p : Place) → any_page pages p ≡ (set p && has_entry shards p)) where
+  same_as_set : (p : Place) → is_held (holdings_in shards trees) p ≡ true → any_page pages p ≡ set p
+  same_as_set p held = named p ∙ by (set p) (has_entry shards p) (held_has shards trees sound p held)
     where
       by : (x y : Bool) → y ≡ true → (x && y) ≡ x
       by x y is = grind (arith, is)
 
-      held_has : (p : Place) → is_held (holdings_in old old_trees) p ≡ true → has_entry old p ≡ true
-      held_has p held = from_held (at (holdings_in old old_trees) p) refl held
-        where
-          from_held : (m : Option Held) → at (holdings_in old old_trees) p ≡ m → is_some m ≡ true → has_entry old p ≡ true
-          from_held None is some = absurd (cc some)
-          from_held (Some m) is some = ap is_some (entry_held old old_trees (loose_from old old_trees sound) p m is).1.1
+  pub word_of_set : strip_word (holdings_in shards trees) (any_page pages) ≡ strip_word (holdings_in shards trees) set
+  word_of_set = word_same (holdings_in shards trees) (lawful_parts (holdings_in shards trees) sound.kept.lawful) (any_page pages) set same_as_set
+
+  pub strip_of_set : (a : Rights) (f : Bool) → strip (holdings_in shards trees) (any_page pages) a f ≡ strip (holdings_in shards trees) set a f
+  strip_of_set a f = strip_same (holdings_in shards trees) (lawful_parts (holdings_in shards trees) sound.kept.lawful) (any_page pages) set same_as_set a f
+
+-- a page of a list is one of it
+any_at : (xs : List HeldPage) (i : ℕ) (d : HeldPage) → i < length xs → any_page xs (get_or xs i d).place ≡ true
+any_at [] i d within = absurd (omega (arith, within))
+any_at (x ∷ xs) zero d within = rw (same_self x.place) refl
+any_at (x ∷ xs) (suc i) d within = or_right _ _ (any_at xs i d (omega (arith, within)))
+
+-- where all of a set is within the limits, so are its held pages
+pub places_of_set : (limits : Limits) (shards : Shards) (pages : List HeldPage) (set : PlaceSet) → ((p : Place) → any_page pages p ≡ (set p && has_entry shards p)) → ((p : Place) → set p ≡ true → is_place limits p ≡ true)
+    → All (λ h. is_place limits h.place ≡ true) pages
+places_of_set limits shards pages set named within i d less =
+    within (get_or pages i d).place (and_parts (set (get_or pages i d).place) (has_entry shards (get_or pages i d).place) (sym (named (get_or pages i d).place) ∙ any_at pages i d less)).0
 
 -- a page and those behind it of the same frame are a group
 pub group_all : (pages : List HeldPage) (from n frame : ℕ) (d : HeldPage) → from < length pages → (get_or pages from d).frame ≡ frame → n ≤ length (take (length pages - (from + 1)) (drop (from + 1) pages))
@@ -277,3 +303,13 @@ pub group_shown : (pages shown : List HeldPage) (from n frame : ℕ) (d : HeldPa
 group_shown pages shown from n frame d same within is most all =
     group_all pages from n frame d within is (subst (λ xs. n ≤ length (take (length xs - (from + 1)) (drop (from + 1) xs))) same most)
     (subst (λ xs. list_all (λ (h : HeldPage). h.frame == frame) (take n (take (length xs - (from + 1)) (drop (from + 1) xs))) ≡ true) same all)
+
+-- ---- the status and the holdings that a call gives, by another name
+
+pub status_as : (r : Result Rights NoMemory) (x y : Rights) → x ≡ y → IfOk r (λ s. s ≡ x) → IfOk r (λ s. s ≡ y)
+status_as (Ok s) x y same is = is ∙ same
+status_as (Err e) x y same is = tt
+
+pub left_as : (r : Result Rights NoMemory) (left x y : Holdings) → x ≡ y → OnOk r (left ≡ x) → OnOk r (left ≡ y)
+left_as (Ok s) left x y same is = is ∙ same
+left_as (Err e) left x y same is = tt

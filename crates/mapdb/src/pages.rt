@@ -7,7 +7,8 @@ ghost use Rattle.fpage.specs.Fpage.{IsFpageOf};
 ghost use Rattle.model.specs.Answers.{pages_in};
 ghost use Rattle.model.specs.Strip.{strip, strip_word};
 ghost use Rattle.mapdb.specs.State.{unmap_status, unmap_left};
-ghost use Rattle.mapdb.specs.Stripping.{limits_in, holdings_in, AreSound, AreHeldPages, places_in};
+ghost use Rattle.mapdb.specs.Held.{is_place};
+ghost use Rattle.mapdb.specs.Stripping.{limits_in, holdings_in, AreSound, AreHeldPages, HasItsFrame, any_page, places_in};
 
 use crate::strip::strip_frame;
 use fpage::{Fpage, Rights};
@@ -50,7 +51,7 @@ pub fn unmap_words(
     Ok(status)
 }
 
-/// Strips the pages of a space that an fpage names of the rights in its word, frame by frame.
+/// Strips the pages of a space that an fpage names of the rights in its word.
 fn strip_pages(
     alloc: Global,
     shards: &mut Shards,
@@ -67,7 +68,29 @@ fn strip_pages(
     ensures sound { OnOk result (AreSound shards.new trees.new) }
     ensures limits { OnOk result (limits_in shards.new trees.new ≡ limits_in shards.old trees.old) }
 {
-    let mut pages = held_pages(alloc, shards, space, fpage)?;
+    let pages = held_pages(alloc, shards, space, fpage)?;
+    strip_held(alloc, shards, trees, pages, fpage.rights(), first_too)
+}
+
+/// Strips pages that are held, frame by frame.
+///
+/// Refused, where memory is: `NoMemory`.
+pub fn strip_held(
+    alloc: Global,
+    shards: &mut Shards,
+    trees: &mut [Tree],
+    mut pages: Vec<HeldPage>,
+    revoked: Rights,
+    first_too: bool,
+) -> Result<Rights, NoMemory>
+    requires sound { AreSound shards.old trees.old }
+    requires frames { All (HasItsFrame shards.old) pages.items }
+    requires places { All (λ h. is_place (limits_in shards.old trees.old) h.place ≡ true) pages.items }
+    ensures status { IfOk result (λ status. status ≡ strip_word (holdings_in shards.old trees.old) (any_page pages.items)) }
+    ensures left { OnOk result (holdings_in shards.new trees.new ≡ strip (holdings_in shards.old trees.old) (any_page pages.items) revoked first_too) }
+    ensures sound { OnOk result (AreSound shards.new trees.new) }
+    ensures limits { OnOk result (limits_in shards.new trees.new ≡ limits_in shards.old trees.old) }
+{
     pages.sort_unstable_by_key(|page| page.frame);
     let mut status = Rights::none();
     let mut from = 0;
@@ -81,7 +104,7 @@ fn strip_pages(
             trees,
             frame as usize,
             &places,
-            fpage.rights(),
+            revoked,
             first_too,
         )?;
         status = status.join(word);
