@@ -6,3 +6,4 @@ pub mod State
 pub mod Sound
 pub mod Words
 pub mod Stripping
+pub mod Sending

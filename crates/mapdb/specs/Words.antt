@@ -18,3 +18,7 @@ narrowed loses a e =
 -- an entry with more status
 abbrev pub with_status : Rights → Entry → Entry
 with_status status e = record e { status = join e.status status }
+
+-- an entry with more rights
+abbrev pub extended : Rights → Entry → Entry
+extended rights e = record e { rights = join e.rights rights }

@@ -3,7 +3,12 @@
 
 mod database;
 mod error;
+mod grant;
+mod item;
+mod item_pages;
 mod limits;
+mod map;
+mod outcome;
 mod pages;
 mod plain;
 mod reply;
@@ -12,6 +17,7 @@ mod strip;
 #[cfg(test)]
 mod tests;
 mod tidy;
+mod transfer;
 mod tree;
 mod words;
 

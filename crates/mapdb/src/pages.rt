@@ -19,8 +19,8 @@ use std::alloc::{AllocError, Global};
 /// A page that is held, and its frame.
 #[derive(Clone, Copy, Debug, PartialEq, Eq)]
 pub struct HeldPage {
-    frame: u32,
-    place: Place,
+    pub frame: u32,
+    pub place: Place,
 }
 
 /// Works the words of an unmap one after another. Each gives back the status of its pages and of all that derives from

@@ -1,0 +1,42 @@
+//! An item between two spaces.
+
+ghost use Rattle.std.specs.Prelude.{◌≡◌, ◌<◌};
+ghost use Rattle.fpage.specs.Fpage.{IsFpageOf};
+ghost use Rattle.model.specs.Items.{job_of};
+ghost use Rattle.mapdb.specs.Sending.{job_of_pages};
+
+use fpage::{Fpage, Item, ItemKind, Rights, pair};
+use space::Place;
+
+/// An item between two spaces: so many pages from a source on, each with its target, and the rights that it lets through.
+#[derive(Clone, Copy, Debug, PartialEq, Eq)]
+pub struct ItemPages {
+    pub kind: ItemKind,
+    pub rights: Rights,
+    pub source: Place,
+    pub target: Place,
+    pub count: u32,
+}
+
+impl ItemPages {
+    /// The pages of an item from one space to the window of another, whose rights are ignored (profile).
+    pub fn of(from: u16, to: u16, window: &Fpage, item: &Item) -> ItemPages
+        requires window { 0 < window.now.count }
+        ensures job { job_of_pages result ≡ job_of from to window.now item.now }
+    {
+        let pages = pair(item, window);
+        ItemPages {
+            kind: item.kind,
+            rights: item.sent.rights(),
+            source: Place {
+                space: from,
+                page: pages.source,
+            },
+            target: Place {
+                space: to,
+                page: pages.target,
+            },
+            count: pages.count,
+        }
+    }
+}
