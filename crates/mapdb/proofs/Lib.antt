@@ -11,6 +11,7 @@ pub mod Walks
 pub mod Visits
 pub mod Sequences
 pub mod Tidying
+pub mod Outcomes
 pub mod Outer
 pub mod Frames
 pub mod Named

@@ -6,6 +6,7 @@ ghost use Rattle.mapdb.specs.Held.{IsWithin};
 ghost use Rattle.mapdb.specs.Stripping.{limits_in, holdings_in, AreSound};
 ghost use Rattle.mapdb.specs.Sending.{fate_of_outcome};
 
+use crate::tree;
 use fpage::{ItemKind, Rights};
 use maptree::Tree;
 use space::{Place, Shards};
@@ -71,8 +72,24 @@ fn outcome_in(tree: &Tree, kind: ItemKind, source: Place, target: Place) -> Outc
     if tree.is_origin(j, i) {
         return Outcome::Origin;
     }
-    if kind == ItemKind::Map && tree.origin_of(j) == Some(i) {
+    if extends(tree, kind, source, target) {
         return Outcome::Extends;
     }
     Outcome::Goes
+}
+
+ghost use Rattle.std.specs.Prelude.{◌&&◌, false};
+ghost use Rattle.std.specs.Option.{option_map_or};
+ghost use Rattle.space.specs.Place.{same_place};
+ghost use Rattle.maptree.specs.Origins.{origin_in};
+ghost use Rattle.model.specs.Items.{is_map};
+
+/// Whether an item maps a page to a mapping that derives from it.
+fn extends(tree: &Tree, kind: ItemKind, source: Place, target: Place) -> bool
+    ensures { result ≡ (is_map kind && option_map_or (same_place source) (origin_in tree.now.links target) false) }
+{
+    match (kind, tree::origin(tree, target)) {
+        (ItemKind::Map, Some(origin)) => source == origin,
+        _ => false,
+    }
 }
