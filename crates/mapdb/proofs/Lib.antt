@@ -12,6 +12,8 @@ pub mod Visits
 pub mod Sequences
 pub mod Tidying
 pub mod Outcomes
+pub mod HeldEnds
+pub mod Plans
 pub mod Outer
 pub mod Frames
 pub mod Named

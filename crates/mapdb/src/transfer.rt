@@ -5,7 +5,7 @@ ghost use Rattle.std.specs.List.{All};
 ghost use Rattle.mapdb.specs.Meaning.{counts_of};
 ghost use Rattle.space.specs.declared.place.Place.{Place};
 ghost use Rattle.mapdb.specs.Stripping.{limits_in, holdings_in, any_page, has_entry, HasItsFrame, AreSound};
-ghost use Rattle.mapdb.specs.Sending.{job_of_pages, AreItemPages, transfers_of, decided, ends_of};
+ghost use Rattle.mapdb.specs.Sending.{job_of_pages, AreItemPages, transfers_of, decided, end_of, ends_of};
 
 use crate::outcome::{Outcome, outcome_of};
 use crate::pages::HeldPage;
@@ -22,6 +22,27 @@ pub struct Transfer {
     pub target: Place,
     /// The mapping that the target has from the source gains rights; otherwise the target is replaced.
     pub extends: bool,
+}
+
+/// An end of a transfer.
+#[derive(Clone, Copy, Debug, PartialEq, Eq)]
+pub enum End {
+    Source,
+    Target,
+}
+
+impl Transfer {
+    ghost use Rattle.mapdb.specs.Sending.{end_of};
+
+    /// The place at an end.
+    pub fn end(&self, end: End) -> Place
+        ensures { result ≡ end_of end self.now }
+    {
+        match end {
+            End::Source => self.source,
+            End::Target => self.target,
+        }
+    }
 }
 
 /// What is to be done for an item.
@@ -84,16 +105,8 @@ pub fn plan_item(
     Ok(Plan { decided, transfers })
 }
 
-/// An end of a transfer.
-#[derive(Clone, Copy, Debug, PartialEq, Eq)]
-pub enum End {
-    Source,
-    Target,
-}
-
 ghost use Rattle.std.specs.Prelude.{IsFalse};
 ghost use Rattle.space.specs.Shards.{IsPlace, is_taken};
-ghost use Rattle.mapdb.specs.Sending.{end_of};
 
 /// What is held at this end of the pages that go.
 pub fn held_ends(
@@ -112,10 +125,7 @@ pub fn held_ends(
         if transfer.extends {
             continue;
         }
-        let place = match end {
-            End::Source => transfer.source,
-            End::Target => transfer.target,
-        };
+        let place = transfer.end(end);
         if let Some(entry) = shards.get(place) {
             let frame = entry.frame;
             pages.push(HeldPage { frame, place })?;

@@ -1,0 +1,133 @@
+-- The outcomes of the pages so far, and those of the pages to come.
+use Rattle.std.proofs.Common.{◌≡◌, ℕ, zero, suc, ◌+◌, ◌-◌, ◌<◌, ◌≤◌, true, false, List, [], ◌∷◌, ◌++◌, length, Option, Some, None, refl, sym, ap, ◌∙◌, subst, arith}
+use Rattle.std.proofs.lemmas.List.{append_assoc, append-nil}
+use Rattle.space.specs.declared.place.Place.{Place}
+use Rattle.fpage.specs.declared.item.ItemKind.{ItemKind}
+use Rattle.fpage.specs.declared.rights.Rights.{Rights}
+use Rattle.model.specs.Holdings.{Held, Holdings, at}
+use Rattle.model.specs.Items.{Job, Pair, next_page, pairs_from, Fate, absent, norights, to_origin, extends, goes, fate_of, fate, Counts, no_counts, add_counts}
+use Rattle.model.specs.SendLaws.{total}
+use Rattle.mapdb.specs.declared.transfer.Transfer.{Transfer}
+use Rattle.mapdb.specs.Sending.{transfer_of, transfers_of, decided_of, decided}
+
+-- ---- counts
+
+pub add_assoc : (a b c : Counts) → add_counts (add_counts a b) c ≡ add_counts a (add_counts b c)
+add_assoc a b c = λ i. record {
+  absent = one a.absent b.absent c.absent i;
+  norights = one a.norights b.norights c.norights i;
+  origin = one a.origin b.origin c.origin i;
+  lost = one a.lost b.lost c.lost i;
+  extended = one a.extended b.extended c.extended i;
+  linked = one a.linked b.linked c.linked i;
+}
+  where
+    one : (x y z : ℕ) → x + y + z ≡ x + (y + z)
+    one x y z = omega arith
+
+pub add_none : (a : Counts) → add_counts a no_counts ≡ a
+add_none a = λ i. record { absent = one a.absent i; norights = one a.norights i; origin = one a.origin i; lost = one a.lost i; extended = one a.extended i; linked = one a.linked i }
+  where
+    one : (x : ℕ) → x + 0 ≡ x
+    one x = omega arith
+
+pub none_add : (a : Counts) → add_counts no_counts a ≡ a
+none_add a = λ i. record { absent = one a.absent i; norights = one a.norights i; origin = one a.origin i; lost = one a.lost i; extended = one a.extended i; linked = one a.linked i }
+  where
+    one : (x : ℕ) → 0 + x ≡ x
+    one x = omega arith
+
+pub total_sum : (a b : Counts) → total (add_counts a b) ≡ total a + total b
+total_sum a b = omega arith
+
+-- ---- an item's outcome goes by its kind and rights
+
+pub same_fate : (h : Holdings) (kind : ItemKind) (rights : Rights) (ps qs : List Pair) (e : Pair) → fate h (record { kind = kind; rights = rights; pairs = ps }) e ≡ fate h (record { kind = kind; rights = rights; pairs = qs }) e
+same_fate h kind rights ps qs e = by (at h e.0)
+  where
+    by : (m : Option Held) → fate_of h (record { kind = kind; rights = rights; pairs = ps }) e m ≡ fate_of h (record { kind = kind; rights = rights; pairs = qs }) e m
+    by None = refl
+    by (Some m) = refl
+
+-- ---- pages
+
+-- the page so far behind it in its space
+abbrev pub page_on : Place → ℕ → Place
+page_on p i = record p { page = p.page + i }
+
+-- the pages from the i-th on
+pub pairs_on : (n i : ℕ) (source target : Place) → i < n
+    → pairs_from (n - i) (page_on source i) (page_on target i) ≡ (page_on source i, page_on target i) ∷ pairs_from (n - (i + 1)) (page_on source (i + 1)) (page_on target (i + 1))
+pairs_on n i source target less =
+    let more : n - i ≡ suc (n - (i + 1)) = omega (arith, less) in
+    let on : (p : ℕ) → p + i + 1 ≡ p + (i + 1) = λ p. omega arith in
+    ap (λ k. pairs_from k (page_on source i) (page_on target i)) more
+    ∙ (λ j. (page_on source i, page_on target i) ∷ pairs_from (n - (i + 1)) (record source { page = on source.page j }) (record target { page = on target.page j }))
+
+transfers_before : (e : Pair) (f : Fate) (ts : List Transfer) → transfer_of e f ts ≡ transfer_of e f [] ++ ts
+transfers_before e absent ts = refl
+transfers_before e norights ts = refl
+transfers_before e to_origin ts = refl
+transfers_before e extends ts = refl
+transfers_before e goes ts = refl
+
+decided_one : (f : Fate) → total (decided_of f) ≤ 1
+decided_one absent = omega arith
+decided_one norights = omega arith
+decided_one to_origin = omega arith
+decided_one extends = omega arith
+decided_one goes = omega arith
+
+-- the outcomes so far with those of the pages to come are those of all pages
+pub record AreDecided (h : Holdings) (job : Job) (n i : ℕ) (source target : Place) (counts : Counts) (ts : List Transfer) : Type 0 where
+  pub counts_are : add_counts counts (decided h job (pairs_from (n - i) (page_on source i) (page_on target i))) ≡ decided h job (pairs_from n source target)
+  pub transfers_are : ts ++ transfers_of h job (pairs_from (n - i) (page_on source i) (page_on target i)) ≡ transfers_of h job (pairs_from n source target)
+  pub few : total counts ≤ i
+
+module _ (h : Holdings) (job : Job) (n : ℕ) (source target : Place) where
+  pub none_decided : AreDecided h job n 0 source target no_counts []
+  none_decided =
+      let same : (p : ℕ) → p + 0 ≡ p = λ p. omega arith in
+      let zero_less : (n : ℕ) → n - 0 ≡ n = λ n. omega arith in
+      let all : pairs_from (n - 0) (page_on source 0) (page_on target 0) ≡ pairs_from n source target = λ j. pairs_from (zero_less n j) (record source { page = same source.page j }) (record target { page = same target.page j }) in
+      record { counts_are = none_add (decided h job (pairs_from (n - 0) (page_on source 0) (page_on target 0))) ∙ ap (decided h job) all; transfers_are = ap (transfers_of h job) all; few = omega arith }
+
+  pub one_decided : (i : ℕ) (counts more : Counts) (ts new : List Transfer) (f : Fate) → i < n → AreDecided h job n i source target counts ts → f ≡ fate h job (page_on source i, page_on target i)
+      → more ≡ add_counts counts (decided_of f) → new ≡ ts ++ transfer_of (page_on source i, page_on target i) f [] → AreDecided h job n (i + 1) source target more new
+  one_decided i counts more ts new f less so_far is more_is new_is =
+      let rest = pairs_from (n - (i + 1)) (page_on source (i + 1)) (page_on target (i + 1)) in
+      let e : Pair = (page_on source i, page_on target i) in
+      let one = decided_one f in
+      record {
+        counts_are = ap (λ c. add_counts c (decided h job rest)) more_is ∙ add_assoc counts (decided_of f) (decided h job rest)
+            ∙ ap (λ g. add_counts counts (add_counts (decided_of g) (decided h job rest))) is
+            ∙ sym (ap (λ es. add_counts counts (decided h job es)) (pairs_on n i source target less)) ∙ so_far.counts_are;
+        transfers_are = ap (λ xs. xs ++ transfers_of h job rest) new_is ∙ append_assoc ts (transfer_of e f []) (transfers_of h job rest)
+            ∙ ap (λ xs. ts ++ xs) (sym (transfers_before e f (transfers_of h job rest)) ∙ ap (λ g. transfer_of e g (transfers_of h job rest)) is)
+            ∙ sym (ap (λ es. ts ++ transfers_of h job es) (pairs_on n i source target less)) ∙ so_far.transfers_are;
+        few = subst (λ c. total c ≤ i + 1) (sym more_is) (subst (λ k. k ≤ i + 1) (sym (total_sum counts (decided_of f))) (omega (arith, one, so_far.few)));
+      }
+
+  pub all_decided : (i : ℕ) (counts : Counts) (ts : List Transfer) → n ≤ i → AreDecided h job n i source target counts ts → (counts ≡ decided h job (pairs_from n source target)) × (ts ≡ transfers_of h job (pairs_from n source target))
+  all_decided i counts ts past so_far =
+      let none : n - i ≡ 0 = omega (arith, past) in
+      let nothing : pairs_from (n - i) (page_on source i) (page_on target i) ≡ [] = ap (λ k. pairs_from k (page_on source i) (page_on target i)) none in (
+        sym (add_none counts) ∙ sym (ap (λ es. add_counts counts (decided h job es)) nothing) ∙ so_far.counts_are,
+        sym (append-nil ts) ∙ sym (ap (λ es. ts ++ transfers_of h job es) nothing) ∙ so_far.transfers_are,
+      )
+
+-- the pages of a longer list have no more transfers than pages
+pub transfers_few : (h : Holdings) (job : Job) (es : List Pair) → length (transfers_of h job es) ≤ length es
+transfers_few h job [] = omega arith
+transfers_few h job (e ∷ es) = by (fate h job e) (transfers_few h job es)
+  where
+    by : (f : Fate) → length (transfers_of h job es) ≤ length es → length (transfer_of e f (transfers_of h job es)) ≤ length (e ∷ es)
+    by absent few = omega (arith, few)
+    by norights few = omega (arith, few)
+    by to_origin few = omega (arith, few)
+    by extends few = omega (arith, few)
+    by goes few = omega (arith, few)
+
+pub pairs_length : (n : ℕ) (source target : Place) → length (pairs_from n source target) ≡ n
+pairs_length zero source target = refl
+pairs_length (suc n) source target = ap suc (pairs_length n (next_page source) (next_page target))
