@@ -14,6 +14,7 @@ pub mod Tidying
 pub mod Outcomes
 pub mod HeldEnds
 pub mod Plans
+pub mod MapPages
 pub mod Outer
 pub mod Frames
 pub mod Named

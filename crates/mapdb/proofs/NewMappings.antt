@@ -28,17 +28,12 @@ use Rattle.model.proofs.Puts.{apart_places, put_here, put_elsewhere, sorted_put}
 use Rattle.mapdb.specs.Derivation.{stands_in, IsDerived}
 use Rattle.mapdb.specs.Held.{IsWithin, is_place, links_in, is_listed, held_of, held_at, has_frame, holdings_of}
 use Rattle.mapdb.specs.Sound.{IsTidy, IsSound}
+use Rattle.mapdb.specs.Sending.{IsTreeSet}
 use Rattle.mapdb.proofs.Listing.{listing_put, place_from_within, within_from_place}
 use Rattle.mapdb.proofs.Holders.{place_within, entry_elsewhere, present_within, absent_within}
 use Rattle.mapdb.proofs.WordChanges.{IsWordSet}
 
 -- ---- one tree is changed
-
--- the tree of this frame became another, and no other did
-pub record IsTreeSet (old new : List Shape) (frame : ℕ) (links : Origins) : Type 0 where
-  pub count : length new ≡ length old
-  pub there : links_in new frame ≡ links
-  pub elsewhere : (f : ℕ) → (f ≡ frame → ⊥) → links_in new f ≡ links_in old f
 
 get_there : (trees : List Shape) (frame : ℕ) (t : Shape) → frame < length trees → slice_get (slice_set trees frame t) frame ≡ Some t
 get_there [] frame t within = absurd (omega (arith, within))
