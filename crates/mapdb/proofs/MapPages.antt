@@ -1,5 +1,5 @@
 -- One page of a MapItem after the flush, from words and trees.
-use Rattle.std.proofs.Common.{◌≡◌, ◌<◌, true, false, Bool, [], List, Option, Some, None, refl, sym, ap, ◌∙◌, subst, ◌⊎◌, inl, inr}
+use Rattle.std.proofs.Common.{◌≡◌, true, false, Bool, [], List, length, if◌then◌else◌, Option, Some, None, refl, sym, ap, ◌∙◌, subst, ◌⊎◌, inl, inr}
 use Rattle.std.specs.Option.{option_map, option_and_then, is_some}
 use Rattle.std.specs.FinMap.Entries.{put}
 use Rattle.std.proofs.lemmas.Bool.{eq-eqb}
@@ -12,7 +12,7 @@ use Rattle.space.specs.declared.place.Place.{Place}
 use Rattle.space.specs.declared.place.Entry.{Entry}
 use Rattle.space.specs.declared.shards.Shards.{Shards}
 use Rattle.space.specs.Place.{place_cmp, same_place}
-use Rattle.space.specs.Shards.{entry_at}
+use Rattle.space.specs.Shards.{entry_at, IsLaidOutAs}
 use Rattle.space.proofs.Places.{same_or_apart}
 use Rattle.maptree.specs.Origins.{Shape, origin_in}
 use Rattle.model.specs.Holdings.{Held, Holdings, at, is_held, origin_at}
@@ -25,13 +25,14 @@ use Rattle.model.proofs.Growths.{lawful_grown}
 use Rattle.model.proofs.Puts.{apart_places, put_here, put_elsewhere, sorted_put}
 use Rattle.mapdb.specs.declared.transfer.Transfer.{Transfer}
 use Rattle.mapdb.specs.Words as word
-use Rattle.mapdb.specs.Held.{IsWithin, links_in, held_of, held_at, has_frame, holdings_of}
+use Rattle.mapdb.specs.Held.{IsWithin, is_listed, held_of, held_at, has_frame, holdings_of}
 use Rattle.mapdb.specs.Sound.{IsSound}
+use Rattle.mapdb.specs.Stripping.{limits_in, holdings_in, AreSound}
 use Rattle.mapdb.specs.Sending.{fate_in, pair_of, worked_of, IsReady, IsLinked}
 use Rattle.mapdb.proofs.Listing.{listing_put, listing_same}
 use Rattle.mapdb.proofs.Holders.{place_within, held_there, held_elsewhere, held_within, present_within, absent_within, entry_elsewhere}
 use Rattle.mapdb.proofs.WordChanges.{IsWordSet, sound_set}
-use Rattle.mapdb.proofs.NewMappings.{IsMapped, mapped_holdings, mapped_sound}
+use Rattle.mapdb.proofs.NewMappings.{IsMapped, linked_entry, mapped_holdings, mapped_sound, word_free, unlisted}
 
 -- ---- a mapping of a held place that gains rights of it
 
@@ -139,17 +140,30 @@ module _ (h : Holdings) (rights : Rights) (t : Transfer) where
 
 -- ---- a page that extends
 
+-- words and trees after one page of a MapItem
+pub record IsWorked (limits : Limits) (old new : Shards) (trees new_trees : List Shape) (rights : Rights) (t : Transfer) : Type 0 where
+  pub left : holdings_of limits new new_trees ≡ map_pair (holdings_of limits old trees) (record { kind = Map; rights = rights; pairs = [] }) (pair_of t) (fate_in t) (holdings_of limits old trees)
+  pub stays_sound : IsSound limits new new_trees
+
+-- the same limits
+pub same_limits : (old new : Shards) (trees new_trees : List Shape) → IsLaidOutAs old new → length new_trees ≡ length trees → limits_in new new_trees ≡ limits_in old trees
+same_limits old new trees new_trees layout count = λ i. record { spaces = layout.spaces i; bits = layout.bits i; frames = count i }
+
+-- by the limits of the new words and trees
+module _ (old new : Shards) (trees new_trees : List Shape) (rights : Rights) (t : Transfer) (w : IsWorked (limits_in old trees) old new trees new_trees rights t) (same : limits_in new new_trees ≡ limits_in old trees) where
+  pub worked_left : holdings_in new new_trees ≡ map_pair (holdings_in old trees) (record { kind = Map; rights = rights; pairs = [] }) (pair_of t) (fate_in t) (holdings_in old trees)
+  worked_left = ap (λ limits. holdings_of limits new new_trees) same ∙ w.left
+
+  pub worked_sound : AreSound new new_trees
+  worked_sound = subst (λ limits. IsSound limits new new_trees) (sym same) w.stays_sound
+
 module _ (limits : Limits) (old new : Shards) (trees : List Shape) (rights : Rights) (t : Transfer) (e : Entry) (sound : IsSound limits old trees) (source_within : IsWithin limits t.source) (target_within : IsWithin limits t.target)
     (ready : IsReady (holdings_of limits old trees) rights t) (stood : entry_at old t.source ≡ Some e) (extending : t.extends ≡ true)
     (w : IsWordSet old new t.target (option_map (word.extended (meet e.rights rights)) (entry_at old t.target))) where
   abbrev the_holdings : Holdings
   the_holdings = holdings_of limits old trees
 
-  record IsExtended : Type 0 where
-    pub left : holdings_of limits new trees ≡ map_pair the_holdings (record { kind = Map; rights = rights; pairs = [] }) (pair_of t) (fate_in t) the_holdings
-    pub sound : IsSound limits new trees
-
-  pub page_extended : IsExtended
+  pub page_extended : IsWorked limits old new trees trees rights t
   page_extended = by (entry_at old t.target) refl
     where
       held : at the_holdings t.source ≡ Some (held_of trees t.source e)
@@ -158,17 +172,50 @@ module _ (limits : Limits) (old new : Shards) (trees : List Shape) (rights : Rig
       elsewhere : (p : Place) → IsWithin limits p → same_place p t.target ≡ false → held_at new trees p ≡ held_at old trees p
       elsewhere p within apart = held_elsewhere old new trees t.target _ w.set p (place_within limits old trees sound.kept.fits p within) apart
 
-      by : (o : Option Entry) → entry_at old t.target ≡ o → IsExtended
-      by None none = ?
+      by : (o : Option Entry) → entry_at old t.target ≡ o → IsWorked limits old new trees trees rights t
+      by None none = let d = ready.derived (held_of trees t.source e) extending held in absurd (cc (d.1, absent_within limits old trees t.target target_within none))
       by (Some k) is =
           let there : at the_holdings t.target ≡ Some (held_of trees t.target k) = present_within limits old trees t.target target_within k is in
           let entry : entry_at new t.target ≡ Some (word.extended (meet e.rights rights) k) = w.set.there ∙ ap (option_map (word.extended (meet e.rights rights))) is in
           let here : held_at new trees t.target ≡ Some (extended (record { kind = Map; rights = rights; pairs = [] }) (held_of trees t.source e) (held_of trees t.target k)) = ap (option_map (held_of trees t.target)) entry in
           let left = listing_put limits (held_at old trees) (held_at new trees) t.target (extended (record { kind = Map; rights = rights; pairs = [] }) (held_of trees t.source e) (held_of trees t.target k)) target_within here elsewhere in
-          let origin = ready.derived (held_of trees t.target k) extending there in
+          let d = ready.derived (held_of trees t.source e) extending held in
+          let one : d.0 ≡ held_of trees t.target k = same_Some d.0 (held_of trees t.target k) (sym d.1 ∙ there) in
+          let origin = ap (λ x. x.origin) (sym one) ∙ d.2 in
           let lawful = lawful_widened the_holdings (lawful_parts the_holdings sound.kept.lawful) t.source t.target (held_of trees t.source e) (held_of trees t.target k) rights held there origin in
           record {
             left = left ∙ rw (extending, held, there) refl;
-            sound = sound_set limits old new trees t.target _ w (word.extended (meet e.rights rights) k) (ap (option_map (word.extended (meet e.rights rights))) is) (ap (has_frame k.frame) is ∙ eq-eqb k.frame k.frame refl) sound
+            stays_sound = sound_set limits old new trees t.target _ w (word.extended (meet e.rights rights) k) (ap (option_map (word.extended (meet e.rights rights))) is) (ap (has_frame k.frame) is ∙ eq-eqb k.frame k.frame refl) sound
                 (ap is_lawful left ∙ lawful_from _ lawful);
           }
+
+-- ---- a page that is linked
+
+module _ (limits : Limits) (old new : Shards) (trees new_trees : List Shape) (rights : Rights) (t : Transfer) (e : Entry) (sound : IsSound limits old trees) (source_within : IsWithin limits t.source) (target_within : IsWithin limits t.target)
+    (ready : IsReady (holdings_of limits old trees) rights t) (stood : entry_at old t.source ≡ Some e) (going : t.extends ≡ false) where
+  -- its target is free
+  pub target_word : entry_at old t.target ≡ None
+  target_word = word_free limits old trees t.target target_within (ap is_some (ready.free going))
+
+  pub target_unlisted : is_listed trees e.frame t.target ≡ false
+  target_unlisted = unlisted limits old trees t.target target_within (ap is_some (ready.free going)) sound.tidy e.frame
+
+  module _ (is : IsLinked old new trees new_trees t.source t.target (linked_entry e rights)) where
+    page_mapped : IsMapped old new trees new_trees t.source t.target e rights
+    page_mapped = record {
+      links = is.links;
+      word = record { set = is.set; present = is.present; layout = is.layout };
+      tree = is.tree;
+      derived = is.derived;
+      stood = stood;
+      free = target_word;
+      some = ready.some (held_of trees t.source e) (present_within limits old trees t.source source_within e stood);
+    }
+
+    pub page_linked : IsWorked limits old new trees new_trees rights t
+    page_linked =
+        let held = present_within limits old trees t.source source_within e stood in
+        record {
+          left = mapped_holdings limits old new trees new_trees t.source t.target e rights sound source_within target_within page_mapped ∙ rw (going, held) refl;
+          stays_sound = mapped_sound limits old new trees new_trees t.source t.target e rights sound source_within target_within page_mapped;
+        }

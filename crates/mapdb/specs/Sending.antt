@@ -128,12 +128,12 @@ AllGo ts = All (λ t. t.extends ≡ false) ts
 
 -- ---- after the flush
 
--- of a held source some right is let through; the target of one that goes holds nothing, and what that of one that extends
--- holds derives from the source
+-- of a held source some right is let through; the target of one that goes holds nothing; that of one that extends holds what
+-- derives from the source, if the source is held
 pub record IsReady (h : Holdings) (rights : Rights) (t : Transfer) : Type 0 where
   pub some : (m : Held) → at h t.source ≡ Some m → is_empty (meet m.rights rights) ≡ false
   pub free : t.extends ≡ false → at h t.target ≡ None
-  pub derived : (k : Held) → t.extends ≡ true → at h t.target ≡ Some k → k.origin ≡ Some t.source
+  pub derived : (m : Held) → t.extends ≡ true → at h t.source ≡ Some m → (k : Held) × (at h t.target ≡ Some k) × (k.origin ≡ Some t.source)
 
 -- what becomes of one that goes or extends: it is lost if its source was flushed
 abbrev pub worked_of : Holdings → Transfer → Counts
