@@ -15,6 +15,7 @@ pub mod Outcomes
 pub mod HeldEnds
 pub mod Plans
 pub mod MapPages
+pub mod MapAll
 pub mod Outer
 pub mod Frames
 pub mod Named

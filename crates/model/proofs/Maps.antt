@@ -58,7 +58,7 @@ module _ (job : Job) (e : Pair) (g : Holdings) where
     extend_other (Some m) None = refl
     extend_other (Some m) (Some t) = put_elsewhere p e.1 (extended job m t) g apart
 
-    pair_other : (flushed : Holdings) (f : Fate) → at (map_pair flushed job e f g) p ≡ at g p
+    pub pair_other : (flushed : Holdings) (f : Fate) → at (map_pair flushed job e f g) p ≡ at g p
     pair_other flushed absent = refl
     pair_other flushed norights = refl
     pair_other flushed to_origin = refl
