@@ -29,7 +29,7 @@ use Rattle.model.proofs.Narrowings.{not_narrowed}
 use Rattle.mapdb.specs.Held.{IsWithin, is_place, is_listed, links_in, has_frame, holdings_of}
 use Rattle.mapdb.specs.Stripping.{limits_in, holdings_in, any_of, firsts, AreSound, AreLoose, AreOfFrame, has_entry, OriginsHaveEntries, tidied}
 use Rattle.mapdb.proofs.Listing.{within_from_place, place_from_within}
-use Rattle.mapdb.proofs.NewMappings.{IsTreeSet}
+use Rattle.mapdb.specs.Sending.{IsTreeSet}
 use Rattle.model.specs.Records.{are_limits}
 use Rattle.mapdb.proofs.Holders.{same_origins, present_within, origin_within}
 use Rattle.mapdb.proofs.Chains.{chains_agree, stands, listed_at, at_among, below_among, entry_held}

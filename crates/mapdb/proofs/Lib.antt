@@ -16,6 +16,7 @@ pub mod HeldEnds
 pub mod Plans
 pub mod MapPages
 pub mod MapAll
+pub mod Phases
 pub mod Outer
 pub mod Frames
 pub mod Named

@@ -1,11 +1,12 @@
 -- One item of a send, in phases: its pairs that go or extend are found first, then the replaced targets are flushed, then
 -- pages are mapped or moved.
-use Rattle.std.specs.Prelude.{◌≡◌, ℕ, ◌+◌, ◌≤◌, ◌<◌, Bool, true, false, IsFalse, ◌&&◌, not, List, [], ◌∷◌, length, Some, None, if◌then◌else◌}
+use Rattle.std.specs.Prelude.{◌≡◌, ℕ, ◌+◌, ◌^◌, ◌≤◌, ◌<◌, Bool, true, false, IsFalse, ◌&&◌, not, List, [], ◌∷◌, length, Some, None, if◌then◌else◌}
 use Rattle.std.specs.List.{All, list_any}
 use Rattle.std.specs.Option.{option_map_or}
 use Rattle.fpage.specs.declared.item.ItemKind.{ItemKind}
 use Rattle.fpage.specs.declared.rights.Rights.{Rights}
-use Rattle.fpage.specs.Rights.{no_rights, is_empty, meet}
+use Rattle.fpage.specs.Rights.{no_rights, all_rights, is_empty, meet, without}
+use Rattle.fpage.specs.declared.item.ItemKind.TheVariants.{Map, Grant}
 use Rattle.space.specs.declared.place.Place.{Place}
 use Rattle.space.specs.declared.place.Entry.{Entry}
 use Rattle.space.specs.declared.shards.Shards.{Shards}
@@ -15,8 +16,10 @@ use Rattle.space.specs.Directory.{pages_of}
 use Rattle.maptree.specs.Origins.{Origins, Shape, LeadsTo, origin_in}
 use Rattle.model.specs.Calls.{Limits}
 use Rattle.model.specs.Holdings.{Held, Holdings, PlaceSet, at, is_held}
-use Rattle.model.specs.Items.{Job, Pair, pairs_from, is_map, Fate, absent, norights, to_origin, extends, goes, fate, Counts, no_counts, add_counts, counts_of}
+use Rattle.model.specs.Items.{Job, Pair, pairs_from, sources_of, is_map, Fate, absent, norights, to_origin, extends, goes, fate, Counts, no_counts, add_counts, counts_of}
 use Rattle.model.specs.Map.{map_pair}
+use Rattle.model.specs.Grant.{renamed}
+use Rattle.model.specs.Strip.{strip}
 use Rattle.mapdb.specs.Derivation.{IsDerived}
 use Rattle.mapdb.specs.Held.{links_in}
 use Rattle.mapdb.specs.declared.outcome.Outcome.{Outcome}
@@ -120,7 +123,7 @@ pub record ArePlanned (limits : Limits) (ts : List Transfer) : Type 0 where
   pub differ : from ≡ to → ⊥
   pub paired : ArePaired from to ts
   pub within : All (IsTransferWithin limits) ts
-  pub few : length ts ≤ 4096
+  pub few : length ts ≤ 2 ^ 32
 
 -- none extends
 abbrev pub AllGo : List Transfer → Type 0
@@ -168,3 +171,8 @@ pub record IsLinked (old new : Shards) (trees new_trees : List Shape) (source ta
 abbrev pub moving_of : Holdings → List Transfer → List Pair
 moving_of flushed [] = []
 moving_of flushed (t ∷ ts) = if is_held flushed t.source then pair_of t ∷ moving_of flushed ts else moving_of flushed ts
+
+-- what is left of the holdings after the flush when the pages are mapped, or moved
+abbrev pub after_flush : ItemKind → Rights → List Transfer → Holdings → Holdings
+after_flush Map rights ts h = map_transfers h (record { kind = Map; rights = rights; pairs = [] }) ts h
+after_flush Grant rights ts h = renamed (moving_of h ts) (strip h (sources_of (moving_of h ts)) (without all_rights rights) true)

@@ -14,7 +14,7 @@ use crate::map::map_pages;
 use crate::pages::strip_held;
 use crate::item_pages::ItemPages;
 use crate::reply::SendReply;
-use crate::transfer::{End, held_ends, plan_item};
+use crate::transfer::{End, Transfer, held_ends, plan_item};
 use fpage::{Fpage, Item, ItemKind, Rights};
 use maptree::Tree;
 use space::{NoMemory, Shards};
@@ -70,12 +70,62 @@ fn work_item(
     ensures limits { OnOk result (limits_in shards.new trees.new ≡ limits_in shards.old trees.old) }
 {
     let plan = plan_item(alloc, shards, trees, pages)?;
-    let replaced = held_ends(alloc, shards, &plan.transfers, End::Target)?;
-    strip_held(alloc, shards, trees, replaced, Rights::all(), true)?;
-    let rights = pages.rights;
-    let worked = match pages.kind {
-        ItemKind::Map => map_pages(shards, trees, &plan.transfers, rights)?,
-        ItemKind::Grant => grant_pages(alloc, shards, trees, &plan.transfers, rights)?,
-    };
+    flush(alloc, shards, trees, &plan.transfers)?;
+    let worked = map_or_grant(alloc, shards, trees, pages.kind, pages.rights, &plan.transfers)?;
     Ok(plan.decided.plus(worked))
+}
+
+ghost use Rattle.std.specs.Prelude.{true};
+ghost use Rattle.fpage.specs.Rights.{all_rights};
+ghost use Rattle.model.specs.Strip.{strip};
+ghost use Rattle.mapdb.specs.declared.transfer.End.TheVariants.{Target};
+ghost use Rattle.mapdb.specs.Sending.{IsTransferWithin, ends_of};
+
+/// The pages that are to be replaced are revoked, with all that derives from them.
+///
+/// Refused, where memory is: `NoMemory`.
+fn flush(
+    alloc: Global,
+    shards: &mut Shards,
+    trees: &mut [Tree],
+    transfers: &[Transfer],
+) -> Result<(), NoMemory>
+    requires sound { AreSound shards.old trees.old }
+    requires within { All (IsTransferWithin (limits_in shards.old trees.old)) transfers.now }
+    ensures left { OnOk result (holdings_in shards.new trees.new ≡ strip (holdings_in shards.old trees.old) (ends_of Target transfers.now) all_rights true) }
+    ensures sound { OnOk result (AreSound shards.new trees.new) }
+    ensures limits { OnOk result (limits_in shards.new trees.new ≡ limits_in shards.old trees.old) }
+{
+    let replaced = held_ends(alloc, shards, transfers, End::Target)?;
+    strip_held(alloc, shards, trees, replaced, Rights::all(), true)?;
+    Ok(())
+}
+
+ghost use Rattle.fpage.specs.declared.item.ItemKind.TheVariants.{Grant};
+ghost use Rattle.mapdb.specs.Sending.{after_flush, ArePlanned, AllGo, IsReady, worked};
+
+/// Works the pages whose sources are still held after the flush.
+///
+/// Refused, where memory is: `NoMemory`.
+fn map_or_grant(
+    alloc: Global,
+    shards: &mut Shards,
+    trees: &mut [Tree],
+    kind: ItemKind,
+    rights: Rights,
+    transfers: &[Transfer],
+) -> Result<SendReply, NoMemory>
+    requires sound { AreSound shards.old trees.old }
+    requires planned { ArePlanned (limits_in shards.old trees.old) transfers.now }
+    requires all_go { kind ≡ Grant → AllGo transfers.now }
+    requires ready { All (IsReady (holdings_in shards.old trees.old) rights) transfers.now }
+    ensures counts { IfOk result (λ reply. counts_of reply ≡ worked (holdings_in shards.old trees.old) transfers.now) }
+    ensures left { OnOk result (holdings_in shards.new trees.new ≡ after_flush kind rights transfers.now (holdings_in shards.old trees.old)) }
+    ensures sound { OnOk result (AreSound shards.new trees.new) }
+    ensures limits { OnOk result (limits_in shards.new trees.new ≡ limits_in shards.old trees.old) }
+{
+    match kind {
+        ItemKind::Map => map_pages(shards, trees, transfers, rights),
+        ItemKind::Grant => grant_pages(alloc, shards, trees, transfers, rights),
+    }
 }

@@ -7,7 +7,8 @@ use Rattle.maptree.specs.Cuts.{outside}
 use Rattle.mapdb.specs.Held.{links_in}
 use Rattle.mapdb.specs.Stripping.{firsts, has_entry, tidied, OriginsHaveEntries}
 use Rattle.mapdb.proofs.Holders.{links_read}
-use Rattle.mapdb.proofs.NewMappings.{IsTreeSet, tree_set}
+use Rattle.mapdb.specs.Sending.{IsTreeSet}
+use Rattle.mapdb.proofs.NewMappings.{tree_set}
 use Rattle.mapdb.proofs.Sequences.{AreStripped}
 use Rattle.mapdb.proofs.Frames.{tree_places, outside_held, origins_stay, frame_left, frame_status, frame_sound}
 use Rattle.mapdb.proofs.strip.strip_frame.Goals as goal
