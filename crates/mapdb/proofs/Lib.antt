@@ -22,3 +22,4 @@ pub mod WordByWord
 pub mod PageByPage
 pub mod OnePlace
 pub mod PlainWords
+pub mod MovedPages
