@@ -23,3 +23,4 @@ pub mod PageByPage
 pub mod OnePlace
 pub mod PlainWords
 pub mod MovedPages
+pub mod MovingPages
