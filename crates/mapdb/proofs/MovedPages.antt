@@ -1,34 +1,32 @@
 -- A page moves to a place that holds nothing: it is renamed in the tree of its frame, and its word moves.
-use Rattle.std.proofs.Common.{◌≡◌, ℕ, ◌<◌, true, false, Bool, ◌||◌, List, [], ◌∷◌, length, get_or, Option, Some, None, refl, sym, ap, ◌∙◌, subst, arith, ◌⊎◌, inl, inr, if◌then◌else◌}
+use Rattle.std.proofs.Common.{◌≡◌, ℕ, ◌<◌, true, false, Bool, ◌||◌, List, [], ◌∷◌, length, get_or, Option, Some, None, refl, sym, ap, ◌∙◌, subst, ◌⊎◌, inl, inr, if◌then◌else◌}
 use Rattle.std.specs.Prelude.{position, slice_set}
-use Rattle.std.specs.Option.{option_map, option_map_or, option_and_then, is_some}
+use Rattle.std.specs.Option.{option_map, option_and_then, is_some}
 use Rattle.std.specs.FinMap.Entries.{find}
 use Rattle.std.proofs.lemmas.Bool.{eq-eqb, cases_eq, or_parts, false_from_ne_true}
 use Rattle.std.proofs.lemmas.Option.{same_Some}
 use Rattle.fpage.specs.Rights.{no_rights}
-use Rattle.fpage.specs.declared.rights.Rights.{Rights}
 use Rattle.space.specs.declared.place.Place.{Place}
 use Rattle.space.specs.declared.place.Entry.{Entry}
 use Rattle.space.specs.declared.shards.Shards.{Shards}
 use Rattle.space.specs.Place.{place_cmp, same_place}
-use Rattle.space.specs.Shards.{IsPlace, entry_at, spaces_of, bits_of}
+use Rattle.space.specs.Shards.{IsPlace, entry_at}
 use Rattle.space.specs.Directory.{pages_of}
-use Rattle.space.proofs.Places.{same_is, same_self, same_or_apart, apart_back}
+use Rattle.space.proofs.Places.{same_self, same_or_apart, apart_back}
 use Rattle.maptree.specs.Origins as tree
 use Rattle.maptree.specs.Origins.{Shape, Origins, origin_in, place_at, swapped}
-use Rattle.model.specs.Holdings.{Held, Holdings, at, is_held}
+use Rattle.model.specs.Holdings.{Held, Holdings, at}
 use Rattle.model.specs.Calls.{Limits}
 use Rattle.model.specs.Lawful.{is_lawful}
-use Rattle.model.specs.Items.{Pair, sources_of}
+use Rattle.model.specs.Items.{Pair}
 use Rattle.model.specs.Grant.{moved_to, moved, renamed}
-use Rattle.model.specs.SendLaws.{In}
 use Rattle.model.proofs.LawfulParts.{IsLawful, lawful_parts, lawful_from}
 use Rattle.model.proofs.Puts.{apart_places}
 use Rattle.model.proofs.Renames.{MovesApart, renamed_sorted, renamed_was, renamed_at, lawful_renamed}
 use Rattle.model.proofs.Moves.{one_moved_to, one_source, one_other, one_apart}
 use Rattle.mapdb.specs.Derivation.{stands_in}
 use Rattle.mapdb.specs.Held.{IsWithin, is_place, links_in, is_listed, held_of, held_at, has_frame, holdings_of}
-use Rattle.mapdb.specs.Sound.{IsTidy, IsSound}
+use Rattle.mapdb.specs.Sound.{IsSound}
 use Rattle.mapdb.specs.Sending.{IsTreeSet}
 use Rattle.mapdb.specs.Stripping.{limits_in, holdings_in, AreSound}
 use Rattle.mapdb.proofs.Trees.{found_at, some_found, none_found}

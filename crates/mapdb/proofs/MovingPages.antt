@@ -1,5 +1,5 @@
 -- Pages that move, one after another: those moved so far and those to come are all that move.
-use Rattle.std.proofs.Common.{◌≡◌, ℕ, zero, suc, ◌+◌, ◌^◌, ◌<◌, ◌≤◌, true, false, Bool, List, [], ◌∷◌, length, drop, get_or, Option, Some, None, refl, sym, ap, ◌∙◌, subst, arith, ◌⊎◌, inl, inr, if◌then◌else◌}
+use Rattle.std.proofs.Common.{◌≡◌, ℕ, zero, suc, ◌+◌, ◌^◌, ◌<◌, ◌≤◌, true, false, Bool, List, [], ◌∷◌, length, drop, get_or, Option, Some, None, refl, sym, ap, ◌∙◌, subst, arith, inl, inr, if◌then◌else◌}
 use Rattle.std.specs.List.{All}
 use Rattle.std.specs.Option.{is_some}
 use Rattle.std.proofs.lemmas.List.{drop_more, drop_all}
@@ -9,7 +9,7 @@ use Rattle.space.specs.declared.place.Entry.{Entry}
 use Rattle.space.specs.declared.shards.Shards.{Shards}
 use Rattle.space.specs.Place.{same_place}
 use Rattle.space.specs.Shards.{IsPlace, entry_at}
-use Rattle.space.proofs.Places.{same_is, same_self, apart_back}
+use Rattle.space.proofs.Places.{same_self, apart_back}
 use Rattle.maptree.specs.Origins.{Shape}
 use Rattle.model.specs.Holdings.{Held, Holdings, at, is_held}
 use Rattle.model.specs.Calls.{Limits}
@@ -20,10 +20,9 @@ use Rattle.model.proofs.LawfulParts.{lawful_parts}
 use Rattle.model.proofs.Lookups.{Sorted}
 use Rattle.model.proofs.Puts.{apart_places}
 use Rattle.model.proofs.Jobs as job
-use Rattle.model.proofs.Renames.{renamed_sorted}
 use Rattle.model.proofs.Moves.{one_apart, none_renamed, renamed_first, held_elsewhere}
 use Rattle.mapdb.specs.declared.transfer.Transfer.{Transfer}
-use Rattle.mapdb.specs.Held.{IsWithin, held_of}
+use Rattle.mapdb.specs.Held.{IsWithin}
 use Rattle.mapdb.specs.Stripping.{limits_in, holdings_in, AreSound}
 use Rattle.mapdb.specs.Sending.{IsTransferWithin, IsApartFrom, ArePaired, ArePlanned, AllGo, fate_in, pair_of, worked_of, worked, moving_of}
 use Rattle.mapdb.proofs.Holders.{present_within, absent_within}
@@ -41,12 +40,12 @@ in_moving Q P each h (t ∷ ts) all e k = by (is_held h t.source) k (in_moving Q
     by true (inr k) rest = rest k
     by false k rest = rest k
 
-module _ (from to : ℕ) where
-  pairs_apart : (t : Transfer) (h : Holdings) (ts : List Transfer) → IsApartFrom t ts → job.IsApart (pair_of t) (moving_of h ts)
-  pairs_apart t h ts apart d k =
-      in_moving (λ d. (same_place d.source t.source ≡ false) × (same_place d.target t.target ≡ false)) (λ e. (e.0 ≡ t.source → ⊥) × (e.1 ≡ t.target → ⊥))
-      (λ d q. (λ same. cc (q.0, ap (λ x. same_place x t.source) same, same_self t.source), λ same. cc (q.1, ap (λ x. same_place x t.target) same, same_self t.target))) h ts apart d k
+pairs_apart : (t : Transfer) (h : Holdings) (ts : List Transfer) → IsApartFrom t ts → job.IsApart (pair_of t) (moving_of h ts)
+pairs_apart t h ts apart d k =
+    in_moving (λ d. (same_place d.source t.source ≡ false) × (same_place d.target t.target ≡ false)) (λ e. (e.0 ≡ t.source → ⊥) × (e.1 ≡ t.target → ⊥))
+    (λ d q. (λ same. cc (q.0, ap (λ x. same_place x t.source) same, same_self t.source), λ same. cc (q.1, ap (λ x. same_place x t.target) same, same_self t.target))) h ts apart d k
 
+module _ (from to : ℕ) where
   -- their sources and targets are distinct
   paired_moving : (h : Holdings) (ts : List Transfer) → ArePaired from to ts → job.ArePaired from to (moving_of h ts)
   paired_moving h [] paired = tt
@@ -131,7 +130,7 @@ module _ (from to : ℕ) (differ : from ≡ to → ⊥) (t : Transfer) (ts : Lis
   pub page_first : is_held h t.source ≡ true → renamed (moving_of h (t ∷ ts)) h ≡ renamed (moving_of next ts) next
   page_first held =
       ap (λ b. renamed (if b then pair_of t ∷ moving_of h ts else moving_of h ts) h) held
-      ∙ renamed_first from to differ (pair_of t) (moving_of h ts) (paired.0, paired.1, pairs_apart from to t h ts paired.2, paired_moving from to h ts paired.3) h sorted pairs_free
+      ∙ renamed_first from to differ (pair_of t) (moving_of h ts) (paired.0, paired.1, pairs_apart t h ts paired.2, paired_moving from to h ts paired.3) h sorted pairs_free
       ∙ ap (λ es. renamed es next) (sym (same_moving h next ts rest_kept))
     where
       pairs_free : (d : Pair) → In d (pair_of t ∷ moving_of h ts) → at h d.1 ≡ None

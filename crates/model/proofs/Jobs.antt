@@ -91,7 +91,7 @@ module _ (from to : ℕ) where
   source_space_of (d ∷ es) paired e (inl same) = rw same (paired.0)
   source_space_of (d ∷ es) paired e (inr k) = source_space_of es paired.3 e k
 
-  pub target_space_of : (es : List Pair) → ArePaired from to es → (e : Pair) → In e es → e.1.space ≡ to
+  target_space_of : (es : List Pair) → ArePaired from to es → (e : Pair) → In e es → e.1.space ≡ to
   target_space_of [] paired e k = absurd k
   target_space_of (d ∷ es) paired e (inl same) = rw same (paired.1)
   target_space_of (d ∷ es) paired e (inr k) = target_space_of es paired.3 e k

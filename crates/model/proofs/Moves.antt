@@ -1,18 +1,18 @@
 -- Pairs that move one after another move as they do all at once.
-use Rattle.std.proofs.Common.{◌≡◌, ℕ, true, false, Bool, ◌||◌, List, [], ◌∷◌, Option, Some, None, is_some, option_map, unwrap_or, refl, sym, ap, ◌∙◌, subst, arith, ◌⊎◌, inl, inr, if◌then◌else◌}
+use Rattle.std.proofs.Common.{◌≡◌, ℕ, true, false, Bool, ◌||◌, List, [], ◌∷◌, Option, Some, None, is_some, option_map, unwrap_or, refl, sym, ap, ◌∙◌, ◌⊎◌, inl, inr, if◌then◌else◌}
 use Rattle.std.proofs.lemmas.Bool.{false_from_ne_true}
 use Rattle.fpage.specs.declared.rights.Rights.{Rights}
 use Rattle.fpage.specs.Rights.{no_rights}
 use Rattle.space.specs.declared.place.Place.{Place}
 use Rattle.space.specs.Place.{same_place}
-use Rattle.space.proofs.Places.{same_is, same_self, same_or_apart}
+use Rattle.space.proofs.Places.{same_self, same_or_apart}
 use Rattle.model.specs.Holdings.{Held, Holdings, at, is_held}
 use Rattle.model.specs.Items.{Pair, sources_of}
 use Rattle.model.specs.Grant.{target_of, moved_to, moved, renamed}
 use Rattle.model.specs.SendLaws.{In}
 use Rattle.model.proofs.Lookups.{Sorted, same_holdings}
-use Rattle.model.proofs.Jobs.{IsApart, ArePaired, one_target_of, source_space_of, target_space_of, source_in, in_sources}
-use Rattle.model.proofs.Renames.{moved_cases, MovesApart, WasMoved, renamed_sorted, renamed_was, renamed_at}
+use Rattle.model.proofs.Jobs.{ArePaired, one_target_of, source_space_of, source_in, in_sources}
+use Rattle.model.proofs.Renames.{moved_cases, MovesApart, renamed_sorted, renamed_was, renamed_at}
 
 -- ---- one pair
 

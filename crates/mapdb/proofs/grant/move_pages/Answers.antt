@@ -1,5 +1,5 @@
 -- One page more is lost or moves.
-use Rattle.std.proofs.Common.{◌+◌, drop, sym, ap, ◌∙◌, subst, refl}
+use Rattle.std.proofs.Common.{◌+◌, drop, sym, ap, ◌∙◌, subst}
 use Rattle.model.specs.SendLaws.{total}
 use Rattle.mapdb.specs.Meaning.{counts_of}
 use Rattle.mapdb.specs.Stripping.{limits_in, holdings_in}
