@@ -24,3 +24,5 @@ pub mod WordByWord
 pub mod PageByPage
 pub mod OnePlace
 pub mod PlainWords
+pub mod MovedPages
+pub mod MovingPages

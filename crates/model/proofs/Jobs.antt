@@ -86,7 +86,7 @@ pub record IsJob (job : Job) : Type 0 where
   pub paired : ArePaired from to job.pairs
 
 module _ (from to : ℕ) where
-  source_space_of : (es : List Pair) → ArePaired from to es → (e : Pair) → In e es → e.0.space ≡ from
+  pub source_space_of : (es : List Pair) → ArePaired from to es → (e : Pair) → In e es → e.0.space ≡ from
   source_space_of [] paired e k = absurd k
   source_space_of (d ∷ es) paired e (inl same) = rw same (paired.0)
   source_space_of (d ∷ es) paired e (inr k) = source_space_of es paired.3 e k
@@ -103,7 +103,7 @@ module _ (from to : ℕ) where
   one_source_of (f ∷ es) paired d e (inr in_d) (inl is_e) same = absurd ((paired.2 d in_d).0 (same ∙ ap (λ x. x.0) is_e))
   one_source_of (f ∷ es) paired d e (inr in_d) (inr in_e) same = one_source_of es paired.3 d e in_d in_e same
 
-  one_target_of : (es : List Pair) → ArePaired from to es → (d e : Pair) → In d es → In e es → d.1 ≡ e.1 → d ≡ e
+  pub one_target_of : (es : List Pair) → ArePaired from to es → (d e : Pair) → In d es → In e es → d.1 ≡ e.1 → d ≡ e
   one_target_of [] paired d e in_d in_e same = absurd in_d
   one_target_of (f ∷ es) paired d e (inl is_d) (inl is_e) same = is_d ∙ sym is_e
   one_target_of (f ∷ es) paired d e (inl is_d) (inr in_e) same = absurd ((paired.2 e in_e).1 (sym same ∙ ap (λ x. x.1) is_d))

@@ -32,3 +32,4 @@ pub mod FrameCounts
 pub mod GrantOutcomes
 pub mod Requests
 pub mod Joins
+pub mod Moves
