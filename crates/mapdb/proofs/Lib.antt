@@ -5,7 +5,6 @@ pub mod WordChanges
 pub mod NewMappings
 pub mod Accesses
 pub mod Roots
-pub mod Sends
 pub mod Chains
 pub mod Walks
 pub mod Visits
@@ -17,6 +16,7 @@ pub mod Plans
 pub mod MapPages
 pub mod MapAll
 pub mod Phases
+pub mod Granting
 pub mod Outer
 pub mod Frames
 pub mod Named

@@ -156,7 +156,7 @@ module _ (limits : Limits) (before : Holdings) (ts rest : List Transfer) (i : �
   pub count_fits : ArePlanned limits ts → i < length ts → (shards : Shards) (trees : List Shape) (counts : Counts) → AreMoving limits before ts rest i shards trees counts → (one : Counts) → total one ≡ 1 → total counts + total one < 2 ^ 128
   count_fits planned within shards trees counts so_far one is = by (total counts) (total one) (length ts) so_far.few is within planned.few
     where
-      by : (a b n : ℕ) → a ≤ i → b ≡ 1 → i < n → n ≤ 4096 → a + b < 2 ^ 128
+      by : (a b n : ℕ) → a ≤ i → b ≡ 1 → i < n → n ≤ 2 ^ 32 → a + b < 2 ^ 128
       by a b n few is within most = omega arith
 
   -- the same words and trees, by other names

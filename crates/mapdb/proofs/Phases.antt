@@ -1,8 +1,11 @@
 -- What goes and extends of an item, by the definitions, and what is known of it after the flush.
-use Rattle.std.proofs.Common.{◌≡◌, ℕ, zero, suc, ◌+◌, ◌^◌, ◌<◌, ◌≤◌, true, false, Bool, ◌&&◌, ◌||◌, not, if◌then◌else◌, [], ◌∷◌, List, length, filter, cond, get_or, Option, Some, None, refl, sym, ap, ◌∙◌, subst, arith, ◌⊎◌, inl, inr}
+use Rattle.std.proofs.Common.{◌≡◌, ℕ, zero, suc, ◌+◌, ◌-◌, ◌^◌, ◌<◌, ◌≤◌, nat_le, true, false, Bool, ◌&&◌, ◌||◌, not, if◌then◌else◌, [], ◌∷◌, List, length, filter, cond, get_or, Option, Some, None, refl, sym, ap, ◌∙◌, subst, arith, ◌⊎◌, inl, inr}
 use Rattle.std.specs.List.{All, list_any}
 use Rattle.std.specs.Option.{is_some}
 use Rattle.std.proofs.lemmas.Bool.{and_parts, or_cases}
+use Rattle.std.proofs.lemmas.Bool.Decides.{nat_tests}
+use Rattle.std.proofs.Math.Nat.{pow-le-pow_right}
+use Rattle.model.specs.Records.{are_limits}
 use Rattle.std.proofs.lemmas.List.Elements.{All-nil, All-cons}
 use Rattle.fpage.specs.Rights.{is_empty, meet, all_rights, without}
 use Rattle.fpage.specs.declared.rights.Rights.{Rights}
@@ -263,6 +266,25 @@ ends_within limits end (t ∷ ts) within p is = by (or_cases (not t.extends && s
     by : ((not t.extends && same_place p (end_of end t)) ≡ true) ⊎ (ends_of end ts p ≡ true) → (ends_of end ts p ≡ true → is_place limits p ≡ true) → is_place limits p ≡ true
     by (inl here) rest = ap (is_place limits) (same_is p (end_of end t) (and_parts (not t.extends) (same_place p (end_of end t)) here).1) ∙ at_end end (within 0 t (omega arith))
     by (inr there) rest = rest there
+
+-- ---- sizes
+
+-- a space has no more than 4096 pages
+pub pages_few : (limits : Limits) → are_limits limits ≡ true → pages_of limits.bits ≤ 4096
+pages_few limits served = pow-le-pow_right two (bits_few limits.spaces limits.bits limits.frames (pages_of limits.bits) served)
+  where
+    two : 0 < 2
+    two = omega arith
+
+    bits_few : (spaces bits frames most : ℕ) → (nat_le 2 spaces && nat_le spaces 512 && nat_le 18 bits && nat_le bits 24 && nat_le 1 frames && nat_le frames most) ≡ true → bits - 12 ≤ 12
+    bits_few spaces bits frames most is = grind (arith, nat_tests)
+
+-- nor does an item have more
+pub few_pages : (limits : Limits) (p : ItemPages) → are_limits limits ≡ true → AreItemPages limits p → p.count < 2 ^ 32
+few_pages limits p served within = by p.source.page p.count (pages_of limits.bits) within.source_pages (pages_few limits served)
+  where
+    by : (a b c : ℕ) → a + b ≤ c → c ≤ 4096 → b < 2 ^ 32
+    by a b c first second = omega (arith, first, second)
 
 -- ---- one item
 

@@ -1,4 +1,5 @@
 use crate::error::DbError;
+use crate::item::work_items;
 use crate::limits::Limits;
 use crate::pages::unmap_words;
 use crate::plain::visit_words;
@@ -6,7 +7,7 @@ use crate::reply::SendReply;
 use crate::start::{root_trees, root_words};
 use crate::tree;
 use crate::words::marks;
-use fpage::{Access, Control, Fpage, Item, Rights, pair};
+use fpage::{Access, Control, Fpage, Item, Rights};
 use maptree::Tree;
 use space::{Entry, Place, Shards};
 use std::alloc::Global;
@@ -42,13 +43,11 @@ impl Database {
     ghost use Rattle.std.specs.Prelude.{◌≡◌, ◌≤◌, ◌↔◌, ◌⊎◌, true, false, Some, option_map};
     ghost use Rattle.std.specs.Prelude.{IfOk, OnOk, IfErr, OnErr, IsErrOf, IsOkUnless};
     ghost use Rattle.std.specs.List.{All};
-    ghost use Rattle.model.specs.Holdings.{at, origin_at, is_held};
+    ghost use Rattle.model.specs.Holdings.{at, origin_at};
     ghost use Rattle.model.specs.Records.{are_limits};
     ghost use Rattle.model.specs.Touch.{can_touch, touch};
-    ghost use Rattle.model.specs.Items.{one_page};
-    ghost use Rattle.model.specs.Answers.{item_answer, call_refusal, send_answer};
+    ghost use Rattle.model.specs.Answers.{call_refusal, send_answer};
     ghost use Rattle.model.specs.Calls.{send, no_such_space, same_space, no_window};
-    ghost use Rattle.model.specs.FirstPath.{is_decided};
     ghost use Rattle.fpage.specs.Fpage.{IsFpageOf};
     ghost use Rattle.mapdb.specs.Meaning.{limits_of, counts_of};
     ghost use Rattle.mapdb.specs.Held.{IsWithin, listing};
@@ -158,13 +157,15 @@ impl Database {
         Ok(answers)
     }
 
-    /// Maps the pages of items to pages of the receiver's window: of a send of one page by one MapItem to a page that is
-    /// not held.
+    /// Maps or grants the pages of items, one item after another, to pages of the receiver's window (L4 X.2, MapItem,
+    /// GrantItem). Of each item the outcome of every page is decided first; then the targets that it replaces are revoked,
+    /// with all that derives from them; then pages are mapped, or moved (profile).
     ///
     /// Refused, the first that fits: `Halted`; `NoSuchSpace`; `SameSpace`; `NoWindow`, for a nil window; and where memory
     /// is, `NoMemory`: then the database is halted.
     pub fn send(
         &mut self,
+        alloc: Global,
         from: u16,
         to: u16,
         window: &Fpage,
@@ -172,7 +173,6 @@ impl Database {
     ) -> Result<SendReply, DbError>
         requires window { IsFpageOf self.old.limits.bits window.now }
         requires items { All (λ item. IsFpageOf self.old.limits.bits item.sent) items.now }
-        requires served { is_decided self.old.limits self.old.holdings (send from to window.now items.now) ≡ true }
         ensures halted { IsErrOf result Halted ↔ (self.old.is_halted ≡ true) }
         ensures no_such_space { IsErrOf result NoSuchSpace ↔ ((self.old.is_halted ≡ false)
             × (call_refusal self.old.limits (send from to window.now items.now) ≡ Some no_such_space)) }
@@ -182,7 +182,7 @@ impl Database {
             × (call_refusal self.old.limits (send from to window.now items.now) ≡ Some no_window)) }
         ensures errors { IfErr result (λ e. (e ≡ Halted) ⊎ (e ≡ NoSuchSpace) ⊎ (e ≡ SameSpace) ⊎ (e ≡ NoWindow) ⊎ (e ≡ NoMemory)) }
         ensures refused { IfErr result (λ e. (e ≡ NoMemory) ⊎ (self.new ≡ self.old)) }
-        ensures no_memory { IsErrOf result NoMemory → self.new ≡ halted self.old }
+        ensures no_memory { IsErrOf result NoMemory → (self.new.is_halted ≡ true) × (self.new.limits ≡ self.old.limits) }
         ensures counts { IfOk result (λ reply.
             counts_of reply ≡ (send_answer from to window.now items.now self.old.holdings).counts) }
         ensures left { OnOk result (
@@ -200,17 +200,17 @@ impl Database {
         if window.is_nil() {
             return Err(DbError::NoWindow);
         }
-        let item = &items[0];
-        let pages = pair(item, window);
-        let source = Place {
-            space: from,
-            page: pages.source,
-        };
-        let target = Place {
-            space: to,
-            page: pages.target,
-        };
-        self.map_page(source, target, item.sent.rights())
+        let reply = work_items(
+            alloc,
+            &mut self.shards,
+            &mut self.trees,
+            from,
+            to,
+            window,
+            items,
+        );
+        self.halted = reply.is_err();
+        Ok(reply?)
     }
 
     /// Takes rights from the pages of a space that each fpage names, if the control word says so, and from all that derives
@@ -321,49 +321,6 @@ impl Database {
         let status = entry.status.join(marks(access));
         self.shards.set(place, Some(Entry { status, ..entry }));
         true
-    }
-
-    /// Maps a page to a place that is not held, with its rights as far as `rights` go.
-    ///
-    /// Refused where memory is, `NoMemory`: then the database is halted.
-    pub(crate) fn map_page(
-        &mut self,
-        source: Place,
-        target: Place,
-        rights: Rights,
-    ) -> Result<SendReply, DbError>
-        requires running { self.old.is_halted ≡ false }
-        requires source { IsWithin self.old.limits source }
-        requires target { IsWithin self.old.limits target }
-        requires free { is_held self.old.holdings target ≡ false }
-        ensures errors { IsOkUnless result NoMemory }
-        ensures err { OnErr result (self.new ≡ halted self.old) }
-        ensures ok { IfOk result (λ reply. item_answer self.old.holdings (one_page rights source target)
-            ≡ record { counts = counts_of reply; left = self.new.holdings }) }
-        ensures left { OnOk result (self.new ≡ left_with self.old self.new.holdings) }
-    {
-        let Some(entry) = self.shards.get(source) else {
-            return Ok(SendReply::absent());
-        };
-        let rights = entry.rights.meet(rights);
-        if rights.is_empty() {
-            return Ok(SendReply::norights());
-        }
-        let tree = &mut self.trees[entry.frame as usize];
-        if tree::derive(tree, source, target).is_err() {
-            return Err(self.halt());
-        }
-        let status = Rights::none();
-        let frame = entry.frame;
-        self.shards.set(
-            target,
-            Some(Entry {
-                frame,
-                rights,
-                status,
-            }),
-        );
-        Ok(SendReply::linked())
     }
 
     /// Halts the database: memory was refused.

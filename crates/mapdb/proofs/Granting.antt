@@ -1,0 +1,102 @@
+-- The strip of the sources of a grant: each that was held is still held.
+use Rattle.std.proofs.Common.{◌≡◌, ℕ, suc, ◌<◌, true, false, Bool, ◌&&◌, ◌||◌, not, if◌then◌else◌, [], ◌∷◌, List, length, Option, Some, None, refl, sym, ap, ◌∙◌, subst, arith, ◌⊎◌, inl, inr, get_or}
+use Rattle.std.specs.List.{All}
+use Rattle.std.specs.Option.{is_some}
+use Rattle.std.proofs.lemmas.Bool.{or_right}
+use Rattle.std.proofs.lemmas.List.Elements.{All-nil, All-cons}
+use Rattle.fpage.specs.Rights.{is_empty, meet, all_rights, without}
+use Rattle.fpage.specs.declared.rights.Rights.{Rights}
+use Rattle.space.specs.declared.place.Place.{Place}
+use Rattle.space.specs.Place.{same_place}
+use Rattle.space.proofs.Places.{same_is, same_self, same_or_apart, apart_back}
+use Rattle.model.specs.Holdings.{Held, Holdings, PlaceSet, at, is_held}
+use Rattle.model.specs.Derived.{is_under}
+use Rattle.model.specs.Items.{Pair, sources_of, Counts, add_counts, counts_of}
+use Rattle.model.specs.Strip.{is_narrowed, stripped, strip}
+use Rattle.model.proofs.LawfulParts.{IsLawful}
+use Rattle.model.proofs.StripAt.{is_stripped}
+use Rattle.model.proofs.StripUnions.{strip_same}
+use Rattle.model.proofs.Flushes.{strip_absent}
+use Rattle.model.proofs.Grants.{without_withheld}
+use Rattle.mapdb.specs.declared.transfer.Transfer.{Transfer}
+use Rattle.mapdb.specs.declared.transfer.End.TheVariants.{Source}
+use Rattle.mapdb.specs.Sending.{pair_of, fate_in, ends_of, AllGo, IsReady, moving_of, worked_of, worked}
+
+module _ (h : Holdings) (lawful : IsLawful h) (rights : Rights) where
+  same_back : (p q : Place) → same_place p q ≡ same_place q p
+  same_back p q = by (same_or_apart p q)
+    where
+      by : (p ≡ q) ⊎ (same_place p q ≡ false) → same_place p q ≡ same_place q p
+      by (inl same) = rw same refl
+      by (inr apart) = apart ∙ sym (apart_back p q apart)
+
+  -- the held sources are those of the pairs that move
+  sources_are : (ts : List Transfer) → AllGo ts → (p : Place) → is_held h p ≡ true → ends_of Source ts p ≡ sources_of (moving_of h ts) p
+  sources_are [] go p held = refl
+  sources_are (t ∷ ts) go p held = by t.extends (go 0 t (omega arith)) (is_held h t.source) refl (sources_are ts (λ i d within. go (suc i) d (omega (arith, within))) p held)
+    where
+      by : (b : Bool) → b ≡ false → (k : Bool) → is_held h t.source ≡ k → ends_of Source ts p ≡ sources_of (moving_of h ts) p
+          → ((not b && same_place p t.source) || ends_of Source ts p) ≡ sources_of (if k then pair_of t ∷ moving_of h ts else moving_of h ts) p
+      by true extends k is rest = absurd (cc extends)
+      by false going true is rest = λ i. same_back p t.source i || rest i
+      by false going false is rest = ap (λ b. b || ends_of Source ts p) (apart (same_or_apart p t.source)) ∙ rest
+        where
+          apart : (p ≡ t.source) ⊎ (same_place p t.source ≡ false) → same_place p t.source ≡ false
+          apart (inl same) = absurd (cc (is, held, ap (is_held h) same))
+          apart (inr differ) = differ
+
+  -- so to strip either is the same
+  pub source_set : (ts : List Transfer) → AllGo ts → strip h (ends_of Source ts) (without all_rights rights) true ≡ strip h (sources_of (moving_of h ts)) (without all_rights rights) true
+  source_set ts go = strip_same h lawful (ends_of Source ts) (sources_of (moving_of h ts)) (sources_are ts go) (without all_rights rights) true
+
+  module _ (set : PlaceSet) where
+    abbrev left : Holdings
+    left = strip h set (without all_rights rights) true
+
+    -- a target that holds nothing still holds nothing
+    pub after_strip_free : (ts : List Transfer) → AllGo ts → All (IsReady h rights) ts → All (λ t. at left t.target ≡ None) ts
+    after_strip_free ts go ready i d within =
+        strip_absent h lawful set (without all_rights rights) true (get_or ts i d).target ((ready i d within).free (go i d within))
+
+    -- a source of the set is held exactly where it was
+    still : (t : Transfer) → IsReady h rights t → (is_held h t.source ≡ true → set t.source ≡ true) → is_held left t.source ≡ is_held h t.source
+    still t ready named = by (at h t.source) refl
+      where
+        by : (m : Option Held) → at h t.source ≡ m → is_held left t.source ≡ is_held h t.source
+        by None none = ap is_some (strip_absent h lawful set (without all_rights rights) true t.source none) ∙ sym (ap is_some none)
+        by (Some m) held =
+            let narrowed : is_narrowed h set true t.source ≡ true = or_right (is_under h set t.source) _ (named (ap is_some held)) in
+            ap is_some (is_stripped h set (without all_rights rights) true lawful t.source m held (rw narrowed (ap is_empty (without_withheld m.rights rights) ∙ ready.some m held))) ∙ sym (ap is_some held)
+
+  -- a held source is one of those that move
+  moving_named : (ts : List Transfer) → All (λ t. is_held h t.source ≡ true → sources_of (moving_of h ts) t.source ≡ true) ts
+  moving_named [] = All-nil (λ t. is_held h t.source ≡ true → sources_of (moving_of h []) t.source ≡ true)
+  moving_named (t ∷ ts) =
+      All-cons (λ x. is_held h x.source ≡ true → sources_of (moving_of h (t ∷ ts)) x.source ≡ true) t ts (λ held. rw (held, same_self t.source) refl)
+      (λ i d within held. more (is_held h t.source) (get_or ts i d).source (moving_named ts i d within held))
+    where
+      more : (k : Bool) (p : Place) → sources_of (moving_of h ts) p ≡ true → sources_of (if k then pair_of t ∷ moving_of h ts else moving_of h ts) p ≡ true
+      more true p is = or_right (same_place t.source p) (sources_of (moving_of h ts) p) is
+      more false p is = is
+
+  module _ (ts : List Transfer) (ready : All (IsReady h rights) ts) where
+    abbrev left_of_sources : Holdings
+    left_of_sources = strip h (sources_of (moving_of h ts)) (without all_rights rights) true
+
+    all_still : All (λ t. is_held left_of_sources t.source ≡ is_held h t.source) ts
+    all_still i d within = still (sources_of (moving_of h ts)) (get_or ts i d) (ready i d within) (moving_named ts i d within)
+
+    -- the same pairs move, and count the same
+    pub after_strip_moving : moving_of left_of_sources ts ≡ moving_of h ts
+    after_strip_moving = by ts all_still
+      where
+        by : (xs : List Transfer) → All (λ t. is_held left_of_sources t.source ≡ is_held h t.source) xs → moving_of left_of_sources xs ≡ moving_of h xs
+        by [] same = refl
+        by (x ∷ xs) same = λ i. if same 0 x (omega arith) i then pair_of x ∷ by xs (λ k d within. same (suc k) d (omega (arith, within))) i else by xs (λ k d within. same (suc k) d (omega (arith, within))) i
+
+    pub after_strip_worked : worked left_of_sources ts ≡ worked h ts
+    after_strip_worked = by ts all_still
+      where
+        by : (xs : List Transfer) → All (λ t. is_held left_of_sources t.source ≡ is_held h t.source) xs → worked left_of_sources xs ≡ worked h xs
+        by [] same = refl
+        by (x ∷ xs) same = λ i. add_counts (counts_of (fate_in x) (same 0 x (omega arith) i)) (by xs (λ k d within. same (suc k) d (omega (arith, within))) i)
