@@ -17,6 +17,8 @@ pub mod MapPages
 pub mod MapAll
 pub mod Phases
 pub mod Granting
+pub mod ItemBounds
+pub mod ItemByItem
 pub mod Outer
 pub mod Frames
 pub mod Named

@@ -48,6 +48,11 @@ pub record IsOutcomeIn (os : Origins) (kind : ItemKind) (source target : Place) 
 abbrev pub job_of_pages : ItemPages → Job
 job_of_pages p = record { kind = p.kind; rights = p.rights; pairs = pairs_from p.count p.source p.target }
 
+-- its pages lie in spaces of 2^bits bytes
+pub record FitsIn (bits : ℕ) (p : ItemPages) : Type 0 where
+  pub sources : p.source.page + p.count ≤ pages_of bits
+  pub targets : p.target.page + p.count ≤ pages_of bits
+
 -- its pages lie within the limits, and its spaces differ
 pub record AreItemPages (limits : Limits) (p : ItemPages) : Type 0 where
   pub source_space : p.source.space < limits.spaces

@@ -1,9 +1,9 @@
 //! An item between two spaces.
 
-ghost use Rattle.std.specs.Prelude.{◌≡◌, ◌<◌};
+ghost use Rattle.std.specs.Prelude.{◌≡◌, ℕ, ◌<◌};
 ghost use Rattle.fpage.specs.Fpage.{IsFpageOf};
 ghost use Rattle.model.specs.Items.{job_of};
-ghost use Rattle.mapdb.specs.Sending.{job_of_pages};
+ghost use Rattle.mapdb.specs.Sending.{job_of_pages, FitsIn};
 
 use fpage::{Fpage, Item, ItemKind, Rights, pair};
 use space::Place;
@@ -23,6 +23,9 @@ impl ItemPages {
     pub fn of(from: u16, to: u16, window: &Fpage, item: &Item) -> ItemPages
         requires window { 0 < window.now.count }
         ensures job { job_of_pages result ≡ job_of from to window.now item.now }
+        ensures source { result.source.space ≡ from }
+        ensures target { result.target.space ≡ to }
+        ensures within { (bits : ℕ) → IsFpageOf bits window.now → IsFpageOf bits item.now.sent → FitsIn bits result }
     {
         let pages = pair(item, window);
         ItemPages {

@@ -14,8 +14,6 @@ mod plain;
 mod reply;
 mod start;
 mod strip;
-#[cfg(test)]
-mod tests;
 mod tidy;
 mod transfer;
 mod tree;
