@@ -11,7 +11,8 @@ use Rattle.mapdb.specs.Derivation.{stands_in}
 use Rattle.mapdb.specs.Stripping.{AreOfFrame, firsts, has_entry, tidied, OriginsHaveEntries, holdings_in}
 use Rattle.model.proofs.LawfulParts.{lawful_parts}
 use Rattle.mapdb.proofs.Holders.{links_read}
-use Rattle.mapdb.proofs.NewMappings.{IsTreeSet, tree_set}
+use Rattle.mapdb.specs.Sending.{IsTreeSet}
+use Rattle.mapdb.proofs.NewMappings.{tree_set}
 use Rattle.mapdb.proofs.Trees.{some_found}
 use Rattle.mapdb.proofs.Sequences.{AreStripped}
 use Rattle.mapdb.proofs.Frames.{loose_from, tree_places, outside_held, origins_stay, frame_left, frame_status, frame_sound}
