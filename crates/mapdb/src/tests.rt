@@ -3,6 +3,7 @@
 ghost use Rattle.std.specs.Prelude.{◌≡◌, ◌<◌, OnOk};
 ghost use Rattle.space.specs.Directory.{pages_of};
 
+mod chains;
 mod unmaps;
 
 use crate::{Database, DbError, Limits, SendReply};

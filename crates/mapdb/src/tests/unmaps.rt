@@ -26,6 +26,20 @@ const READ_EXECUTE: Rights = Rights {
     execute: true,
 };
 
+/// No execute.
+const READ_WRITE: Rights = Rights {
+    read: true,
+    write: true,
+    execute: false,
+};
+
+/// Read alone.
+const READ: Rights = Rights {
+    read: true,
+    write: false,
+    execute: false,
+};
+
 /// Execute alone.
 const EXECUTE: Rights = Rights {
     read: false,
@@ -45,6 +59,8 @@ const NONE: Rights = Rights {
 enum Step {
     /// Maps a page to a page that holds nothing, with all its rights.
     Map((u16, u32), (u16, u32)),
+    /// Maps a page to a page that holds nothing, with these of its rights.
+    MapSome((u16, u32), (u16, u32), Rights),
     /// Makes an access, which succeeds.
     Touch((u16, u32), Access),
     /// Unmaps one word, which gives back another: space, control word, word, reply.
@@ -67,7 +83,7 @@ struct Case {
 /// Frame 5 goes from 0:5 to 1:0 and on to 2:0, before the steps of each case.
 const CHAIN: [Step; 2] = [Step::Map((0, 5), (1, 0)), Step::Map((1, 0), (2, 0))];
 
-const CASES: [Case; 9] = [
+const CASES: [Case; 10] = [
     Case {
         name: "what derives loses a right, and the caller keeps it",
         steps: &[Step::Unmap(0, 0, 0x50c2, 0x50c0)],
@@ -161,6 +177,20 @@ const CASES: [Case; 9] = [
             ((2, 0), Some((EXECUTE, NONE, Some((1, 0))))),
         ],
     },
+    Case {
+        name: "a page mapped without execute keeps read, and its status comes back",
+        steps: &[
+            Step::MapSome((0, 5), (1, 3), READ_WRITE),
+            Step::Touch((1, 3), Access::Write),
+            Step::Unmap(0, 0, 0x50c2, 0x50c6),
+        ],
+        left: &[
+            ((0, 5), Some((ALL, NONE, None))),
+            ((1, 0), Some((READ_EXECUTE, NONE, Some((0, 5))))),
+            ((2, 0), Some((READ_EXECUTE, NONE, Some((1, 0))))),
+            ((1, 3), Some((READ, NONE, Some((0, 5))))),
+        ],
+    },
 ];
 
 /// A page of the three spaces.
@@ -173,12 +203,13 @@ fn page(rt: &impl Abort, at: (u16, u32)) -> Place
     Place { space, page }
 }
 
-/// Maps a page to a page that holds nothing, with all its rights.
+/// Maps a page to a page that holds nothing, with its rights as far as these go.
 fn map(
     rt: &impl Abort,
     database: &mut Database,
     source: (u16, u32),
     target: (u16, u32),
+    rights: Rights,
 ) -> Result<(), Fail>
     requires { database.old.limits ≡ record { spaces = 3; bits = 18; frames = 16 } }
     ensures { OnOk result (database.new.limits ≡ record { spaces = 3; bits = 18; frames = 16 }) }
@@ -187,7 +218,7 @@ fn map(
     let target = page(rt, target);
     match database.entry(target)? {
         None => {
-            let reply = match database.map_page(source, target, Rights::all()) {
+            let reply = match database.map_page(source, target, rights) {
                 Ok(reply) => reply,
                 Err(error) => return Err(halted(rt, database, error)),
             };
@@ -294,7 +325,8 @@ fn work(
     ensures { OnOk result (database.new.limits ≡ record { spaces = 3; bits = 18; frames = 16 }) }
 {
     match step {
-        Step::Map(source, target) => map(rt, database, source, target),
+        Step::Map(source, target) => map(rt, database, source, target, ALL),
+        Step::MapSome(source, target, rights) => map(rt, database, source, target, rights),
         Step::Touch(at, access) => touch(rt, database, alloc, at, access),
         Step::Unmap(space, control, word, reply) => {
             unmap(
