@@ -1,15 +1,17 @@
 -- A tree without the places that have no entry.
-use Rattle.std.proofs.Common.{◌≡◌, ℕ, zero, suc, ◌+◌, ◌-◌, ◌<◌, true, Bool, List, [], ◌∷◌, ◌++◌, length, drop, take, get_or, map, filter, refl, sym, ap, ◌∙◌, arith, if◌then◌else◌}
+use Rattle.std.proofs.Common.{◌≡◌, ℕ, zero, suc, ◌+◌, ◌-◌, ◌<◌, ◌≤◌, true, false, Bool, Option, None, List, [], ◌∷◌, ◌++◌, length, drop, take, get_or, map, filter, refl, sym, ap, ◌∙◌, arith, if◌then◌else◌}
 use Rattle.std.specs.Prelude.{Result, Ok, Err, OnOk}
 use Rattle.std.specs.List.{All, list_all, slice_range}
-use Rattle.std.proofs.lemmas.List.{take_more, map-append}
+use Rattle.std.proofs.lemmas.List.{take_more, map-append, get_or-drop, get_or-take, length-drop, length-take}
 use Rattle.std.proofs.lemmas.List.Elements.{filter-append, All-nil, All-cons, All-append}
+use Rattle.std.proofs.lemmas.List.Folds.{list_all-append, list_all_at, list_all_more, drop_split}
+use Rattle.std.proofs.lemmas.Bool.{and_from, and_parts}
 use Rattle.std.specs.declared.ops.Range.{Range}
 use Rattle.space.specs.declared.place.Place.{Place}
 use Rattle.space.specs.declared.shards.Shards.{Shards}
 use Rattle.maptree.specs.declared.node.Node.{Node}
 use Rattle.maptree.specs.declared.slice.Slice.{Slice}
-use Rattle.maptree.specs.Origins.{Origins, Shape}
+use Rattle.maptree.specs.Origins.{Origins, Shape, place_at, AreRising}
 use Rattle.maptree.specs.Cuts.{outside, pieces, pieces_of, nodes_of, places_of, kept_of, IsCut, AreKept}
 use Rattle.mapdb.specs.Stripping.{has_entry, OriginsHaveEntries}
 
@@ -83,3 +85,54 @@ kept_parts shards old cut runs parts kept is_cut left all origins is = record {
 pub on_ok : {E P Q : Type 0} (r : Result (Unit {0}) E) → OnOk r P → (P → Q) → OnOk r Q
 on_ok (Ok x) p f = f p
 on_ok (Err e) p f = tt
+
+-- ---- a tree of which nothing is gone
+
+-- the place at a position is that of the pair there
+pub read_at : (os : Origins) (i : ℕ) (d : Place) → (get_or os i (d, None)).0 ≡ place_at os i d
+read_at [] i d = refl
+read_at (o ∷ os) zero d = refl
+read_at (o ∷ os) (suc i) d = read_at os i d
+
+-- tests of the places of a range of positions
+module _ (test : Place → Bool) (os : Origins) where
+  -- the place at a position behind the start
+  test_at : (a i : ℕ) (d : Place) → a ≤ i → test (get_or (drop a os) (i - a) (d, None)).0 ≡ test (place_at os i d)
+  test_at a i d least =
+      let whole : a + (i - a) ≡ i = omega (arith, least) in
+      ap (λ o. test o.0) (get_or-drop a os (i - a) (d, None) ∙ ap (λ j. get_or os j (d, None)) whole) ∙ ap test (read_at os i d)
+
+  -- one place more passes
+  pub range_passes : (a i : ℕ) (d : Place) → a ≤ i → i < length os → list_all (λ o. test o.0) (slice_range os a i) ≡ true → test (place_at os i d) ≡ true → list_all (λ o. test o.0) (slice_range os a (i + 1)) ≡ true
+  range_passes a i d least within so_far is =
+      let size = length-drop a os in
+      let more : i + 1 - a ≡ i - a + 1 = omega (arith, least) in
+      ap (λ n. list_all (λ (o : Place × Option Place). test o.0) (take n (drop a os))) more
+      ∙ list_all_more (λ o. test o.0) (drop a os) (i - a) (d, None) (omega (arith, size, least, within))
+      ∙ and_from _ _ so_far (test_at a i d least ∙ is)
+
+  -- one place does not pass
+  pub range_fails : (a i b : ℕ) (d : Place) → a ≤ i → i < b → b ≤ length os → test (place_at os i d) ≡ false → list_all (λ o. test o.0) (slice_range os a b) ≡ false
+  range_fails a i b d least less within is =
+      let size = length-drop a os in
+      let long = length-take (b - a) (drop a os) in
+      list_all_at (λ o. test o.0) (slice_range os a b) (i - a) (d, None) (omega (arith, size, long, least, less, within))
+      (ap (λ o. test o.0) (get_or-take (b - a) (drop a os) (i - a) (d, None) (omega (arith, least, less))) ∙ test_at a i d least ∙ is)
+
+  -- where the places in runs pass, and those outside of them, all pass
+  pub none_gone : (from : ℕ) (runs : List (Range ℕ)) → AreRising from runs (length os) → list_all (λ r. list_all (λ o. test o.0) (slice_range os r.start r.end)) runs ≡ true → list_all (λ o. test o.0) (outside from runs os) ≡ true → list_all (λ o. test o.0) (drop from os) ≡ true
+  none_gone from [] rise inside out = out
+  none_gone from (r ∷ rs) rise inside out =
+      let within = and_parts _ _ inside in
+      let before = and_parts _ _ (sym (list_all-append (λ o. test o.0) (slice_range os from r.start) (outside r.end rs os)) ∙ out) in
+      ap (list_all (λ o. test o.0)) (drop_split os from r.start rise.0)
+      ∙ list_all-append (λ o. test o.0) (slice_range os from r.start) (drop r.start os)
+      ∙ and_from _ _ before.0
+      (ap (list_all (λ o. test o.0)) (drop_split os r.start r.end (omega (arith, rise.1)))
+      ∙ list_all-append (λ o. test o.0) (slice_range os r.start r.end) (drop r.end os)
+      ∙ and_from _ _ within.0 (none_gone r.end rs rise.2 within.1 before.1))
+
+-- a filter that all pass keeps all
+pub all_pass : {A : Type 0} (test : A → Bool) (xs : List A) → list_all test xs ≡ true → filter test xs ≡ xs
+all_pass test [] all = refl
+all_pass test (x ∷ xs) all = let parts = and_parts (test x) (list_all test xs) all in rw parts.0 (ap (λ ys. x ∷ ys) (all_pass test xs parts.1))

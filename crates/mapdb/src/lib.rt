@@ -14,6 +14,8 @@ mod plain;
 mod reply;
 mod start;
 mod strip;
+#[cfg(test)]
+mod tests;
 mod tidy;
 mod transfer;
 mod tree;

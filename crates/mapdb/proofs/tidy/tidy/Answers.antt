@@ -1,11 +1,20 @@
--- The parts are those of the tree, and what is put back of them has entries.
-use Rattle.std.proofs.Common.{map, subst, sym, ap, ◌∙◌}
+-- A tree of which nothing is gone stays. Otherwise the parts are those of the tree, and what is put back of them has entries.
+use Rattle.std.proofs.Common.{length, map, subst, sym, ap, ◌∙◌}
 use Rattle.std.specs.List.{All}
 use Rattle.space.specs.Shards.{IsPlace}
 use Rattle.maptree.specs.Cuts.{nodes_of, kept_of}
 use Rattle.mapdb.specs.Stripping.{has_entry}
-use Rattle.mapdb.proofs.Tidying.{all_pieces_of, all_parts, all_firsts, kept_parts, on_ok}
+use Rattle.mapdb.proofs.Tidying.{all_pieces_of, all_parts, all_firsts, kept_parts, on_ok, none_gone, all_pass}
+use Rattle.mapdb.proofs.Sequences.{rising_at}
 use Rattle.mapdb.proofs.tidy.tidy.Goals as goal
+
+pub are_held-requires-clause-within : goal.are_held-requires-clause-within
+are_held-requires-clause-within c = λ k d less. (rising_at 0 c.args.runs.now (length c.args.tree.now.links) k d c.requires.rising less).1
+
+pub returns-then-are_held : goal.returns-then-are_held
+returns-then-are_held c =
+    let inside = sym c.are_held.ensures ∙ c.if-are_held.true in
+    sym (all_pass (λ o. has_entry c.args.shards.now o.0) c.args.tree.now.links (none_gone (has_entry c.args.shards.now) c.args.tree.now.links 0 c.args.runs.now c.requires.rising inside c.requires.outside))
 
 pub held_parts-requires-clause-places : goal.held_parts-requires-clause-places
 held_parts-requires-clause-places c =
