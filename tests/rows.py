@@ -725,6 +725,13 @@ SENDS = [
         [LINKED, LINKED, LINKED],
         [roots(16), "2,0,5,r--,---,2:4", "2,4,5,r--,---,0:5"],
     ),
+    # After the grant space 1 names nothing; space 2 names 2:4 and with it 2:0, whose RW goes to 0:5; space 0 takes r from both.
+    (
+        "granted page obeys its receiver and its origin, and its sender no longer",
+        [*CHAIN, "send,1,2,40c0,a,c7", "access,2,0,w", "unmap,1,40,17", "unmap,2,40,40c2", "unmap,0,0,50c4"],
+        [LINKED, LINKED, LINKED, OK, "unmap 00000010", "unmap 000040c6", "unmap 000050c6"],
+        [roots(16), "2,0,5,--x,---,2:4", "2,4,5,--x,---,0:5"],
+    ),
     # 2:0 has x alone, which the grant withholds, so it is gone with 1:3, which derives from it.
     (
         "grant removes what is left without rights",
@@ -1330,6 +1337,8 @@ REFUSED = [
     # items, spaces, windows
     *((f"first item word that ends in {n:x}", b"send,0,2,10,900%x,50c7" % n, "NotAnItem") for n in [*range(8), *range(12, 16)]),
     ("second of two items is none", b"send,0,2,10,8,50c7,0,50c7", "NotAnItem"),
+    ("item behind a grant is none", b"send,0,2,10,a,50c7,0,60c7", "NotAnItem"),
+    ("item behind a grant is past the space", b"send,0,2,10,a,50c7,8,400c7", "OutOfSpace"),
     ("sender just past the spaces", b"send,3,2,10,8,50c7", "NoSuchSpace"),
     ("sender with the largest number", b"send,65535,2,10,8,50c7", "NoSuchSpace"),
     ("receiver just past the spaces", b"send,0,3,10,8,50c7", "NoSuchSpace"),
