@@ -1,5 +1,5 @@
 #!/usr/bin/env python3
-"""Time and peak memory of the proved program on traces of four kinds, each at three sizes.
+"""Time and peak memory of the proved program on traces of seven kinds, each at three sizes.
 
     bench/bench.py [PROGRAM]
 
@@ -24,11 +24,24 @@ GNU_TIME = "/usr/bin/time"
 
 FIRST_PAGE = 0x0C7  # the fpage of page 0, all rights
 FIRST_PAGES = 0x140  # the fpage of pages 0 to 255, no rights: an unmap of it reads and clears status
+FIRST_16_PAGES = 0x107  # the fpages of so many pages from page 0 on, all rights
+FIRST_512_PAGES = 0x157
+ALL_PAGES = 0x17
 
 
 def send(sender, receiver, page, target):
     """Page `page` of the sender to page `target` of the receiver, with all rights."""
     return f"send,{sender},{receiver},10,{target:x}008,{page:x}0c7"
+
+
+def send_fpage(sender, receiver, fpage):
+    """An fpage of the sender to the same pages of the receiver, by a MapItem."""
+    return f"send,{sender},{receiver},10,8,{fpage:x}"
+
+
+def grant_fpage(sender, receiver, fpage):
+    """The same by a GrantItem."""
+    return f"send,{sender},{receiver},10,a,{fpage:x}"
 
 
 def access(space, page, kind, offset=0):
@@ -97,7 +110,45 @@ def pager(records):
             yield access(chance.choice(clients), chance.randrange(pages), chance.choice("rw"))
 
 
-KINDS = [mixed, chain, fan, pager]
+def relay(records):
+    """All 4,096 pages go from space to space through 16, in one item each, and space 0 takes them back; again and again."""
+    while records > 0:
+        length = min(records, 16)
+        for space in range(length - 1):
+            yield send_fpage(space, space + 1, ALL_PAGES)
+        yield unmap(0, ALL_PAGES)
+        records -= length
+
+
+def grants(records):
+    """Two spaces grant 512 pages to and fro, from which a third space has mappings."""
+    yield send_fpage(0, 1, FIRST_512_PAGES)
+    yield send_fpage(1, 3, FIRST_512_PAGES)
+    for number in range(records - 2):
+        sender = 1 + number % 2
+        yield grant_fpage(sender, 3 - sender, FIRST_512_PAGES)
+
+
+def spread(records):
+    """16 pages go from space 0 to each of the other spaces, and space 0 takes them back from all; again and again."""
+    while records > 0:
+        length = min(records, SPACES)
+        for space in range(1, length):
+            yield send_fpage(0, space, FIRST_16_PAGES)
+        yield unmap(0, FIRST_16_PAGES)
+        records -= length
+
+
+# Each kind with its numbers of records. A record of `relay` is about 4,096 pages and one of `grants` about 512.
+KINDS = [
+    (mixed, SIZES),
+    (chain, SIZES),
+    (fan, SIZES),
+    (pager, SIZES),
+    (relay, [16, 160, 1_600]),
+    (grants, [100, 1_000, 10_000]),
+    (spread, SIZES),
+]
 
 
 def trace(kind, records):
@@ -144,11 +195,11 @@ def main():
     if not os.access(program, os.X_OK):
         sys.exit(f"bench.py: there is no program {program}: ./test.sh proves it and builds it")
     print(f"median time of {RUNS} runs each; peak memory of one run")
-    print(f"{'records':>16} {'seconds':>10} {'records/s':>11} {'peak MiB':>9}  growth from the size before")
+    print(f"{'records':>17} {'seconds':>10} {'records/s':>11} {'peak MiB':>9}  growth from the size before")
     with tempfile.TemporaryDirectory() as room:
         report(program, mixed, [0], room)
-        for kind in KINDS:
-            report(program, kind, SIZES, room)
+        for kind, sizes in KINDS:
+            report(program, kind, sizes, room)
 
 
 def report(program, kind, sizes, room):
@@ -162,7 +213,7 @@ def report(program, kind, sizes, room):
         growth = ""
         if before:
             growth = f"{records / before[0]:g} times the records in {taken / before[1]:.1f} times the time"
-        print(f"{name:>5} {records:>10,} {taken:>10.4f} {rate:>11} {memory:>9}  {growth}".rstrip(), flush=True)
+        print(f"{name:>6} {records:>10,} {taken:>10.4f} {rate:>11} {memory:>9}  {growth}".rstrip(), flush=True)
         before = (records, taken)
 
 

@@ -1,5 +1,5 @@
 #!/usr/bin/env python3
-"""Want of memory at each allocation of a short run: that one alone, and all from that one on.
+"""Want of memory at each allocation of short runs: that one alone, and all from that one on.
 
     tests/memory.py [PROGRAM]
 
@@ -10,10 +10,39 @@ the reply lines of the records before it. Allocations fail by the preloaded libr
 import os
 import re
 import tempfile
+from typing import NamedTuple
 
 from support.program import Cases, Ended, build_library, difference, preloaded, program_path, run
 
-TRACE = b"""\
+LINKED = b"send absent=0 norights=0 origin=0 lost=0 extended=0 linked=1"
+
+
+class Trace(NamedTuple):
+    """A trace, the reply lines to its records, and the audit lines with the end line."""
+
+    name: str
+    records: bytes
+    replies: list
+    audit: bytes
+
+    def undisturbed(self):
+        return Ended(0, b"".join(self.replies) + self.audit, b"")
+
+
+def numbered(*replies):
+    """The replies as lines, numbered from 1."""
+    return [b"%d %s\n" % (number, reply) for number, reply in enumerate(replies, 1)]
+
+
+def roots(count):
+    """The audit lines of the pages of space 0 at the start."""
+    return b"".join(b"0,%d,%d,rwx,---,-\n" % (page, page) for page in range(count))
+
+
+TRACES = [
+    Trace(
+        "pages mapped, accessed and unmapped, and refused records",
+        b"""\
 l4map,1,3,18,2
 send,0,1,10,3008,c6
 access,1,3abc,w
@@ -24,70 +53,118 @@ access,2,0,x
 send,0,2,10,5008,10c7
 access,2,5fff,x
 unmap,0,1,c2,10c0
-"""
-REPLIES = [
-    b"1 send absent=0 norights=0 origin=0 lost=0 extended=0 linked=1\n",
-    b"2 access ok\n",
-    b"3 send absent=0 norights=0 origin=0 lost=0 extended=0 linked=1\n",
-    b"4 refused BadRecord\n",
-    b"5 refused OutOfSpace\n",
-    b"6 access fault\n",
-    b"7 send absent=0 norights=0 origin=0 lost=0 extended=0 linked=1\n",
-    b"8 access ok\n",
-    b"9 unmap 000000c6 000010c5\n",
-]
-AUDIT = b"""\
+""",
+        numbered(
+            LINKED,
+            b"access ok",
+            LINKED,
+            b"refused BadRecord",
+            b"refused OutOfSpace",
+            b"access fault",
+            LINKED,
+            b"access ok",
+            b"unmap 000000c6 000010c5",
+        ),
+        b"""\
 0,0,0,rwx,---,-
 0,1,1,rwx,---,-
 1,3,0,r--,---,0:0
 2,0,0,r--,---,1:3
 2,5,1,rwx,---,0:1
 end 9 2
-"""
-UNDISTURBED = Ended(0, b"".join(REPLIES) + AUDIT, b"")
+""",
+    ),
+    Trace(
+        "grant with fewer rights narrows what derives from the page",
+        b"""\
+l4map,1,3,18,16
+send,0,1,c0,8,50c7
+send,1,2,c0,8,c7
+send,1,2,40c0,a,c4
+""",
+        numbered(LINKED, LINKED, LINKED),
+        roots(16) + b"2,0,5,r--,---,2:4\n2,4,5,r--,---,0:5\nend 3 0\n",
+    ),
+    Trace(
+        "grant of two pages of one chain at once",
+        b"""\
+l4map,1,3,18,16
+send,0,1,c0,8,50c7
+send,1,2,c0,8,c7
+send,2,1,30c0,8,c7
+send,1,2,40e0,a,e7
+""",
+        numbered(
+            LINKED, LINKED, LINKED, b"send absent=2 norights=0 origin=0 lost=0 extended=0 linked=2"
+        ),
+        roots(16) + b"2,0,5,rwx,---,2:4\n2,4,5,rwx,---,0:5\n2,7,5,rwx,---,2:0\nend 4 0\n",
+    ),
+    Trace(
+        "source that the flush of its own item removes is lost",
+        b"""\
+l4map,1,3,18,16
+send,0,1,10c0,8,50c7
+send,1,2,c0,8,10c7
+send,0,2,10c0,8,70c7
+send,2,1,d0,8,d7
+""",
+        numbered(
+            LINKED, LINKED, LINKED, b"send absent=0 norights=0 origin=0 lost=1 extended=0 linked=1"
+        ),
+        roots(16) + b"1,1,7,rwx,---,2:1\n2,1,7,rwx,---,0:7\nend 4 0\n",
+    ),
+]
 MOST_ALLOCATIONS = 100_000
 
 
-def run_short_of_memory(program, library, fail_at, and_rest):
-    """One run, and whether an allocation was really refused in it."""
+def run_short_of_memory(program, trace, library, fail_at, and_rest):
+    """One run of a trace, and whether an allocation was really refused in it."""
     note, end = os.pipe()
     environment = preloaded(library, FAIL_AT=fail_at, FAIL_REST=int(and_rest), FAIL_NOTE=end)
-    got = run(program, TRACE, env=environment, pass_fds=[end])
+    got = run(program, trace.records, env=environment, pass_fds=[end])
     os.close(end)
     was_refused = os.read(note, 1) == b"!"
     os.close(note)
     return got, was_refused
 
 
-def what_is_wrong(got):
-    """What is wrong with how a run short of memory ended, or an empty text."""
-    if got == UNDISTURBED:
+def what_is_wrong(trace, got):
+    """What is wrong with how a run of a trace ended that was short of memory, or an empty text."""
+    if got == trace.undisturbed():
         return ""
     told = re.fullmatch(rb"l4map: record (\d+): NoMemory\n", got.stderr)
     if got.status != 3 or not told:
         return f"neither the undisturbed run nor want of memory: status {got.status}, standard error {got.stderr[:200]!r}"
     record = int(told[1])
-    if record > len(REPLIES) + 1:
+    if record > len(trace.replies) + 1:
         return f"there is no record {record}"
-    written = b"".join(REPLIES[: max(record - 1, 0)])
+    written = b"".join(trace.replies[: max(record - 1, 0)])
     return difference(Ended(3, written, got.stderr), got)
+
+
+def check_trace(cases, program, trace, library):
+    """Refuses each allocation of a run of the trace in turn."""
+    cases.compare(f"{trace.name}: the run that is not disturbed", trace.undisturbed(), run(program, trace.records))
+    for and_rest, which in [(False, "alone"), (True, "and all after it")]:
+        ended_early, fail_at = 0, 0
+        was_refused = True
+        while was_refused and fail_at < MOST_ALLOCATIONS:
+            fail_at += 1
+            got, was_refused = run_short_of_memory(program, trace, library, fail_at, and_rest)
+            ended_early += got.status == 3
+            cases.check(f"{trace.name}: allocation {fail_at} {which} fails", what_is_wrong(trace, got))
+        left = "none did" if was_refused else ""
+        cases.check(f"{trace.name}: a run ends once no allocation is left to fail, {which}", left)
+        without_effect = "" if ended_early else "the library has no effect"
+        cases.check(f"{trace.name}: some run ended for want of memory, {which}", without_effect)
 
 
 def main():
     program, cases = program_path(), Cases()
-    cases.compare("the run that is not disturbed", UNDISTURBED, run(program, TRACE))
     with tempfile.TemporaryDirectory() as room:
         library = build_library("fail_alloc.c", room)
-        for and_rest, which in [(False, "alone"), (True, "and all after it")]:
-            ended_early, fail_at = 0, 0
-            was_refused = True
-            while was_refused and fail_at < MOST_ALLOCATIONS:
-                fail_at += 1
-                got, was_refused = run_short_of_memory(program, library, fail_at, and_rest)
-                ended_early += got.status == 3
-                cases.check(f"allocation {fail_at} {which} fails", what_is_wrong(got))
-            cases.check(f"a run ends once no allocation is left to fail, {which}", "" if not was_refused else "none did")
-            cases.check(f"some run ended for want of memory, {which}", "" if ended_early else "the library has no effect")
+        for trace in TRACES:
+            check_trace(cases, program, trace, library)
     cases.end()
 
 

@@ -12,6 +12,13 @@ HEADER = "l4map,1,3,18,16"
 LINKED = "send absent=0 norights=0 origin=0 lost=0 extended=0 linked=1"
 ABSENT = "send absent=1 norights=0 origin=0 lost=0 extended=0 linked=0"
 NO_RIGHTS = "send absent=0 norights=1 origin=0 lost=0 extended=0 linked=0"
+OK = "access ok"
+
+
+def sent(absent=0, norights=0, origin=0, lost=0, extended=0, linked=0):
+    """The reply to a send with these counts."""
+    pairs_without_effect = f"absent={absent} norights={norights} origin={origin} lost={lost}"
+    return f"send {pairs_without_effect} extended={extended} linked={linked}"
 
 
 def lines(*texts):
@@ -420,6 +427,680 @@ WHOLE_RUNS = [
             "end 4 2",
         ),
     ),
+    # All of space 0 is mapped to space 1 and granted to space 2 with rw; a second map from space 0 finds each page of space 2
+    # derived from its own and gives it x. Space 2 maps all to space 3, takes r there, and a map from space 0 replaces it.
+    (
+        "complete spaces of 4096 pages mapped, granted, extended and replaced",
+        lines(
+            "l4map,1,4,24,4096",
+            "send,0,1,10,8,17",
+            "send,1,2,10,a,16",
+            "send,0,2,10,8,11",
+            "send,2,3,10,8,15",
+            "unmap,2,0,14",
+            "access,3,fff000,r",
+            "access,3,fff000,x",
+            "send,0,3,10,8,17",
+        ),
+        lines(
+            f"1 {sent(linked=4096)}",
+            f"2 {sent(linked=4096)}",
+            f"3 {sent(extended=4096)}",
+            f"4 {sent(linked=4096)}",
+            "5 unmap 00000010",
+            "6 access fault",
+            "7 access ok",
+            f"8 {sent(linked=4096)}",
+            roots(4096),
+            *(f"2,{page},{page},rwx,---,0:{page}" for page in range(4095)),
+            "2,4095,4095,rwx,R-X,0:4095",
+            *(f"3,{page},{page},rwx,---,0:{page}" for page in range(4096)),
+            "end 8 0",
+        ),
+    ),
+    # A chain of page 0 of all spaces. Its head is an origin of its end. Space 255 grants its page to 0:16 without w: 256:0 and
+    # what follows lose w, and the status of 511:0 goes to 254:0. At last space 0 grants its page to 1:0, which derives from it
+    # with all the rest, 0:16 too.
+    (
+        "chain through 512 spaces",
+        lines(
+            "l4map,1,512,18,1",
+            *(f"send,{space},{space + 1},c0,8,c7" for space in range(511)),
+            "access,511,0,w",
+            "send,511,0,c0,8,c7",
+            "send,255,0,10,1000a,c5",
+            "access,511,0,w",
+            "access,511,0,x",
+            "access,254,0,r",
+            "unmap,254,0,c0",
+            "send,0,1,c0,a,c4",
+        ),
+        lines(
+            *(f"{number} {LINKED}" for number in range(1, 512)),
+            "512 access ok",
+            f"513 {sent(origin=1)}",
+            f"514 {LINKED}",
+            "515 access fault",
+            "516 access ok",
+            "517 access ok",
+            "518 unmap 000000c7",
+            f"519 {LINKED}",
+            "1,0,0,r--,---,-",
+            "end 519 0",
+        ),
+    ),
+]
+
+# Sends of whole fpages, by Map and Grant: name, records behind the header, their replies, and the audit lines. Where the
+# answer takes more than a look at the rules, the comment above a case says how it comes.
+SENDS = [
+    # Fpages, windows and send bases.
+    (
+        "send base picks the page of a larger send fpage",
+        ["send,0,1,80c0,2008,40e7"],
+        [LINKED],
+        [roots(16), "1,8,6,rwx,---,0:6"],
+    ),
+    (
+        "send fpage of 32 pages of which 16 are held",
+        ["send,0,1,10,8,117"],
+        [sent(absent=16, linked=16)],
+        [roots(16), *(f"1,{page},{page},rwx,---,0:{page}" for page in range(16))],
+    ),
+    (
+        "complete space into the complete space",
+        ["send,0,1,10,8,17"],
+        [sent(absent=48, linked=16)],
+        [roots(16), *(f"1,{page},{page},rwx,---,0:{page}" for page in range(16))],
+    ),
+    ("nil send fpage", ["send,0,1,10,8,0"], [sent()], [roots(16)]),
+    # Pages 4 and 5 into pages 8 to 15. The send base is page 21 and 3 KiB: 21 modulo 8 is 5, which lies in the third
+    # block of two pages, 12 and 13.
+    (
+        "send base between the blocks of a larger window",
+        ["send,0,1,80f0,15c08,40d7"],
+        [sent(linked=2)],
+        [roots(16), "1,12,4,rwx,---,0:4", "1,13,5,rwx,---,0:5"],
+    ),
+    # Pages 0 to 15 into pages 2 and 3. The send base is page 23 and 1 KiB: 23 modulo 16 is 7, which lies in the fourth
+    # block of two pages, 6 and 7.
+    (
+        "send base between the blocks of a larger send fpage",
+        ["send,0,1,20d0,17408,107"],
+        [sent(linked=2)],
+        [roots(16), "1,2,6,rwx,---,0:6", "1,3,7,rwx,---,0:7"],
+    ),
+    (
+        "send base without effect where fpage and window are equal",
+        ["send,0,1,80e0,6c08,40e6"],
+        [sent(linked=4)],
+        [roots(16), *(f"1,{page},{page - 4},rw-,---,0:{page - 4}" for page in range(8, 12))],
+    ),
+    # The largest send base is page 1,048,575: modulo 64 that is 63, in the last block of four pages, 60 to 63.
+    (
+        "largest send base into the complete window",
+        ["send,0,1,10,fffffc08,40e7"],
+        [sent(linked=4)],
+        [roots(16), *(f"1,{page},{page - 56},rwx,---,0:{page - 56}" for page in range(60, 64))],
+    ),
+    # The send base is page 70: modulo 64 that is 6, in the block of the pages 4 to 7.
+    (
+        "send base past the space picks a block of the complete space",
+        ["send,0,1,80e0,46008,17"],
+        [sent(linked=4)],
+        [roots(16), *(f"1,{page},{page - 4},rwx,---,0:{page - 4}" for page in range(8, 12))],
+    ),
+    # The send base is page 47, in the block of the pages 32 to 47, none of which is held.
+    (
+        "send base picks a block of the complete space that is not held",
+        ["send,0,1,100,2f008,17"],
+        [sent(absent=16)],
+        [roots(16)],
+    ),
+    # Each item has its own send base: page 1 into the first page, page 2 into the second, page 3 into the fourth.
+    (
+        "items of one send with send bases of their own",
+        ["send,0,1,40e0,8,10c7,1008,20c7,7008,30c7"],
+        [sent(linked=3)],
+        [roots(16), "1,4,1,rwx,---,0:1", "1,5,2,rwx,---,0:2", "1,7,3,rwx,---,0:3"],
+    ),
+    (
+        "nil send fpage between two others",
+        ["send,0,1,10,8,50c7,8,0,1008,60c7"],
+        [sent(linked=2)],
+        [roots(16), "1,0,5,rwx,---,0:5", "1,1,6,rwx,---,0:6"],
+    ),
+    (
+        "one page to three pages of the window",
+        ["send,0,1,10,8,50c7,1008,50c4,2008,50c1"],
+        [sent(linked=3)],
+        [roots(16), "1,0,5,rwx,---,0:5", "1,1,5,r--,---,0:5", "1,2,5,--x,---,0:5"],
+    ),
+    # The complete space granted: what was mapped from its pages derives from the new places. The map after it finds pages
+    # 0 to 3 of space 2 derived from its sources and extends them by w; the others are new.
+    (
+        "complete space granted and then mapped on",
+        ["send,0,2,10,8,e4", "send,0,1,10,a,17", "send,1,2,10,8,16"],
+        [sent(linked=4), sent(absent=48, linked=16), sent(absent=48, extended=4, linked=12)],
+        [
+            *(f"1,{page},{page},rwx,---,-" for page in range(16)),
+            *(f"2,{page},{page},rw-,---,1:{page}" for page in range(16)),
+        ],
+    ),
+    (
+        "complete space granted to and fro",
+        ["send,0,1,10,a,17", "send,1,0,10,a,17"],
+        [sent(absent=48, linked=16), sent(absent=48, linked=16)],
+        [roots(16)],
+    ),
+    (
+        "complete space sent back to where it came from",
+        ["send,0,1,10,8,17", "send,1,0,10,8,17", "send,1,0,10,a,17"],
+        [sent(absent=48, linked=16), sent(absent=48, origin=16), sent(absent=48, origin=16)],
+        [roots(16), *(f"1,{page},{page},rwx,---,0:{page}" for page in range(16))],
+    ),
+    # Held targets of a map.
+    (
+        "map of a page again with another right extends the mapping",
+        ["send,0,1,10,8,50c6", "send,0,1,10,8,50c1"],
+        [LINKED, sent(extended=1)],
+        [roots(16), "1,0,5,rwx,---,0:5"],
+    ),
+    (
+        "extending never takes a right and goes no further than the source's rights",
+        ["send,0,1,10,8,50c6", "send,1,2,10,8,c4", "send,1,2,10,8,c7", "send,0,1,10,8,50c4"],
+        [LINKED, LINKED, sent(extended=1), sent(extended=1)],
+        [roots(16), "1,0,5,rw-,---,0:5", "2,0,5,rw-,---,1:0"],
+    ),
+    (
+        "extending a mapping leaves what derives from it as it is",
+        ["send,0,1,10,8,50c4", "send,1,2,10,8,c7", "send,0,1,10,8,50c3"],
+        [LINKED, LINKED, sent(extended=1)],
+        [roots(16), "1,0,5,rwx,---,0:5", "2,0,5,r--,---,1:0"],
+    ),
+    (
+        "replaced target goes with all that derives from it",
+        [*CHAIN, "send,0,1,10,8,70c7"],
+        [LINKED, LINKED, LINKED],
+        [roots(16), "1,0,7,rwx,---,0:7"],
+    ),
+    (
+        "target that is the origin of its source is left alone",
+        [*CHAIN, "send,2,1,c0,8,c7"],
+        [LINKED, LINKED, sent(origin=1)],
+        [roots(16), "1,0,5,rwx,---,0:5", "2,0,5,rwx,---,1:0"],
+    ),
+    # 2:0 derives from 0:5 through 1:0, so it is no target to extend: it is replaced, and its status goes to its origin 1:0.
+    (
+        "map onto a page that derives from the source at distance two replaces it",
+        [*CHAIN, "access,2,0,w", "send,0,2,10,8,50c4"],
+        [LINKED, LINKED, OK, LINKED],
+        [roots(16), "1,0,5,rwx,RW-,0:5", "2,0,5,r--,---,0:5"],
+    ),
+    (
+        "map onto a mapping of the same page from the same origin replaces it",
+        ["send,0,1,c0,8,50c7", "send,0,2,c0,8,50c7", "send,1,2,c0,8,c4"],
+        [LINKED, LINKED, LINKED],
+        [roots(16), "1,0,5,rwx,---,0:5", "2,0,5,r--,---,1:0"],
+    ),
+    # 0:5, 1:0, 2:0, 1:3, 2:4 is one chain. From 2:4 the page 1:3 is its origin, 1:0 is the third and 0:5 the fourth up the
+    # chain; from 2:0 the page 0:5 is the second; from 1:3 the page 2:0 is the first and 0:5 the third.
+    (
+        "targets from which the source derives at distance two and more are left alone",
+        [
+            *CHAIN,
+            "send,2,1,30c0,8,c7",
+            "send,1,2,40c0,8,30c4",
+            "send,2,1,c0,8,40c7",
+            "send,2,0,50c0,8,40c7",
+            "send,2,0,50c0,a,40c7",
+            "send,2,0,50c0,8,c1",
+            "send,1,0,50c0,a,30c1",
+            "send,1,2,c0,8,30c7",
+        ],
+        [*[LINKED] * 4, *[sent(origin=1)] * 6],
+        [roots(16), "1,0,5,rwx,---,0:5", "1,3,5,rwx,---,2:0", "2,0,5,rwx,---,1:0", "2,4,5,r--,---,1:3"],
+    ),
+    # 2:0 goes to 0:4, a root of another frame and so no origin of it. The root is replaced, and no page holds frame 4 any
+    # more. 2:1 is not held, so 0:5 stays.
+    (
+        "root that is replaced takes its frame with it",
+        [*CHAIN, "send,2,0,40d0,8,d7"],
+        [LINKED, LINKED, sent(absent=1, linked=1)],
+        [roots(4), "0,4,5,rwx,---,2:0", roots(11, first=5), "1,0,5,rwx,---,0:5", "2,0,5,rwx,---,1:0"],
+    ),
+    # No pair goes, so no target is flushed: 1:0 keeps its rights, its status and what derives from it.
+    (
+        "held target of an absent source, and of one without a right in common",
+        [*CHAIN, "access,1,0,w", "send,0,1,c0,8,100c7", "send,0,1,c0,8,60c0", "send,0,1,c0,a,50c0", "send,0,1,c0,a,100c7"],
+        [LINKED, LINKED, OK, ABSENT, NO_RIGHTS, NO_RIGHTS, ABSENT],
+        [roots(16), "1,0,5,rwx,RW-,0:5", "2,0,5,rwx,---,1:0"],
+    ),
+    # Space 1 holds page 0 with r, 1 with w, 2 with x, 3 with rw. Of rw, page 2 has nothing; of x only page 2 has something;
+    # no rights are common with none. The grant with r takes the pages 0 and 3 alone and replaces 2:0 and 2:3, which derive
+    # from them.
+    (
+        "norights among several pairs",
+        [
+            "send,0,1,10,8,c4,1008,10c2,2008,20c1,3008,30c6",
+            "send,1,2,10,8,e6,4008,e1,8008,e0",
+            "send,1,2,10,a,e4",
+        ],
+        [sent(linked=4), sent(norights=8, linked=4), sent(norights=2, linked=2)],
+        [
+            roots(16),
+            "1,1,1,-w-,---,0:1",
+            "1,2,2,--x,---,0:2",
+            "2,0,0,r--,---,0:0",
+            "2,1,1,-w-,---,1:1",
+            "2,3,3,r--,---,0:3",
+            "2,6,2,--x,---,1:2",
+        ],
+    ),
+    # Space 2 holds r alone and 1:0 rw. Where no right is common, neither a target that is an origin of the source nor one that
+    # the map would extend counts as such.
+    (
+        "norights comes before origin and before extended",
+        ["send,0,1,c0,8,50c6", "send,1,2,c0,8,c4", "send,2,1,c0,8,c3", "send,2,1,c0,a,c2", "send,1,2,c0,8,c1"],
+        [LINKED, LINKED, NO_RIGHTS, NO_RIGHTS, NO_RIGHTS],
+        [roots(16), "1,0,5,rw-,---,0:5", "2,0,5,r--,---,1:0"],
+    ),
+    # Grants.
+    ("grant of a root", ["send,0,1,10,a,50c7"], [LINKED], [roots(5), roots(10, first=6), "1,0,5,rwx,---,-"]),
+    (
+        "grant of a root from which another space has mapped",
+        ["send,0,1,10,8,50c6", "send,0,2,10,a,50c7", "access,1,0,w"],
+        [LINKED, LINKED, OK],
+        [roots(5), roots(10, first=6), "1,0,5,rw-,RW-,2:0", "2,0,5,rwx,---,-"],
+    ),
+    (
+        "lowest bit of the first word of a GrantItem is ignored",
+        ["send,0,1,10,8,50c6", "send,0,2,10,b,50c7", "access,1,0,w"],
+        [LINKED, LINKED, OK],
+        [roots(5), roots(10, first=6), "1,0,5,rw-,RW-,2:0", "2,0,5,rwx,---,-"],
+    ),
+    (
+        "grant with fewer rights narrows what derives from the page",
+        [*CHAIN, "send,1,2,40c0,a,c4"],
+        [LINKED, LINKED, LINKED],
+        [roots(16), "2,0,5,r--,---,2:4", "2,4,5,r--,---,0:5"],
+    ),
+    # After the grant space 1 names nothing; space 2 names 2:4 and with it 2:0, whose RW goes to 0:5; space 0 takes r from both.
+    (
+        "granted page obeys its receiver and its origin, and its sender no longer",
+        [*CHAIN, "send,1,2,40c0,a,c7", "access,2,0,w", "unmap,1,40,17", "unmap,2,40,40c2", "unmap,0,0,50c4"],
+        [LINKED, LINKED, LINKED, OK, "unmap 00000010", "unmap 000040c6", "unmap 000050c6"],
+        [roots(16), "2,0,5,--x,---,2:4", "2,4,5,--x,---,0:5"],
+    ),
+    # 2:0 has x alone, which the grant withholds, so it is gone with 1:3, which derives from it.
+    (
+        "grant removes what is left without rights",
+        ["send,0,1,c0,8,50c7", "send,1,2,c0,8,c1", "send,2,1,30c0,8,c7", "send,1,2,40c0,a,c6"],
+        [LINKED, LINKED, LINKED, LINKED],
+        [roots(16), "2,4,5,rw-,---,0:5"],
+    ),
+    (
+        "grant of two pages of one chain at once",
+        [*CHAIN, "send,2,1,30c0,8,c7", "send,1,2,40e0,a,e7"],
+        [LINKED, LINKED, LINKED, sent(absent=2, linked=2)],
+        [roots(16), "2,0,5,rwx,---,2:4", "2,4,5,rwx,---,0:5", "2,7,5,rwx,---,2:0"],
+    ),
+    (
+        "grant onto the head of a chain removes the chain",
+        [*CHAIN, "send,0,1,10,a,70c7"],
+        [LINKED, LINKED, LINKED],
+        [roots(7), roots(8, first=8), "1,0,7,rwx,---,-"],
+    ),
+    (
+        "grant onto a mapping that derives from its own source",
+        ["send,0,1,10,8,50c7", "send,0,1,10,a,50c6"],
+        [LINKED, LINKED],
+        [roots(5), roots(10, first=6), "1,0,5,rw-,---,-"],
+    ),
+    # 2:0 derives from 0:5 through 1:0. It is flushed, and its status goes to 1:0. Then 0:5 becomes 2:0: the strip of the
+    # source clears the status of 1:0, 0:5 is a root, and 1:0 now derives from the page of space 2.
+    (
+        "grant onto a page that derives from its own source at distance two",
+        [*CHAIN, "access,2,0,w", "access,1,0,x", "send,0,2,10,a,50c7"],
+        [LINKED, LINKED, OK, OK, LINKED],
+        [roots(5), roots(10, first=6), "1,0,5,rwx,---,2:0", "2,0,5,rwx,---,-"],
+    ),
+    # The target goes with 1:3, which derives from it, and 2:4 with that.
+    (
+        "grant onto a page that derives from its own source removes the rest of the chain",
+        [*CHAIN, "send,2,1,30c0,8,c7", "send,1,2,40c0,8,30c7", "send,1,2,c0,a,c7"],
+        [LINKED, LINKED, LINKED, LINKED, LINKED],
+        [roots(16), "2,0,5,rwx,---,0:5"],
+    ),
+    (
+        "grant onto a mapping of the same page from the same origin replaces it",
+        ["send,0,1,c0,8,50c7", "send,0,2,c0,8,50c4", "send,1,2,c0,a,c7"],
+        [LINKED, LINKED, LINKED],
+        [roots(16), "2,0,5,rwx,---,0:5"],
+    ),
+    # Space 1 grants the middle of the chain to 2:4, from which 2:0 then derives, and space 2 grants it back. The strip of the
+    # first grant clears the status of 2:0 and gives it to 0:5.
+    (
+        "page granted to and fro with what derives from it",
+        [*CHAIN, "access,2,0,w", "send,1,2,40c0,a,c7", "send,2,1,c0,a,40c7"],
+        [LINKED, LINKED, OK, LINKED, LINKED],
+        [roots(5), "0,5,5,rwx,RW-,-", roots(10, first=6), "1,0,5,rwx,---,0:5", "2,0,5,rwx,---,1:0"],
+    ),
+    (
+        "root granted to and fro loses what is withheld on the way",
+        ["send,0,1,50c0,a,50c7", "send,1,0,50c0,a,50c6", "send,0,1,50c0,a,50c1", "send,0,1,50c0,a,50c3"],
+        [LINKED, LINKED, NO_RIGHTS, LINKED],
+        [roots(5), roots(10, first=6), "1,5,5,-w-,---,-"],
+    ),
+    # 2:0 goes to 1:1, whose origin is then 1:0. 1:0 goes to 2:0, so 1:1 derives from 2:0. 1:1 goes to 2:1, whose origin is
+    # 2:0. 2:0 goes to 1:0, and 2:1 derives from 1:0: the chain of the beginning with 2:1 in place of 2:0.
+    (
+        "two pages of one chain granted round between two spaces",
+        [*CHAIN, "send,2,1,10c0,a,c7", "send,1,2,c0,a,c7", "send,1,2,10c0,a,10c7", "send,2,1,c0,a,c7"],
+        [LINKED] * 6,
+        [roots(16), "1,0,5,rwx,---,0:5", "2,1,5,rwx,---,1:0"],
+    ),
+    # After the grant 1:1 derives directly from 1:0. The status of 1:1 goes to 1:0, then with that to 0:5. In the last unmap
+    # both pages are named and 1:1, which is derived too, loses w.
+    (
+        "grant by which a mapping derives from a page of its own space",
+        [*CHAIN, "send,2,1,10c0,a,c7", "access,1,1000,x", "unmap,1,0,10c0", "unmap,1,0,c0", "unmap,1,0,d2"],
+        [LINKED, LINKED, LINKED, OK, "unmap 000010c5", "unmap 000000c5", "unmap 000000d0"],
+        [roots(5), "0,5,5,rwx,R-X,-", roots(10, first=6), "1,0,5,rwx,---,0:5", "1,1,5,r-x,---,1:0"],
+    ),
+    # 2:0 is granted to 1:1, which then derives directly from 1:0. Both are granted with r alone in one item: one strip takes
+    # the other rights from both, then both move, and 2:5 derives from 2:4.
+    (
+        "grant of a page and of its derived neighbour",
+        [*CHAIN, "send,2,1,10c0,a,c7", "send,1,2,40d0,a,d4"],
+        [LINKED, LINKED, LINKED, sent(linked=2)],
+        [roots(16), "2,4,5,r--,---,0:5", "2,5,5,r--,---,2:4"],
+    ),
+    # Phases of one item.
+    (
+        "source that the flush of its own item removes is lost",
+        ["send,0,1,10c0,8,50c7", "send,1,2,c0,8,10c7", "send,0,2,10c0,8,70c7", "send,2,1,d0,8,d7"],
+        [LINKED, LINKED, LINKED, sent(lost=1, linked=1)],
+        [roots(16), "1,1,7,rwx,---,2:1", "2,1,7,rwx,---,0:7"],
+    ),
+    # The same pages by a grant. The flush of 1:1 removes 2:0 and gives its status to 0:5. The strip of the source 2:1 gives
+    # the status of that page to 0:7.
+    (
+        "source of a grant that the flush of its own item removes is lost",
+        [
+            "send,0,1,10c0,8,50c7",
+            "send,1,2,c0,8,10c7",
+            "send,0,2,10c0,8,70c7",
+            "access,2,0,w",
+            "access,2,1000,x",
+            "send,2,1,d0,a,d7",
+        ],
+        [LINKED, LINKED, LINKED, OK, OK, sent(lost=1, linked=1)],
+        [roots(5), "0,5,5,rwx,RW-,-", roots(1, first=6), "0,7,7,rwx,R-X,-", roots(8, first=8), "1,1,7,rwx,---,0:7"],
+    ),
+    # 2:1 comes from 0:5, 1:0 from 2:1, 2:0 from 1:0; 1:1 comes from 0:7. Page 0 extends 2:0, which derives from it, and page 1
+    # replaces 2:1. The flush of 2:1 removes 1:0 and 2:0, so the extension is lost.
+    (
+        "extension whose source the flush of its own item removes is lost",
+        [
+            "send,0,2,10c0,8,50c7",
+            "send,2,1,c0,8,10c7",
+            "send,1,2,c0,8,c4",
+            "send,0,1,10c0,8,70c7",
+            "send,1,2,d0,8,d7",
+        ],
+        [LINKED, LINKED, LINKED, LINKED, sent(lost=1, linked=1)],
+        [roots(16), "1,1,7,rwx,---,0:7", "2,1,7,rwx,---,1:1"],
+    ),
+    # Both sources derive from a page that the other pair replaces: 2:0 from 1:1 and 2:1 from 1:0. Both are lost, and with
+    # the targets all that was held beside the roots is gone.
+    (
+        "two pairs that remove each other's source",
+        ["send,0,1,d0,8,40d7", "send,1,2,c0,8,10c7", "send,1,2,10c0,8,c7", "send,2,1,d0,8,d7"],
+        [sent(linked=2), LINKED, LINKED, sent(lost=2)],
+        [roots(16)],
+    ),
+    # Sources of frames 5 and 6 over targets of frames 6 and 5. 2:0 is flushed and gives its status to 0:6; the strip of the
+    # source 1:0 gives its status to 0:5.
+    (
+        "grant of two pages onto mappings of each other's frames",
+        ["send,0,1,10,8,50c7,1008,60c7", "send,0,2,10,8,60c7,1008,50c7", "access,2,0,w", "access,1,0,x", "send,1,2,d0,a,d7"],
+        [sent(linked=2), sent(linked=2), OK, OK, sent(linked=2)],
+        [roots(5), "0,5,5,rwx,R-X,-", "0,6,6,rwx,RW-,-", roots(9, first=7), "2,0,5,rwx,---,0:5", "2,1,6,rwx,---,0:6"],
+    ),
+    # Pages of space 1: 0 of frame 5, 1 of frame 6, 2 of frame 5 and derived from 0 through 2:9, 3 of frame 6. In the map each
+    # becomes the origin of its target; the unmap takes r from all of frame 5 below 0:5.
+    (
+        "map of several pages of two frames",
+        [
+            "send,0,1,10,8,50c7,1008,60c7,3008,60c6",
+            "send,1,2,90c0,8,c7",
+            "send,2,1,20c0,8,90c7",
+            "send,1,2,e0,8,e5",
+            "unmap,0,0,50c4",
+        ],
+        [sent(linked=3), LINKED, LINKED, sent(linked=4), "unmap 000050c0"],
+        [
+            roots(16),
+            "1,0,5,-wx,---,0:5",
+            "1,1,6,rwx,---,0:6",
+            "1,2,5,-wx,---,2:9",
+            "1,3,6,rw-,---,0:6",
+            "2,0,5,--x,---,1:0",
+            "2,1,6,r-x,---,1:1",
+            "2,2,5,--x,---,1:2",
+            "2,3,6,r--,---,1:3",
+            "2,9,5,-wx,---,1:0",
+        ],
+    ),
+    # The same pages granted without w: 2:9, between two of the sources, loses it too, and derives from 2:0 afterwards.
+    (
+        "grant of several pages of two frames",
+        [
+            "send,0,1,10,8,50c7,1008,60c7,3008,60c6",
+            "send,1,2,90c0,8,c7",
+            "send,2,1,20c0,8,90c7",
+            "send,1,2,e0,a,e5",
+        ],
+        [sent(linked=3), LINKED, LINKED, sent(linked=4)],
+        [
+            roots(16),
+            "2,0,5,r-x,---,0:5",
+            "2,1,6,r-x,---,0:6",
+            "2,2,5,r-x,---,2:9",
+            "2,3,6,r--,---,0:6",
+            "2,9,5,r-x,---,2:0",
+        ],
+    ),
+    # Pages 0 to 7 of space 1 onto pages 0 to 7 of space 2 with rw. 1:0 is not held. 1:1 has x alone. 1:2 derives from 2:2.
+    # 2:3 derives from 1:3. 1:4 goes to a free page. 1:5 replaces 2:5, from which 1:6 derives, so the pair of 1:6 is lost.
+    # 1:7 replaces 2:7, which came from 0:7.
+    (
+        "each of the six counts in one item",
+        [
+            "send,0,1,10c0,8,10c1",
+            "send,0,2,20c0,8,20c7",
+            "send,2,1,20c0,8,20c7",
+            "send,0,1,30c0,8,30c7",
+            "send,1,2,30c0,8,30c4",
+            "send,0,1,40d0,8,40d7",
+            "send,0,2,50c0,8,d0c7",
+            "send,2,1,60c0,8,50c7",
+            "send,0,1,70c0,8,70c7",
+            "send,0,2,70c0,8,70c7",
+            "send,1,2,f0,8,f6",
+        ],
+        [
+            *[LINKED] * 5,
+            sent(linked=2),
+            *[LINKED] * 4,
+            sent(absent=1, norights=1, origin=1, lost=1, extended=1, linked=3),
+        ],
+        [
+            roots(16),
+            "1,1,1,--x,---,0:1",
+            "1,2,2,rwx,---,2:2",
+            "1,3,3,rwx,---,0:3",
+            "1,4,4,rwx,---,0:4",
+            "1,5,5,rwx,---,0:5",
+            "1,7,7,rwx,---,0:7",
+            "2,2,2,rwx,---,0:2",
+            "2,3,3,rw-,---,1:3",
+            "2,4,4,rw-,---,1:4",
+            "2,5,5,rw-,---,1:5",
+            "2,7,7,rw-,---,1:7",
+        ],
+    ),
+    # The same pages by a grant. It extends nothing: 2:3 is replaced by the page from which it derives. What goes is taken from
+    # space 1 and keeps its origin.
+    (
+        "each count that a grant can have in one item",
+        [
+            "send,0,1,10c0,8,10c1",
+            "send,0,2,20c0,8,20c7",
+            "send,2,1,20c0,8,20c7",
+            "send,0,1,30c0,8,30c7",
+            "send,1,2,30c0,8,30c4",
+            "send,0,1,40d0,8,40d7",
+            "send,0,2,50c0,8,d0c7",
+            "send,2,1,60c0,8,50c7",
+            "send,0,1,70c0,8,70c7",
+            "send,0,2,70c0,8,70c7",
+            "send,1,2,f0,a,f6",
+        ],
+        [
+            *[LINKED] * 5,
+            sent(linked=2),
+            *[LINKED] * 4,
+            sent(absent=1, norights=1, origin=1, lost=1, linked=4),
+        ],
+        [
+            roots(16),
+            "1,1,1,--x,---,0:1",
+            "1,2,2,rwx,---,2:2",
+            "2,2,2,rwx,---,0:2",
+            "2,3,3,rw-,---,0:3",
+            "2,4,4,rw-,---,0:4",
+            "2,5,5,rw-,---,0:5",
+            "2,7,7,rw-,---,0:7",
+        ],
+    ),
+    # Status.
+    # The flush of 1:0 takes its status and that of 2:0, and gives both to 0:5. The new mapping has none.
+    (
+        "status of a replaced page and of what derives from it goes to its origin",
+        [*CHAIN, "access,2,0,w", "access,1,0,x", "send,0,1,10,8,70c7", "unmap,0,0,70c0", "unmap,0,0,50c0"],
+        [LINKED, LINKED, OK, OK, LINKED, "unmap 000070c0", "unmap 000050c7"],
+        [roots(16), "1,0,7,rwx,---,0:7"],
+    ),
+    (
+        "status of a replaced root ends",
+        ["send,0,1,10,a,50c7", "access,1,0,w", "send,0,1,10,8,70c7", "unmap,0,0,10"],
+        [LINKED, OK, LINKED, "unmap 00000010"],
+        [roots(5), roots(10, first=6), "1,0,7,rwx,---,0:7"],
+    ),
+    # 1:1 derives from 2:0 and is replaced alone. Its RW goes to 2:0, which has R and X and stays.
+    (
+        "status of a replaced page goes no further than its origin",
+        [*CHAIN, "send,2,1,10c0,8,c7", "access,1,1000,w", "access,2,0,x", "send,0,1,10,1008,60c7"],
+        [LINKED, LINKED, LINKED, OK, OK, LINKED],
+        [roots(16), "1,0,5,rwx,---,0:5", "1,1,6,rwx,---,0:6", "2,0,5,rwx,RWX,1:0"],
+    ),
+    # 1:0 and 1:1, which derives from it through 2:0, are replaced in one item: all three are gone, and their status goes to
+    # 0:5.
+    (
+        "status of two replaced pages of one chain goes to the origin outside",
+        [*CHAIN, "send,2,1,10c0,8,c7", "access,1,1000,w", "access,2,0,x", "send,0,1,10,8,60d7"],
+        [LINKED, LINKED, LINKED, OK, OK, sent(linked=2)],
+        [roots(5), "0,5,5,rwx,RWX,-", roots(10, first=6), "1,0,6,rwx,---,0:6", "1,1,7,rwx,---,0:7"],
+    ),
+    # 1:1 came from 0:6 and is replaced by 0:7 while 0:6 goes to 1:0: its status is added to 0:6 and not copied to 1:0.
+    (
+        "status flushed to a source of the same map stays there",
+        ["send,0,1,10,1008,60c7", "access,1,1000,w", "access,0,6000,x", "send,0,1,10,8,60d7"],
+        [LINKED, OK, OK, sent(linked=2)],
+        [roots(6), "0,6,6,rwx,RWX,-", roots(9, first=7), "1,0,6,rwx,---,0:6", "1,1,7,rwx,---,0:7"],
+    ),
+    # 1:1 came from 2:6. Its status is flushed to 2:6, which is then granted to 1:0: the strip of the source gives it to 0:6.
+    (
+        "status flushed to a source of the same grant goes on to that one's origin",
+        ["send,0,2,10,8,f7", "send,2,1,10,1008,60c7", "access,1,1000,w", "send,2,1,10,a,60d7"],
+        [sent(linked=8), LINKED, OK, sent(linked=2)],
+        [
+            roots(6),
+            "0,6,6,rwx,RW-,-",
+            roots(9, first=7),
+            "1,0,6,rwx,---,0:6",
+            "1,1,7,rwx,---,0:7",
+            *(f"2,{page},{page},rwx,---,0:{page}" for page in range(6)),
+        ],
+    ),
+    # The extension leaves R in 1:0, where the unmap finds it, and does not take up the status of 0:5.
+    (
+        "extended mapping keeps its status",
+        ["send,0,1,10,8,50c4", "access,1,0,r", "access,0,5000,x", "send,0,1,10,8,50c2", "unmap,1,0,c0", "access,1,0,w"],
+        [LINKED, OK, OK, sent(extended=1), "unmap 000000c4", OK],
+        [roots(5), "0,5,5,rwx,R-X,-", roots(10, first=6), "1,0,5,rw-,RW-,0:5"],
+    ),
+    # 2:0 was granted to 1:0, so 1:0 derives directly from 1:1. In the last item 0:4 replaces 1:0, whose status goes to 1:1,
+    # and 0:5 extends 1:1, which keeps it.
+    (
+        "extended mapping gains the status of a page replaced below it",
+        ["send,0,1,10,1008,50c6", "send,1,2,10,8,10c7", "send,2,1,10,a,c7", "access,1,0,w", "send,0,1,10,8,40d7"],
+        [LINKED, LINKED, LINKED, OK, sent(extended=1, linked=1)],
+        [roots(16), "1,0,4,rwx,---,0:4", "1,1,5,rwx,RW-,0:5"],
+    ),
+    # The strip of the granted page, which withholds nothing, takes its status and that of 2:0 and gives both to 0:5.
+    (
+        "status of a granted page and of what derives from it goes to its origin",
+        [*CHAIN, "access,2,0,w", "access,1,0,x", "send,1,2,40c0,a,c7", "unmap,2,0,10", "unmap,0,0,50c0"],
+        [LINKED, LINKED, OK, OK, LINKED, "unmap 00000010", "unmap 000050c7"],
+        [roots(16), "2,0,5,rwx,---,2:4", "2,4,5,rwx,---,0:5"],
+    ),
+    (
+        "status of a granted root ends",
+        [*CHAIN, "access,0,5000,w", "access,2,0,x", "send,0,2,50c0,a,50c7", "unmap,2,0,10"],
+        [LINKED, LINKED, OK, OK, LINKED, "unmap 00000010"],
+        [roots(5), roots(10, first=6), "1,0,5,rwx,---,2:5", "2,0,5,rwx,---,1:0", "2,5,5,rwx,---,-"],
+    ),
+    # Several items in order.
+    (
+        "second item of a send extends what the first mapped",
+        ["send,0,1,10,8,50c6,8,50c1"],
+        [sent(extended=1, linked=1)],
+        [roots(16), "1,0,5,rwx,---,0:5"],
+    ),
+    # The first item maps 0:5 to 1:0. The second grants 0:5 to 1:1 without x, which 1:0 loses too. The third finds 0:5 gone. The
+    # fourth replaces 1:1, and with it 1:0 goes, which derives from it by then.
+    (
+        "items that each find what those before them did",
+        ["send,0,1,10,8,50c7,100a,50c6,8,50c7,1008,60c7"],
+        [sent(absent=1, linked=3)],
+        [roots(5), roots(10, first=6), "1,1,6,rwx,---,0:6"],
+    ),
+    # The send above without its last item: 1:0 derives from the page that was granted.
+    (
+        "item that grants what the item before it mapped",
+        ["send,0,1,10,8,50c7,100a,50c6,8,50c7"],
+        [sent(absent=1, linked=2)],
+        [roots(5), roots(10, first=6), "1,0,5,rw-,---,1:1", "1,1,5,rw-,---,-"],
+    ),
+    # Page by page of space 0, three items each: the first replaces what the items before it made and gives r, the other two
+    # extend it by w and by x. Item 31 is the first of page 10.
+    (
+        "31 items of which each extends or replaces what the one before made",
+        ["send,0,1,c0" + "".join(f",8,{item // 3:x}0c{(4, 2, 1)[item % 3]}" for item in range(31))],
+        [sent(extended=20, linked=11)],
+        [roots(16), "1,0,10,r--,---,0:10"],
+    ),
+    # Space 1 has pages 0 to 9 and has mapped page 0 on. Item by item its next page is granted to 2:0, in place of the page
+    # that the item before granted; the first takes 2:0, which derives from it. The other 21 items find no page.
+    (
+        "31 grants of which each replaces what the one before granted",
+        ["send,0,1,10,8,f7,8008,80d7", "send,1,2,c0,8,c7", "send,1,2,c0" + "".join(f",a,{page:x}0c6" for page in range(31))],
+        [sent(linked=10), LINKED, sent(absent=21, linked=10)],
+        [roots(16), "2,0,9,rw-,---,0:9"],
+    ),
 ]
 
 # The same trace in each form that reads as the same records. What the program must write is `SAME_RECORDS`.
@@ -454,6 +1135,8 @@ ACCEPTED = [
     ("window that is complete by its size", "send,0,2,120,9008,50c7", LINKED, ["2,9,5,rwx,---,0:5"]),
     ("window that ends at the end of the space", "send,0,2,3f0c0,8,50c7", LINKED, ["2,63,5,rwx,---,0:5"]),
     ("rights and the free bit of the window are ignored", "send,0,2,1f,9008,50c7", LINKED, ["2,9,5,rwx,---,0:5"]),
+    ("window with read alone limits no rights", "send,0,2,14,9008,50c7", LINKED, ["2,9,5,rwx,---,0:5"]),
+    ("window with write alone and read sent", "send,0,2,12,9008,50c4", LINKED, ["2,9,5,r--,---,0:5"]),
     ("free bit of the send fpage is ignored", "send,0,2,10,9008,50cf", LINKED, ["2,9,5,rwx,---,0:5"]),
     ("lowest bit of the first item word is ignored", "send,0,2,10,9009,50c7", LINKED, ["2,9,5,rwx,---,0:5"]),
     ("middle bits of the first item word are ignored", "send,0,2,10,93f8,50c7", LINKED, ["2,9,5,rwx,---,0:5"]),
@@ -473,6 +1156,21 @@ ACCEPTED = [
     ("read and execute of a page that has no execute", "send,1,2,10,8,c5", LINKED, ["2,0,5,r--,---,1:0"]),
     ("write and execute of a page that has no execute", "send,1,2,10,8,c3", LINKED, ["2,0,5,-w-,---,1:0"]),
     ("execute of a page that has no execute", "send,1,2,10,8,c1", NO_RIGHTS, []),
+    ("two items", "send,0,2,10,8,50c7,1008,60c7", sent(linked=2), ["2,0,5,rwx,---,0:5", "2,1,6,rwx,---,0:6"]),
+    ("31 items", "send,0,2,10" + ",8,50c7" * 31, sent(extended=30, linked=1), ["2,0,5,rwx,---,0:5"]),
+    ("send fpage of two pages", "send,0,2,10,8,40d7", sent(linked=2), ["2,0,4,rwx,---,0:4", "2,1,5,rwx,---,0:5"]),
+    ("send fpage of four pages into a window of one", "send,0,2,80c0,2008,40e7", LINKED, ["2,8,6,rwx,---,0:6"]),
+    ("complete send fpage into a window of one page", "send,0,2,80c0,9008,17", LINKED, ["2,8,9,rwx,---,0:9"]),
+    ("send fpage that is complete by its size", "send,0,2,80c0,9008,127", LINKED, ["2,8,9,rwx,---,0:9"]),
+    ("nil send fpage", "send,0,2,10,8,0", sent(), []),
+    ("nil send fpage with rights", "send,0,2,10,8,f", sent(), []),
+    ("nil send fpage granted", "send,0,2,10,a,7", sent(), []),
+    ("grant of an absent page", "send,0,2,10,a,100c7", ABSENT, []),
+    ("grant without rights", "send,0,2,10,a,50c0", NO_RIGHTS, []),
+    ("held target and absent source", "send,0,1,10,8,100c7", ABSENT, []),
+    ("held target and no right in common", "send,0,1,10,8,60c0", NO_RIGHTS, []),
+    ("held target that is the source's origin", "send,1,0,10,5008,c7", sent(origin=1), []),
+    ("held target that gains nothing", "send,0,1,10,8,50c4", sent(extended=1), []),
     ("execute without the right", "access,1,0,x", "access fault", []),
     ("read of an absent page", "access,1,1000,r", "access fault", []),
     ("write to an absent page", "access,1,1000,w", "access fault", []),
@@ -609,22 +1307,6 @@ REFUSED = [
     ("unmap past the space", b"unmap,0,0,400c7", "OutOfSpace"),
     ("unmap by a space just past the spaces", b"unmap,3,0,c0", "NoSuchSpace"),
     ("unmap by the space with the largest number", b"unmap,65535,0,c0", "NoSuchSpace"),
-    # sends that are still to come
-    ("two items", b"send,0,2,10,8,50c7,1008,60c7", "BadRecord"),
-    ("31 items", b"send,0,2,10" + b",8,50c7" * 31, "BadRecord"),
-    ("grant", b"send,0,2,10,a,50c7", "BadRecord"),
-    ("grant with its lowest bit set", b"send,0,2,10,b,50c7", "BadRecord"),
-    ("send fpage of two pages", b"send,0,2,10,8,40d7", "BadRecord"),
-    ("send fpage of four pages into a window of one", b"send,0,2,80c0,2008,40e7", "BadRecord"),
-    ("complete send fpage", b"send,0,2,10,8,17", "BadRecord"),
-    ("send fpage that is complete by its size", b"send,0,2,10,8,127", "BadRecord"),
-    ("nil send fpage", b"send,0,2,10,8,0", "BadRecord"),
-    ("nil send fpage with rights", b"send,0,2,10,8,f", "BadRecord"),
-    ("held target", b"send,0,1,10,8,60c7", "BadRecord"),
-    ("held target that would gain rights", b"send,0,1,10,8,50c1", "BadRecord"),
-    ("held target that is the source's origin", b"send,1,0,10,5008,c7", "BadRecord"),
-    ("held target and absent source", b"send,0,1,10,8,100c7", "BadRecord"),
-    ("held target and no right in common", b"send,0,1,10,8,60c0", "BadRecord"),
     # fpage words
     *((f"window with s {s}", b"send,0,2,%x,8,50c7" % (16 * s), "BadSize") for s in range(2, 12)),
     ("window with s 0 and a base", b"send,0,2,1000,8,50c7", "BadSize"),
@@ -655,6 +1337,8 @@ REFUSED = [
     # items, spaces, windows
     *((f"first item word that ends in {n:x}", b"send,0,2,10,900%x,50c7" % n, "NotAnItem") for n in [*range(8), *range(12, 16)]),
     ("second of two items is none", b"send,0,2,10,8,50c7,0,50c7", "NotAnItem"),
+    ("item behind a grant is none", b"send,0,2,10,a,50c7,0,60c7", "NotAnItem"),
+    ("item behind a grant is past the space", b"send,0,2,10,a,50c7,8,400c7", "OutOfSpace"),
     ("sender just past the spaces", b"send,3,2,10,8,50c7", "NoSuchSpace"),
     ("sender with the largest number", b"send,65535,2,10,8,50c7", "NoSuchSpace"),
     ("receiver just past the spaces", b"send,0,3,10,8,50c7", "NoSuchSpace"),
@@ -794,6 +1478,13 @@ GOOD_LIMITS = [
 ]
 
 
+def answered(replies, audit):
+    """The reply lines, numbered from 1, the audit lines and the end line."""
+    refused = sum(it.startswith("refused ") for it in replies)
+    numbered = (f"{number} {reply}" for number, reply in enumerate(replies, 1))
+    return lines(*numbered, *audit, f"end {len(replies)} {refused}")
+
+
 def between(record):
     """A trace in which the record stands between a mapping of 1:0 and an access to it."""
     return lines(HEADER, "send,0,1,10,8,50c6") + record + lines("", "access,1,0,w")
@@ -824,6 +1515,8 @@ def main():
 
     for name, given, stdout in WHOLE_RUNS:
         check(name, given, stdout)
+    for name, records, replies, audit in SENDS:
+        check(f"sends: {name}", lines(HEADER, *records), answered(replies, audit))
     for flush in (False, True):
         for revoked in range(8):
             name = f"{'flush' if flush else 'unmap'} of the rights {rights_text(revoked)}"
