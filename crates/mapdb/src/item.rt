@@ -10,9 +10,9 @@ ghost use Rattle.mapdb.specs.Stripping.{limits_in, holdings_in, AreSound};
 ghost use Rattle.mapdb.specs.Sending.{job_of_pages, AreItemPages};
 
 use crate::grant::grant_pages;
+use crate::item_pages::ItemPages;
 use crate::map::map_pages;
 use crate::pages::strip_held;
-use crate::item_pages::ItemPages;
 use crate::reply::SendReply;
 use crate::transfer::{End, Transfer, held_ends, plan_item};
 use fpage::{Fpage, Item, ItemKind, Rights};
@@ -71,7 +71,14 @@ fn work_item(
 {
     let plan = plan_item(alloc, shards, trees, pages)?;
     flush(alloc, shards, trees, &plan.transfers)?;
-    let worked = map_or_grant(alloc, shards, trees, pages.kind, pages.rights, &plan.transfers)?;
+    let worked = map_or_grant(
+        alloc,
+        shards,
+        trees,
+        pages.kind,
+        pages.rights,
+        &plan.transfers,
+    )?;
     Ok(plan.decided.plus(worked))
 }
 

@@ -2,13 +2,15 @@
 
 ghost use Rattle.std.specs.Prelude.{◌≡◌, ◌<◌, OnOk};
 ghost use Rattle.space.specs.Directory.{pages_of};
+ghost use Rattle.fpage.specs.Fpage.{IsSpaceBits};
 
 mod chains;
 mod unmaps;
 
 use crate::{Database, DbError, Limits, SendReply};
-use fpage::{Access, Rights};
+use fpage::{Access, Fpage, Item, Rights};
 use space::{Entry, Place};
+use std::alloc::Global;
 use std::process::Abort;
 use std::test::Fail;
 
@@ -52,31 +54,55 @@ const NONE: SendReply = SendReply {
     linked: 0,
 };
 
-/// Maps a page to a page that holds nothing, and looks at the reply.
+/// The word of one page, with these rights.
+fn page_word(page: u32, rights: Rights) -> u32
+    requires { page < 4096 }
+{
+    page * 4096 + 0xc0 + rights.number()
+}
+
+/// Maps a page to a page of another space, with its rights as far as these go.
+fn send_page(
+    rt: &impl Abort,
+    database: &mut Database,
+    alloc: Global,
+    bits: u32,
+    source: Place,
+    target: Place,
+    rights: Rights,
+) -> Result<SendReply, DbError>
+    requires bits { IsSpaceBits bits }
+    requires limits { database.old.limits.bits ≡ bits }
+    requires source { source.page < 4096 }
+    requires target { target.page < 4096 }
+    ensures { database.new.limits ≡ database.old.limits }
+{
+    let Ok(window) = Fpage::read(page_word(target.page, rights), bits) else {
+        panic!(rt; "{target} is no page");
+    };
+    let Ok(item) = Item::read(8, page_word(source.page, rights), bits) else {
+        panic!(rt; "{source} is no page");
+    };
+    database.send(alloc, source.space, target.space, &window, &[item])
+}
+
+/// Maps a page to a page of the other space, and looks at the reply.
 fn expect_map(
     rt: &impl Abort,
     database: &mut Database,
+    alloc: Global,
     source: Place,
     target: Place,
     given: Rights,
     reply: SendReply,
 ) -> Result<(), Fail>
-    requires spaces { database.old.limits.spaces ≡ 2 }
     requires bits { database.old.limits.bits ≡ 18 }
-    requires source_space { source.space < 2 }
-    requires source_page { source.page < pages_of 18 }
-    requires target_space { target.space < 2 }
-    requires target_page { target.page < pages_of 18 }
-    ensures { OnOk result (database.new.limits ≡ database.old.limits) }
+    requires source { source.page < pages_of 18 }
+    requires target { target.page < pages_of 18 }
+    ensures { database.new.limits ≡ database.old.limits }
 {
-    match database.entry(target)? {
-        None => assert_eq!(rt;
-            database.map_page(source, target, given)?,
-            reply,
-            "{target}"
-        ),
-        Some(_) => panic!(rt; "{target} is held"),
-    }
+    let answer = send_page(rt, database, alloc, 18, source, target, given)?;
+    assert_eq!(rt; answer, reply, "{target}");
     Ok(())
 }
 
@@ -238,11 +264,28 @@ fn maps_a_page_on(rt: HostRuntime) -> Result<(), Fail> {
     let no_write = rights(true, false, true);
     let no_execute = rights(true, true, false);
     let no_read = rights(false, true, true);
-    expect_map(&rt, &mut database, root, child, no_write, linked)?;
-    expect_map(&rt, &mut database, child, grandchild, no_execute, linked)?;
     expect_map(
         &rt,
         &mut database,
+        rt.alloc(),
+        root,
+        child,
+        no_write,
+        linked,
+    )?;
+    expect_map(
+        &rt,
+        &mut database,
+        rt.alloc(),
+        child,
+        grandchild,
+        no_execute,
+        linked,
+    )?;
+    expect_map(
+        &rt,
+        &mut database,
+        rt.alloc(),
         place(0, 63),
         place(1, 5),
         no_write,
@@ -251,6 +294,7 @@ fn maps_a_page_on(rt: HostRuntime) -> Result<(), Fail> {
     expect_map(
         &rt,
         &mut database,
+        rt.alloc(),
         grandchild,
         place(1, 9),
         no_read,

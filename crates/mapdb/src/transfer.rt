@@ -7,9 +7,9 @@ ghost use Rattle.space.specs.declared.place.Place.{Place};
 ghost use Rattle.mapdb.specs.Stripping.{limits_in, holdings_in, any_page, has_entry, HasItsFrame, AreSound};
 ghost use Rattle.mapdb.specs.Sending.{job_of_pages, AreItemPages, transfers_of, decided, end_of, ends_of};
 
+use crate::item_pages::ItemPages;
 use crate::outcome::{Outcome, outcome_of};
 use crate::pages::HeldPage;
-use crate::item_pages::ItemPages;
 use crate::reply::SendReply;
 use maptree::Tree;
 use space::{Place, Shards};

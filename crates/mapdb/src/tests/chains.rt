@@ -3,6 +3,7 @@
 ghost use Rattle.std.specs.Prelude.{◌≡◌, ◌<◌, ◌≤◌, OnOk};
 ghost use Rattle.space.specs.Directory.{pages_of};
 
+use super::send_page;
 use crate::Database;
 use fpage::{Control, Fpage, Rights};
 use space::{Entry, Place};
@@ -32,20 +33,15 @@ fn place(below: u32) -> Place
 }
 
 /// Maps the last page of a chain of so many mappings on, to a page that holds nothing.
-fn extend(rt: &impl Abort, database: &mut Database, below: u32) -> Result<(), Fail>
+fn extend(rt: &impl Abort, database: &mut Database, alloc: Global, below: u32) -> Result<(), Fail>
     requires limits { database.old.limits ≡ record { spaces = 4; bits = 24; frames = 1 } }
     requires below { below < 10000 }
     ensures { OnOk result (database.new.limits ≡ record { spaces = 4; bits = 24; frames = 1 }) }
 {
     let source = place(below);
     let target = place(below + 1);
-    match database.entry(target)? {
-        None => {
-            let reply = database.map_page(source, target, Rights::all())?;
-            assert_eq!(rt; reply.linked, 1, "{target}");
-        }
-        Some(_) => panic!(rt; "{target} is held"),
-    }
+    let reply = send_page(rt, database, alloc, 24, source, target, Rights::all())?;
+    assert_eq!(rt; reply.linked, 1, "{target}");
     Ok(())
 }
 
@@ -89,7 +85,7 @@ fn expect(
 fn revokes_a_long_chain(rt: HostRuntime) -> Result<(), Fail> {
     let mut database = Database::new(rt.alloc(), 4, 24, 1)?;
     for below in 0..LENGTH {
-        extend(&rt, &mut database, below)?;
+        extend(&rt, &mut database, rt.alloc(), below)?;
     }
     expect(&rt, &database, LENGTH, Some(Rights::all()))?;
 

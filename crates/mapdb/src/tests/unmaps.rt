@@ -1,12 +1,13 @@
-//! Unmaps in three spaces of sixteen frames, with answers that are worked out by hand.
+//! Calls in three spaces of sixteen frames, with answers that are worked out by hand.
 
 ghost use Rattle.std.specs.Prelude.{◌≡◌, ◌<◌, OnOk, IfOk};
 ghost use Rattle.std.specs.List.{All};
 ghost use Rattle.space.specs.Directory.{pages_of};
 ghost use Rattle.fpage.specs.Fpage.{IsFpageOf};
 
-use crate::{Database, DbError};
-use fpage::{Access, Control, Fpage, Rights, with_status};
+use super::send_page;
+use crate::{Database, DbError, SendReply};
+use fpage::{Access, Control, Fpage, Item, Rights, with_status};
 use space::{Entry, Place};
 use std::alloc::Global;
 use std::process::Abort;
@@ -54,13 +55,31 @@ const NONE: Rights = Rights {
     execute: false,
 };
 
+/// No pair of any outcome.
+const NO_PAIRS: SendReply = SendReply {
+    absent: 0,
+    norights: 0,
+    origin: 0,
+    lost: 0,
+    extended: 0,
+    linked: 0,
+};
+
+/// One new mapping.
+const LINKED: SendReply = SendReply {
+    linked: 1,
+    ..NO_PAIRS
+};
+
 /// What is done, one after another.
 #[derive(Clone, Copy)]
 enum Step {
-    /// Maps a page to a page that holds nothing, with all its rights.
+    /// Maps a page to a page of another space that holds nothing, with all its rights.
     Map((u16, u32), (u16, u32)),
-    /// Maps a page to a page that holds nothing, with these of its rights.
+    /// The same, with these of its rights.
     MapSome((u16, u32), (u16, u32), Rights),
+    /// Sends an item, which is answered these counts: sender, receiver, window, the item's words.
+    Send(u16, u16, u32, (u32, u32), SendReply),
     /// Makes an access, which succeeds.
     Touch((u16, u32), Access),
     /// Unmaps one word, which gives back another: space, control word, word, reply.
@@ -72,10 +91,11 @@ enum Step {
 /// What a page holds: rights, status, and the page from which it came.
 type Held = (Rights, Rights, Option<(u16, u32)>);
 
-/// What is done, and what frame 5 is held with at the pages that held it.
+/// What is done, and what a frame is held with at pages that have to do with it.
 #[derive(Clone, Copy)]
 struct Case {
     name: &'static str,
+    frame: u32,
     steps: &'static [Step],
     left: &'static [((u16, u32), Option<Held>)],
 }
@@ -83,9 +103,10 @@ struct Case {
 /// Frame 5 goes from 0:5 to 1:0 and on to 2:0, before the steps of each case.
 const CHAIN: [Step; 2] = [Step::Map((0, 5), (1, 0)), Step::Map((1, 0), (2, 0))];
 
-const CASES: [Case; 10] = [
+const CASES: [Case; 17] = [
     Case {
         name: "what derives loses a right, and the caller keeps it",
+        frame: 5,
         steps: &[Step::Unmap(0, 0, 0x50c2, 0x50c0)],
         left: &[
             ((0, 5), Some((ALL, NONE, None))),
@@ -95,6 +116,7 @@ const CASES: [Case; 10] = [
     },
     Case {
         name: "status comes back once, and goes to the origin outside",
+        frame: 5,
         steps: &[
             Step::Touch((2, 0), Access::Write),
             Step::Unmap(1, 0, 0x10, 0x16),
@@ -109,6 +131,7 @@ const CASES: [Case; 10] = [
     },
     Case {
         name: "a nested mapping in the caller's own space loses the right",
+        frame: 5,
         steps: &[Step::Map((2, 0), (1, 3)), Step::Unmap(1, 0, 0x12, 0x10)],
         left: &[
             ((0, 5), Some((ALL, NONE, None))),
@@ -119,6 +142,7 @@ const CASES: [Case; 10] = [
     },
     Case {
         name: "a flush of a nested mapping with the lower page takes the higher too",
+        frame: 5,
         steps: &[Step::Map((2, 0), (1, 3)), Step::Unmap(1, 0x40, 0xc7, 0xc0)],
         left: &[
             ((0, 5), Some((ALL, NONE, None))),
@@ -129,6 +153,7 @@ const CASES: [Case; 10] = [
     },
     Case {
         name: "two branches add to the status of one origin",
+        frame: 5,
         steps: &[
             Step::Map((0, 5), (1, 3)),
             Step::Touch((1, 0), Access::Read),
@@ -144,6 +169,7 @@ const CASES: [Case; 10] = [
     },
     Case {
         name: "a nilpage names no page, and its bit 3 comes back as given",
+        frame: 5,
         steps: &[Step::Unmap(1, 0, 0, 0), Step::Unmap(1, 0, 0xf, 8)],
         left: &[
             ((0, 5), Some((ALL, NONE, None))),
@@ -153,11 +179,13 @@ const CASES: [Case; 10] = [
     },
     Case {
         name: "a flush of the complete space by the root leaves nothing",
+        frame: 5,
         steps: &[Step::Unmap(0, 0x40, 0x17, 0x10)],
         left: &[((0, 5), None), ((1, 0), None), ((2, 0), None)],
     },
     Case {
         name: "two words of one flush: the page is gone when no right is left",
+        frame: 5,
         steps: &[
             Step::Touch((2, 0), Access::Execute),
             Step::UnmapTwo(1, 0x41, [0xc2, 0xc5], [0xc5, 0xc0]),
@@ -170,6 +198,7 @@ const CASES: [Case; 10] = [
     },
     Case {
         name: "two words take two rights from what derives",
+        frame: 5,
         steps: &[Step::UnmapTwo(0, 1, [0x50c2, 0x50c4], [0x50c0, 0x50c0])],
         left: &[
             ((0, 5), Some((ALL, NONE, None))),
@@ -179,6 +208,7 @@ const CASES: [Case; 10] = [
     },
     Case {
         name: "a page mapped without execute keeps read, and its status comes back",
+        frame: 5,
         steps: &[
             Step::MapSome((0, 5), (1, 3), READ_WRITE),
             Step::Touch((1, 3), Access::Write),
@@ -190,6 +220,123 @@ const CASES: [Case; 10] = [
             ((2, 0), Some((READ_EXECUTE, NONE, Some((1, 0))))),
             ((1, 3), Some((READ, NONE, Some((0, 5))))),
         ],
+    },
+    Case {
+        name: "a page that is granted takes what derives from it along, with the rights that are left",
+        frame: 5,
+        steps: &[Step::Send(1, 2, 0x40c0, (0xa, 0xc4), LINKED)],
+        left: &[
+            ((0, 5), Some((ALL, NONE, None))),
+            ((1, 0), None),
+            ((2, 0), Some((READ, NONE, Some((2, 4))))),
+            ((2, 4), Some((READ, NONE, Some((0, 5))))),
+        ],
+    },
+    Case {
+        name: "two pages of one chain are granted at once",
+        frame: 5,
+        steps: &[
+            Step::Map((2, 0), (1, 3)),
+            Step::Send(
+                1,
+                2,
+                0x40e0,
+                (0xa, 0xe7),
+                SendReply {
+                    absent: 2,
+                    linked: 2,
+                    ..NO_PAIRS
+                },
+            ),
+        ],
+        left: &[
+            ((1, 0), None),
+            ((1, 3), None),
+            ((2, 0), Some((ALL, NONE, Some((2, 4))))),
+            ((2, 4), Some((ALL, NONE, Some((0, 5))))),
+            ((2, 7), Some((ALL, NONE, Some((2, 0))))),
+        ],
+    },
+    Case {
+        name: "a source that the item's own flush takes is lost",
+        frame: 5,
+        steps: &[
+            Step::Map((0, 5), (1, 2)),
+            Step::Map((1, 2), (2, 3)),
+            Step::Map((0, 5), (2, 2)),
+            Step::Send(
+                2,
+                1,
+                0x20d0,
+                (8, 0x20d7),
+                SendReply {
+                    lost: 1,
+                    linked: 1,
+                    ..NO_PAIRS
+                },
+            ),
+        ],
+        left: &[
+            ((2, 2), Some((ALL, NONE, Some((0, 5))))),
+            ((1, 2), Some((ALL, NONE, Some((2, 2))))),
+            ((2, 3), None),
+            ((1, 3), None),
+        ],
+    },
+    Case {
+        name: "a mapping of the same page gains a right",
+        frame: 5,
+        steps: &[
+            Step::MapSome((0, 5), (1, 3), READ),
+            Step::Send(
+                0,
+                1,
+                0x30c0,
+                (8, 0x50c2),
+                SendReply {
+                    extended: 1,
+                    ..NO_PAIRS
+                },
+            ),
+        ],
+        left: &[((1, 3), Some((READ_WRITE, NONE, Some((0, 5)))))],
+    },
+    Case {
+        name: "an origin of the source is left alone",
+        frame: 5,
+        steps: &[Step::Send(
+            2,
+            1,
+            0xc0,
+            (8, 0xc7),
+            SendReply {
+                origin: 1,
+                ..NO_PAIRS
+            },
+        )],
+        left: &[
+            ((1, 0), Some((ALL, NONE, Some((0, 5))))),
+            ((2, 0), Some((ALL, NONE, Some((1, 0))))),
+        ],
+    },
+    Case {
+        name: "a target that is replaced takes along what derives from it",
+        frame: 7,
+        steps: &[Step::Send(0, 1, 0xc0, (8, 0x70c7), LINKED)],
+        left: &[
+            ((0, 7), Some((ALL, NONE, None))),
+            ((1, 0), Some((ALL, NONE, Some((0, 7))))),
+            ((2, 0), None),
+        ],
+    },
+    Case {
+        name: "the status of what is replaced goes to its origin",
+        frame: 5,
+        steps: &[
+            Step::Touch((2, 0), Access::Write),
+            Step::Send(0, 1, 0xc0, (8, 0x70c7), LINKED),
+        ],
+        left: &[((0, 5), Some((ALL, READ_WRITE, None))), ((2, 0), None)],
     },
 ];
 
@@ -203,10 +350,11 @@ fn page(rt: &impl Abort, at: (u16, u32)) -> Place
     Place { space, page }
 }
 
-/// Maps a page to a page that holds nothing, with its rights as far as these go.
+/// Maps a page to a page of another space that holds nothing, with its rights as far as these go.
 fn map(
     rt: &impl Abort,
     database: &mut Database,
+    alloc: Global,
     source: (u16, u32),
     target: (u16, u32),
     rights: Rights,
@@ -216,16 +364,39 @@ fn map(
 {
     let source = page(rt, source);
     let target = page(rt, target);
-    match database.entry(target)? {
-        None => {
-            let reply = match database.map_page(source, target, rights) {
-                Ok(reply) => reply,
-                Err(error) => return Err(halted(rt, database, error)),
-            };
-            assert_eq!(rt; reply.linked, 1);
-        }
-        Some(_) => panic!(rt; "{target} is held"),
-    }
+    let reply = match send_page(rt, database, alloc, 18, source, target, rights) {
+        Ok(reply) => reply,
+        Err(error) => return Err(halted(rt, database, error)),
+    };
+    assert_eq!(rt; reply, LINKED, "{target}");
+    Ok(())
+}
+
+/// Sends an item, and looks at the reply.
+fn send(
+    rt: &impl Abort,
+    database: &mut Database,
+    alloc: Global,
+    from: u16,
+    to: u16,
+    window: u32,
+    item: (u32, u32),
+    reply: SendReply,
+) -> Result<(), Fail>
+    requires { database.old.limits ≡ record { spaces = 3; bits = 18; frames = 16 } }
+    ensures { OnOk result (database.new.limits ≡ record { spaces = 3; bits = 18; frames = 16 }) }
+{
+    let Ok(window) = Fpage::read(window, 18) else {
+        panic!(rt; "the window is refused");
+    };
+    let Ok(item) = Item::read(item.0, item.1, 18) else {
+        panic!(rt; "the item is refused");
+    };
+    let answer = match database.send(alloc, from, to, &window, &[item]) {
+        Ok(answer) => answer,
+        Err(error) => return Err(halted(rt, database, error)),
+    };
+    assert_eq!(rt; answer, reply);
     Ok(())
 }
 
@@ -325,8 +496,11 @@ fn work(
     ensures { OnOk result (database.new.limits ≡ record { spaces = 3; bits = 18; frames = 16 }) }
 {
     match step {
-        Step::Map(source, target) => map(rt, database, source, target, ALL),
-        Step::MapSome(source, target, rights) => map(rt, database, source, target, rights),
+        Step::Map(source, target) => map(rt, database, alloc, source, target, ALL),
+        Step::MapSome(source, target, rights) => map(rt, database, alloc, source, target, rights),
+        Step::Send(from, to, window, item, reply) => {
+            send(rt, database, alloc, from, to, window, item, reply)
+        }
         Step::Touch(at, access) => touch(rt, database, alloc, at, access),
         Step::Unmap(space, control, word, reply) => {
             unmap(
@@ -346,11 +520,12 @@ fn work(
     }
 }
 
-/// Looks at what a page holds of frame 5.
+/// Looks at what a page holds of a frame.
 fn expect(
     rt: &impl Abort,
     database: &Database,
     name: &str,
+    frame: u32,
     at: (u16, u32),
     held: Option<Held>,
 ) -> Result<(), Fail>
@@ -363,7 +538,7 @@ fn expect(
         }
         Some((rights, status, origin)) => {
             let entry = Entry {
-                frame: 5,
+                frame,
                 rights,
                 status,
             };
@@ -378,20 +553,26 @@ fn expect(
     Ok(())
 }
 
-/// Works all cases, by recursion or not, and looks at what is left.
+/// Works one case, by recursion or not, and looks at what is left.
+fn work_case(rt: &impl Abort, alloc: Global, case: Case, plain: bool) -> Result<(), Fail> {
+    let mut database = Database::new(alloc, 3, 18, 16)?;
+    for step in CHAIN {
+        work(rt, &mut database, alloc, step, plain)?;
+    }
+    for step in case.steps {
+        work(rt, &mut database, alloc, *step, plain)?;
+    }
+    for (at, held) in case.left {
+        expect(rt, &database, case.name, case.frame, *at, *held)?;
+    }
+    assert!(rt; !database.is_halted());
+    Ok(())
+}
+
+/// Works all cases, by recursion or not.
 fn work_cases(rt: &impl Abort, alloc: Global, plain: bool) -> Result<(), Fail> {
     for case in CASES {
-        let mut database = Database::new(alloc, 3, 18, 16)?;
-        for step in CHAIN {
-            work(rt, &mut database, alloc, step, plain)?;
-        }
-        for step in case.steps {
-            work(rt, &mut database, alloc, *step, plain)?;
-        }
-        for (at, held) in case.left {
-            expect(rt, &database, case.name, *at, *held)?;
-        }
-        assert!(rt; !database.is_halted());
+        work_case(rt, alloc, case, plain)?;
     }
     Ok(())
 }
