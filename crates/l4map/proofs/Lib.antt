@@ -6,7 +6,6 @@ mod Hex
 mod Unmaps
 mod Pages
 mod Audits
-mod Sends
 mod Streams
 mod Traces
 mod Replays

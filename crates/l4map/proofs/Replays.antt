@@ -9,10 +9,10 @@ use Rattle.std.specs.Io.KnownBytes.{Appends}
 use Rattle.std.proofs.KnownBytes.{Appends-trans, Appends-nil}
 use Rattle.model.specs.Holdings.{Holdings}
 use Rattle.model.specs.Calls.{Limits, Reply}
+use Rattle.model.specs.Answers.{answer}
 use Rattle.model.specs.Replay.{Told}
 use Rattle.model.specs.Records.{Fields, request}
 use Rattle.model.specs.Text.{reply_line, reply_lines, is_refused, refused_count, audit_lines, end_line}
-use Rattle.model.specs.FirstPath.{first_answer}
 use Rattle.l4map.specs.Run.{Answers, told_of, WritesReplies, StopsBefore, WritesText}
 
 -- the first i of all replies are written, and the rest are those to the records that are left
@@ -101,7 +101,7 @@ pub so_far-more : {t : Told} {limits : Limits} {f : Fields} {rest : List Fields}
     → {left : Holdings} {line : List ℕ} {is : Bool} → Answers limits h f (i + 1) left line is → (after : Option (List ℕ)) → Appends now after line
     → SoFar t limits rest left (i + 1) old after (refused + cond is 1 0)
 so_far-more {t} {limits} {f} {rest} {h} {i} {old} {now} {refused} s {left} {line} {is} a after more =
-    let answered = first_answer limits h (request limits f) in
+    let answered = answer limits h (request limits f) in
     let others = told_of limits rest answered.left in
     let replies : drop i t.replies ≡ answered.reply ∷ others.replies = sym (ap (λ (x : Told). x.replies) s.told) in
     let last : t.last ≡ others.last = sym (ap (λ (x : Told). x.last) s.told) in
@@ -120,7 +120,7 @@ so_far-more {t} {limits} {f} {rest} {h} {i} {old} {now} {refused} s {left} {line
 -- each record has a reply
 replies_count : (limits : Limits) (rows : List Fields) (h : Holdings) → length (told_of limits rows h).replies ≡ length rows
 replies_count limits [] h = refl
-replies_count limits (f ∷ rows) h = ap suc (replies_count limits rows (first_answer limits h (request limits f)).left)
+replies_count limits (f ∷ rows) h = ap suc (replies_count limits rows (answer limits h (request limits f)).left)
 
 pub rows_count : (limits : Limits) (rows : List Row) (h : Holdings) → length (told_of limits (map fields_of rows) h).replies ≡ length rows
 rows_count limits rows h = replies_count limits (map fields_of rows) h ∙ length-map rows fields_of

@@ -1,23 +1,23 @@
 -- From the trace that was read to the input that the reader had.
 use Rattle.std.proofs.Common.{◌≡◌, ℕ, zero, suc, Bool, List, Option, Some, None, Result, Ok, Err, IfOk, IfErr, IfSome, ◌∙◌, sym, ap}
 use Rattle.model.specs.Records.{Trace, trace_of}
-use Rattle.model.specs.FirstPath.{first_told}
 use Rattle.l4map.specs.declared.run.Summary.{Summary}
 use Rattle.l4map.specs.declared.error.RunError.{RunError}
 use Rattle.l4map.specs.declared.error.RunError.TheVariants.{BadHeader, BadLimits, NoMemory, NoWorker, Unreadable, WriteFailed}
 use Rattle.std.specs.Io.KnownBytes.{Keeps}
 use Rattle.std.proofs.KnownBytes.{Appends-kept}
 use Rattle.model.specs.Replay.{Told}
+use Rattle.model.specs.Text.{told}
 use Rattle.l4map.specs.Run.{WritesText, WritesReplay, StopsEarly, EndsReplay, EndsEarly}
 
 pub replayed : (known : Option (List ℕ)) (bytes : List ℕ) (t : Trace) (old new : Option (List ℕ)) (r : Result Summary RunError) → IfSome known (λ input. bytes ≡ input) → trace_of bytes ≡ Ok t
-    → IfOk r (WritesText (first_told t) old new) → IfOk r (λ s. IfSome known (λ input. WritesReplay input old new s))
+    → IfOk r (WritesText (told t) old new) → IfOk r (λ s. IfSome known (λ input. WritesReplay input old new s))
 replayed None bytes t old new (Ok s) same is w = tt
 replayed (Some input) bytes t old new (Ok s) same is w = record { trace = t; is_trace = ap trace_of (sym same) ∙ is; replayed = w }
 replayed known bytes t old new (Err e) same is w = tt
 
 pub ended : (known : Option (List ℕ)) (bytes : List ℕ) (t : Trace) (old new : Option (List ℕ)) (was failed : Bool) (r : Result Summary RunError) → IfSome known (λ input. bytes ≡ input) → trace_of bytes ≡ Ok t
-    → IfErr r (EndsReplay (first_told t) old new was failed) → IfErr r (λ e. IfSome known (λ input. EndsEarly input old new e))
+    → IfErr r (EndsReplay (told t) old new was failed) → IfErr r (λ e. IfSome known (λ input. EndsEarly input old new e))
 ended known bytes t old new was failed (Ok s) same is w = tt
 ended None bytes t old new was failed (Err e) same is w = tt
 ended (Some input) bytes t old new was failed (Err BadHeader) same is w = absurd w

@@ -8,8 +8,7 @@ use Rattle.fpage.specs.declared.rights.Rights.{Rights}
 use Rattle.model.specs.Holdings.{Holdings}
 use Rattle.model.specs.Strip.{strip, strip_word}
 use Rattle.model.specs.Calls.{Limits, unmap, unmapped}
-use Rattle.model.specs.Answers.{Answer, UnmapAnswer, unmap_answer, unmapped_answer, pages_in}
-use Rattle.model.specs.FirstPath.{first_answer}
+use Rattle.model.specs.Answers.{Answer, UnmapAnswer, answer, unmap_answer, unmapped_answer, pages_in}
 use Rattle.mapdb.specs.State.{unmap_status, unmap_left}
 
 -- ---- each word with its status
@@ -56,7 +55,7 @@ space_there false space spaces running there = by (nat_lt space spaces) refl
 -- the answer to an unmap, from what the database gave and left
 pub unmap_answered : (limits : Limits) (h : Holdings) (space : ℕ) (f : Bool) (words : List ℕ) (fpages : List Flexpage) (status : List Rights) (left : Holdings) (reply : List ℕ)
     → nat_lt space limits.spaces ≡ true → length fpages ≡ length words → status ≡ unmap_status space f fpages h → left ≡ unmap_left space f fpages h → reply ≡ told words status
-    → first_answer limits h (Ok (unmap space f (zip words fpages))) ≡ record { reply = unmapped reply; left = left }
+    → answer limits h (Ok (unmap space f (zip words fpages))) ≡ record { reply = unmapped reply; left = left }
 unmap_answered limits h space f words fpages status left reply there same status_is left_is reply_is =
-    let answer : UnmapAnswer → Answer = λ a. unmapped_answer a in
-    rw there (ap answer (unmap_told space f words fpages h same) ∙ (λ i. record { reply = unmapped ((ap (told words) (sym status_is) ∙ sym reply_is) i); left = sym left_is i }))
+    let as_answer : UnmapAnswer → Answer = λ a. unmapped_answer a in
+    rw there (ap as_answer (unmap_told space f words fpages h same) ∙ (λ i. record { reply = unmapped ((ap (told words) (sym status_is) ∙ sym reply_is) i); left = sym left_is i }))

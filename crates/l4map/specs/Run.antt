@@ -3,23 +3,23 @@ use Rattle.std.specs.Prelude.{◌≡◌, ℕ, zero, suc, ◌≤◌, ⊤, Bool, t
 use Rattle.std.specs.Io.KnownBytes.{Appends, Keeps}
 use Rattle.model.specs.Holdings.{Holdings}
 use Rattle.model.specs.Calls.{Limits}
+use Rattle.model.specs.Answers.{answer}
 use Rattle.model.specs.Replay.{Told, replay}
 use Rattle.model.specs.Records.{Fields, Trace, bad_header, bad_limits, request, trace_of}
-use Rattle.model.specs.Text.{text, reply_line, reply_lines, is_refused, refused_count}
-use Rattle.model.specs.FirstPath.{first_answer, first_told}
+use Rattle.model.specs.Text.{text, told, reply_line, reply_lines, is_refused, refused_count}
 use Rattle.l4map.specs.declared.run.Summary.{Summary}
 use Rattle.l4map.specs.declared.error.RunError.{RunError}
 use Rattle.l4map.specs.declared.error.RunError.TheVariants.{BadHeader, BadLimits, NoMemory, NoWorker, Unreadable, WriteFailed}
 
 -- one record is answered: its reply line, whether it was refused, and what is held after it
 pub record Answers (limits : Limits) (old : Holdings) (fields : Fields) (number : ℕ) (new : Holdings) (line : List ℕ) (refused : Bool) : Type 0 where
-  pub left : new ≡ (first_answer limits old (request limits fields)).left
-  pub line_is : line ≡ reply_line number (first_answer limits old (request limits fields)).reply
-  pub refused_is : refused ≡ is_refused (first_answer limits old (request limits fields)).reply
+  pub left : new ≡ (answer limits old (request limits fields)).left
+  pub line_is : line ≡ reply_line number (answer limits old (request limits fields)).reply
+  pub refused_is : refused ≡ is_refused (answer limits old (request limits fields)).reply
 
 -- the replies to these records, and the last holdings
 abbrev pub told_of : Limits → List Fields → Holdings → Told
-told_of limits rows h = replay (first_answer limits) h (map (request limits) rows)
+told_of limits rows h = replay (answer limits) h (map (request limits) rows)
 
 -- all reply lines were written
 pub record WritesReplies (t : Told) (old new : Option (List ℕ)) (last : Holdings) (refused : ℕ) : Type 0 where
@@ -64,13 +64,13 @@ EndsReplay t old new was is Unreadable = ⊥
 pub record WritesReplay (input : List ℕ) (old new : Option (List ℕ)) (s : Summary) : Type 0 where
   pub trace : Trace
   pub is_trace : trace_of input ≡ Ok trace
-  pub replayed : WritesText (first_told trace) old new s
+  pub replayed : WritesText (told trace) old new s
 
 -- the input is a trace, and the reply lines before a record were written
 pub record StopsInReplay (input : List ℕ) (old new : Option (List ℕ)) (k : ℕ) : Type 0 where
   pub trace : Trace
   pub is_trace : trace_of input ≡ Ok trace
-  pub stopped : StopsBefore (first_told trace) old new k
+  pub stopped : StopsBefore (told trace) old new k
 
 pub record IsTrace (input : List ℕ) : Type 0 where
   pub trace : Trace

@@ -5,7 +5,7 @@ ghost use Rattle.std.specs.List.{All, zip};
 ghost use Rattle.fpage.specs.Fpage.{IsFpageOf};
 ghost use Rattle.fpage.specs.Control.{with_status};
 ghost use Rattle.model.specs.Calls.{send, access, unmap};
-ghost use Rattle.model.specs.FirstPath.{first_answer, is_decided};
+ghost use Rattle.model.specs.Answers.{answer};
 ghost use Rattle.mapdb.specs.Held.{IsWithin};
 ghost use Rattle.mapdb.specs.State.{left_with};
 ghost use Rattle.l4map.specs.Meaning.{request_of, IsWithinLimits};
@@ -13,7 +13,7 @@ ghost use Rattle.l4map.specs.Counts.{reply_of};
 
 use crate::call::{Call, Refusal};
 use crate::reply::Reply;
-use fpage::{Access, Control, Fpage, Item, ItemKind, Rights, pair, with_status};
+use fpage::{Access, Control, Fpage, Item, Rights, with_status};
 use mapdb::{Database, DbError};
 use space::Place;
 use std::alloc::{AllocError, Global};
@@ -25,7 +25,7 @@ pub fn answer(
     request: &Result<Call, Refusal>,
 ) -> Result<Reply, AllocError>
     requires { IfOk request.now (IsWithinLimits database.old.limits) }
-    ensures ok { IfOk result (λ reply. first_answer database.old.limits database.old.holdings (request_of request.now)
+    ensures ok { IfOk result (λ reply. answer database.old.limits database.old.holdings (request_of request.now)
         ≡ record { reply = reply_of reply; left = database.new.holdings }) }
     ensures keeps { OnOk result (database.new ≡ left_with database.old database.new.holdings) }
 {
@@ -39,7 +39,7 @@ pub fn answer(
                 window,
                 items,
             },
-        ) => send_items(database, *from, *to, window, items),
+        ) => send_items(alloc, database, *from, *to, window, items),
         Ok(
             Call::Unmap {
                 space,
@@ -59,7 +59,7 @@ fn access_page(
     kind: Access,
 ) -> Result<Reply, AllocError>
     requires { IsWithin database.old.limits place }
-    ensures ok { IfOk result (λ reply. first_answer database.old.limits database.old.holdings (Ok (access place kind))
+    ensures ok { IfOk result (λ reply. answer database.old.limits database.old.holdings (Ok (access place kind))
         ≡ record { reply = reply_of reply; left = database.new.holdings }) }
     ensures keeps { OnOk result (database.new ≡ left_with database.old database.new.holdings) }
 {
@@ -69,9 +69,9 @@ fn access_page(
     Ok(Reply::Accessed(answers[0]))
 }
 
-/// A send. Until whole fpages and grants come, it is `BadRecord` unless it is of one MapItem of one page to a page that
-/// is not held.
+/// A send, whose items are worked in order.
 fn send_items(
+    alloc: Global,
     database: &mut Database,
     from: u16,
     to: u16,
@@ -80,52 +80,16 @@ fn send_items(
 ) -> Result<Reply, AllocError>
     requires window { IsFpageOf database.old.limits.bits window.now }
     requires items { All (λ item. IsFpageOf database.old.limits.bits item.sent) items.now }
-    ensures ok { IfOk result (λ reply. first_answer database.old.limits database.old.holdings (Ok (send from to window.now items.now))
+    ensures ok { IfOk result (λ reply. answer database.old.limits database.old.holdings (Ok (send from to window.now items.now))
         ≡ record { reply = reply_of reply; left = database.new.holdings }) }
     ensures keeps { OnOk result (database.new ≡ left_with database.old database.new.holdings) }
 {
-    if !is_decided(database, from, to, window, items)? {
-        return Ok(Reply::Refused(Refusal::BadRecord));
-    }
-    match database.send(from, to, window, items) {
+    match database.send(alloc, from, to, window, items) {
         Ok(reply) => Ok(Reply::Sent(reply)),
         Err(DbError::NoSuchSpace) => Ok(Reply::Refused(Refusal::NoSuchSpace)),
         Err(DbError::SameSpace) => Ok(Reply::Refused(Refusal::SameSpace)),
         Err(DbError::NoWindow) => Ok(Reply::Refused(Refusal::NoWindow)),
         Err(DbError::BadLimits | DbError::NoMemory | DbError::Halted) => Err(AllocError),
-    }
-}
-
-/// Whether a send is refused for another cause than its items, or is of one MapItem of one page to a page that is not
-/// held.
-fn is_decided(
-    database: &Database,
-    from: u16,
-    to: u16,
-    window: &Fpage,
-    items: &[Item],
-) -> Result<bool, AllocError>
-    requires window { IsFpageOf database.now.limits.bits window.now }
-    ensures { IfOk result (λ is. is ≡ is_decided database.now.limits database.now.holdings (send from to window.now items.now)) }
-{
-    let spaces = database.limits().spaces;
-    if u32::from(from) >= spaces || u32::from(to) >= spaces || from == to || window.is_nil() {
-        return Ok(true);
-    }
-    let [item] = items else {
-        return Ok(false);
-    };
-    let sent = item.sent.pages();
-    if item.kind != ItemKind::Map || sent.end - sent.start != 1 {
-        return Ok(false);
-    }
-    let target = Place {
-        space: to,
-        page: pair(item, window).target,
-    };
-    match database.entry(target) {
-        Ok(entry) => Ok(entry.is_none()),
-        Err(_) => Err(AllocError),
     }
 }
 
@@ -140,7 +104,7 @@ fn unmap_pages(
 ) -> Result<Reply, AllocError>
     requires within { All (IsFpageOf database.old.limits.bits) fpages.now }
     requires count { length fpages.now ≡ length words.now }
-    ensures ok { IfOk result (λ reply. first_answer database.old.limits database.old.holdings (Ok (unmap space control.flush (zip words.now fpages.now)))
+    ensures ok { IfOk result (λ reply. answer database.old.limits database.old.holdings (Ok (unmap space control.flush (zip words.now fpages.now)))
         ≡ record { reply = reply_of reply; left = database.new.holdings }) }
     ensures keeps { OnOk result (database.new ≡ left_with database.old database.new.holdings) }
 {

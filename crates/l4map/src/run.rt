@@ -1,13 +1,12 @@
 //! A run: from the bytes of a trace to the text of its replay.
 
 ghost use Rattle.std.specs.Prelude.{◌≡◌, ◌<◌, ◌++◌, length, false, map, IfOk, IfErr, IfSome, OnOk, string_bytes};
-ghost use Rattle.model.specs.Text.{text, audit_lines, end_line};
+ghost use Rattle.model.specs.Text.{text, told, audit_lines, end_line};
 ghost use Rattle.csv.specs.Records.{fields_of};
 ghost use Rattle.fpage.specs.Fpage.{IsSpaceBits};
 ghost use Rattle.mapdb.specs.State.{left_with};
 ghost use Rattle.l4map.specs.Run.{Answers, told_of, WritesReplies, WritesText, StopsEarly, EndsReplay, WritesReplay, EndsEarly, WritesNothing, TellsStreams};
 ghost use Rattle.l4map.specs.Trace.{trace_from};
-ghost use Rattle.model.specs.FirstPath.{first_told};
 
 use crate::answer::answer;
 use crate::audit::audit;
@@ -155,9 +154,9 @@ pub fn run<T: AllocGlobal, R: Source, W: Sink>(
 fn replay<W: Sink>(alloc: Global, trace: &Trace, writer: &mut W) -> Result<Summary, RunError>
     requires bits { IsSpaceBits trace.now.limits.bits }
     requires header { 0 < length trace.now.rows.items }
-    ensures ok { IfOk result (WritesText (first_told (trace_from trace.now)) (W.contents writer.old) (W.contents writer.new)) }
+    ensures ok { IfOk result (WritesText (told (trace_from trace.now)) (W.contents writer.old) (W.contents writer.new)) }
     ensures works { OnOk result (W.failed writer.new ≡ W.failed writer.old) }
-    ensures err { IfErr result (EndsReplay (first_told (trace_from trace.now)) (W.contents writer.old) (W.contents writer.new)
+    ensures err { IfErr result (EndsReplay (told (trace_from trace.now)) (W.contents writer.old) (W.contents writer.new)
         (W.failed writer.old) (W.failed writer.new)) }
 {
     let limits = trace.limits;

@@ -26,7 +26,7 @@ use Rattle.model.proofs.Lookups.{Sorted}
 use Rattle.model.proofs.LawfulParts.{IsLawful, lawful_parts}
 use Rattle.model.proofs.Derivations.{below_leads, chains_are_held}
 use Rattle.model.proofs.StripUnions.{strip_nothing, word_nothing}
-use Rattle.model.proofs.OnePage.{strip_none}
+use Rattle.model.proofs.NoPlaces.{strip_none}
 
 -- ---- refusals
 

@@ -16,7 +16,7 @@ pub mod Statuses
 pub mod Touches
 pub mod LawfulMeanings
 pub mod Starts
-pub mod OnePage
+pub mod NoPlaces
 pub mod Jobs
 pub mod Flushes
 pub mod Puts

@@ -12,7 +12,6 @@ pub mod Answers
 pub mod Replay
 pub mod Records
 pub mod Text
-pub mod FirstPath
 pub mod DerivationLaws
 pub mod IsolationLaws
 pub mod StatusLaws

@@ -18,7 +18,6 @@ use Rattle.model.specs.Answers.{pages_in}
 use Rattle.model.specs.Replay.{Told, root}
 use Rattle.model.specs.Records.{Trace, HeaderFault, bad_header, bad_limits, trace_of}
 use Rattle.model.specs.Text.{line_feed, reply_lines, audit_line, audit_lines, told, output_of}
-use Rattle.model.specs.FirstPath.{first_output_of}
 
 -- ---- how a row is written
 
@@ -1252,62 +1251,6 @@ RunCutOff =
     ∷ codes "2 refused Misaligned"
     ∷ codes "0,0,0,rwx,R-X,-"
     ∷ codes "end 2 1" ∷ []))
-
--- ---- what is served first
-
--- what is served first: a run whole
-abbrev pub FirstRun : Type 0
-FirstRun =
-    first_output_of (lines
-    (codes "l4map,1,2,18,1"
-    ∷ codes "send,0,1,10,3008,c6"
-    ∷ codes "access,1,3abc,w" ∷ []))
-    ≡ Ok (lines
-    (codes "1 send absent=0 norights=0 origin=0 lost=0 extended=0 linked=1"
-    ∷ codes "2 access ok"
-    ∷ codes "0,0,0,rwx,---,-"
-    ∷ codes "1,3,0,rw-,RW-,0:0"
-    ∷ codes "end 2 0" ∷ []))
-
--- what is not served first: several items, a grant, no page or several, a held target, after all other refusals
-abbrev pub FirstRefusals : Type 0
-FirstRefusals =
-    first_output_of (lines
-    (codes "l4map,1,2,18,1"
-    ∷ codes "unmap,0,0,c7"
-    ∷ codes "unmap,9,80,a7"
-    ∷ codes "send,0,1,10,8,c7,8,10c7"
-    ∷ codes "send,0,1,10,a,c7"
-    ∷ codes "send,0,1,10,8,0"
-    ∷ codes "send,0,1,10,8,d7"
-    ∷ codes "send,0,1,10,8,c7,6,c7"
-    ∷ codes "send,0,2,10,a,c7"
-    ∷ codes "send,0,0,10,a,c7"
-    ∷ codes "send,0,1,0,a,c7"
-    ∷ codes "send,0,1,10,8,10c7"
-    ∷ codes "send,0,1,10,8,c6"
-    ∷ codes "send,0,1,10,8,c7"
-    ∷ codes "send,0,1,10,8,10c7"
-    ∷ codes "send,1,0,c0,8,c1" ∷ []))
-    ≡ Ok (lines
-    (codes "1 unmap 000000c0"
-    ∷ codes "2 refused BadControl"
-    ∷ codes "3 refused BadRecord"
-    ∷ codes "4 refused BadRecord"
-    ∷ codes "5 refused BadRecord"
-    ∷ codes "6 refused BadRecord"
-    ∷ codes "7 refused NotAnItem"
-    ∷ codes "8 refused NoSuchSpace"
-    ∷ codes "9 refused SameSpace"
-    ∷ codes "10 refused NoWindow"
-    ∷ codes "11 send absent=1 norights=0 origin=0 lost=0 extended=0 linked=0"
-    ∷ codes "12 send absent=0 norights=0 origin=0 lost=0 extended=0 linked=1"
-    ∷ codes "13 refused BadRecord"
-    ∷ codes "14 refused BadRecord"
-    ∷ codes "15 refused BadRecord"
-    ∷ codes "0,0,0,rwx,---,-"
-    ∷ codes "1,0,0,rw-,---,0:0"
-    ∷ codes "end 15 12" ∷ []))
 
 -- ---- lawful holdings, and pairs
 

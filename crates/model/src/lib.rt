@@ -1,8 +1,8 @@
 //! What the mapping database means: the definitions, as finite maps with origins and sets of places.
 //!
 //! `specs/` has the definitions, lowest first: Holdings, Derived, Lawful, Touch, Strip, Recursion, Items, Map, Grant,
-//! Calls, Answers, Replay, Records, Text, and FirstPath for the calls that are served so far. Rows has worked traces,
-//! whose results `worked_rows` shows to be those of the definitions. docs/MODEL.md tells all of it in words.
+//! Calls, Answers, Replay, Records, Text. Rows has worked traces, whose results `worked_rows` shows to be those of the
+//! definitions. docs/MODEL.md tells all of it in words.
 #![tactic(auto)]
 
 mod laws;

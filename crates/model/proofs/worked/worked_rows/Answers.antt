@@ -245,14 +245,6 @@ pub returns-clause-run_cut_off : goal.returns-clause-run_cut_off
 unfolding digits next_record strip_bom records_from
 returns-clause-run_cut_off c = refl
 
-pub returns-clause-first_run : goal.returns-clause-first_run
-unfolding digits next_record strip_bom records_from
-returns-clause-first_run c = refl
-
-pub returns-clause-first_refusals : goal.returns-clause-first_refusals
-unfolding digits next_record strip_bom records_from
-returns-clause-first_refusals c = refl
-
 pub returns-clause-lawful_holdings : goal.returns-clause-lawful_holdings
 unfolding digits next_record strip_bom records_from
 returns-clause-lawful_holdings c = refl
