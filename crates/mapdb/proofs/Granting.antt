@@ -1,18 +1,18 @@
 -- The strip of the sources of a grant: each that was held is still held.
-use Rattle.std.proofs.Common.{◌≡◌, ℕ, suc, ◌<◌, true, false, Bool, ◌&&◌, ◌||◌, not, if◌then◌else◌, [], ◌∷◌, List, length, Option, Some, None, refl, sym, ap, ◌∙◌, subst, arith, ◌⊎◌, inl, inr, get_or}
+use Rattle.std.proofs.Common.{◌≡◌, suc, true, false, Bool, ◌&&◌, ◌||◌, not, if◌then◌else◌, [], ◌∷◌, List, Option, Some, None, refl, sym, ap, ◌∙◌, arith, ◌⊎◌, inl, inr, get_or}
 use Rattle.std.specs.List.{All}
 use Rattle.std.specs.Option.{is_some}
 use Rattle.std.proofs.lemmas.Bool.{or_right}
 use Rattle.std.proofs.lemmas.List.Elements.{All-nil, All-cons}
-use Rattle.fpage.specs.Rights.{is_empty, meet, all_rights, without}
+use Rattle.fpage.specs.Rights.{is_empty, all_rights, without}
 use Rattle.fpage.specs.declared.rights.Rights.{Rights}
 use Rattle.space.specs.declared.place.Place.{Place}
 use Rattle.space.specs.Place.{same_place}
-use Rattle.space.proofs.Places.{same_is, same_self, same_or_apart, apart_back}
+use Rattle.space.proofs.Places.{same_self, same_or_apart, apart_back}
 use Rattle.model.specs.Holdings.{Held, Holdings, PlaceSet, at, is_held}
 use Rattle.model.specs.Derived.{is_under}
-use Rattle.model.specs.Items.{Pair, sources_of, Counts, add_counts, counts_of}
-use Rattle.model.specs.Strip.{is_narrowed, stripped, strip}
+use Rattle.model.specs.Items.{sources_of, add_counts, counts_of}
+use Rattle.model.specs.Strip.{is_narrowed, strip}
 use Rattle.model.proofs.LawfulParts.{IsLawful}
 use Rattle.model.proofs.StripAt.{is_stripped}
 use Rattle.model.proofs.StripUnions.{strip_same}
@@ -20,7 +20,7 @@ use Rattle.model.proofs.Flushes.{strip_absent}
 use Rattle.model.proofs.Grants.{without_withheld}
 use Rattle.mapdb.specs.declared.transfer.Transfer.{Transfer}
 use Rattle.mapdb.specs.declared.transfer.End.TheVariants.{Source}
-use Rattle.mapdb.specs.Sending.{pair_of, fate_in, ends_of, AllGo, IsReady, moving_of, worked_of, worked}
+use Rattle.mapdb.specs.Sending.{pair_of, fate_in, ends_of, AllGo, IsReady, moving_of, worked}
 
 module _ (h : Holdings) (lawful : IsLawful h) (rights : Rights) where
   same_back : (p q : Place) → same_place p q ≡ same_place q p

@@ -3,7 +3,7 @@ use Rattle.std.proofs.Common.{◌≡◌, ℕ, zero, suc, ◌+◌, ◌*◌, ◌<�
 use Rattle.std.specs.Prelude.{min}
 use Rattle.std.proofs.lemmas.Bool.Decides.{nat_tests}
 use Rattle.fpage.specs.Fpage.{Flexpage, IsFpageOf, pages_of_space, is_page_of}
-use Rattle.fpage.specs.Item.{is_pair, is_pair_of, pairs_of, run_start, is_in_block, block_of}
+use Rattle.fpage.specs.Item.{is_pair, is_pair_of, pairs_of, run_start, block_of}
 use Rattle.fpage.specs.declared.item.Item.{Item}
 use Rattle.fpage.specs.declared.pairing.Pairing.{Pairing}
 

@@ -1,5 +1,5 @@
 -- The items so far, and those to come.
-use Rattle.std.proofs.Common.{◌≡◌, ℕ, ◌+◌, ◌*◌, ◌^◌, ◌<◌, ◌≤◌, [], ◌∷◌, List, length, drop, get_or, refl, sym, ap, ◌∙◌, subst, arith}
+use Rattle.std.proofs.Common.{◌≡◌, ℕ, ◌+◌, ◌*◌, ◌^◌, ◌<◌, ◌≤◌, List, length, drop, get_or, sym, ap, ◌∙◌, subst, arith}
 use Rattle.std.proofs.lemmas.List.{drop_more, drop_all}
 use Rattle.fpage.specs.Fpage.{Flexpage}
 use Rattle.fpage.specs.declared.item.Item.{Item}
@@ -8,7 +8,7 @@ use Rattle.maptree.specs.Origins.{Shape}
 use Rattle.model.specs.Holdings.{Holdings}
 use Rattle.model.specs.Calls.{Limits}
 use Rattle.model.specs.Items.{Job, job_of, Counts, no_counts, add_counts}
-use Rattle.model.specs.Answers.{SendAnswer, item_answer, send_answer}
+use Rattle.model.specs.Answers.{item_answer, send_answer}
 use Rattle.model.specs.SendLaws.{total}
 use Rattle.mapdb.specs.Stripping.{limits_in, holdings_in, AreSound}
 use Rattle.mapdb.proofs.Plans.{add_assoc, add_none, none_add, total_sum}

@@ -1,26 +1,25 @@
 -- The pages of a MapItem so far, and those to come.
-use Rattle.std.proofs.Common.{◌≡◌, ℕ, ◌+◌, ◌<◌, ◌≤◌, true, false, Bool, if◌then◌else◌, ◌⊎◌, inl, inr, [], ◌∷◌, List, length, drop, get_or, Option, Some, None, refl, sym, ap, ◌∙◌, subst, arith}
+use Rattle.std.proofs.Common.{◌≡◌, ℕ, ◌+◌, ◌<◌, ◌≤◌, true, false, Bool, if◌then◌else◌, ◌⊎◌, inl, inr, [], ◌∷◌, List, length, drop, get_or, refl, sym, ap, ◌∙◌, subst, arith}
 use Rattle.std.specs.List.{All}
 use Rattle.std.specs.Option.{is_some}
 use Rattle.std.proofs.lemmas.List.{drop_more, drop_all}
 use Rattle.std.proofs.lemmas.List.Elements.{All-cons, All-head, All-tail, All-nil}
-use Rattle.fpage.specs.Rights.{is_empty, meet}
 use Rattle.fpage.specs.declared.rights.Rights.{Rights}
 use Rattle.fpage.specs.declared.item.ItemKind.TheVariants.{Map}
 use Rattle.space.specs.declared.place.Place.{Place}
 use Rattle.space.specs.declared.shards.Shards.{Shards}
 use Rattle.space.specs.Place.{same_place}
 use Rattle.maptree.specs.Origins.{Shape}
-use Rattle.model.specs.Holdings.{Held, Holdings, at, is_held}
+use Rattle.model.specs.Holdings.{Holdings, at, is_held}
 use Rattle.model.specs.Calls.{Limits}
-use Rattle.model.specs.Items.{Job, Pair, Fate, absent, norights, to_origin, extends, goes, Counts, no_counts, add_counts, counts_of}
+use Rattle.model.specs.Items.{Job, Fate, absent, norights, to_origin, extends, goes, Counts, no_counts, add_counts, counts_of}
 use Rattle.model.specs.Map.{map_pair, link, extend}
 use Rattle.model.specs.SendLaws.{total}
 use Rattle.model.proofs.Puts.{apart_places}
 use Rattle.model.proofs.Maps.{pair_other}
 use Rattle.mapdb.specs.declared.transfer.Transfer.{Transfer}
 use Rattle.mapdb.specs.Stripping.{limits_in, holdings_in, AreSound}
-use Rattle.mapdb.specs.Sending.{IsReady, IsTransferWithin, IsApartFrom, ArePaired, ArePlanned, fate_in, pair_of, map_transfers, worked, worked_of}
+use Rattle.mapdb.specs.Sending.{IsReady, ArePaired, fate_in, pair_of, map_transfers, worked, worked_of}
 use Rattle.mapdb.proofs.Plans.{add_assoc, add_none, none_add, total_sum}
 
 -- ---- lists of transfers

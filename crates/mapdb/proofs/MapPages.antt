@@ -1,6 +1,6 @@
 -- One page of a MapItem after the flush, from words and trees.
 use Rattle.std.proofs.Common.{◌≡◌, true, false, Bool, [], List, length, if◌then◌else◌, Option, Some, None, refl, sym, ap, ◌∙◌, subst, ◌⊎◌, inl, inr}
-use Rattle.std.specs.Option.{option_map, option_and_then, is_some}
+use Rattle.std.specs.Option.{option_map, is_some}
 use Rattle.std.specs.FinMap.Entries.{put}
 use Rattle.std.proofs.lemmas.Bool.{eq-eqb}
 use Rattle.std.proofs.lemmas.Option.{same_Some}
@@ -14,23 +14,23 @@ use Rattle.space.specs.declared.shards.Shards.{Shards}
 use Rattle.space.specs.Place.{place_cmp, same_place}
 use Rattle.space.specs.Shards.{entry_at, IsLaidOutAs}
 use Rattle.space.proofs.Places.{same_or_apart}
-use Rattle.maptree.specs.Origins.{Shape, origin_in}
-use Rattle.model.specs.Holdings.{Held, Holdings, at, is_held, origin_at}
+use Rattle.maptree.specs.Origins.{Shape}
+use Rattle.model.specs.Holdings.{Held, Holdings, at, is_held}
 use Rattle.model.specs.Calls.{Limits}
 use Rattle.model.specs.Lawful.{is_lawful}
 use Rattle.model.specs.Items.{Job, Counts, counts_of, extends, goes}
 use Rattle.model.specs.Map.{extended, map_pair}
 use Rattle.model.proofs.LawfulParts.{IsLawful, IsOrigin, lawful_parts, lawful_from}
 use Rattle.model.proofs.Growths.{lawful_grown}
-use Rattle.model.proofs.Puts.{apart_places, put_here, put_elsewhere, sorted_put}
+use Rattle.model.proofs.Puts.{put_here, put_elsewhere, sorted_put}
 use Rattle.mapdb.specs.declared.transfer.Transfer.{Transfer}
 use Rattle.mapdb.specs.Words as word
 use Rattle.mapdb.specs.Held.{IsWithin, is_listed, held_of, held_at, has_frame, holdings_of}
 use Rattle.mapdb.specs.Sound.{IsSound}
 use Rattle.mapdb.specs.Stripping.{limits_in, holdings_in, AreSound}
 use Rattle.mapdb.specs.Sending.{fate_in, pair_of, worked_of, IsReady, IsLinked}
-use Rattle.mapdb.proofs.Listing.{listing_put, listing_same}
-use Rattle.mapdb.proofs.Holders.{place_within, held_there, held_elsewhere, held_within, present_within, absent_within, entry_elsewhere}
+use Rattle.mapdb.proofs.Listing.{listing_put}
+use Rattle.mapdb.proofs.Holders.{place_within, held_elsewhere, present_within, absent_within}
 use Rattle.mapdb.proofs.WordChanges.{IsWordSet, sound_set}
 use Rattle.mapdb.proofs.NewMappings.{IsMapped, linked_entry, mapped_holdings, mapped_sound, word_free, unlisted}
 

@@ -12,14 +12,13 @@ use Rattle.space.specs.declared.shards.Shards.{Shards}
 use Rattle.space.specs.Place.{same_place}
 use Rattle.space.specs.Shards.{entry_at}
 use Rattle.space.proofs.Places.{same_is, same_self}
-use Rattle.maptree.specs.Origins as tree
 use Rattle.maptree.specs.Origins.{Origins, Shape, origin_in, place_at, LeadsTo}
-use Rattle.model.specs.Holdings.{only, at, is_held, origin_at}
+use Rattle.model.specs.Holdings.{only, is_held, origin_at}
 use Rattle.model.specs.Derived.{is_under}
 use Rattle.model.specs.DerivationLaws.{LeadsInto}
 use Rattle.model.specs.Items.{Job, Fate, absent, norights, to_origin, extends, goes, is_map, has_origin, fate_of, fate}
 use Rattle.model.proofs.Derivations.{under_is_a_chain}
-use Rattle.mapdb.specs.Held.{IsWithin, links_in, held_of}
+use Rattle.mapdb.specs.Held.{IsWithin, links_in}
 use Rattle.mapdb.specs.Stripping.{limits_in, holdings_in, AreSound}
 use Rattle.mapdb.specs.Sending.{fate_of_outcome, IsOutcomeIn}
 use Rattle.mapdb.specs.declared.outcome.Outcome.{Outcome}

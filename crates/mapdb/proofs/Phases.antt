@@ -1,24 +1,22 @@
 -- What goes and extends of an item, by the definitions, and what is known of it after the flush.
-use Rattle.std.proofs.Common.{◌≡◌, ℕ, zero, suc, ◌+◌, ◌-◌, ◌^◌, ◌<◌, ◌≤◌, nat_le, true, false, Bool, ◌&&◌, ◌||◌, not, if◌then◌else◌, [], ◌∷◌, List, length, filter, cond, get_or, Option, Some, None, refl, sym, ap, ◌∙◌, subst, arith, ◌⊎◌, inl, inr}
-use Rattle.std.specs.List.{All, list_any}
-use Rattle.std.specs.Option.{is_some}
+use Rattle.std.proofs.Common.{◌≡◌, ℕ, suc, ◌+◌, ◌-◌, ◌^◌, ◌<◌, ◌≤◌, nat_le, true, false, Bool, ◌&&◌, ◌||◌, not, if◌then◌else◌, [], ◌∷◌, List, length, filter, cond, get_or, Option, Some, None, refl, sym, ap, ◌∙◌, subst, arith, ◌⊎◌, inl, inr}
+use Rattle.std.specs.List.{All}
 use Rattle.std.proofs.lemmas.Bool.{and_parts, or_cases}
 use Rattle.std.proofs.lemmas.Bool.Decides.{nat_tests}
 use Rattle.std.proofs.Math.Nat.{pow-le-pow_right}
 use Rattle.model.specs.Records.{are_limits}
 use Rattle.std.proofs.lemmas.List.Elements.{All-nil, All-cons}
 use Rattle.fpage.specs.Rights.{is_empty, meet, all_rights, without}
-use Rattle.fpage.specs.declared.rights.Rights.{Rights}
 use Rattle.fpage.specs.declared.item.ItemKind.{ItemKind}
 use Rattle.fpage.specs.declared.item.ItemKind.TheVariants.{Map, Grant}
 use Rattle.space.specs.declared.place.Place.{Place}
 use Rattle.space.specs.Place.{same_place}
 use Rattle.space.specs.Directory.{pages_of}
-use Rattle.space.proofs.Places.{same_is, same_self, same_or_apart, apart_back}
-use Rattle.model.specs.Holdings.{Held, Holdings, PlaceSet, at, is_held}
+use Rattle.space.proofs.Places.{same_is, same_or_apart, apart_back}
+use Rattle.model.specs.Holdings.{Held, Holdings, at, is_held}
 use Rattle.model.specs.Calls.{Limits}
 use Rattle.model.specs.Items.{Job, Pair, pairs_from, is_map, Fate, absent, norights, to_origin, extends, goes, fate_of, fate, is_going, going, sources_of, targets_of, flush, Counts, no_counts, add_counts, counts_of, counts_from, counts}
-use Rattle.model.specs.Map.{linked, extended, link, extend, map_pair, map_pairs}
+use Rattle.model.specs.Map.{link, extend, map_pair, map_pairs}
 use Rattle.model.specs.Grant.{moving, renamed}
 use Rattle.model.specs.Strip.{strip}
 use Rattle.model.specs.Answers.{after_job}

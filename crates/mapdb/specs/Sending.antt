@@ -1,6 +1,6 @@
 -- One item of a send, in phases: its pairs that go or extend are found first, then the replaced targets are flushed, then
 -- pages are mapped or moved.
-use Rattle.std.specs.Prelude.{◌≡◌, ℕ, ◌+◌, ◌^◌, ◌≤◌, ◌<◌, Bool, true, false, IsFalse, ◌&&◌, not, List, [], ◌∷◌, length, Some, None, if◌then◌else◌}
+use Rattle.std.specs.Prelude.{◌≡◌, ℕ, ◌+◌, ◌^◌, ◌≤◌, ◌<◌, true, false, IsFalse, ◌&&◌, not, List, [], ◌∷◌, length, Some, None, if◌then◌else◌}
 use Rattle.std.specs.List.{All, list_any}
 use Rattle.std.specs.Option.{option_map_or}
 use Rattle.fpage.specs.declared.item.ItemKind.{ItemKind}

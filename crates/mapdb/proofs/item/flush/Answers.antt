@@ -1,5 +1,5 @@
 -- The held targets of those that go stand for all of them.
-use Rattle.std.proofs.Common.{◌≡◌, true, Ok, Err, ap, ◌∙◌}
+use Rattle.std.proofs.Common.{true, ap, ◌∙◌}
 use Rattle.fpage.specs.Rights.{all_rights}
 use Rattle.model.specs.Strip.{strip}
 use Rattle.mapdb.specs.declared.transfer.End.TheVariants.{Target}

@@ -1,5 +1,5 @@
 -- The page is lost, extends, or is linked.
-use Rattle.std.proofs.Common.{◌≡◌, Some, refl, sym, ap, ◌∙◌, subst}
+use Rattle.std.proofs.Common.{◌≡◌, Some, refl, sym, ◌∙◌, subst}
 use Rattle.std.specs.Option.{option_map}
 use Rattle.fpage.specs.Rights.{no_rights}
 use Rattle.space.specs.Shards.{IsSetAt, entry_at}

@@ -1,13 +1,12 @@
 -- One page more.
 use Rattle.std.proofs.Common.{◌≡◌, ◌+◌, false, get_or, refl, sym, ap, ◌∙◌, subst, arith}
 use Rattle.model.specs.Calls.{Limits}
-use Rattle.model.specs.Items.{Counts}
 use Rattle.model.specs.SendLaws.{total}
 use Rattle.mapdb.specs.declared.transfer.Transfer.{Transfer}
 use Rattle.mapdb.specs.Meaning.{counts_of}
 use Rattle.mapdb.specs.Stripping.{limits_in, holdings_in}
 use Rattle.mapdb.specs.Sending.{IsTransferWithin}
-use Rattle.mapdb.proofs.MapAll.{AreMapped, AreMappedBetween, none_mapped, agree_here, ready_now, one_mapped, all_mapped, worked_one}
+use Rattle.mapdb.proofs.MapAll.{AreMapped, none_mapped, agree_here, ready_now, one_mapped, all_mapped, worked_one}
 use Rattle.mapdb.proofs.map.map_pages.Goals as goal
 
 abbrev no_transfer : Transfer

@@ -3,7 +3,7 @@ use Rattle.std.proofs.Common.{◌≡◌, ◌<◌, ◌+◌, length, sym, ap, ◌�
 use Rattle.std.specs.List.{slice_range}
 use Rattle.mapdb.specs.declared.pages.HeldPage.{HeldPage}
 use Rattle.model.specs.Strip.{strip, strip_word}
-use Rattle.mapdb.specs.Stripping.{limits_in, holdings_in, any_of, any_page, places_in, AreOfFrame}
+use Rattle.mapdb.specs.Stripping.{holdings_in, any_of, any_page, places_in, AreOfFrame}
 use Rattle.mapdb.proofs.Named.{ArePages, AreStrippedUpTo, pages_in_order, same_pages, none_of_pages, frame_within, of_frame, one_group, all_groups, group_shown}
 use Rattle.mapdb.proofs.pages.strip_held.Goals as goal
 

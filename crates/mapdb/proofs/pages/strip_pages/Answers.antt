@@ -1,5 +1,5 @@
 -- The held pages that are named stand for all that are named.
-use Rattle.std.proofs.Common.{sym, ap, ◌∙◌}
+use Rattle.std.proofs.Common.{ap, ◌∙◌}
 use Rattle.model.specs.Answers.{pages_in}
 use Rattle.model.specs.Strip.{strip}
 use Rattle.mapdb.specs.Stripping.{limits_in, holdings_in, any_page}

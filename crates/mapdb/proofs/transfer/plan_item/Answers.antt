@@ -1,10 +1,9 @@
 -- One page more.
-use Rattle.std.proofs.Common.{◌≡◌, ◌+◌, ◌<◌, ◌≤◌, [], ◌++◌, sym, ap, ◌∙◌, subst, arith}
-use Rattle.model.specs.Items.{Pair, Fate, absent, norights, to_origin, extends, goes, fate, Counts, no_counts, add_counts}
+use Rattle.std.proofs.Common.{◌≡◌, ◌+◌, [], ◌++◌, sym, ap, ◌∙◌, subst, arith}
+use Rattle.model.specs.Items.{Pair, no_counts, add_counts}
 use Rattle.std.proofs.lemmas.List.{append-nil}
 use Rattle.model.specs.SendLaws.{total}
 use Rattle.mapdb.specs.declared.outcome.Outcome.{Outcome}
-use Rattle.mapdb.specs.declared.transfer.Transfer.{Transfer}
 use Rattle.mapdb.specs.Meaning.{counts_of}
 use Rattle.mapdb.specs.Stripping.{holdings_in}
 use Rattle.mapdb.specs.Sending.{job_of_pages, fate_of_outcome, transfer_of, decided_of}
