@@ -8,7 +8,7 @@ use Rattle.fpage.specs.Rights.{is_empty, all_rights, without}
 use Rattle.fpage.specs.declared.rights.Rights.{Rights}
 use Rattle.space.specs.declared.place.Place.{Place}
 use Rattle.space.specs.Place.{same_place}
-use Rattle.space.proofs.Places.{same_self, same_or_apart, apart_back}
+use Rattle.space.proofs.Places.{same_self, same_or_apart}
 use Rattle.model.specs.Holdings.{Held, Holdings, PlaceSet, at, is_held}
 use Rattle.model.specs.Derived.{is_under}
 use Rattle.model.specs.Items.{sources_of, add_counts, counts_of}
@@ -21,15 +21,9 @@ use Rattle.model.proofs.Grants.{without_withheld}
 use Rattle.mapdb.specs.declared.transfer.Transfer.{Transfer}
 use Rattle.mapdb.specs.declared.transfer.End.TheVariants.{Source}
 use Rattle.mapdb.specs.Sending.{pair_of, fate_in, ends_of, AllGo, IsReady, moving_of, worked}
+use Rattle.mapdb.proofs.HeldEnds.{same_back}
 
 module _ (h : Holdings) (lawful : IsLawful h) (rights : Rights) where
-  same_back : (p q : Place) → same_place p q ≡ same_place q p
-  same_back p q = by (same_or_apart p q)
-    where
-      by : (p ≡ q) ⊎ (same_place p q ≡ false) → same_place p q ≡ same_place q p
-      by (inl same) = rw same refl
-      by (inr apart) = apart ∙ sym (apart_back p q apart)
-
   -- the held sources are those of the pairs that move
   sources_are : (ts : List Transfer) → AllGo ts → (p : Place) → is_held h p ≡ true → ends_of Source ts p ≡ sources_of (moving_of h ts) p
   sources_are [] go p held = refl

@@ -11,7 +11,7 @@ use Rattle.space.specs.declared.place.Entry.{Entry}
 use Rattle.space.specs.declared.shards.Shards.{Shards}
 use Rattle.space.specs.Place.{same_place}
 use Rattle.space.specs.Shards.{entry_at}
-use Rattle.space.proofs.Places.{same_or_apart, same_self}
+use Rattle.space.proofs.Places.{same_or_apart, same_self, apart_back}
 use Rattle.mapdb.specs.declared.pages.HeldPage.{HeldPage}
 use Rattle.mapdb.specs.declared.transfer.Transfer.{Transfer}
 use Rattle.mapdb.specs.declared.transfer.End.{End}
@@ -19,6 +19,15 @@ use Rattle.mapdb.specs.Held.{has_frame}
 use Rattle.mapdb.specs.Stripping.{any_page, has_entry, HasItsFrame}
 use Rattle.mapdb.specs.Sending.{end_of, ends_of}
 
+-- places are one or the other way round
+pub same_back : (p q : Place) → same_place p q ≡ same_place q p
+same_back p q = by (same_or_apart p q)
+  where
+    by : (p ≡ q) ⊎ (same_place p q ≡ false) → same_place p q ≡ same_place q p
+    by (inl same) = rw same refl
+    by (inr apart) = apart ∙ sym (apart_back p q apart)
+
+-- the pages that were found are the held ends of these transfers, each with its frame
 pub record AreEnds (shards : Shards) (end : End) (ts : List Transfer) (pages : List HeldPage) : Type 0 where
   pub named : (p : Place) → any_page pages p ≡ (ends_of end ts p && has_entry shards p)
   pub frames : All (HasItsFrame shards) pages

@@ -12,7 +12,7 @@ use Rattle.fpage.specs.declared.item.ItemKind.TheVariants.{Map, Grant}
 use Rattle.space.specs.declared.place.Place.{Place}
 use Rattle.space.specs.Place.{same_place}
 use Rattle.space.specs.Directory.{pages_of}
-use Rattle.space.proofs.Places.{same_is, same_or_apart, apart_back}
+use Rattle.space.proofs.Places.{same_is}
 use Rattle.model.specs.Holdings.{Held, Holdings, at, is_held}
 use Rattle.model.specs.Calls.{Limits}
 use Rattle.model.specs.Items.{Job, Pair, pairs_from, is_map, Fate, absent, norights, to_origin, extends, goes, fate_of, fate, is_going, going, sources_of, targets_of, flush, Counts, no_counts, add_counts, counts_of, counts_from, counts}
@@ -36,6 +36,7 @@ use Rattle.mapdb.specs.declared.item_pages.ItemPages.{ItemPages}
 use Rattle.mapdb.specs.Held.{is_place}
 use Rattle.mapdb.proofs.Listing.{place_from_within}
 use Rattle.mapdb.specs.Sending.{transfer_of, transfers_of, decided_of, decided, pair_of, fate_in, end_of, ends_of, IsTransferWithin, IsApartFrom, ArePaired, AllGo, IsReady, worked, map_transfers, moving_of, after_flush, job_of_pages, AreItemPages, ArePlanned}
+use Rattle.mapdb.proofs.HeldEnds.{same_back}
 use Rattle.mapdb.proofs.Plans.{add_assoc, transfers_few, pairs_length}
 
 -- ---- which pairs
@@ -102,13 +103,6 @@ module _ (h : Holdings) (job : Job) where
       by goes is rest = All-cons (λ t. t.extends ≡ false) (record { source = e.0; target = e.1; extends = false }) (transfers_of h job es) refl rest
 
   -- ---- the flush
-
-  same_back : (p q : Place) → same_place p q ≡ same_place q p
-  same_back p q = by (same_or_apart p q)
-    where
-      by : (p ≡ q) ⊎ (same_place p q ≡ false) → same_place p q ≡ same_place q p
-      by (inl same) = rw same refl
-      by (inr apart) = apart ∙ sym (apart_back p q apart)
 
   -- the targets of those that go
   pub replaced_targets : (es : List Pair) (p : Place) → ends_of Target (transfers_of h job es) p ≡ targets_of (filter (λ e. is_going (fate h job e)) es) p
