@@ -2,6 +2,7 @@
 #![tactic(auto)]
 
 mod cutting;
+mod links;
 mod node;
 mod slice;
 #[cfg(test)]
