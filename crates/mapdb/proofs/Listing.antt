@@ -23,7 +23,7 @@ abbrev AreAbove : Place → List Place → Type 0
 AreAbove p ps = list_all (λ q. is_lt (place_cmp p q)) ps ≡ true
 
 -- each place is below those behind it
-abbrev are_rising : List Place → Bool
+abbrev pub are_rising : List Place → Bool
 are_rising [] = true
 are_rising (p ∷ ps) = list_all (λ q. is_lt (place_cmp p q)) ps && are_rising ps
 
@@ -126,7 +126,7 @@ module _ (f : Place → Option Held) where
   sorted_kept p None h low sorted = sorted
   sorted_kept p (Some m) h low sorted = and_from _ _ low sorted
 
-  sorted_listed : (ps : List Place) → are_rising ps ≡ true → Sorted (listed f ps)
+  pub sorted_listed : (ps : List Place) → are_rising ps ≡ true → Sorted (listed f ps)
   sorted_listed [] rising = refl
   sorted_listed (p ∷ ps) rising =
       let parts = and_parts (list_all (λ q. is_lt (place_cmp p q)) ps) (are_rising ps) rising in
@@ -141,7 +141,7 @@ module _ (f : Place → Option Held) where
   at_here p None h false is = is
   at_here p (Some m) h b is = rw (same_self p) refl
 
-  at_listed : (ps : List Place) (p : Place) → at (listed f ps) p ≡ (if list_any (same_place p) ps then f p else None)
+  pub at_listed : (ps : List Place) (p : Place) → at (listed f ps) p ≡ (if list_any (same_place p) ps then f p else None)
   at_listed [] p = refl
   at_listed (q ∷ ps) p = by (same_or_apart p q) (at_listed ps p)
     where

@@ -1,6 +1,7 @@
 use crate::error::DbError;
 use crate::item::work_items;
 use crate::limits::Limits;
+use crate::mapping::{Mapping, mappings};
 use crate::pages::unmap_words;
 use crate::plain::visit_words;
 use crate::reply::SendReply;
@@ -40,7 +41,7 @@ impl Model for Database {
 }
 
 impl Database {
-    ghost use Rattle.std.specs.Prelude.{◌≡◌, ◌≤◌, ◌↔◌, ◌⊎◌, true, false, Some, option_map};
+    ghost use Rattle.std.specs.Prelude.{◌≡◌, ◌≤◌, ◌↔◌, ◌⊎◌, true, false, Some, map, option_map};
     ghost use Rattle.std.specs.Prelude.{IfOk, OnOk, IfErr, OnErr, IsErrOf, IsOkUnless};
     ghost use Rattle.std.specs.List.{All};
     ghost use Rattle.model.specs.Holdings.{at, origin_at};
@@ -51,6 +52,7 @@ impl Database {
     ghost use Rattle.fpage.specs.Fpage.{IsFpageOf};
     ghost use Rattle.mapdb.specs.Meaning.{limits_of, counts_of};
     ghost use Rattle.mapdb.specs.Held.{IsWithin, listing};
+    ghost use Rattle.mapdb.specs.Mappings.{mapped_of};
     ghost use Rattle.mapdb.specs.State.{new_state, halted, left_with, entry_of, unless_halted};
     ghost use Rattle.mapdb.specs.State.{touched_all, access_answers, unmap_status, unmap_left, plain_status, plain_left};
     ghost use Rattle.mapdb.specs.declared.error.DbError.TheVariants.{BadLimits, NoSuchSpace, SameSpace, NoWindow, NoMemory, Halted};
@@ -126,6 +128,22 @@ impl Database {
             return Ok(None);
         };
         Ok(tree::origin(&self.trees[entry.frame as usize], place))
+    }
+
+    /// Every mapping, by rising place. It takes time by what is held, and not by how many pages there are.
+    ///
+    /// Refused where the database is halted, `Halted`, and where memory is, `NoMemory`; nothing changes, and the database
+    /// is not halted by it.
+    pub fn mappings(&self, alloc: Global) -> Result<Vec<Mapping>, DbError>
+        ensures halted { IsErrOf result Halted ↔ (self.now.is_halted ≡ true) }
+        ensures errors { IfErr result (λ e. (e ≡ Halted) ⊎ (e ≡ NoMemory)) }
+        ensures mappings { IfOk result (λ mappings. map mapped_of mappings.items ≡ self.now.holdings) }
+    {
+        if self.halted {
+            return Err(DbError::Halted);
+        }
+        let mappings = mappings(alloc, &self.shards, &self.trees)?;
+        Ok(mappings)
     }
 
     /// Makes accesses one after another, and says of each whether it was made; otherwise it was a fault.
