@@ -1,0 +1,2 @@
+mod Texts
+mod Checks

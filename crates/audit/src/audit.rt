@@ -1,0 +1,144 @@
+//! The audit of a database, as lines and as text.
+
+ghost use Rattle.std.specs.Prelude.{◌≡◌, ◌↔◌, ◌⊎◌, true, map, IfOk, IfErr, IsErrOf};
+ghost use Rattle.model.specs.Text.{audit_lines};
+ghost use Rattle.mapdb.specs.Mappings.{mapped_of};
+ghost use Rattle.audit.specs.declared.error.AuditError.TheVariants.{Halted, NoMemory};
+
+use crate::error::AuditError;
+use crate::line::{Line, LineText};
+use mapdb::{Database, DbError};
+use rayon::prelude::*;
+use std::alloc::{AllocError, Global};
+use std::fmt::Write;
+use std::thread::Threads;
+
+/// Every mapping of a database, by rising place.
+///
+/// Refused where the database is halted, `Halted`, and where memory is, `NoMemory`.
+pub fn lines(alloc: Global, database: &Database) -> Result<Vec<Line>, AuditError>
+    ensures halted { IsErrOf result Halted ↔ (database.now.is_halted ≡ true) }
+    ensures errors { IfErr result (λ e. (e ≡ Halted) ⊎ (e ≡ NoMemory)) }
+    ensures lines { IfOk result (λ lines. map mapped_of lines.items ≡ database.now.holdings) }
+{
+    match database.mappings(alloc) {
+        Ok(lines) => Ok(lines),
+        Err(DbError::Halted) => Err(AuditError::Halted),
+        Err(_) => Err(AuditError::NoMemory),
+    }
+}
+
+/// The text of every mapping of a database, by rising place, a line for each. The lines of each space are made side by
+/// side with those of others.
+///
+/// Refused where the database is halted, `Halted`, and where memory is, or a thread, `NoMemory`.
+pub fn report(
+    rt: &(impl AllocGlobal + Threads + Sync),
+    database: &Database,
+) -> Result<Vec<u8>, AuditError>
+    ensures halted { IsErrOf result Halted ↔ (database.now.is_halted ≡ true) }
+    ensures errors { IfErr result (λ e. (e ≡ Halted) ⊎ (e ≡ NoMemory)) }
+    ensures text { IfOk result (λ text. text.items ≡ audit_lines database.now.holdings) }
+{
+    let alloc = rt.alloc();
+    let lines = lines(alloc, database)?;
+    let text = text_of(rt, alloc, &lines)?;
+    Ok(text)
+}
+
+ghost use Rattle.std.specs.Prelude.{flat_map};
+
+/// The text of lines, made section by section side by side.
+fn text_of(rt: &(impl Threads + Sync), alloc: Global, lines: &[Line]) -> Result<Vec<u8>, AllocError>
+    ensures { IfOk result (λ text. text.items ≡ audit_lines (map mapped_of lines.now)) }
+{
+    let sections = sections(alloc, lines)?;
+    let texts = section_texts(rt, alloc, &sections)?;
+    let text = joined(alloc, &texts)?;
+    Ok(text)
+}
+
+/// The lines of each space.
+fn sections<'a>(alloc: Global, lines: &'a [Line]) -> Result<Vec<&'a [Line]>, AllocError>
+    ensures { IfOk result (λ sections. flat_map (λ section. section.now) sections.items ≡ lines.now) }
+{
+    let mut sections = Vec::new(alloc);
+    let mut rest = lines;
+    while !rest.is_empty() {
+        let (section, others) = rest.split_at(first_section(rest));
+        sections.push(section)?;
+        rest = others;
+    }
+    Ok(sections)
+}
+
+ghost use Rattle.std.specs.Prelude.{◌<◌, ◌≤◌, length};
+
+/// How many lines from the front on are of the space of the first.
+fn first_section(lines: &[Line]) -> usize
+    requires { 0 < length lines.now }
+    ensures some { 0 < result }
+    ensures most { result ≤ length lines.now }
+{
+    let space = lines[0].place.space;
+    for i in 1..lines.len() {
+        if lines[i].place.space != space {
+            return i;
+        }
+    }
+    lines.len()
+}
+
+ghost use Rattle.std.specs.List.{AllZip};
+ghost use Rattle.std.specs.Prelude.{string_bytes};
+ghost use Rattle.audit.specs.Sections.{IsTextOf};
+
+/// The text of each section, side by side.
+fn section_texts(
+    rt: &(impl Threads + Sync),
+    alloc: Global,
+    sections: &[&[Line]],
+) -> Result<Vec<Result<String, AllocError>>, AllocError>
+    ensures { IfOk result (λ texts. AllZip (λ section text. IsTextOf section.now text) sections.now texts.items) }
+{
+    sections
+        .par_iter()
+        .map(
+            |section: &&[Line]| -> Result<String, AllocError>
+                ensures { IsTextOf section.now.now result }
+            { section_text(alloc, section) },
+        )
+        .with_min_len(1)
+        .collect(rt, alloc)
+}
+
+/// The text of some lines.
+fn section_text(alloc: Global, lines: &[Line]) -> Result<String, AllocError>
+    ensures { IsTextOf lines.now result }
+{
+    let mut text = String::new(alloc);
+    for line in lines {
+        let line = LineText(*line);
+        write!(text, "{line}")?;
+    }
+    Ok(text)
+}
+
+ghost use Rattle.std.specs.Prelude.{IsOk, OnOk};
+ghost use Rattle.std.specs.List.{All};
+ghost use Rattle.audit.specs.Sections.{bytes_in};
+
+/// The texts one after another, if none was refused memory.
+fn joined(alloc: Global, texts: &[Result<String, AllocError>]) -> Result<Vec<u8>, AllocError>
+    ensures whole { IfOk result (λ whole. whole.items ≡ flat_map bytes_in texts.now) }
+    ensures all { OnOk result (All IsOk texts.now) }
+{
+    let mut whole = Vec::new(alloc);
+    for text in texts {
+        match text {
+            Ok(text) => whole.extend_from_slice(text.as_bytes())?,
+            Err(error) => return Err(*error),
+        }
+    }
+    Ok(whole)
+}

@@ -1,0 +1,25 @@
+use mapdb::DbError;
+use std::alloc::AllocError;
+use thiserror::Error;
+
+/// Why there is no audit.
+#[derive(Clone, Copy, Debug, PartialEq, Eq, Error)]
+pub enum AuditError {
+    /// The database is halted.
+    #[error("Halted")]
+    Halted,
+    /// Memory was refused, or a thread.
+    #[error("NoMemory")]
+    NoMemory,
+}
+
+impl From<AllocError> for AuditError {
+    ghost use Rattle.std.specs.Prelude.{◌≡◌};
+    ghost use Rattle.audit.specs.declared.error.AuditError.TheVariants.{NoMemory};
+
+    ghost from_gives = { λ _ e. e ≡ NoMemory };
+
+    fn from(_: AllocError) -> Self {
+        AuditError::NoMemory
+    }
+}

@@ -1,0 +1,12 @@
+//! The audit of a mapping database: a line for each mapping, by rising place, and a check of such lines.
+#![tactic(auto)]
+
+mod audit;
+mod checker;
+mod error;
+mod line;
+
+pub use audit::{lines, report};
+pub use checker::check;
+pub use error::AuditError;
+pub use line::Line;
