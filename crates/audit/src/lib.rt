@@ -5,6 +5,8 @@ mod audit;
 mod checker;
 mod error;
 mod line;
+#[cfg(test)]
+mod tests;
 
 pub use audit::{lines, report};
 pub use checker::check;
