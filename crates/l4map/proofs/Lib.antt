@@ -1,12 +1,6 @@
-mod Counted
-mod Fields
-mod Digits
-mod Words
-mod Hex
 mod Unmaps
 mod Pages
 mod Audits
 mod Streams
-mod Traces
 mod Replays
 mod Runs

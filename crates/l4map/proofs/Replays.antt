@@ -1,7 +1,5 @@
 -- A replay that has come to some record.
-use Rattle.std.proofs.Common.{◌≡◌, ℕ, zero, suc, ◌+◌, ◌≤◌, Bool, true, false, cond, List, [], ◌∷◌, ◌++◌, take, drop, length, Option, refl, sym, ap, ◌∙◌, arith, append_assoc, append-nil, add-zero, zero-add, add-one, get_or, ◌<◌, map}
-use Rattle.std.proofs.lemmas.List.{length-map}
-use Rattle.csv.specs.Records.{Row, fields_of}
+use Rattle.std.proofs.Common.{◌≡◌, ℕ, zero, suc, ◌+◌, ◌≤◌, Bool, true, false, cond, List, [], ◌∷◌, ◌++◌, take, drop, length, Option, refl, sym, ap, ◌∙◌, arith, append_assoc, append-nil, add-zero, zero-add, add-one, get_or, ◌<◌}
 use Rattle.std.proofs.Math.Seq.{drop-cons}
 use mir.Val.{bool_byte}
 use Rattle.std.proofs.lemmas.List.Sums.{sum_by-append}
@@ -118,12 +116,9 @@ so_far-more {t} {limits} {f} {rest} {h} {i} {old} {now} {refused} s {left} {line
 -- ---- the whole
 
 -- each record has a reply
-replies_count : (limits : Limits) (rows : List Fields) (h : Holdings) → length (told_of limits rows h).replies ≡ length rows
+pub replies_count : (limits : Limits) (rows : List Fields) (h : Holdings) → length (told_of limits rows h).replies ≡ length rows
 replies_count limits [] h = refl
 replies_count limits (f ∷ rows) h = ap suc (replies_count limits rows (answer limits h (request limits f)).left)
-
-pub rows_count : (limits : Limits) (rows : List Row) (h : Holdings) → length (told_of limits (map fields_of rows) h).replies ≡ length rows
-rows_count limits rows h = replies_count limits (map fields_of rows) h ∙ length-map rows fields_of
 
 -- all replies stand before the audit
 pub before_audit : {t : Told} {old now : Option (List ℕ)} {h : Holdings} {refused : ℕ} → WritesReplies t old now h refused → (count : ℕ) → length t.replies ≡ count → StopsBefore t old now count

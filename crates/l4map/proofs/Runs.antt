@@ -1,48 +1,51 @@
 -- From the trace that was read to the input that the reader had.
-use Rattle.std.proofs.Common.{◌≡◌, ℕ, zero, suc, Bool, List, Option, Some, None, Result, Ok, Err, IfOk, IfErr, IfSome, ◌∙◌, sym, ap}
-use Rattle.model.specs.Records.{Trace, trace_of}
+use Rattle.std.proofs.Common.{◌≡◌, ℕ, zero, suc, Bool, true, List, map, Option, Some, None, Result, Ok, Err, IfOk, IfErr, IfSome, ◌∙◌, refl}
+use Rattle.std.specs.Io.KnownBytes.{Keeps}
+use Rattle.std.proofs.KnownBytes.{Appends-kept}
+use Rattle.model.specs.Records.{Trace, trace_of, request, are_limits}
+use Rattle.model.specs.Replay.{Told, start}
+use Rattle.mapdb.specs.Meaning.{limits_of}
+use Rattle.trace.specs.declared.read.Trace.{Trace as TheTrace}
+use Rattle.trace.specs.Trace.{IsTraceOf}
 use Rattle.l4map.specs.declared.run.Summary.{Summary}
 use Rattle.l4map.specs.declared.error.RunError.{RunError}
 use Rattle.l4map.specs.declared.error.RunError.TheVariants.{BadHeader, BadLimits, NoMemory, NoWorker, Unreadable, WriteFailed}
-use Rattle.std.specs.Io.KnownBytes.{Keeps}
-use Rattle.std.proofs.KnownBytes.{Appends-kept}
-use Rattle.model.specs.Replay.{Told}
-use Rattle.model.specs.Text.{told}
-use Rattle.l4map.specs.Run.{WritesText, WritesReplay, StopsEarly, EndsReplay, EndsEarly}
+use Rattle.l4map.specs.Run.{told_of, WritesText, WritesReplay, StopsEarly, EndsEarly}
 
-pub replayed : (known : Option (List ℕ)) (bytes : List ℕ) (t : Trace) (old new : Option (List ℕ)) (r : Result Summary RunError) → IfSome known (λ input. bytes ≡ input) → trace_of bytes ≡ Ok t
-    → IfOk r (WritesText (told t) old new) → IfOk r (λ s. IfSome known (λ input. WritesReplay input old new s))
-replayed None bytes t old new (Ok s) same is w = tt
-replayed (Some input) bytes t old new (Ok s) same is w = record { trace = t; is_trace = ap trace_of (sym same) ∙ is; replayed = w }
-replayed known bytes t old new (Err e) same is w = tt
+-- ---- the trace
 
-pub ended : (known : Option (List ℕ)) (bytes : List ℕ) (t : Trace) (old new : Option (List ℕ)) (was failed : Bool) (r : Result Summary RunError) → IfSome known (λ input. bytes ≡ input) → trace_of bytes ≡ Ok t
-    → IfErr r (EndsReplay (told t) old new was failed) → IfErr r (λ e. IfSome known (λ input. EndsEarly input old new e))
-ended known bytes t old new was failed (Ok s) same is w = tt
-ended None bytes t old new was failed (Err e) same is w = tt
-ended (Some input) bytes t old new was failed (Err BadHeader) same is w = absurd w
-ended (Some input) bytes t old new was failed (Err BadLimits) same is w = absurd w
-ended (Some input) bytes t old new was failed (Err (NoMemory zero)) same is w = tt
-ended (Some input) bytes t old new was failed (Err (NoMemory (suc k))) same is w = record { trace = t; is_trace = ap trace_of (sym same) ∙ is; stopped = w.0 }
-ended (Some input) bytes t old new was failed (Err (NoWorker n)) same is w = absurd w
-ended (Some input) bytes t old new was failed (Err Unreadable) same is w = absurd w
-ended (Some input) bytes t old new was failed (Err WriteFailed) same is w = record { trace = t; is_trace = ap trace_of (sym same) ∙ is }
+-- the requests of the records
+abbrev pub trace_from : TheTrace → Trace
+trace_from t = record { limits = limits_of t.limits; requests = map (request (limits_of t.limits)) t.records.items }
+
+-- limits that are served make it a trace
+pub served : (input : List ℕ) (t : TheTrace) → IsTraceOf input t → are_limits (limits_of t.limits) ≡ true → trace_of input ≡ Ok (trace_from t)
+served input t is limits = rw (is.records, is.limits, limits) refl
+
+-- ---- a run
+
+pub replayed : (known : Option (List ℕ)) (t : TheTrace) (old new : Option (List ℕ)) (r : Result Summary RunError) → IfSome known (λ input. IsTraceOf input t) → are_limits (limits_of t.limits) ≡ true
+    → IfOk r (WritesText (told_of (limits_of t.limits) t.records.items (start (limits_of t.limits))) old new) → IfOk r (λ s. IfSome known (λ input. WritesReplay input old new s))
+replayed None t old new (Ok s) is limits w = tt
+replayed (Some input) t old new (Ok s) is limits w = record { trace = trace_from t; is_trace = served input t is limits; replayed = w }
+replayed known t old new (Err e) is limits w = tt
+
+pub ended : (known : Option (List ℕ)) (t : TheTrace) (old new : Option (List ℕ)) (was failed : Bool) (r : Result Summary RunError) → IfSome known (λ input. IsTraceOf input t) → are_limits (limits_of t.limits) ≡ true
+    → IfErr r (StopsEarly (told_of (limits_of t.limits) t.records.items (start (limits_of t.limits))) old new was failed) → IfErr r (λ e. IfSome known (λ input. EndsEarly input old new e))
+ended known t old new was failed (Ok s) is limits w = tt
+ended None t old new was failed (Err e) is limits w = tt
+ended (Some input) t old new was failed (Err BadHeader) is limits w = absurd w
+ended (Some input) t old new was failed (Err BadLimits) is limits w = absurd w
+ended (Some input) t old new was failed (Err (NoMemory zero)) is limits w = tt
+ended (Some input) t old new was failed (Err (NoMemory (suc k))) is limits w = record { trace = trace_from t; is_trace = served input t is limits; stopped = w.0 }
+ended (Some input) t old new was failed (Err (NoWorker n)) is limits w = absurd w
+ended (Some input) t old new was failed (Err Unreadable) is limits w = absurd w
+ended (Some input) t old new was failed (Err WriteFailed) is limits w = record { trace = trace_from t; is_trace = served input t is limits }
 
 -- ---- a replay
 
--- why the text was not all written is why the replay ended early
-pub stopped : (t : Told) (old new : Option (List ℕ)) (was failed : Bool) (r : Result Summary RunError) → IfErr r (StopsEarly t old new was failed) → IfErr r (EndsReplay t old new was failed)
-stopped t old new was failed (Ok s) h = tt
-stopped t old new was failed (Err BadHeader) h = h
-stopped t old new was failed (Err BadLimits) h = h
-stopped t old new was failed (Err (NoMemory zero)) h = absurd h
-stopped t old new was failed (Err (NoMemory (suc k))) h = h
-stopped t old new was failed (Err (NoWorker n)) h = h
-stopped t old new was failed (Err Unreadable) h = h
-stopped t old new was failed (Err WriteFailed) h = h
-
--- so is what was written by then, once it is flushed
-pub flushed : (t : Told) (old mid new : Option (List ℕ)) (was is failed : Bool) (n : ℕ) → StopsEarly t old mid was is (NoMemory n) → Keeps mid new → failed ≡ is → EndsReplay t old new was failed (NoMemory n)
+-- why the replies were not all written, once what was written is flushed
+pub flushed : (t : Told) (old mid new : Option (List ℕ)) (was is failed : Bool) (n : ℕ) → StopsEarly t old mid was is (NoMemory n) → Keeps mid new → failed ≡ is → StopsEarly t old new was failed (NoMemory n)
 flushed t old mid new was is failed zero h keeps same = absurd h
 flushed t old mid new was is failed (suc k) h keeps same =
     (record { within = h.0.within; written = Appends-kept old mid new _ h.0.written keeps }, same ∙ h.1)

@@ -1,10 +1,8 @@
 -- The exit status and the line of an error.
 use Rattle.std.specs.Prelude.{◌≡◌, ℕ, List, ◌++◌, codes}
 use Rattle.std.specs.Fmt.{decimal}
-use Rattle.l4map.specs.declared.stream.ReadError.{ReadError}
-use Rattle.l4map.specs.declared.stream.ReadError.TheVariants as read
-use Rattle.l4map.specs.declared.trace.TraceError.{TraceError}
-use Rattle.l4map.specs.declared.trace.TraceError.TheVariants as trace
+use Rattle.trace.specs.declared.read.TraceError.{TraceError}
+use Rattle.trace.specs.declared.read.TraceError.TheVariants as trace
 use Rattle.l4map.specs.declared.error.RunError.{RunError}
 use Rattle.l4map.specs.declared.error.RunError.TheVariants.{BadHeader, BadLimits, NoMemory, NoWorker, Unreadable, WriteFailed}
 
@@ -29,12 +27,8 @@ error_line (NoWorker n) = record_line n (codes ": NoWorker\n")
 error_line Unreadable = codes "l4map: Unreadable\n"
 error_line WriteFailed = codes "l4map: WriteFailed\n"
 
--- what ends a run where its source was not read, or is no trace; no record was come to
-abbrev pub IsOfRead : ReadError → RunError → Type 0
-IsOfRead read.Failed e = e ≡ Unreadable
-IsOfRead read.NoMemory e = e ≡ NoMemory 0
-
+-- what ends a run where no trace was read; no record was come to
 abbrev pub IsOfTrace : TraceError → RunError → Type 0
+IsOfTrace trace.Unreadable e = e ≡ Unreadable
 IsOfTrace trace.BadHeader e = e ≡ BadHeader
-IsOfTrace trace.BadLimits e = e ≡ BadLimits
 IsOfTrace trace.NoMemory e = e ≡ NoMemory 0

@@ -5,8 +5,9 @@ use Rattle.model.specs.Holdings.{Holdings}
 use Rattle.model.specs.Calls.{Limits}
 use Rattle.model.specs.Answers.{answer}
 use Rattle.model.specs.Replay.{Told, replay}
-use Rattle.model.specs.Records.{Fields, Trace, bad_header, bad_limits, request, trace_of}
+use Rattle.model.specs.Records.{Fields, Trace, are_limits, bad_header, bad_limits, request, trace_of}
 use Rattle.model.specs.Text.{text, told, reply_line, reply_lines, is_refused, refused_count}
+use Rattle.mapdb.specs.State.{State, new_state}
 use Rattle.l4map.specs.declared.run.Summary.{Summary}
 use Rattle.l4map.specs.declared.error.RunError.{RunError}
 use Rattle.l4map.specs.declared.error.RunError.TheVariants.{BadHeader, BadLimits, NoMemory, NoWorker, Unreadable, WriteFailed}
@@ -48,15 +49,20 @@ pub record WritesText (t : Told) (old new : Option (List ℕ)) (s : Summary) : T
   pub records : s.records ≡ length t.replies
   pub refused : s.refused ≡ refused_count t.replies
 
--- why a replay ended early, from a fresh start
-abbrev pub EndsReplay : Told → Option (List ℕ) → Option (List ℕ) → Bool → Bool → RunError → Type 0
-EndsReplay t old new was is (NoMemory zero) = Keeps old new × (is ≡ was)
-EndsReplay t old new was is (NoMemory (suc k)) = StopsBefore t old new k × (is ≡ was)
-EndsReplay t old new was is WriteFailed = is ≡ true
-EndsReplay t old new was is BadHeader = ⊥
-EndsReplay t old new was is BadLimits = ⊥
-EndsReplay t old new was is (NoWorker n) = ⊥
-EndsReplay t old new was is Unreadable = ⊥
+-- a database at the start, whose limits are served
+pub record IsStarted (limits : Limits) (database : State) : Type 0 where
+  pub served : are_limits limits ≡ true
+  pub new : database ≡ new_state limits
+
+-- why there is no database
+abbrev pub StartsNot : Limits → RunError → Type 0
+StartsNot limits BadLimits = are_limits limits ≡ false
+StartsNot limits (NoMemory zero) = ⊤
+StartsNot limits (NoMemory (suc k)) = ⊥
+StartsNot limits BadHeader = ⊥
+StartsNot limits (NoWorker n) = ⊥
+StartsNot limits Unreadable = ⊥
+StartsNot limits WriteFailed = ⊥
 
 -- ---- a run
 

@@ -8,15 +8,13 @@ ghost use Rattle.model.specs.Calls.{send, access, unmap};
 ghost use Rattle.model.specs.Answers.{answer};
 ghost use Rattle.mapdb.specs.Held.{IsWithin};
 ghost use Rattle.mapdb.specs.State.{left_with};
-ghost use Rattle.l4map.specs.Meaning.{request_of, IsWithinLimits};
-ghost use Rattle.l4map.specs.Counts.{reply_of};
+ghost use Rattle.trace.specs.Meaning.{request_of, IsWithinLimits, reply_of};
 
-use crate::call::{Call, Refusal};
-use crate::reply::Reply;
 use fpage::{Access, Control, Fpage, Item, Rights, with_status};
 use mapdb::{Database, DbError};
 use space::Place;
 use std::alloc::{AllocError, Global};
+use trace::{Call, Refusal, Reply};
 
 /// Answers a request, and leaves what it changed. Only want of memory is an error.
 pub fn answer(

@@ -4,10 +4,9 @@ ghost use Rattle.std.specs.Prelude.{◌≡◌, OnOk, OnErr, true};
 ghost use Rattle.std.specs.Io.KnownBytes.{Appends};
 ghost use Rattle.l4map.specs.Error.{status_of, error_line, record_line};
 
-use crate::stream::{Failed, ReadError, Sink};
-use crate::trace::TraceError;
 use itoa::Buffer;
 use thiserror::Error;
+use trace::{Failed, Sink, TraceError};
 
 /// Why a run ended early.
 #[derive(Clone, Copy, Debug, PartialEq, Eq, Error)]
@@ -71,19 +70,6 @@ fn tell_record<W: Sink>(writer: &mut W, number: u64, what: &[u8]) -> Result<(), 
     writer.write_all(what)
 }
 
-impl From<ReadError> for RunError {
-    ghost use Rattle.l4map.specs.Error.{IsOfRead};
-
-    ghost from_gives = { IsOfRead };
-
-    fn from(error: ReadError) -> Self {
-        match error {
-            ReadError::Failed => RunError::Unreadable,
-            ReadError::NoMemory => RunError::NoMemory(0),
-        }
-    }
-}
-
 impl From<TraceError> for RunError {
     ghost use Rattle.l4map.specs.Error.{IsOfTrace};
 
@@ -91,8 +77,8 @@ impl From<TraceError> for RunError {
 
     fn from(error: TraceError) -> Self {
         match error {
+            TraceError::Unreadable => RunError::Unreadable,
             TraceError::BadHeader => RunError::BadHeader,
-            TraceError::BadLimits => RunError::BadLimits,
             TraceError::NoMemory => RunError::NoMemory(0),
         }
     }

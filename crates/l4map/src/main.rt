@@ -3,24 +3,17 @@
 
 mod answer;
 mod audit;
-mod call;
 mod error;
-mod field;
-mod records;
-mod reply;
-mod request;
 mod run;
-mod stream;
 #[cfg(test)]
 mod tests;
-mod trace;
 
 use error::RunError;
 use run::{Summary, run};
 use std::io;
 use std::io::BufWriter;
 use std::process::ExitCode;
-use stream::Std;
+use trace::Std;
 
 /// How many bytes of output are kept before they are written.
 const OUTPUT_BUFFER: usize = 65536;

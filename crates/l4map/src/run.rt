@@ -1,25 +1,20 @@
 //! A run: from the bytes of a trace to the text of its replay.
 
-ghost use Rattle.std.specs.Prelude.{◌≡◌, ◌<◌, ◌++◌, length, false, map, IfOk, IfErr, IfSome, OnOk, string_bytes};
-ghost use Rattle.model.specs.Text.{text, told, audit_lines, end_line};
-ghost use Rattle.csv.specs.Records.{fields_of};
-ghost use Rattle.fpage.specs.Fpage.{IsSpaceBits};
+ghost use Rattle.std.specs.Prelude.{◌≡◌, ◌++◌, false, IfOk, IfErr, IfSome, OnOk, string_bytes};
+ghost use Rattle.model.specs.Text.{audit_lines, end_line};
+ghost use Rattle.mapdb.specs.Meaning.{limits_of};
 ghost use Rattle.mapdb.specs.State.{left_with};
-ghost use Rattle.l4map.specs.Run.{Answers, told_of, WritesReplies, WritesText, StopsEarly, EndsReplay, WritesReplay, EndsEarly, WritesNothing, TellsStreams};
-ghost use Rattle.l4map.specs.Trace.{trace_from};
+ghost use Rattle.l4map.specs.Run.{Answers, told_of, WritesReplies, WritesText, StopsEarly, IsStarted, StartsNot};
+ghost use Rattle.l4map.specs.Run.{WritesReplay, EndsEarly, WritesNothing, TellsStreams};
 
 use crate::answer::answer;
 use crate::audit::audit;
 use crate::error::RunError;
-use crate::field::fields;
-use crate::reply::Reply;
-use crate::request::request;
-use crate::stream::{Sink, Source, read_to_end};
-use crate::trace::{Trace, read_trace};
-use csv::ByteRecord;
-use mapdb::Database;
+use mapdb::{Database, DbError, Limits};
+use space::NoMemory;
 use std::alloc::{AllocError, Global};
 use std::fmt::Write;
+use trace::{Record, Reply, Sink, Source, push_reply, read_all};
 
 /// What a run came to: the numbers of its last line.
 #[derive(Clone, Copy, Debug, PartialEq, Eq)]
@@ -34,21 +29,20 @@ pub struct Summary {
 fn reply_line(
     alloc: Global,
     database: &mut Database,
-    row: &ByteRecord,
+    asked: &Record,
     number: u64,
     line: &mut String,
-) -> Result<bool, AllocError>
+) -> Result<bool, NoMemory>
     requires { database.old.is_halted ≡ false }
-    ensures answers { IfOk result (λ refused. Answers database.old.limits database.old.holdings (fields_of row.now) number
+    ensures answers { IfOk result (λ refused. Answers database.old.limits database.old.holdings asked.now number
         database.new.holdings (string_bytes line.new) refused) }
     ensures keeps { OnOk result (database.new ≡ left_with database.old database.new.holdings) }
 {
     let limits = database.limits();
-    let fields = fields(alloc, row)?;
-    let request = request(alloc, &limits, &fields)?;
+    let request = asked.call(alloc, &limits)?;
     let reply = answer(alloc, database, &request)?;
     line.clear();
-    write!(line, "{number} {reply}\n")?;
+    push_reply(line, number, &reply)?;
     Ok(matches!(reply, Reply::Refused(_)))
 }
 
@@ -56,22 +50,22 @@ fn reply_line(
 fn write_replies<W: Sink>(
     alloc: Global,
     database: &mut Database,
-    rows: &[ByteRecord],
+    records: &[Record],
     writer: &mut W,
 ) -> Result<u64, RunError>
     requires { database.old.is_halted ≡ false }
-    ensures ok { IfOk result (λ refused. WritesReplies (told_of database.old.limits (map fields_of rows.now) database.old.holdings)
+    ensures ok { IfOk result (λ refused. WritesReplies (told_of database.old.limits records.now database.old.holdings)
         (W.contents writer.old) (W.contents writer.new) database.new.holdings refused) }
     ensures keeps { OnOk result (database.new ≡ left_with database.old database.new.holdings) }
     ensures works { OnOk result (W.failed writer.new ≡ W.failed writer.old) }
-    ensures err { IfErr result (StopsEarly (told_of database.old.limits (map fields_of rows.now) database.old.holdings)
+    ensures err { IfErr result (StopsEarly (told_of database.old.limits records.now database.old.holdings)
         (W.contents writer.old) (W.contents writer.new) (W.failed writer.old) (W.failed writer.new)) }
 {
     let mut line = String::new(alloc);
     let mut refused = 0;
-    for (i, row) in rows.iter().enumerate() {
+    for (i, asked) in records.iter().enumerate() {
         let number = i as u64 + 1;
-        let Ok(is_refused) = reply_line(alloc, database, row, number, &mut line) else {
+        let Ok(is_refused) = reply_line(alloc, database, asked, number, &mut line) else {
             return Err(RunError::NoMemory(number));
         };
         if writer.write_all(line.as_bytes()).is_err() {
@@ -86,25 +80,28 @@ fn write_replies<W: Sink>(
 fn write_replay<W: Sink>(
     alloc: Global,
     database: &mut Database,
-    rows: &[ByteRecord],
+    records: &[Record],
     writer: &mut W,
 ) -> Result<Summary, RunError>
     requires { database.old.is_halted ≡ false }
-    ensures ok { IfOk result (WritesText (told_of database.old.limits (map fields_of rows.now) database.old.holdings)
+    ensures ok { IfOk result (WritesText (told_of database.old.limits records.now database.old.holdings)
         (W.contents writer.old) (W.contents writer.new)) }
     ensures works { OnOk result (W.failed writer.new ≡ W.failed writer.old) }
-    ensures err { IfErr result (StopsEarly (told_of database.old.limits (map fields_of rows.now) database.old.holdings)
+    ensures err { IfErr result (StopsEarly (told_of database.old.limits records.now database.old.holdings)
         (W.contents writer.old) (W.contents writer.new) (W.failed writer.old) (W.failed writer.new)) }
 {
-    let refused = write_replies(alloc, database, rows, writer)?;
-    let records = rows.len() as u64;
-    let Ok(text) = closing_text(alloc, database, records, refused) else {
-        return Err(RunError::NoMemory(records + 1));
+    let refused = write_replies(alloc, database, records, writer)?;
+    let count = records.len() as u64;
+    let Ok(text) = closing_text(alloc, database, count, refused) else {
+        return Err(RunError::NoMemory(count + 1));
     };
     if writer.write_all(text.as_bytes()).is_err() {
         return Err(RunError::WriteFailed);
     }
-    Ok(Summary { records, refused })
+    Ok(Summary {
+        records: count,
+        refused,
+    })
 }
 
 /// The audit lines and the end line.
@@ -145,26 +142,38 @@ pub fn run<T: AllocGlobal, R: Source, W: Sink>(
     ensures streams { IfErr result (TellsStreams (R.failed reader.new) (W.failed writer.new)) }
 {
     let alloc = rt.alloc();
-    let bytes = read_to_end(alloc, reader)?;
-    let trace = read_trace(alloc, &bytes)?;
-    replay(alloc, &trace, writer)
+    let trace = read_all(alloc, reader)?;
+    let mut database = start(alloc, &trace.limits)?;
+    replay(alloc, &mut database, &trace.records, writer)
 }
 
-/// Replays a trace from the start, and flushes what was written, also where memory was refused at a record.
-fn replay<W: Sink>(alloc: Global, trace: &Trace, writer: &mut W) -> Result<Summary, RunError>
-    requires bits { IsSpaceBits trace.now.limits.bits }
-    requires header { 0 < length trace.now.rows.items }
-    ensures ok { IfOk result (WritesText (told (trace_from trace.now)) (W.contents writer.old) (W.contents writer.new)) }
-    ensures works { OnOk result (W.failed writer.new ≡ W.failed writer.old) }
-    ensures err { IfErr result (EndsReplay (told (trace_from trace.now)) (W.contents writer.old) (W.contents writer.new)
-        (W.failed writer.old) (W.failed writer.new)) }
+/// A database at the start.
+fn start(alloc: Global, limits: &Limits) -> Result<Database, RunError>
+    ensures ok { IfOk result (IsStarted (limits_of limits.now)) }
+    ensures err { IfErr result (StartsNot (limits_of limits.now)) }
 {
-    let limits = trace.limits;
-    // The limits are served, so what is wanting is memory.
-    let Ok(mut database) = Database::new(alloc, limits.spaces, limits.bits, limits.frames) else {
-        return Err(RunError::NoMemory(0));
-    };
-    let outcome = write_replay(alloc, &mut database, &trace.rows[1..], writer);
+    match Database::new(alloc, limits.spaces, limits.bits, limits.frames) {
+        Ok(database) => Ok(database),
+        Err(DbError::BadLimits) => Err(RunError::BadLimits),
+        Err(_) => Err(RunError::NoMemory(0)),
+    }
+}
+
+/// Replays records, and flushes what was written, also where memory was refused at a record.
+fn replay<W: Sink>(
+    alloc: Global,
+    database: &mut Database,
+    records: &[Record],
+    writer: &mut W,
+) -> Result<Summary, RunError>
+    requires { database.old.is_halted ≡ false }
+    ensures ok { IfOk result (WritesText (told_of database.old.limits records.now database.old.holdings)
+        (W.contents writer.old) (W.contents writer.new)) }
+    ensures works { OnOk result (W.failed writer.new ≡ W.failed writer.old) }
+    ensures err { IfErr result (StopsEarly (told_of database.old.limits records.now database.old.holdings)
+        (W.contents writer.old) (W.contents writer.new) (W.failed writer.old) (W.failed writer.new)) }
+{
+    let outcome = write_replay(alloc, database, records, writer);
     match outcome {
         Ok(_) | Err(RunError::NoMemory(_)) => {
             if writer.flush().is_err() {

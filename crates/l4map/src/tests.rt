@@ -4,8 +4,8 @@ ghost use Rattle.std.specs.Prelude.{◌≡◌, false, true, OnOk, OnErr};
 
 use crate::error::RunError;
 use crate::run::{Summary, run};
-use crate::stream::{Failed, Sink, Source, Std};
 use std::test::Fail;
+use trace::{Failed, Sink, Std};
 
 /// The audit lines of sixteen frames that no call has changed.
 const ROOTS: &str =
@@ -140,35 +140,6 @@ fn tells_each_error_by_its_line_and_status(rt: HostRuntime) -> Result<(), Fail> 
     Ok(())
 }
 
-/// A source over memory that fails once so many bytes were read.
-#[derive(Drop)]
-struct FailingSource<'a> {
-    rest: &'a [u8],
-    left: usize,
-    failed: bool,
-}
-
-impl Source for FailingSource<'_> {
-    ghost failed = { λ s. s.failed };
-
-    fn read(&mut self, buf: &mut [u8]) -> Result<usize, Failed> {
-        if self.left == 0 {
-            self.failed = true;
-            return Err(Failed);
-        }
-        let count = self.left.min(self.rest.len()).min(buf.len());
-        let (front, rest) = self.rest.split_at(count);
-        buf[..count].copy_from_slice(front);
-        self.rest = rest;
-        self.left -= count;
-        Ok(count)
-    }
-
-    fn has_failed(&self) -> bool {
-        self.failed
-    }
-}
-
 /// A sink that counts its calls, keeps what was written, and fails at one of its calls.
 #[derive(Drop)]
 struct FailingSink {
@@ -221,24 +192,6 @@ fn sink(rt: &impl AllocGlobal, fails_at: u64) -> FailingSink
         calls: 0,
         fails_at,
         failed: false,
-    }
-}
-
-#[test]
-fn a_source_that_fails_after_any_byte_is_unreadable(rt: HostRuntime) {
-    for left in 0..=SHORT.len() {
-        let mut source = FailingSource {
-            rest: SHORT.as_bytes(),
-            left,
-            failed: false,
-        };
-        let mut output = sink(&rt, 0);
-        assert_eq!(rt;
-            run(&rt, &mut source, &mut output),
-            Err(RunError::Unreadable),
-            "{left}"
-        );
-        assert!(rt; output.kept.is_empty(), "{left}");
     }
 }
 

@@ -1,0 +1,7 @@
+mod Counted
+mod Rows
+mod Fields
+mod Digits
+mod Words
+mod Hex
+mod Pages

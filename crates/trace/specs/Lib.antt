@@ -1,0 +1,5 @@
+pub mod Stream
+pub mod Std
+pub mod Parts
+pub mod Meaning
+pub mod Trace

@@ -1,0 +1,18 @@
+//! Traces of calls on a mapping database: their bytes read into calls, and the replies to these put into text.
+#![tactic(auto)]
+
+mod call;
+mod field;
+mod read;
+mod records;
+mod reply;
+mod request;
+mod stream;
+#[cfg(test)]
+mod tests;
+
+pub use call::{Call, Refusal};
+pub use read::{Trace, TraceError, read_all};
+pub use records::Record;
+pub use reply::{Reply, push_reply, reply_text};
+pub use stream::{Failed, Sink, Source, Std};

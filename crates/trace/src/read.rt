@@ -1,0 +1,93 @@
+//! A trace: its limits, and its records.
+
+ghost use Rattle.std.specs.Prelude.{◌≡◌, false, IfOk, IfErr, IfSome, OnOk, MatchOption};
+ghost use Rattle.trace.specs.Trace.{IsTraceOf, LacksHeader, IsFaultOf, TellsFailure};
+
+use crate::records::{Record, Records, read_records};
+use crate::request::header;
+use crate::stream::{ReadError, Source, read_to_end};
+use mapdb::Limits;
+use space::NoMemory;
+use std::alloc::Global;
+use thiserror::Error;
+
+/// A trace that was read.
+#[derive(Drop)]
+pub struct Trace {
+    /// The limits that the header names. They may not be served.
+    pub limits: Limits,
+    /// The records after the header.
+    pub records: Vec<Record>,
+}
+
+/// Why a source is no trace.
+#[derive(Clone, Copy, Debug, PartialEq, Eq, Error)]
+pub enum TraceError {
+    /// A read failed.
+    #[error("Unreadable")]
+    Unreadable,
+    /// There is no first record, or it does not have a header's form.
+    #[error("BadHeader")]
+    BadHeader,
+    /// Memory was refused.
+    #[error("NoMemory")]
+    NoMemory,
+}
+
+impl From<ReadError> for TraceError {
+    ghost use Rattle.trace.specs.Stream.{IsOfRead};
+
+    ghost from_gives = { IsOfRead };
+
+    fn from(error: ReadError) -> Self {
+        match error {
+            ReadError::Failed => TraceError::Unreadable,
+            ReadError::NoMemory => TraceError::NoMemory,
+        }
+    }
+}
+
+impl From<NoMemory> for TraceError {
+    ghost use Rattle.std.specs.Prelude.{◌≡◌};
+    ghost use Rattle.trace.specs.declared.read.TraceError.TheVariants.{NoMemory};
+
+    ghost from_gives = { λ _ e. e ≡ NoMemory };
+
+    fn from(_: NoMemory) -> Self {
+        TraceError::NoMemory
+    }
+}
+
+/// Reads a trace, to the end of the reader: its bytes as `csv` reads them, with no header row, any number of fields in a
+/// record, and nothing trimmed.
+///
+/// Whether the limits are served is for the database to say.
+pub fn read_all<R: Source>(alloc: Global, reader: &mut R) -> Result<Trace, TraceError>
+    requires { R.failed reader.old ≡ false }
+    ensures trace { IfOk result (λ trace. IfSome (R.remaining reader.old) (λ input. IsTraceOf input trace)) }
+    ensures ok { OnOk result (R.failed reader.new ≡ false) }
+    ensures fault { IfErr result (λ e. IfSome (R.remaining reader.old) (λ input. IsFaultOf input e)) }
+    ensures err { IfErr result (TellsFailure (R.failed reader.new)) }
+{
+    let bytes = read_to_end(alloc, reader)?;
+    match read_trace(alloc, &bytes)? {
+        Some(trace) => Ok(trace),
+        None => Err(TraceError::BadHeader),
+    }
+}
+
+/// The trace that bytes are; none where the first record does not have a header's form.
+fn read_trace(alloc: Global, bytes: &[u8]) -> Result<Option<Trace>, NoMemory>
+    ensures { IfOk result (λ trace. MatchOption trace (LacksHeader bytes.now) (IsTraceOf bytes.now)) }
+{
+    let Some(Records { first, rest }) = read_records(alloc, bytes)? else {
+        return Ok(None);
+    };
+    match header(&first.fields(alloc)?) {
+        Some(limits) => Ok(Some(Trace {
+            limits,
+            records: rest,
+        })),
+        None => Ok(None),
+    }
+}

@@ -1,0 +1,79 @@
+//! The records of a trace's bytes.
+
+ghost use Rattle.std.specs.Prelude.{◌≡◌, IfOk};
+ghost use Rattle.model.specs.Records.{records_of};
+ghost use Rattle.trace.specs.Meaning.{shown};
+ghost use Rattle.trace.specs.Parts.{listed};
+
+use csv::{ByteRecord, ReaderBuilder};
+use space::NoMemory;
+use std::alloc::{AllocError, Global};
+use std::marker::Model;
+
+/// A record of a trace: its fields, each of any bytes. A contract sees the list of them.
+#[derive(Drop)]
+pub struct Record {
+    row: ByteRecord,
+}
+
+impl Model for Record {
+    ghost use Rattle.csv.specs.Records.{fields_of};
+    ghost use Rattle.model.specs.Records.{Fields};
+
+    ghost Value = { Fields };
+
+    ghost view = { λ r. fields_of r.row };
+}
+
+impl Record {
+    /// A record of these fields.
+    pub fn new(alloc: Global, fields: &[&[u8]]) -> Result<Self, NoMemory>
+        ensures { IfOk result (λ made. made ≡ shown fields.now) }
+    {
+        let row = ByteRecord::from_fields(alloc, fields)?;
+        Ok(Record { row })
+    }
+
+    /// The fields, in order.
+    pub fn fields(&self, alloc: Global) -> Result<Vec<&[u8]>, NoMemory>
+        ensures { IfOk result (λ fields. shown fields.items ≡ self.now) }
+    {
+        let mut fields = Vec::with_capacity(alloc, self.row.len())?;
+        for field in &self.row {
+            fields.push(field).map_err(AllocError::from)?;
+        }
+        Ok(fields)
+    }
+}
+
+/// The records of some bytes, of which there is one at least.
+#[derive(Drop)]
+pub struct Records {
+    pub first: Record,
+    pub rest: Vec<Record>,
+}
+
+/// Every record of the bytes, as `csv` reads them: no header row, any number of fields, nothing trimmed.
+pub fn read_records(alloc: Global, bytes: &[u8]) -> Result<Option<Records>, AllocError>
+    ensures { IfOk result (λ records. listed records ≡ records_of bytes.now) }
+{
+    let reader = ReaderBuilder::new()
+        .has_headers(false)
+        .flexible(true)
+        .from_reader(alloc, bytes);
+    let mut rows = reader.into_byte_records();
+    // Bytes in memory are always readable, so what is wanting at an error is memory.
+    let first = match rows.next() {
+        Some(Ok(row)) => Record { row },
+        Some(Err(_)) => return Err(AllocError),
+        None => return Ok(None),
+    };
+    let mut rest = Vec::new(alloc);
+    for row in rows {
+        match row {
+            Ok(row) => rest.push(Record { row })?,
+            Err(_) => return Err(AllocError),
+        }
+    }
+    Ok(Some(Records { first, rest }))
+}
