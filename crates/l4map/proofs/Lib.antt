@@ -1,6 +1,5 @@
 mod Unmaps
 mod Pages
-mod Audits
 mod Streams
 mod Replays
 mod Runs

@@ -1,3 +1,3 @@
-pub mod Held
 pub mod Error
 pub mod Run
+pub mod Options

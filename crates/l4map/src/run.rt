@@ -8,12 +8,13 @@ ghost use Rattle.l4map.specs.Run.{Answers, told_of, WritesReplies, WritesText, S
 ghost use Rattle.l4map.specs.Run.{WritesReplay, EndsEarly, WritesNothing, TellsStreams};
 
 use crate::answer::answer;
-use crate::audit::audit;
+use crate::cli::Options;
 use crate::error::RunError;
+use audit::report;
 use mapdb::{Database, DbError, Limits};
 use space::NoMemory;
 use std::alloc::{AllocError, Global};
-use std::fmt::Write;
+use std::thread::Threads;
 use trace::{Record, Reply, Sink, Source, push_reply, read_all};
 
 /// What a run came to: the numbers of its last line.
@@ -30,6 +31,7 @@ fn reply_line(
     alloc: Global,
     database: &mut Database,
     asked: &Record,
+    plain: bool,
     number: u64,
     line: &mut String,
 ) -> Result<bool, NoMemory>
@@ -40,7 +42,7 @@ fn reply_line(
 {
     let limits = database.limits();
     let request = asked.call(alloc, &limits)?;
-    let reply = answer(alloc, database, &request)?;
+    let reply = answer(alloc, database, &request, plain)?;
     line.clear();
     push_reply(line, number, &reply)?;
     Ok(matches!(reply, Reply::Refused(_)))
@@ -51,6 +53,7 @@ fn write_replies<W: Sink>(
     alloc: Global,
     database: &mut Database,
     records: &[Record],
+    plain: bool,
     writer: &mut W,
 ) -> Result<u64, RunError>
     requires { database.old.is_halted ≡ false }
@@ -65,7 +68,7 @@ fn write_replies<W: Sink>(
     let mut refused = 0;
     for (i, asked) in records.iter().enumerate() {
         let number = i as u64 + 1;
-        let Ok(is_refused) = reply_line(alloc, database, asked, number, &mut line) else {
+        let Ok(is_refused) = reply_line(alloc, database, asked, plain, number, &mut line) else {
             return Err(RunError::NoMemory(number));
         };
         if writer.write_all(line.as_bytes()).is_err() {
@@ -78,9 +81,10 @@ fn write_replies<W: Sink>(
 
 /// Writes the text of the replay of these records: the reply lines, the audit lines and the end line.
 fn write_replay<W: Sink>(
-    alloc: Global,
+    rt: &(impl AllocGlobal + Threads + Sync),
     database: &mut Database,
     records: &[Record],
+    plain: bool,
     writer: &mut W,
 ) -> Result<Summary, RunError>
     requires { database.old.is_halted ≡ false }
@@ -90,12 +94,12 @@ fn write_replay<W: Sink>(
     ensures err { IfErr result (StopsEarly (told_of database.old.limits records.now database.old.holdings)
         (W.contents writer.old) (W.contents writer.new) (W.failed writer.old) (W.failed writer.new)) }
 {
-    let refused = write_replies(alloc, database, records, writer)?;
+    let refused = write_replies(rt.alloc(), database, records, plain, writer)?;
     let count = records.len() as u64;
-    let Ok(text) = closing_text(alloc, database, count, refused) else {
+    let Ok(text) = closing_text(rt, database, count, refused) else {
         return Err(RunError::NoMemory(count + 1));
     };
-    if writer.write_all(text.as_bytes()).is_err() {
+    if writer.write_all(&text).is_err() {
         return Err(RunError::WriteFailed);
     }
     Ok(Summary {
@@ -106,26 +110,30 @@ fn write_replay<W: Sink>(
 
 /// The audit lines and the end line.
 fn closing_text(
-    alloc: Global,
+    rt: &(impl AllocGlobal + Threads + Sync),
     database: &Database,
     records: u64,
     refused: u64,
-) -> Result<String, AllocError>
+) -> Result<Vec<u8>, AllocError>
     requires { database.now.is_halted ≡ false }
-    ensures { IfOk result (λ text. string_bytes text ≡ audit_lines database.now.holdings ++ end_line records refused) }
+    ensures { IfOk result (λ text. text.items ≡ audit_lines database.now.holdings ++ end_line records refused) }
 {
-    let mut text = audit(alloc, database)?;
-    write!(text, "end {records} {refused}\n")?;
+    let Ok(mut text) = report(rt, database) else {
+        return Err(AllocError);
+    };
+    let end = format!(in rt.alloc(); "end {records} {refused}\n")?;
+    text.extend_from_slice(end.as_bytes())?;
     Ok(text)
 }
 
 /// Replays a trace: reads it to its end, answers its records one by one, and writes the replies and the audit.
 ///
 /// Where memory is refused at a record, the reply lines before it have been written and flushed.
-pub fn run<T: AllocGlobal, R: Source, W: Sink>(
+pub fn run<T: AllocGlobal + Threads + Sync, R: Source, W: Sink>(
     rt: &T,
     reader: &mut R,
     writer: &mut W,
+    options: &Options,
 ) -> Result<Summary, RunError>
     requires reader { R.failed reader.old ≡ false }
     requires writer { W.failed writer.old ≡ false }
@@ -144,7 +152,7 @@ pub fn run<T: AllocGlobal, R: Source, W: Sink>(
     let alloc = rt.alloc();
     let trace = read_all(alloc, reader)?;
     let mut database = start(alloc, &trace.limits)?;
-    replay(alloc, &mut database, &trace.records, writer)
+    replay(rt, &mut database, &trace.records, options.plain, writer)
 }
 
 /// A database at the start.
@@ -161,9 +169,10 @@ fn start(alloc: Global, limits: &Limits) -> Result<Database, RunError>
 
 /// Replays records, and flushes what was written, also where memory was refused at a record.
 fn replay<W: Sink>(
-    alloc: Global,
+    rt: &(impl AllocGlobal + Threads + Sync),
     database: &mut Database,
     records: &[Record],
+    plain: bool,
     writer: &mut W,
 ) -> Result<Summary, RunError>
     requires { database.old.is_halted ≡ false }
@@ -173,7 +182,7 @@ fn replay<W: Sink>(
     ensures err { IfErr result (StopsEarly (told_of database.old.limits records.now database.old.holdings)
         (W.contents writer.old) (W.contents writer.new) (W.failed writer.old) (W.failed writer.new)) }
 {
-    let outcome = write_replay(alloc, database, records, writer);
+    let outcome = write_replay(rt, database, records, plain, writer);
     match outcome {
         Ok(_) | Err(RunError::NoMemory(_)) => {
             if writer.flush().is_err() {

@@ -13,5 +13,5 @@ pub returns-clause-ok : goal.returns-clause-ok
 returns-clause-ok g c =
     let count = replies_count c.args.database.now.limits c.args.records.now c.args.database.now.holdings in
     let ok = sym c.is_err.ensures.value ∙ c.if-is_err.false in
-    let closing = rw (c.as_bytes.ensures.value, c.in-Ok.ensures) at (not_err c.write_all.result _ ok c.write_all.ensures.bytes) in
+    let closing = rw (c.deref.ensures.value, c.in-Ok.ensures) at (not_err c.write_all.result _ ok c.write_all.ensures.bytes) in
     whole c.in_ok-refused.ensures.ok (length c.args.records.now) count (g.W.Sink.contents c.write_all.new.self) closing

@@ -1,0 +1,102 @@
+//! The command line.
+
+ghost use Rattle.std.specs.Prelude.{IfOk, IfSome};
+ghost use Rattle.l4map.specs.Options.{AreServed};
+
+use crate::cli;
+use crate::cli::OptionsError;
+use clap::error::ErrorKind;
+use clap::{Arg, ArgAction, ArgMatches, Command, Error, value_parser};
+use std::alloc::{AllocError, Global};
+use std::fmt::Write;
+
+const ABOUT: &str = "Replays a trace of calls on an L4 mapping database: reads the trace (CSV) from standard input, and writes a reply to each record and an audit of every mapping to standard output.";
+
+const EXAMPLE: &str = "Example: two spaces, and page 0 of space 0 mapped to page 3 of space 1, where it is read.
+
+  printf 'l4map,1,2,18,1\\nsend,0,1,10,3008,c6\\naccess,1,3abc,r\\n' | l4map
+
+  1 send absent=0 norights=0 origin=0 lost=0 extended=0 linked=1
+  2 access ok
+  0,0,0,rwx,---,-
+  1,3,0,rw-,R--,0:0
+  end 2 0
+
+Exit status: 0 done; 1 command line refused; 2 bad header or limits; 3 out of memory; 4 a read or a write failed.";
+
+/// The command line of the program.
+fn command<'a>(alloc: Global) -> Result<Command<'a>, AllocError> {
+    let workers = Arg::new(alloc, "workers")
+        .long("workers")
+        .value_name("N")
+        .value_parser(value_parser!(u32).range(1..=64))
+        .default_value("4")
+        .help("How many workers work a call, 1 to 64; no effect yet, one works");
+    let piece = Arg::new(alloc, "piece")
+        .long("piece")
+        .value_name("N")
+        .value_parser(value_parser!(u32).range(1..=65536))
+        .default_value("256")
+        .help("How many parts of a call a worker takes at once, 1 to 65536; no effect yet");
+    let plain = Arg::new(alloc, "plain")
+        .long("plain")
+        .action(ArgAction::SetTrue)
+        .help("Work every unmap by recursion, page by page");
+    Command::new(alloc, "l4map")
+        .version("0.1.0")
+        .about(ABOUT)
+        .after_help(EXAMPLE)
+        .arg(workers)?
+        .arg(piece)?
+        .arg(plain)
+}
+
+/// Reads a command line, the program's name first.
+pub fn options<'a>(alloc: Global, words: &'a [&'a str]) -> Result<cli::Options, OptionsError>
+    ensures { IfOk result AreServed }
+{
+    let parsed = command(alloc)?.try_get_matches_from(words);
+    match parsed {
+        Ok(matches) => match read(&matches) {
+            Some(options) => Ok(options),
+            None => Err(OptionsError::Refused(String::from_str(
+                alloc,
+                "error: a number is out of its range\n",
+            )?)),
+        },
+        Err(error) => Err(fault(alloc, &error)),
+    }
+}
+
+/// The options of a command line that was parsed; none where a number is out of its range.
+fn read(matches: &ArgMatches) -> Option<cli::Options>
+    ensures { IfSome result AreServed }
+{
+    let workers = matches.get_one::<u32>("workers")?;
+    let piece_length = matches.get_one::<u32>("piece")?;
+    let plain = matches.get_flag("plain");
+    if workers < 1 || workers > 64 || piece_length < 1 || piece_length > 65536 {
+        return None;
+    }
+    Some(cli::Options {
+        workers,
+        piece_length,
+        plain,
+    })
+}
+
+/// What the parser says, as an error of the options.
+fn fault(alloc: Global, error: &Error) -> OptionsError {
+    if error.kind() == ErrorKind::OutOfMemory {
+        return OptionsError::NoMemory;
+    }
+    let mut text = String::new(alloc);
+    if write!(text, "{error}").is_err() {
+        return OptionsError::NoMemory;
+    }
+    if error.use_stderr() {
+        OptionsError::Refused(text)
+    } else {
+        OptionsError::Help(text)
+    }
+}
