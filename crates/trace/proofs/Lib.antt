@@ -1,5 +1,5 @@
 mod Counted
-mod Rows
+mod ReadRows
 mod Fields
 mod Digits
 mod Words

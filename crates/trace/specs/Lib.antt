@@ -1,5 +1,6 @@
 pub mod Stream
 pub mod Std
+pub mod Rows
 pub mod Parts
 pub mod Meaning
 pub mod Trace

@@ -14,7 +14,7 @@ use thiserror::Error;
 /// A trace that was read.
 #[derive(Drop)]
 pub struct Trace {
-    /// The limits that the header names. They may not be served.
+    /// The limits that the header names, whether or not a database serves them.
     pub limits: Limits,
     /// The records after the header.
     pub records: Vec<Record>,
@@ -58,9 +58,9 @@ impl From<NoMemory> for TraceError {
     }
 }
 
-/// Reads a trace, to the end of the reader: its bytes as `csv` reads them, with no header row, any number of fields in a
-/// record, and nothing trimmed.
+/// Reads a source to its end, and then its bytes as `csv` does: no header row, any number of fields, nothing trimmed.
 ///
+/// Refused, the first that fits: `Unreadable`, where a read fails; `BadHeader`; and where memory is refused, `NoMemory`.
 /// Whether the limits are served is for the database to say.
 pub fn read_all<R: Source>(alloc: Global, reader: &mut R) -> Result<Trace, TraceError>
     requires { R.failed reader.old ≡ false }

@@ -4,8 +4,9 @@ ghost use Rattle.std.specs.Prelude.{◌≡◌, IfOk};
 ghost use Rattle.model.specs.Records.{records_of};
 ghost use Rattle.trace.specs.Meaning.{shown};
 ghost use Rattle.trace.specs.Parts.{listed};
+ghost use Rattle.trace.specs.Rows.{IsAtStart};
 
-use csv::{ByteRecord, ReaderBuilder};
+use csv::{ByteRecord, ByteRecordsIntoIter, ReaderBuilder};
 use space::NoMemory;
 use std::alloc::{AllocError, Global};
 use std::marker::Model;
@@ -53,15 +54,22 @@ pub struct Records {
     pub rest: Vec<Record>,
 }
 
-/// Every record of the bytes, as `csv` reads them: no header row, any number of fields, nothing trimmed.
-pub fn read_records(alloc: Global, bytes: &[u8]) -> Result<Option<Records>, AllocError>
-    ensures { IfOk result (λ records. listed records ≡ records_of bytes.now) }
+/// A reader of the bytes' rows: no header row, any number of fields, nothing trimmed.
+fn rows(alloc: Global, bytes: &[u8]) -> ByteRecordsIntoIter<&[u8]>
+    ensures { IsAtStart bytes.now result }
 {
     let reader = ReaderBuilder::new()
         .has_headers(false)
         .flexible(true)
         .from_reader(alloc, bytes);
-    let mut rows = reader.into_byte_records();
+    reader.into_byte_records()
+}
+
+/// Every record of the bytes, as `csv` reads them.
+pub fn read_records(alloc: Global, bytes: &[u8]) -> Result<Option<Records>, AllocError>
+    ensures { IfOk result (λ records. listed records ≡ records_of bytes.now) }
+{
+    let mut rows = rows(alloc, bytes);
     // Bytes in memory are always readable, so what is wanting at an error is memory.
     let first = match rows.next() {
         Some(Ok(row)) => Record { row },

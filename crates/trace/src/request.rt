@@ -325,9 +325,12 @@ fn request(
 }
 
 impl Record {
-    /// The call that the record means, or the refusal that its fields and the limits decide: the first that fits of
-    /// `BadRecord`, where it has the form of no call, and those of its spaces, words and pages. A space that an access
-    /// names is looked at here, and those of other calls by the database.
+    /// The call that the record means, or why it is refused, for a database with these limits.
+    ///
+    /// Refused, the first that fits: `BadRecord`; of a send what `Fpage::read` refuses of the window, and then what
+    /// `Item::read` refuses of each item in order; of an access `NoSuchSpace`, and then `OutOfSpace`; of an unmap
+    /// `BadControl`, and then what `Fpage::read` refuses of each word in order. The spaces of a send and of an unmap, and a
+    /// nil window, are for the database to refuse.
     pub fn call(&self, alloc: Global, limits: &Limits) -> Result<Result<Call, Refusal>, NoMemory>
         requires { are_limits (limits_of limits.now) ≡ true }
         ensures request { IfOk result (λ asked. request_of asked ≡ request (limits_of limits.now) self.now) }

@@ -2,7 +2,7 @@
 use Rattle.std.proofs.Common.{◌<◌, ◌∷◌}
 use Rattle.csv.specs.Reading.{strip_bom}
 use Rattle.csv.specs.Records.{fields_of}
-use Rattle.trace.proofs.Rows.{SoFar}
+use Rattle.trace.proofs.ReadRows.{SoFar}
 use Rattle.trace.proofs.records.read_records.Given as goal
 
 abbrev pub invariant-loop-row : goal.invariant-loop-row

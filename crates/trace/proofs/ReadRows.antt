@@ -1,15 +1,13 @@
 -- A reader of `csv` over bytes in memory, and the rows that it has given.
-use Rattle.std.proofs.Common.{Bor, ◌≡◌, ◌∙◌, List, ℕ, [], ◌∷◌, ◌++◌, Option, Some, refl, sym, inl, inr, true, false, None}
-use Rattle.csv.specs.Reading.{Reached, Ready, ReadRecord, default_config, records, source_of}
+use Rattle.std.proofs.Common.{Bor, ◌≡◌, ◌∙◌, List, ℕ, [], ◌∷◌, ◌++◌, Some, refl, sym, inl, inr, true, false}
+use Rattle.csv.specs.Reading.{Reached, Ready, ReadRecord, default_config, records, source_of, strip_bom}
+use Rattle.csv.specs.declared.iter.ByteRecordsIntoIter.{ByteRecordsIntoIter}
 use Rattle.csv.specs.declared.parser.State.TheVariants as st
 use Rattle.csv.specs.declared.reader.Reader.{Reader}
 use Rattle.csv.specs.declared.reader.Trim.TheVariants as trim
 use Rattle.csv.proofs.ReadFacts.{rows-end, rows-more}
+use Rattle.trace.specs.Rows.{known, IsAtStart}
 use Rattle.trace.proofs.Counted.{all_counted}
-
--- the bytes that are left, which are known
-abbrev pub known : Bor (List ℕ) → Option (List ℕ)
-known s = Some s.now
 
 -- the rows so far lead from the text's start to what the reader has left
 pub record SoFar (text : List ℕ) (rows : List (List (List ℕ))) (reader : Reader (Bor (List ℕ))) : Type 0 where
@@ -21,16 +19,15 @@ pub record SoFar (text : List ℕ) (rows : List (List (List ℕ))) (reader : Rea
   pub reached : Reached default_config st.StartRecord text rows reader.state left
 
 -- a reader that has read nothing
-pub so_far-start : (text : List ℕ) (reader : Reader (Bor (List ℕ))) → reader.trim ≡ trim.None → reader.has_headers ≡ false → reader.headers ≡ None → reader.config ≡ default_config
-    → source_of known reader ≡ Some text → reader.state ≡ st.StartRecord → SoFar text [] reader
+pub so_far-start : (bytes : List ℕ) (rows : ByteRecordsIntoIter (Bor (List ℕ))) → IsAtStart bytes rows → SoFar (strip_bom bytes) [] rows.rdr
 unfolding Reached
-so_far-start text reader no_trim no_names no_headers config source state = record {
-  trim = no_trim;
-  ready = inr (inr (no_names, no_headers));
-  config = config;
-  left = text;
-  source = source;
-  reached = (sym state, refl);
+so_far-start bytes rows start = record {
+  trim = start.trim;
+  ready = inr (inr (start.has_headers, start.headers));
+  config = start.config;
+  left = strip_bom bytes;
+  source = start.source;
+  reached = (sym start.state, refl);
 }
 
 -- one row more
