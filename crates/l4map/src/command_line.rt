@@ -10,9 +10,11 @@ use clap::{Arg, ArgAction, ArgMatches, Command, Error, value_parser};
 use std::alloc::{AllocError, Global};
 use std::fmt::Write;
 
-const ABOUT: &str = "Replays a trace of calls on an L4 mapping database: reads the trace (CSV) from standard input, and writes a reply to each record and an audit of every mapping to standard output.";
+const ABOUT: &str =
+    "Replays a trace of calls on an L4 mapping database: reads the trace (CSV) from standard input, and writes a reply to each record and an audit of every mapping to standard output.";
 
-const EXAMPLE: &str = "Example: two spaces, and page 0 of space 0 mapped to page 3 of space 1, where it is read.
+const EXAMPLE: &str =
+    "Example: two spaces, and page 0 of space 0 mapped to page 3 of space 1, where it is read.
 
   printf 'l4map,1,2,18,1\\nsend,0,1,10,3008,c6\\naccess,1,3abc,r\\n' | l4map
 

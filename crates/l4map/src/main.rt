@@ -13,12 +13,11 @@ use cli::OptionsError;
 use error::RunError;
 use run::{Summary, run};
 use std::alloc::AllocError;
-use std::env;
 use std::env::Env;
-use std::io;
 use std::io::BufWriter;
 use std::process::ExitCode;
 use std::thread::Threads;
+use std::{env, io};
 use trace::{Sink, Std};
 
 /// How many bytes of output are kept before they are written.

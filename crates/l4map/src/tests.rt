@@ -2,19 +2,38 @@
 
 ghost use Rattle.std.specs.Prelude.{◌≡◌, false, true, OnOk, OnErr};
 
+use crate::cli::OptionsError;
 use crate::error::RunError;
 use crate::run::{Summary, run};
+use crate::{cli, command_line};
 use std::test::Fail;
+use std::thread::Threads;
 use trace::{Failed, Sink, Std};
 
 /// The audit lines of sixteen frames that no call has changed.
 const ROOTS: &str =
     "0,0,0,rwx,---,-\n0,1,1,rwx,---,-\n0,2,2,rwx,---,-\n0,3,3,rwx,---,-\n0,4,4,rwx,---,-\n0,5,5,rwx,---,-\n0,6,6,rwx,---,-\n0,7,7,rwx,---,-\n0,8,8,rwx,---,-\n0,9,9,rwx,---,-\n0,10,10,rwx,---,-\n0,11,11,rwx,---,-\n0,12,12,rwx,---,-\n0,13,13,rwx,---,-\n0,14,14,rwx,---,-\n0,15,15,rwx,---,-\n";
 
+const OPTIONS: cli::Options = cli::Options {
+    workers: 4,
+    piece_length: 256,
+    plain: false,
+};
+
+const PLAIN: cli::Options = cli::Options {
+    workers: 4,
+    piece_length: 256,
+    plain: true,
+};
+
 /// What a run over memory came to, and what it wrote.
-fn outcome_of(rt: &impl AllocGlobal, input: &str) -> (Result<Summary, RunError>, Vec<u8>) {
+fn outcome_of(
+    rt: &(impl AllocGlobal + Threads + Sync),
+    input: &str,
+    options: &cli::Options,
+) -> (Result<Summary, RunError>, Vec<u8>) {
     let mut output = Std::new(Vec::new(rt.alloc()));
-    let outcome = run(rt, &mut Std::new(input.as_bytes()), &mut output);
+    let outcome = run(rt, &mut Std::new(input.as_bytes()), &mut output, options);
     (outcome, output.into_inner())
 }
 
@@ -74,10 +93,12 @@ fn writes_the_replies_and_the_audit(rt: HostRuntime) -> Result<(), Fail> {
     ];
     for (records, replies, mappings, end) in cases {
         let input = format!(in rt.alloc(); "l4map,1,3,18,16\n{records}")?;
-        let (outcome, written) = outcome_of(&rt, input.as_str());
-        assert!(rt; outcome.is_ok(), "{records}");
         let expected = format!(in rt.alloc(); "{replies}{ROOTS}{mappings}{end}")?;
-        assert_eq!(rt; written.as_slice(), expected.as_bytes(), "{records}");
+        for options in [OPTIONS, PLAIN] {
+            let (outcome, written) = outcome_of(&rt, input.as_str(), &options);
+            assert!(rt; outcome.is_ok(), "{records}");
+            assert_eq!(rt; written.as_slice(), expected.as_bytes(), "{records}");
+        }
     }
     Ok(())
 }
@@ -87,6 +108,7 @@ fn counts_the_records_and_the_refused_ones(rt: HostRuntime) {
     let (outcome, _) = outcome_of(
         &rt,
         "l4map,1,2,18,1\nsend,0,1,10,3008,c6\naccess,2,0,r\nunmap,0,80,10\n",
+        &OPTIONS,
     );
     let summary = Summary {
         records: 3,
@@ -108,7 +130,7 @@ fn answers_a_bad_header_before_it_writes(rt: HostRuntime) {
         ("l4map,1,3,18,65\n", RunError::BadLimits),
     ];
     for (input, error) in cases {
-        let (outcome, written) = outcome_of(&rt, input);
+        let (outcome, written) = outcome_of(&rt, input, &OPTIONS);
         assert_eq!(rt; outcome, Err(error), "{input}");
         assert!(rt; written.is_empty(), "{input}");
     }
@@ -203,18 +225,90 @@ fn a_sink_that_fails_at_any_call_is_write_failed(rt: HostRuntime) {
         refused: 0,
     };
     assert_eq!(rt;
-        run(&rt, &mut Std::new(SHORT.as_bytes()), &mut undisturbed),
+        run(
+            &rt,
+            &mut Std::new(SHORT.as_bytes()),
+            &mut undisturbed,
+            &OPTIONS
+        ),
         Ok(summary)
     );
     assert_eq!(rt; undisturbed.kept.as_slice(), SHORT_OUTPUT.as_bytes());
     for fails_at in 1..undisturbed.calls.saturating_add(1) {
         let mut output = sink(&rt, fails_at);
-        let outcome = run(&rt, &mut Std::new(SHORT.as_bytes()), &mut output);
+        let outcome = run(&rt, &mut Std::new(SHORT.as_bytes()), &mut output, &OPTIONS);
         assert_eq!(rt; outcome, Err(RunError::WriteFailed), "{fails_at}");
         assert_eq!(rt; output.calls, fails_at);
         assert!(rt;
             SHORT_OUTPUT.as_bytes().starts_with(output.kept.as_slice()),
             "{fails_at}"
+        );
+    }
+}
+
+#[test]
+fn reads_the_command_line(rt: HostRuntime) -> Result<(), Fail> {
+    let alloc = rt.alloc();
+    assert_eq!(rt;
+        command_line::options(alloc, &["l4map"]).ok(),
+        Some(OPTIONS)
+    );
+    assert_eq!(rt;
+        command_line::options(alloc, &["l4map", "--plain"]).ok(),
+        Some(PLAIN)
+    );
+    let most = cli::Options {
+        workers: 64,
+        piece_length: 65536,
+        plain: false,
+    };
+    let words = ["l4map", "--workers", "64", "--piece=65536"];
+    assert_eq!(rt; command_line::options(alloc, &words).ok(), Some(most));
+    let least = cli::Options {
+        workers: 1,
+        piece_length: 1,
+        plain: false,
+    };
+    let words = ["l4map", "--workers=1", "--piece", "1"];
+    assert_eq!(rt; command_line::options(alloc, &words).ok(), Some(least));
+    Ok(())
+}
+
+#[test]
+fn refuses_what_is_no_option(rt: HostRuntime) {
+    let lines = [
+        ["l4map", "--workers=0"],
+        ["l4map", "--workers=65"],
+        ["l4map", "--workers=four"],
+        ["l4map", "--workers="],
+        ["l4map", "--piece=0"],
+        ["l4map", "--piece=65537"],
+        ["l4map", "--workers"],
+        ["l4map", "--plain=yes"],
+        ["l4map", "--fast"],
+        ["l4map", "trace.csv"],
+    ];
+    for words in lines {
+        let refused = command_line::options(rt.alloc(), &words);
+        assert!(rt;
+            matches!(&refused, Err(OptionsError::Refused(text)) if !text.is_empty()),
+            "{words:?}"
+        );
+    }
+}
+
+#[test]
+fn tells_help_and_version(rt: HostRuntime) {
+    for words in [
+        ["l4map", "--help"],
+        ["l4map", "-h"],
+        ["l4map", "--version"],
+        ["l4map", "-V"],
+    ] {
+        let asked = command_line::options(rt.alloc(), &words);
+        assert!(rt;
+            matches!(&asked, Err(OptionsError::Help(text)) if text.starts_with("l4map") || text.contains("Usage: l4map")),
+            "{words:?}"
         );
     }
 }
