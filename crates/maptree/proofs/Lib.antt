@@ -9,3 +9,4 @@ pub mod Cuttings
 pub mod Keeping
 pub mod Outside
 pub mod Splicing
+pub mod RunEnds

@@ -2,6 +2,7 @@
 #![tactic(auto)]
 
 mod cutting;
+mod ends;
 mod node;
 mod slice;
 #[cfg(test)]
