@@ -9,4 +9,5 @@ pub mod Cuttings
 pub mod Keeping
 pub mod Outside
 pub mod Splicing
+pub mod Linking
 pub mod RunEnds

@@ -1,6 +1,6 @@
 -- A derivation tree as its callers see it: places, each with the place from which it derives.
-use Rattle.std.specs.Prelude.{◌≡◌, ℕ, zero, suc, ◌<◌, ◌≤◌, nat_le, nat_lt, slice_index, ◌&&◌, true, ◌↔◌, ◌⊎◌, Decides, List, [], ◌∷◌, length, map, Option, Some, None, option_map, if◌then◌else◌}
-use Rattle.std.specs.List.{All, list_any}
+use Rattle.std.specs.Prelude.{◌≡◌, ℕ, zero, suc, ◌<◌, ◌≤◌, nat_le, nat_lt, slice_index, ◌&&◌, Bool, true, not, ◌↔◌, ◌⊎◌, Decides, List, [], ◌∷◌, length, map, Option, Some, None, option_map, if◌then◌else◌}
+use Rattle.std.specs.List.{All, list_all, list_any}
 use Rattle.std.specs.declared.ops.Range.{Range}
 use Rattle.std.specs.Option.{option_and_then}
 use Rattle.std.specs.FinMap.Entries.{find}
@@ -10,6 +10,11 @@ use Rattle.space.specs.Place.{place_cmp, same_place}
 -- each place once, with its origin; a place without origin is a root
 abbrev pub Origins : Type 0
 Origins = List (Place × Option Place)
+
+-- no place comes twice
+abbrev pub are_once : Origins → Bool
+are_once [] = true
+are_once (o ∷ os) = list_all (λ q. not (same_place o.0 q.0)) os && are_once os
 
 -- the origin of a place; none for a root, and for a place that is not there
 abbrev pub origin_in : Origins → Place → Option Place

@@ -3,6 +3,7 @@
 
 mod cutting;
 mod ends;
+mod links;
 mod node;
 mod slice;
 #[cfg(test)]

@@ -7,6 +7,7 @@ ghost use Rattle.maptree.specs.Nodes.{is_forest, origins_of, run_len};
 
 use crate::cutting::{Cutting, joined};
 use crate::ends::ends_of;
+use crate::links::linked;
 use crate::node::Node;
 use crate::slice::Slice;
 use space::{NoMemory, Place};
@@ -47,7 +48,7 @@ impl Tree {
     ghost use Rattle.space.specs.Place.{same_place};
     ghost use Rattle.std.specs.Prelude.{filter};
     ghost use Rattle.std.specs.List.{All};
-    ghost use Rattle.maptree.specs.Origins.{origin_in, place_at, renamed, LeadsTo, HasDepth, IsRun, AreRising, AreOuterRuns, AreRunEnds};
+    ghost use Rattle.maptree.specs.Origins.{are_once, origin_in, place_at, renamed, LeadsTo, HasDepth, IsRun, AreRising, AreOuterRuns, AreRunEnds};
     ghost use Rattle.maptree.specs.Cuts.{outside, nodes_of, ArePartsOf, IsCut, AreKept};
 
     /// A tree of one root.
@@ -131,6 +132,17 @@ impl Tree {
             return false;
         }
         deeper(&self.nodes[a + 1..b + 1], depth) == b - a
+    }
+
+    /// Every place in the order of positions, with its origin.
+    ///
+    /// Refused, where memory is: `NoMemory`.
+    pub fn links(&self, alloc: Global) -> Result<Vec<(Place, Option<Place>)>, NoMemory>
+        ensures links { IfOk result (λ links. links.items ≡ self.now.links) }
+        ensures once { OnOk result (are_once self.now.links ≡ true) }
+    {
+        let links = linked(alloc, &self.nodes)?;
+        Ok(links)
     }
 
     /// The outermost runs of the named places, in rising order. Places that are not in the tree are passed over.
