@@ -28,3 +28,4 @@ pub mod OnePlace
 pub mod PlainWords
 pub mod MovedPages
 pub mod MovingPages
+pub mod Noting

@@ -7,3 +7,4 @@ pub mod Sound
 pub mod Words
 pub mod Stripping
 pub mod Sending
+pub mod Spots
