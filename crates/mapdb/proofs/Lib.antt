@@ -29,3 +29,4 @@ pub mod PlainWords
 pub mod MovedPages
 pub mod MovingPages
 pub mod Entered
+pub mod Noting

@@ -13,6 +13,7 @@ mod outcome;
 mod pages;
 mod plain;
 mod reply;
+mod spots;
 mod start;
 mod strip;
 #[cfg(test)]

@@ -5,7 +5,11 @@ ghost use Rattle.model.specs.Items.{fate};
 ghost use Rattle.mapdb.specs.Held.{IsWithin};
 ghost use Rattle.mapdb.specs.Stripping.{limits_in, holdings_in, AreSound};
 ghost use Rattle.mapdb.specs.Sending.{fate_of_outcome};
+ghost use Rattle.std.specs.Prelude.{false};
+ghost use Rattle.space.specs.Place.{same_place};
+ghost use Rattle.mapdb.specs.Spots.{ArePairSpots};
 
+use crate::spots::{PairSpots, Spot};
 use crate::tree;
 use fpage::{ItemKind, Rights};
 use maptree::Tree;
@@ -34,10 +38,13 @@ pub fn outcome_of(
     rights: Rights,
     source: Place,
     target: Place,
+    spots: PairSpots,
 ) -> Outcome
     requires sound { AreSound shards.now trees.now }
     requires source { IsWithin (limits_in shards.now trees.now) source }
     requires target { IsWithin (limits_in shards.now trees.now) target }
+    requires differ { same_place source target ≡ false }
+    requires spots { ArePairSpots shards.now trees.now source target spots }
     ensures { fate_of_outcome result ≡ fate (holdings_in shards.now trees.now) (record { kind = kind; rights = rights; pairs = [] }) (source, target) }
 {
     let Some(sent) = shards.get(source) else {
@@ -54,14 +61,38 @@ pub fn outcome_of(
         return Outcome::Goes;
     }
     let tree = &trees[sent.frame as usize];
-    outcome_in(tree, kind, source, target)
+    outcome_by(tree, kind, source, target, spots)
 }
 
 ghost use Rattle.std.specs.Prelude.{true};
 ghost use Rattle.mapdb.specs.Derivation.{stands_in};
 ghost use Rattle.mapdb.specs.Sending.{IsOutcomeIn};
+ghost use Rattle.mapdb.specs.declared.spots.Spot.{Spot};
+ghost use Rattle.mapdb.specs.Spots.{IsSpotIn};
 
-/// The outcome of a page whose target is held with the same frame, from the tree of that frame.
+/// The outcome of a page whose target is held with the same frame: from where source and target stand in the tree of that
+/// frame, if it was noted, and otherwise by searches of the tree.
+fn outcome_by(
+    tree: &Tree,
+    kind: ItemKind,
+    source: Place,
+    target: Place,
+    spots: PairSpots,
+) -> Outcome
+    requires source { stands_in tree.now.links source ≡ true }
+    requires target { stands_in tree.now.links target ≡ true }
+    requires differ { same_place source target ≡ false }
+    requires source_spot { (s : Spot) → spots.source ≡ Some s → IsSpotIn tree.now.links source s }
+    requires target_spot { (s : Spot) → spots.target ≡ Some s → IsSpotIn tree.now.links target s }
+    ensures { IsOutcomeIn tree.now.links kind source target result }
+{
+    match (spots.source, spots.target) {
+        (Some(at), Some(other)) => outcome_at(kind, source, at, other),
+        _ => outcome_in(tree, kind, source, target),
+    }
+}
+
+/// The outcome of a page whose target is held with the same frame, by searches of the tree of that frame.
 fn outcome_in(tree: &Tree, kind: ItemKind, source: Place, target: Place) -> Outcome
     requires source { stands_in tree.now.links source ≡ true }
     requires target { stands_in tree.now.links target ≡ true }
@@ -78,9 +109,8 @@ fn outcome_in(tree: &Tree, kind: ItemKind, source: Place, target: Place) -> Outc
     Outcome::Goes
 }
 
-ghost use Rattle.std.specs.Prelude.{◌&&◌, false};
+ghost use Rattle.std.specs.Prelude.{◌&&◌};
 ghost use Rattle.std.specs.Option.{option_map_or};
-ghost use Rattle.space.specs.Place.{same_place};
 ghost use Rattle.maptree.specs.Origins.{origin_in};
 ghost use Rattle.model.specs.Items.{is_map};
 
@@ -88,8 +118,39 @@ ghost use Rattle.model.specs.Items.{is_map};
 fn extends(tree: &Tree, kind: ItemKind, source: Place, target: Place) -> bool
     ensures { result ≡ (is_map kind && option_map_or (same_place source) (origin_in tree.now.links target) false) }
 {
-    match (kind, tree::origin(tree, target)) {
+    extends_at(kind, source, tree::origin(tree, target))
+}
+
+/// The same, by the target's origin.
+fn extends_at(kind: ItemKind, source: Place, origin: Option<Place>) -> bool
+    ensures { result ≡ (is_map kind && option_map_or (same_place source) origin false) }
+{
+    match (kind, origin) {
         (ItemKind::Map, Some(origin)) => source == origin,
         _ => false,
     }
+}
+
+ghost use Rattle.std.specs.Prelude.{nat_lt};
+ghost use Rattle.maptree.specs.Origins.{Origins};
+
+/// The outcome of a page whose target is held with the same frame, from where both stand in the tree of that frame.
+fn outcome_at(kind: ItemKind, source: Place, at: Spot, target: Spot) -> Outcome
+    ensures { (os : Origins) (p : Place) → same_place source p ≡ false → IsSpotIn os source at → IsSpotIn os p target
+        → IsOutcomeIn os kind source p result }
+{
+    if stands_below(at.position, target) {
+        Outcome::Origin
+    } else if extends_at(kind, source, target.origin) {
+        Outcome::Extends
+    } else {
+        Outcome::Goes
+    }
+}
+
+/// Whether what stands at a position derives from what stands at a spot.
+fn stands_below(position: usize, spot: Spot) -> bool
+    ensures { result ≡ (nat_lt spot.position position && nat_lt position spot.end) }
+{
+    spot.position < position && position < spot.end
 }

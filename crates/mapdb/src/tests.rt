@@ -5,6 +5,7 @@ ghost use Rattle.space.specs.Directory.{pages_of};
 ghost use Rattle.fpage.specs.Fpage.{IsSpaceBits};
 
 mod chains;
+mod frames;
 mod unmaps;
 
 use crate::{Database, DbError, Limits, SendReply};

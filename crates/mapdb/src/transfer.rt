@@ -11,6 +11,7 @@ use crate::item_pages::ItemPages;
 use crate::outcome::{Outcome, outcome_of};
 use crate::pages::HeldPage;
 use crate::reply::SendReply;
+use crate::spots::spots_of;
 use maptree::Tree;
 use space::{Place, Shards};
 use std::alloc::{AllocError, Global};
@@ -68,6 +69,7 @@ pub fn plan_item(
     ensures transfers { IfOk result (λ plan. plan.transfers.items
         ≡ transfers_of (holdings_in shards.now trees.now) (job_of_pages pages.now) (job_of_pages pages.now).pairs) }
 {
+    let spots = spots_of(alloc, shards, trees, pages)?;
     let mut decided = SendReply::none();
     let mut transfers = Vec::new(alloc);
     let ItemPages {
@@ -86,7 +88,8 @@ pub fn plan_item(
             page: window.page + i,
             ..window
         };
-        match outcome_of(shards, trees, kind, rights, source, target) {
+        let noted = spots.of_pair(i as usize);
+        match outcome_of(shards, trees, kind, rights, source, target, noted) {
             Outcome::Absent => decided = decided.plus(SendReply::absent()),
             Outcome::NoRights => decided = decided.plus(SendReply::norights()),
             Outcome::Origin => decided = decided.plus(SendReply::origin()),

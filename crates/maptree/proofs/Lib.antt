@@ -10,3 +10,4 @@ pub mod Keeping
 pub mod Outside
 pub mod Splicing
 pub mod Linking
+pub mod RunEnds

@@ -52,12 +52,12 @@ run_at_read (m ∷ ns) (suc i) within = run_at_read ns i (omega (arith, within))
 
 -- ---- the front of a list that is deeper
 
-run_on : (depth : ℕ) (ns : List Node) (i : ℕ) (d : Node) → i < length ns → depth < (get_or ns i d).depth → run_len depth (drop i ns) ≡ 1 + run_len depth (drop (suc i) ns)
+pub run_on : (depth : ℕ) (ns : List Node) (i : ℕ) (d : Node) → i < length ns → depth < (get_or ns i d).depth → run_len depth (drop i ns) ≡ 1 + run_len depth (drop (suc i) ns)
 run_on depth [] i d within deep = absurd (omega (arith, within))
 run_on depth (n ∷ ns) zero d within deep = rw (lt-ltb depth n.depth deep) refl
 run_on depth (n ∷ ns) (suc i) d within deep = run_on depth ns i d (omega (arith, within)) deep
 
-run_ends : (depth : ℕ) (ns : List Node) (i : ℕ) (d : Node) → i < length ns → (get_or ns i d).depth ≤ depth → run_len depth (drop i ns) ≡ 0
+pub run_ends : (depth : ℕ) (ns : List Node) (i : ℕ) (d : Node) → i < length ns → (get_or ns i d).depth ≤ depth → run_len depth (drop i ns) ≡ 0
 run_ends depth [] i d within low = absurd (omega (arith, within))
 run_ends depth (n ∷ ns) zero d within low = rw (le-ltb depth n.depth low) refl
 run_ends depth (n ∷ ns) (suc i) d within low = run_ends depth ns i d (omega (arith, within)) low

@@ -2,6 +2,7 @@
 #![tactic(auto)]
 
 mod cutting;
+mod ends;
 mod links;
 mod node;
 mod slice;

@@ -6,6 +6,7 @@ ghost use Rattle.maptree.specs.Origins.{origin_in, place_at, AreOuterRuns};
 ghost use Rattle.maptree.specs.Nodes.{is_forest, origins_of, run_len};
 
 use crate::cutting::{Cutting, joined};
+use crate::ends::ends_of;
 use crate::links::linked;
 use crate::node::Node;
 use crate::slice::Slice;
@@ -47,7 +48,7 @@ impl Tree {
     ghost use Rattle.space.specs.Place.{same_place};
     ghost use Rattle.std.specs.Prelude.{filter};
     ghost use Rattle.std.specs.List.{All};
-    ghost use Rattle.maptree.specs.Origins.{are_once, origin_in, place_at, renamed, LeadsTo, HasDepth, IsRun, AreRising, AreOuterRuns};
+    ghost use Rattle.maptree.specs.Origins.{are_once, origin_in, place_at, renamed, LeadsTo, HasDepth, IsRun, AreRising, AreOuterRuns, AreRunEnds};
     ghost use Rattle.maptree.specs.Cuts.{outside, nodes_of, ArePartsOf, IsCut, AreKept};
 
     /// A tree of one root.
@@ -99,6 +100,14 @@ impl Tree {
         let depth = self.nodes[i].depth;
         let derived = deeper(&self.nodes[i + 1..], depth);
         i..i + 1 + derived
+    }
+
+    /// The position at which the run of each node ends, in one pass.
+    pub fn ends(&self, alloc: Global) -> Result<Vec<usize>, NoMemory>
+        ensures { IfOk result (λ ends. AreRunEnds self.now.links ends.items) }
+    {
+        let ends = ends_of(alloc, &self.nodes)?;
+        Ok(ends)
     }
 
     /// The position of the origin of a node; none for a root.

@@ -18,6 +18,12 @@ loop-i-init c =
     subst (λ counts. AreDecided h (job_of_pages p) p.count 0 p.source p.target counts c.new-transfers.result.items) (sym c.none-decided.ensures)
     (subst (AreDecided h (job_of_pages p) p.count 0 p.source p.target no_counts) (sym c.new-transfers.ensures.items) (none_decided h (job_of_pages p) p.count p.source p.target))
 
+pub outcome_of-requires-clause-spots : goal.outcome_of-requires-clause-spots
+outcome_of-requires-clause-spots c = record {
+  sources = λ s is. c.in_ok-spots.ensures.sources c.loop-i.i s (sym c.of_pair-noted.ensures.source ∙ is);
+  targets = λ s is. c.in_ok-spots.ensures.targets c.loop-i.i s (sym c.of_pair-noted.ensures.target ∙ is);
+}
+
 pub plus-decided-requires : goal.plus-decided-requires
 plus-decided-requires c =
     let one : total (counts_of c.absent.result) ≡ 1 = ap total c.absent.ensures in

@@ -1,0 +1,13 @@
+-- The ends of the runs.
+use Rattle.std.proofs.Common.{subst, List}
+use Rattle.maptree.specs.declared.node.Node.{Node}
+use Rattle.maptree.specs.Origins.{Shape, AreRunEnds}
+use Rattle.maptree.specs.Nodes.{AreEnds}
+use Rattle.maptree.proofs.RunEnds.{ends_say}
+use Rattle.maptree.proofs.tree.Tree.ends.Goals as goal
+
+pub returns : goal.returns
+returns c =
+    let ends = c.in_ok-ends.ends.items in
+    subst (λ (s : Shape). AreRunEnds s.links ends) c.self.view_is
+    (ends_say c.self.inside.nodes.items ends c.self.invariant (subst (λ (ns : List Node). AreEnds 0 ns ends) c.deref.ensures.value c.in_ok-ends.ensures))
