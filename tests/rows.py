@@ -1,5 +1,5 @@
 #!/usr/bin/env python3
-"""Whole runs of the program: input, what it must write on both streams, and its exit status.
+"""Whole runs of the program, each also with --plain: input, what it must write on both streams, and its exit status.
 
     tests/rows.py [PROGRAM]
 
@@ -1511,7 +1511,9 @@ def main():
     program, cases = program_path(), Cases()
 
     def check(name, given, stdout, stderr=b"", status=0):
-        cases.compare(name, Ended(status, stdout, stderr), run(program, given))
+        wanted = Ended(status, stdout, stderr)
+        cases.compare(name, wanted, run(program, given))
+        cases.compare(f"{name}; with --plain", wanted, run([program, "--plain"], given))
 
     for name, given, stdout in WHOLE_RUNS:
         check(name, given, stdout)

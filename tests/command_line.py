@@ -1,0 +1,105 @@
+#!/usr/bin/env python3
+"""The command line: options that change nothing that is written, what is refused, help, version, and each exit status.
+
+    tests/command_line.py [PROGRAM]
+"""
+
+import os
+
+from support.program import Cases, Ended, program_path, run
+
+# A chain of three, one of them nested in the space that is called upon; accesses; and unmaps of each kind.
+TRACE = b"""\
+l4map,1,3,18,16
+send,0,1,c0,8,50c7
+send,1,2,c0,8,c7
+send,2,1,30c0,8,c7
+access,1,3000,w
+unmap,1,0,12
+unmap,0,41,50c4,10
+unmap,0,80,10
+"""
+ANSWER = (
+    b"1 send absent=0 norights=0 origin=0 lost=0 extended=0 linked=1\n"
+    b"2 send absent=0 norights=0 origin=0 lost=0 extended=0 linked=1\n"
+    b"3 send absent=0 norights=0 origin=0 lost=0 extended=0 linked=1\n"
+    b"4 access ok\n"
+    b"5 unmap 00000016\n"
+    b"6 unmap 000050c6 00000010\n"
+    b"7 refused BadControl\n"
+    + b"".join(b"0,%d,%d,%s,---,-\n" % (page, page, b"-wx" if page == 5 else b"rwx") for page in range(16))
+    + b"1,0,5,-wx,---,0:5\n1,3,5,--x,---,2:0\n2,0,5,--x,---,1:0\nend 7 1\n"
+)
+
+TAKEN = [
+    [],
+    ["--plain"],
+    ["--workers", "1"],
+    ["--workers=64"],
+    ["--piece", "1"],
+    ["--piece=65536"],
+    ["--workers", "7", "--piece", "3", "--plain"],
+    ["--plain", "--piece=256", "--workers=4"],
+]
+
+REFUSED = [
+    ["--workers", "0"],
+    ["--workers", "65"],
+    ["--workers", "-1"],
+    ["--workers", "four"],
+    ["--workers", ""],
+    ["--workers"],
+    ["--workers=1", "--workers=2"],
+    ["--piece", "0"],
+    ["--piece", "65537"],
+    ["--piece", "99999999999999999999"],
+    ["--piece"],
+    ["--plain=yes"],
+    ["--plain", "--plain"],
+    ["--fast"],
+    ["-w"],
+    ["trace.csv"],
+]
+
+# Each word that help must name.
+HELP = [b"Usage: l4map", b"--workers", b"--piece", b"--plain", b"--help", b"--version", b"standard input", b"l4map,1,2,18,1"]
+
+
+def main():
+    program, cases = program_path(), Cases()
+    for words in TAKEN:
+        cases.compare(f"taken: {' '.join(words)}", Ended(0, ANSWER, b""), run([program, *words], TRACE))
+    for words in REFUSED:
+        got = run([program, *words], TRACE)
+        told = got.stderr.startswith(b"error: ") and got.stderr.endswith(b"\n")
+        cases.check(
+            f"refused: {' '.join(words)}",
+            "" if (got.status, got.stdout) == (1, b"") and told else f"it ended with {got}",
+        )
+    for words in (["--help"], ["-h"], ["--help", "--plain"]):
+        got = run([program, *words], TRACE)
+        wanting = [word.decode() for word in HELP if word not in got.stdout]
+        cases.check(
+            f"help: {' '.join(words)}",
+            f"status {got.status}, {got.stderr!r}, without {wanting}" if got.status or got.stderr or wanting else "",
+        )
+    for words in (["--version"], ["-V"]):
+        got = run([program, *words], TRACE)
+        right = got.status == 0 and got.stdout.startswith(b"l4map ") and got.stdout.count(b"\n") == 1 and not got.stderr
+        cases.check(f"version: {' '.join(words)}", "" if right else f"it ended with {got}")
+    # Help that cannot be written is a write that failed.
+    with open("/dev/full", "wb") as full:
+        got = run([program, "--help"], stdout=full)
+    cases.compare("help to a full device", Ended(4, b"", b"l4map: WriteFailed\n"), got)
+    # Where standard error is closed, the status still tells.
+    for name, words, given, status in (
+        ("a refused command line", ["--fast"], TRACE, 1),
+        ("a bad header", [], b"", 2),
+        ("bad limits", [], b"l4map,1,3,17,16\n", 2),
+    ):
+        got = run([program, *words], given, stderr=None, preexec_fn=lambda: os.close(2))
+        cases.compare(f"{name}, with standard error closed", Ended(status, b"", b""), got)
+    cases.end()
+
+
+main()
