@@ -1,9 +1,10 @@
 #!/usr/bin/env python3
-"""Time and peak memory of the proved program on traces of seven kinds, each at three sizes.
+"""Time and peak memory of the proved program on traces of ten kinds, each at three sizes.
 
     bench/bench.py [PROGRAM]
 
-PROGRAM is crates/l4map/out/l4map, which `rt ci` leaves, if it is not given. Nothing here has a threshold.
+PROGRAM is crates/l4map/out/l4map, which `rt ci` leaves, if it is not given. Nothing here has a threshold. Beside each time
+stands that of `wc -l` over what the program read and wrote.
 """
 
 import os
@@ -139,7 +140,27 @@ def spread(records):
         records -= length
 
 
-# Each kind with its numbers of records. A record of `relay` is about 4,096 pages and one of `grants` about 512.
+def accesses(records):
+    """Reads and writes of all pages of space 0."""
+    chance = random.Random(3)
+    for _ in range(records):
+        yield access(0, chance.randrange(PAGES), chance.choice("rw"), chance.randrange(PAGES))
+
+
+def audit(records):
+    """All 4,096 pages go from space 0 to one space after another, and stay: each record leaves as many audit lines."""
+    for number in range(records):
+        yield send_fpage(0, 1 + number, ALL_PAGES)
+
+
+def aliases(records):
+    """One page goes to page after page of space after space, and stays: one tree has all of them."""
+    for number in range(records):
+        space, page = divmod(number, PAGES)
+        yield send(0, 1 + space, 0, page)
+
+
+# Each kind with its numbers of records. A record of `relay` and of `audit` is about 4,096 pages, and one of `grants` about 512.
 KINDS = [
     (mixed, SIZES),
     (chain, SIZES),
@@ -148,6 +169,9 @@ KINDS = [
     (relay, [16, 160, 1_600]),
     (grants, [100, 1_000, 10_000]),
     (spread, SIZES),
+    (accesses, [10_000, 100_000, 1_000_000]),
+    (audit, [5, 25, 250]),
+    (aliases, [100, 1_000, 10_000]),
 ]
 
 
@@ -179,14 +203,22 @@ def peak_kilobytes(program, path):
     return int(ran.stderr.split()[-1])
 
 
+def seconds_to_count(*paths):
+    """The time of `wc -l` over these files."""
+    start = time.perf_counter()
+    subprocess.run(["wc", "-l", *paths], stdout=subprocess.DEVNULL, check=True)
+    return time.perf_counter() - start
+
+
 def measure(program, kind, records, room):
-    """The median time and the peak memory on a trace of so many records."""
+    """The median time and the peak memory on a trace of so many records, and the median time of `wc -l`."""
     path = os.path.join(room, "trace.csv")
     with open(path, "w", encoding="ascii") as it:
         it.write(trace(kind, records))
     output = os.path.join(room, "output")
     times = [seconds_of(program, path, output, records) for _ in range(RUNS)]
-    return statistics.median(times), peak_kilobytes(program, path)
+    counted = statistics.median(seconds_to_count(path, output) for _ in range(RUNS))
+    return statistics.median(times), peak_kilobytes(program, path), counted
 
 
 def main():
@@ -195,7 +227,7 @@ def main():
     if not os.access(program, os.X_OK):
         sys.exit(f"bench.py: there is no program {program}: ./test.sh proves it and builds it")
     print(f"median time of {RUNS} runs each; peak memory of one run")
-    print(f"{'records':>17} {'seconds':>10} {'records/s':>11} {'peak MiB':>9}  growth from the size before")
+    print(f"{'records':>19} {'seconds':>10} {'records/s':>11} {'peak MiB':>9} {'wc -l':>8}  growth from the size before")
     with tempfile.TemporaryDirectory() as room:
         report(program, mixed, [0], room)
         for kind, sizes in KINDS:
@@ -206,14 +238,14 @@ def report(program, kind, sizes, room):
     """A line for each size."""
     before = None
     for records in sizes:
-        taken, peak = measure(program, kind, records, room)
+        taken, peak, counted = measure(program, kind, records, room)
         name = kind.__name__ if records else ""
         rate = f"{records / taken:,.0f}" if records else "-"
         memory = f"{peak / 1024:.1f}" if peak is not None else "unknown"
         growth = ""
         if before:
             growth = f"{records / before[0]:g} times the records in {taken / before[1]:.1f} times the time"
-        print(f"{name:>6} {records:>10,} {taken:>10.4f} {rate:>11} {memory:>9}  {growth}".rstrip(), flush=True)
+        print(f"{name:>8} {records:>10,} {taken:>10.4f} {rate:>11} {memory:>9} {counted:>8.4f}  {growth}".rstrip(), flush=True)
         before = (records, taken)
 
 
