@@ -29,7 +29,7 @@ IsFaultOf bytes BadHeader = LacksHeader bytes
 IsFaultOf bytes NoMemory = ⊤
 
 -- what an error says of the reader, which had not failed: whether it has
-abbrev pub TellsFailure : Bool → TraceError → Type 0
-TellsFailure failed Unreadable = failed ≡ true
-TellsFailure failed BadHeader = failed ≡ false
-TellsFailure failed NoMemory = failed ≡ false
+abbrev pub TellsReader : Bool → TraceError → Type 0
+TellsReader failed Unreadable = failed ≡ true
+TellsReader failed BadHeader = failed ≡ false
+TellsReader failed NoMemory = failed ≡ false

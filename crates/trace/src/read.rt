@@ -1,7 +1,7 @@
 //! A trace: its limits, and its records.
 
 ghost use Rattle.std.specs.Prelude.{◌≡◌, false, IfOk, IfErr, IfSome, OnOk, MatchOption};
-ghost use Rattle.trace.specs.Trace.{IsTraceOf, LacksHeader, IsFaultOf, TellsFailure};
+ghost use Rattle.trace.specs.Trace.{IsTraceOf, LacksHeader, IsFaultOf, TellsReader};
 
 use crate::records::{Record, Records, read_records};
 use crate::request::header;
@@ -60,14 +60,14 @@ impl From<NoMemory> for TraceError {
 
 /// Reads a source to its end, and then its bytes as `csv` does: no header row, any number of fields, nothing trimmed.
 ///
-/// Refused, the first that fits: `Unreadable`, where a read fails; `BadHeader`; and where memory is refused, `NoMemory`.
-/// Whether the limits are served is for the database to say.
+/// Refused where a read fails, `Unreadable`, where memory is refused, `NoMemory`, and where there is no first record or it
+/// does not have a header's form, `BadHeader`. Whether the limits are served is for the database to say.
 pub fn read_all<R: Source>(alloc: Global, reader: &mut R) -> Result<Trace, TraceError>
     requires { R.failed reader.old ≡ false }
     ensures trace { IfOk result (λ trace. IfSome (R.remaining reader.old) (λ input. IsTraceOf input trace)) }
     ensures ok { OnOk result (R.failed reader.new ≡ false) }
     ensures fault { IfErr result (λ e. IfSome (R.remaining reader.old) (λ input. IsFaultOf input e)) }
-    ensures err { IfErr result (TellsFailure (R.failed reader.new)) }
+    ensures err { IfErr result (TellsReader (R.failed reader.new)) }
 {
     let bytes = read_to_end(alloc, reader)?;
     match read_trace(alloc, &bytes)? {
