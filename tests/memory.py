@@ -1,10 +1,11 @@
 #!/usr/bin/env python3
-"""Want of memory at each allocation of short runs: that one alone, and all from that one on.
+"""Want of memory at each allocation of short runs, and of each thread: that one alone, and all from that one on.
 
     tests/memory.py [PROGRAM]
 
-Each run must end as the undisturbed one, or with status 3 and `NoMemory` at some record, having written exactly
-the reply lines of the records before it. Allocations fail by the preloaded library of fail_alloc.c.
+Where an allocation is refused, a run must end as the undisturbed one, or with status 3 and `NoMemory` at some record,
+having written exactly the reply lines of the records before it. Where a thread is refused, it must end as the undisturbed
+one: the audit is then made with fewer. Allocations and starts of threads fail by the preloaded library of fail_alloc.c.
 """
 
 import os
@@ -40,6 +41,17 @@ def roots(count):
 
 
 TRACES = [
+    Trace(
+        "a mapping, a write and an unmap",
+        b"""\
+l4map,1,2,18,1
+send,0,1,10,3008,c6
+access,1,3abc,w
+unmap,0,0,c2
+""",
+        numbered(LINKED, b"access ok", b"unmap 000000c6"),
+        b"0,0,0,rwx,---,-\n1,3,0,r--,---,0:0\nend 3 0\n",
+    ),
     Trace(
         "pages mapped, accessed and unmapped, and refused records",
         b"""\
@@ -117,10 +129,10 @@ send,2,1,d0,8,d7
 MOST_ALLOCATIONS = 100_000
 
 
-def run_short_of_memory(program, trace, library, fail_at, and_rest):
-    """One run of a trace, and whether an allocation was really refused in it."""
+def run_short_of_memory(program, trace, library, what, fail_at, and_rest):
+    """One run of a trace, and whether an allocation, or a thread, was really refused in it."""
     note, end = os.pipe()
-    environment = preloaded(library, FAIL_AT=fail_at, FAIL_REST=int(and_rest), FAIL_NOTE=end)
+    environment = preloaded(library, FAIL_WHAT=what, FAIL_AT=fail_at, FAIL_REST=int(and_rest), FAIL_NOTE=end)
     got = run(program, trace.records, env=environment, pass_fds=[end])
     os.close(end)
     was_refused = os.read(note, 1) == b"!"
@@ -143,20 +155,24 @@ def what_is_wrong(trace, got):
 
 
 def check_trace(cases, program, trace, library):
-    """Refuses each allocation of a run of the trace in turn."""
+    """Refuses each allocation of a run of the trace in turn, and each of its threads."""
     cases.compare(f"{trace.name}: the run that is not disturbed", trace.undisturbed(), run(program, trace.records))
-    for and_rest, which in [(False, "alone"), (True, "and all after it")]:
-        ended_early, fail_at = 0, 0
-        was_refused = True
-        while was_refused and fail_at < MOST_ALLOCATIONS:
-            fail_at += 1
-            got, was_refused = run_short_of_memory(program, trace, library, fail_at, and_rest)
-            ended_early += got.status == 3
-            cases.check(f"{trace.name}: allocation {fail_at} {which} fails", what_is_wrong(trace, got))
-        left = "none did" if was_refused else ""
-        cases.check(f"{trace.name}: a run ends once no allocation is left to fail, {which}", left)
-        without_effect = "" if ended_early else "the library has no effect"
-        cases.check(f"{trace.name}: some run ended for want of memory, {which}", without_effect)
+    for what in ("allocation", "thread"):
+        for and_rest, which in [(False, "alone"), (True, "and all after it")]:
+            refused, ended_early, fail_at = 0, 0, 0
+            was_refused = True
+            while was_refused and fail_at < MOST_ALLOCATIONS:
+                fail_at += 1
+                got, was_refused = run_short_of_memory(program, trace, library, what, fail_at, and_rest)
+                refused += was_refused
+                ended_early += got.status == 3
+                wrong = what_is_wrong(trace, got) if what == "allocation" else difference(trace.undisturbed(), got)
+                cases.check(f"{trace.name}: {what} {fail_at} {which} fails", wrong)
+            left = "none did" if was_refused else ""
+            cases.check(f"{trace.name}: a run ends once no {what} is left to fail, {which}", left)
+            effect = ended_early if what == "allocation" else refused
+            without_effect = "" if effect else "the library has no effect"
+            cases.check(f"{trace.name}: {what}s were refused, {which}", without_effect)
 
 
 def main():

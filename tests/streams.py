@@ -15,13 +15,14 @@ import tempfile
 
 from support.program import SECONDS, Cases, Ended, build_library, preloaded, program_path, run
 
-TRACE = b"l4map,1,2,18,1\nsend,0,1,10,3008,c6\naccess,1,3abc,w\n"
+TRACE = b"l4map,1,2,18,1\nsend,0,1,10,3008,c6\naccess,1,3abc,w\nunmap,0,0,c2\n"
 ANSWER = (
     b"1 send absent=0 norights=0 origin=0 lost=0 extended=0 linked=1\n"
     b"2 access ok\n"
+    b"3 unmap 000000c6\n"
     b"0,0,0,rwx,---,-\n"
-    b"1,3,0,rw-,RW-,0:0\n"
-    b"end 2 0\n"
+    b"1,3,0,r--,---,0:0\n"
+    b"end 3 0\n"
 )
 # Several times 64 KiB of reply lines, and more than 64 KiB of audit lines.
 FAULTS = 20_000
@@ -62,7 +63,7 @@ def check_reading(cases, program, room):
     os.close(write_only)
     closed = run(program, stdin=None, preexec_fn=lambda: os.close(0))
     cases.compare("standard input is closed", UNREADABLE, closed)
-    for length in (0, 1, len(TRACE) // 2, len(TRACE)):
+    for length in range(len(TRACE) + 1):
         with cut_socket(TRACE[:length]) as cut:
             got = run(program, stdin=cut)
         cases.compare(f"reading fails after {length} bytes", UNREADABLE, got)

@@ -31,7 +31,8 @@ pub fn lines(alloc: Global, database: &Database) -> Result<Vec<Line>, AuditError
 /// The text of every mapping of a database, by rising place, a line for each. The lines of each space are made side by
 /// side with those of others.
 ///
-/// Refused where the database is halted, `Halted`, and where memory is, or a thread, `NoMemory`.
+/// Refused where the database is halted, `Halted`, and where memory is, `NoMemory`. Where a thread is refused, the lines
+/// are made with fewer.
 pub fn report(
     rt: &(impl AllocGlobal + Threads + Sync),
     database: &Database,
