@@ -13,22 +13,23 @@ pub struct Below {
 }
 
 impl Model for Below {
-    ghost use Rattle.maptree.specs.Growing.{NewPlaces, place_on};
+    ghost use Rattle.maptree.specs.Growing.{NewPlaces};
 
     ghost Value = { NewPlaces };
 
-    ghost view = { λ b. record { space = b.space; below = place_on b.space b.places.items } };
+    ghost view = { λ b. record { space = b.space; places = b.places.items } };
 }
 
 impl Below {
     ghost use Rattle.std.specs.Prelude.{◌≡◌, OnOk, None, Some, if◌then◌else◌};
     ghost use Rattle.space.specs.declared.place.Place.{Place};
     ghost use Rattle.space.specs.Place.{same_place};
+    ghost use Rattle.maptree.specs.Growing.{below};
 
     /// No new places, for the pages of a space.
     pub fn none(alloc: Global, space: u16) -> Below
         ensures space { result.space ≡ space }
-        ensures none { (p : Place) → result.below p ≡ None }
+        ensures none { (p : Place) → below result p ≡ None }
     {
         let places = Vec::new(alloc);
         Below { space, places }
@@ -38,7 +39,7 @@ impl Below {
     pub fn put(&mut self, origin: Place, place: Place) -> Result<(), AllocError>
         requires { origin.space ≡ self.old.space }
         ensures space { self.new.space ≡ self.old.space }
-        ensures put { OnOk result ((p : Place) → self.new.below p ≡ (if same_place p origin then Some place else self.old.below p)) }
+        ensures put { OnOk result ((p : Place) → below self.new p ≡ (if same_place p origin then Some place else below self.old p)) }
     {
         let page = origin.page as usize;
         if self.places.len() <= page {
@@ -50,7 +51,7 @@ impl Below {
 
     /// The new place that is to be put below one.
     pub fn get(&self, origin: Place) -> Option<Place>
-        ensures { result ≡ self.now.below origin }
+        ensures { result ≡ below self.now origin }
     {
         let page = origin.page as usize;
         if origin.space == self.space && page < self.places.len() {
