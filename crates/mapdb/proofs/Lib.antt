@@ -29,3 +29,6 @@ pub mod PlainWords
 pub mod MovedPages
 pub mod MovingPages
 pub mod Noting
+pub mod LinkedTrees
+pub mod LinkedFrames
+pub mod MapWords

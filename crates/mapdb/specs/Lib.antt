@@ -8,3 +8,4 @@ pub mod Words
 pub mod Stripping
 pub mod Sending
 pub mod Spots
+pub mod Links
