@@ -30,3 +30,6 @@ pub mod MovedPages
 pub mod MovingPages
 pub mod Entered
 pub mod Noting
+pub mod LinkedTrees
+pub mod LinkedFrames
+pub mod MapWords

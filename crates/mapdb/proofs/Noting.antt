@@ -1,19 +1,17 @@
 -- What is noted of places while a tree is walked.
-use Rattle.std.proofs.Common.{◌≡◌, ℕ, zero, suc, ◌+◌, ◌<◌, ◌≤◌, true, false, Bool, ◌&&◌, not, nat_lt, nat_le, List, [], ◌∷◌, length, get_or, Option, Some, None, refl, sym, ap, ◌∙◌, subst, arith, ◌⊎◌, inl, inr, cond}
-use Rattle.std.specs.Prelude.{Decides, position, slice_index, slice_index_or, IsFalse}
+use Rattle.std.proofs.Common.{◌≡◌, ℕ, zero, suc, ◌<◌, true, false, Bool, not, nat_lt, List, [], ◌∷◌, length, Option, Some, None, refl, sym, ap, ◌∙◌, subst, arith, ◌⊎◌, inl, inr, cond}
+use Rattle.std.specs.Prelude.{position, slice_index_or}
 use Rattle.std.specs.List.{list_all, prefix_len}
-use Rattle.std.specs.Option.{option_and_then}
-use Rattle.std.specs.FinMap.Entries.{find}
 use Rattle.std.proofs.lemmas.Bool.{and_parts, lt-ltb, eqb-true}
 use Rattle.space.specs.declared.place.Place.{Place}
 use Rattle.space.specs.declared.place.Entry.{Entry}
 use Rattle.space.specs.declared.shards.Shards.{Shards}
-use Rattle.space.specs.Place.{place_cmp, same_place}
+use Rattle.space.specs.Place.{same_place}
 use Rattle.space.specs.Shards.{entry_at}
-use Rattle.space.proofs.Places.{same_self, same_is, apart_back}
-use Rattle.maptree.specs.Origins.{Origins, Shape, are_once, place_at, origin_in, LeadsTo, IsRun, AreRunEnds}
-use Rattle.mapdb.specs.Held.{links_in, is_listed, has_frame}
-use Rattle.mapdb.specs.Stripping.{limits_in, AreSound}
+use Rattle.space.proofs.Places.{same_self, apart_back}
+use Rattle.maptree.specs.Origins.{Origins, Shape, are_once, origin_in, IsRun, AreRunEnds}
+use Rattle.mapdb.specs.Held.{links_in, has_frame}
+use Rattle.mapdb.specs.Stripping.{AreSound}
 use Rattle.mapdb.specs.declared.spots.Spot.{Spot}
 use Rattle.mapdb.proofs.Trees.{found_at}
 use Rattle.mapdb.specs.Spots.{IsSpotIn, IsSpot, AreSpots, IsSpotOf, AreSpotsOf, IsHeldSomewhere, page_on}

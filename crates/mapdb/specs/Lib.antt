@@ -9,3 +9,4 @@ pub mod Stripping
 pub mod Sending
 pub mod Mappings
 pub mod Spots
+pub mod Links

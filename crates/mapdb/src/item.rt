@@ -132,7 +132,7 @@ fn map_or_grant(
     ensures limits { OnOk result (limits_in shards.new trees.new ≡ limits_in shards.old trees.old) }
 {
     match kind {
-        ItemKind::Map => map_pages(shards, trees, transfers, rights),
+        ItemKind::Map => map_pages(alloc, shards, trees, transfers, rights),
         ItemKind::Grant => grant_pages(alloc, shards, trees, transfers, rights),
     }
 }

@@ -7,6 +7,7 @@ mod grant;
 mod item;
 mod item_pages;
 mod limits;
+mod link;
 mod map;
 mod mapping;
 mod outcome;

@@ -1,27 +1,25 @@
 //! The pages of a MapItem, after the flush: each is linked to its source, or extended.
 
-ghost use Rattle.std.specs.Prelude.{◌≡◌, [], ◌∷◌, ◌&&◌, ◌==◌, true, false, None, Some, IfOk, OnOk, map};
+ghost use Rattle.std.specs.Prelude.{◌≡◌, [], None, Some, IfOk, OnOk};
 ghost use Rattle.std.specs.List.{All};
-ghost use Rattle.space.specs.declared.place.Place.{Place};
 ghost use Rattle.fpage.specs.declared.item.ItemKind.TheVariants.{Map};
-ghost use Rattle.model.specs.Holdings.{Held, at, is_held};
-ghost use Rattle.model.specs.Map.{map_pair};
 ghost use Rattle.mapdb.specs.Meaning.{counts_of};
-ghost use Rattle.mapdb.specs.Held.{IsWithin};
 ghost use Rattle.mapdb.specs.Stripping.{limits_in, holdings_in, AreSound};
-ghost use Rattle.mapdb.specs.Sending.{IsTransferWithin, ArePlanned, IsReady, fate_in, map_transfers, pair_of, worked, worked_of};
+ghost use Rattle.mapdb.specs.Sending.{ArePlanned, IsReady, map_transfers, worked};
 
+use crate::link::{insert_links, new_links};
 use crate::reply::SendReply;
 use crate::transfer::Transfer;
-use crate::tree;
 use fpage::Rights;
 use maptree::Tree;
 use space::{Entry, NoMemory, Place, Shards};
+use std::alloc::Global;
 
 /// Works the pages of a MapItem that go or extend, as their sources and targets stand after the flush.
 ///
 /// Refused, where memory is: `NoMemory`.
 pub fn map_pages(
+    alloc: Global,
     shards: &mut Shards,
     trees: &mut [Tree],
     transfers: &[Transfer],
@@ -36,52 +34,43 @@ pub fn map_pages(
     ensures sound { OnOk result (AreSound shards.new trees.new) }
     ensures limits { OnOk result (limits_in shards.new trees.new ≡ limits_in shards.old trees.old) }
 {
+    let links = new_links(alloc, shards, transfers)?;
+    insert_links(alloc, trees, links)?;
     let mut reply = SendReply::none();
     for transfer in transfers {
-        let one = map_page(shards, trees, *transfer, rights)?;
+        let one = map_page(shards, *transfer, rights);
         reply = reply.plus(one);
     }
     Ok(reply)
 }
 
-/// Works one page of a MapItem.
-///
-/// Refused, where memory is: `NoMemory`.
-fn map_page(
-    shards: &mut Shards,
-    trees: &mut [Tree],
-    transfer: Transfer,
-    rights: Rights,
-) -> Result<SendReply, NoMemory>
-    requires sound { AreSound shards.old trees.old }
-    requires within { IsTransferWithin (limits_in shards.old trees.old) transfer }
-    requires ready { IsReady (holdings_in shards.old trees.old) rights transfer }
-    ensures counts { IfOk result (λ reply. counts_of reply ≡ worked_of (holdings_in shards.old trees.old) transfer) }
-    ensures left { OnOk result (holdings_in shards.new trees.new
-        ≡ map_pair (holdings_in shards.old trees.old) (record { kind = Map; rights = rights; pairs = [] }) (pair_of transfer) (fate_in transfer) (holdings_in shards.old trees.old)) }
-    ensures sound { OnOk result (AreSound shards.new trees.new) }
-    ensures limits { OnOk result (limits_in shards.new trees.new ≡ limits_in shards.old trees.old) }
+ghost use Rattle.std.specs.Prelude.{IsFalse};
+ghost use Rattle.space.specs.declared.place.Entry.{Entry};
+ghost use Rattle.space.specs.Shards.{IsPlace, entry_at, is_taken};
+ghost use Rattle.mapdb.specs.Links.{IsPageLost, IsPageMapped};
+
+/// Works one page of a MapItem, whose new mapping stands in the tree already.
+fn map_page(shards: &mut Shards, transfer: Transfer, rights: Rights) -> SendReply
+    requires source { IsPlace shards.old transfer.source }
+    requires target { IsPlace shards.old transfer.target }
+    requires present { IsFalse (is_taken shards.old) }
+    ensures lost { entry_at shards.old transfer.source ≡ None → IsPageLost shards.old shards.new (counts_of result) }
+    ensures mapped { (e : Entry) → entry_at shards.old transfer.source ≡ Some e → IsPageMapped shards.old shards.new rights transfer e (counts_of result) }
 {
     let Some(source) = shards.get(transfer.source) else {
-        return Ok(SendReply::lost());
+        return SendReply::lost();
     };
     let rights = source.rights.meet(rights);
     if transfer.extends {
         extend(shards, transfer.target, rights);
-        return Ok(SendReply::extended());
+        return SendReply::extended();
     }
-    link(
-        shards,
-        trees,
-        transfer.source,
-        transfer.target,
-        Entry { rights, ..source },
-    )?;
-    Ok(SendReply::linked())
+    link(shards, transfer.target, Entry { rights, ..source });
+    SendReply::linked()
 }
 
-ghost use Rattle.std.specs.Prelude.{IsFalse, option_map};
-ghost use Rattle.space.specs.Shards.{IsPlace, IsSetAt, IsLaidOutAs, entry_at, is_taken};
+ghost use Rattle.std.specs.Prelude.{option_map};
+ghost use Rattle.space.specs.Shards.{IsSetAt, IsLaidOutAs};
 ghost use Rattle.mapdb.specs.Words.{extended};
 
 /// Adds rights to what a page holds.
@@ -99,32 +88,18 @@ fn extend(shards: &mut Shards, place: Place, rights: Rights)
     shards.set(place, Some(Entry { rights, ..entry }));
 }
 
-ghost use Rattle.std.specs.Prelude.{◌<◌, ◌^◌, length};
-ghost use Rattle.mapdb.specs.Held.{is_listed};
-ghost use Rattle.mapdb.specs.Sending.{IsLinked};
+ghost use Rattle.std.specs.Prelude.{◌<◌, ◌^◌};
+ghost use Rattle.fpage.specs.Rights.{no_rights};
 
-/// Puts a new mapping at a page that holds nothing: the frame and rights of this entry, without status, derived from
-/// the source.
-///
-/// Refused, where memory is: `NoMemory`.
-fn link(
-    shards: &mut Shards,
-    trees: &mut [Tree],
-    source: Place,
-    target: Place,
-    entry: Entry,
-) -> Result<(), NoMemory>
+/// Puts a new mapping at a page that holds nothing: the frame and rights of this entry, without status.
+fn link(shards: &mut Shards, target: Place, entry: Entry)
     requires target { IsPlace shards.old target }
     requires present { IsFalse (is_taken shards.old) }
-    requires frame { entry.frame < length trees.old }
     requires fits { entry.frame < 2 ^ 24 }
-    requires listed { is_listed trees.old entry.frame source ≡ true }
-    requires free { is_listed trees.old entry.frame target ≡ false }
-    ensures ok { OnOk result (IsLinked shards.old shards.new trees.old trees.new source target entry) }
+    ensures set { IsSetAt shards.old shards.new target (Some (record entry { status = no_rights })) }
+    ensures present { IsFalse (is_taken shards.new) }
+    ensures layout { IsLaidOutAs shards.old shards.new }
 {
-    let tree = &mut trees[entry.frame as usize];
-    tree::derive(tree, source, target)?;
     let status = Rights::none();
     shards.set(target, Some(Entry { status, ..entry }));
-    Ok(())
 }

@@ -133,7 +133,7 @@ ghost use Rattle.space.specs.Shards.{IsPlace, entry_at, is_taken};
 ghost use Rattle.mapdb.specs.Held.{has_frame};
 ghost use Rattle.mapdb.specs.Spots.{HaveWords, IsHeldSomewhere};
 
-/// The frames of the pairs whose source and target hold one frame, pair by pair.
+/// The frames of the pairs whose source and target hold one frame, pair by pair; none for an item of a few pages.
 fn contested_frames(
     alloc: Global,
     shards: &Shards,
@@ -144,6 +144,9 @@ fn contested_frames(
     ensures { IfOk result (λ frames. All (IsHeldSomewhere shards.now) frames.items) }
 {
     let mut frames = Vec::new(alloc);
+    if pages.count as usize <= FEW {
+        return Ok(frames);
+    }
     for i in 0..pages.count {
         let source = Place {
             page: pages.source.page + i,

@@ -22,7 +22,7 @@ above_more q path n low =
     let size : length (q ∷ path) - n.depth ≡ suc (length path - n.depth) = omega (arith, low) in
     ap (λ k. drop k (q ∷ path)) size
 
-links_more : (q : Place) (path : List Place) (ns : List Node) → are_depths (length path) ns ≡ true → links (q ∷ path) ns ≡ links path ns
+pub links_more : (q : Place) (path : List Place) (ns : List Node) → are_depths (length path) ns ≡ true → links (q ∷ path) ns ≡ links path ns
 links_more q path [] depths = refl
 links_more q path (n ∷ ns) depths =
     let low = leb-true n.depth (length path) (and_parts (nat_le n.depth (length path)) (are_depths (n.depth + 1) ns) depths).0 in
@@ -53,7 +53,7 @@ links_below q path (n ∷ ns) (suc i) d most size depths within =
 
 -- ---- a forest again
 
-depths_more : (a b : ℕ) (ns : List Node) → a ≤ b → are_depths a ns ≡ true → are_depths b ns ≡ true
+pub depths_more : (a b : ℕ) (ns : List Node) → a ≤ b → are_depths a ns ≡ true → are_depths b ns ≡ true
 depths_more a b [] upto depths = refl
 depths_more a b (n ∷ ns) upto depths =
     let parts = and_parts (nat_le n.depth a) (are_depths (n.depth + 1) ns) depths in

@@ -11,3 +11,4 @@ pub mod Outside
 pub mod Splicing
 pub mod Linking
 pub mod RunEnds
+pub mod Growth

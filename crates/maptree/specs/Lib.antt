@@ -1,3 +1,4 @@
 pub mod Origins
 pub mod Nodes
 pub mod Cuts
+pub mod Growing

@@ -91,6 +91,14 @@ fn has_runs_and_origins(rt: HostRuntime) -> Result<(), Fail> {
 }
 
 #[test]
+fn has_the_ends_of_all_runs(rt: HostRuntime) -> Result<(), Fail> {
+    let tree = sample(&rt, rt.alloc())?;
+    let ends = tree.ends(rt.alloc())?;
+    assert_eq!(rt; ends.as_slice(), [5, 4, 4, 4, 5].as_slice());
+    Ok(())
+}
+
+#[test]
 fn tells_origins_at_any_distance(rt: HostRuntime) -> Result<(), Fail> {
     let tree = sample(&rt, rt.alloc())?;
     let middle = position(&rt, &tree, place(1, 0));

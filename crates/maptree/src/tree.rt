@@ -5,8 +5,10 @@ ghost use Rattle.space.specs.declared.place.Place.{Place};
 ghost use Rattle.maptree.specs.Origins.{origin_in, place_at, AreOuterRuns};
 ghost use Rattle.maptree.specs.Nodes.{is_forest, origins_of, run_len};
 
+use crate::below::Below;
 use crate::cutting::{Cutting, joined};
 use crate::ends::ends_of;
+use crate::growing::grown;
 use crate::links::linked;
 use crate::node::Node;
 use crate::slice::Slice;
@@ -49,6 +51,7 @@ impl Tree {
     ghost use Rattle.std.specs.Prelude.{filter};
     ghost use Rattle.std.specs.List.{All};
     ghost use Rattle.maptree.specs.Origins.{are_once, origin_in, place_at, renamed, LeadsTo, HasDepth, IsRun, AreRising, AreOuterRuns, AreRunEnds};
+    ghost use Rattle.maptree.specs.Growing.{below, with_below, AreApart};
     ghost use Rattle.maptree.specs.Cuts.{outside, nodes_of, ArePartsOf, IsCut, AreKept};
 
     /// A tree of one root.
@@ -221,6 +224,21 @@ impl Tree {
         let depth = self.nodes[i].depth + 1;
         let inserted = self.nodes.insert(i + 1, Node { place, depth });
         prove!(inserted.is_ok());
+    }
+
+    /// Puts new places below places of the tree, each directly behind its place and one deeper, in one pass. Those whose
+    /// place is not in the tree are passed over.
+    ///
+    /// Refused, where memory is: `NoMemory`. Then the tree is as it was.
+    pub fn insert_all_below(&mut self, alloc: Global, new: &Below) -> Result<(), NoMemory>
+        requires absent { (p q : Place) → below new.now p ≡ Some q → position (λ o. same_place q o.0) self.old.links ≡ None }
+        requires apart { AreApart (below new.now) }
+        ensures links { OnOk result (self.new.links ≡ with_below (below new.now) self.old.links) }
+        ensures err { OnErr result (self.new ≡ self.old) }
+    {
+        let room = self.nodes.capacity();
+        self.nodes = grown(alloc, &self.nodes, room, new)?;
+        Ok(())
     }
 }
 

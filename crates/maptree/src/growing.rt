@@ -1,0 +1,30 @@
+//! A list of nodes that gains many nodes in one pass.
+
+ghost use Rattle.std.specs.Prelude.{◌≡◌, true, IfOk};
+ghost use Rattle.maptree.specs.Nodes.{is_forest};
+ghost use Rattle.maptree.specs.Growing.{below, nodes_below};
+
+use crate::below::Below;
+use crate::node::Node;
+use std::alloc::{AllocError, Global};
+
+/// The nodes with the new places, each right behind the place below which it is put, and one deeper.
+pub fn grown(
+    alloc: Global,
+    nodes: &[Node],
+    room: usize,
+    new: &Below,
+) -> Result<Vec<Node>, AllocError>
+    requires { is_forest nodes.now ≡ true }
+    ensures { IfOk result (λ all. all.items ≡ nodes_below (below new.now) nodes.now) }
+{
+    let mut all = Vec::with_capacity(alloc, room)?;
+    for node in nodes {
+        all.push(*node)?;
+        if let Some(place) = new.get(node.place) {
+            let depth = node.depth + 1;
+            all.push(Node { place, depth })?;
+        }
+    }
+    Ok(all)
+}
