@@ -1,5 +1,5 @@
 #!/usr/bin/env python3
-"""Time and peak memory of the proved program on traces of ten kinds, each at three sizes.
+"""Time and peak memory of the proved program on traces of eleven kinds, each at three sizes.
 
     bench/bench.py [PROGRAM]
 
@@ -160,6 +160,14 @@ def aliases(records):
         yield send(0, 1 + space, 0, page)
 
 
+def shared(records):
+    """One frame at all 4,096 pages of a space, which go on from space to space: one item has them all, again and again."""
+    yield from aliases(min(records, PAGES))
+    for number in range(records - PAGES):
+        sender = 1 + number % 8
+        yield send_fpage(sender, sender + 1, ALL_PAGES)
+
+
 # Each kind with its numbers of records. A record of `relay` and of `audit` is about 4,096 pages, and one of `grants` about 512.
 KINDS = [
     (mixed, SIZES),
@@ -172,6 +180,7 @@ KINDS = [
     (accesses, [10_000, 100_000, 1_000_000]),
     (audit, [5, 25, 250]),
     (aliases, [100, 1_000, 10_000]),
+    (shared, [PAGES, PAGES + 8, PAGES + 80]),
 ]
 
 
