@@ -1,5 +1,4 @@
 mod Unmaps
-mod Pages
 mod Streams
 mod Replays
 mod Runs
