@@ -99,6 +99,21 @@ fn has_the_ends_of_all_runs(rt: HostRuntime) -> Result<(), Fail> {
 }
 
 #[test]
+fn lists_its_places_with_their_origins(rt: HostRuntime) -> Result<(), Fail> {
+    let tree = sample(&rt, rt.alloc())?;
+    let links = tree.links(rt.alloc())?;
+    let expected = [
+        (place(0, 5), None),
+        (place(1, 0), Some(place(0, 5))),
+        (place(2, 0), Some(place(1, 0))),
+        (place(1, 3), Some(place(2, 0))),
+        (place(2, 4), Some(place(0, 5))),
+    ];
+    assert_eq!(rt; links.as_slice(), expected.as_slice());
+    Ok(())
+}
+
+#[test]
 fn tells_origins_at_any_distance(rt: HostRuntime) -> Result<(), Fail> {
     let tree = sample(&rt, rt.alloc())?;
     let middle = position(&rt, &tree, place(1, 0));
