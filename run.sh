@@ -26,7 +26,7 @@ run_unproved() {
     rt try -- "$@" < "$room/trace" 2> "$room/said"
     if [[ $(tail -n 1 "$room/said") =~ ^run=ended\ status=([0-9]+)\ .*proved=no$ ]]; then
         local status=${BASH_REMATCH[1]}
-        sed -E '/^(checked|interpreter): |^run=ended /d' "$room/said" >&2
+        sed -E '/^(checked|interpreter|races): |^run=ended /d' "$room/said" >&2
         exit "$status"
     fi
     cat "$room/said" >&2
