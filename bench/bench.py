@@ -1,5 +1,5 @@
 #!/usr/bin/env python3
-"""Time and peak memory of the proved program on traces of eleven kinds, each at three sizes.
+"""Time and peak memory of the proved program on traces of twelve kinds, each at three sizes.
 
     bench/bench.py [PROGRAM]
 
@@ -168,6 +168,14 @@ def shared(records):
         yield send_fpage(sender, sender + 1, ALL_PAGES)
 
 
+def passed(records):
+    """One frame at all 4,096 pages of a space, which two spaces then grant to and fro, all in one item."""
+    yield from aliases(min(records, PAGES))
+    for number in range(records - PAGES):
+        sender = 1 + number % 2
+        yield grant_fpage(sender, 3 - sender, ALL_PAGES)
+
+
 # Each kind with its numbers of records. A record of `relay` and of `audit` is about 4,096 pages, and one of `grants` about 512.
 KINDS = [
     (mixed, SIZES),
@@ -181,6 +189,7 @@ KINDS = [
     (audit, [5, 25, 250]),
     (aliases, [100, 1_000, 10_000]),
     (shared, [PAGES, PAGES + 8, PAGES + 80]),
+    (passed, [PAGES, PAGES + 8, PAGES + 80]),
 ]
 
 
@@ -258,4 +267,5 @@ def report(program, kind, sizes, room):
         before = (records, taken)
 
 
-main()
+if __name__ == "__main__":
+    main()

@@ -40,4 +40,5 @@ def main():
     print(f"shards, proved          {median_of([TESTS, 'tests::keeps_a_million_entries_over_512_spaces']):6.1f} ms")
 
 
-main()
+if __name__ == "__main__":
+    main()

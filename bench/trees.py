@@ -60,4 +60,5 @@ def main():
                 print(f"{form + ' ' + call:<26}{nodes:>8}{nanos:>12.1f}{other:>12.1f}{nanos / max(other, 0.1):>8.2f}", flush=True)
 
 
-main()
+if __name__ == "__main__":
+    main()

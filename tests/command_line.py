@@ -59,6 +59,8 @@ REFUSED = [
     ["--fast"],
     ["-w"],
     ["trace.csv"],
+    [b"\xff"],
+    ["--plain", b"--workers=\xff"],
 ]
 
 # Each word that help must name.
@@ -73,7 +75,7 @@ def main():
         got = run([program, *words], TRACE)
         told = got.stderr.startswith(b"error: ") and got.stderr.endswith(b"\n")
         cases.check(
-            f"refused: {' '.join(words)}",
+            f"refused: {words}",
             "" if (got.status, got.stdout) == (1, b"") and told else f"it ended with {got}",
         )
     for words in (["--help"], ["-h"], ["--help", "--plain"]):

@@ -14,7 +14,7 @@ use error::RunError;
 use run::{Summary, run};
 use std::alloc::AllocError;
 use std::env::Env;
-use std::io::BufWriter;
+use std::io::{BufWriter, ErrorKind};
 use std::process::ExitCode;
 use std::thread::Threads;
 use std::{env, io};
@@ -26,8 +26,15 @@ const OUTPUT_BUFFER: usize = 65536;
 /// Reads the program's command line.
 fn read_command_line(rt: &(impl AllocGlobal + Env)) -> Result<cli::Options, OptionsError> {
     let alloc = rt.alloc();
-    let Ok(arguments) = env::args(rt) else {
-        return Err(OptionsError::NoMemory);
+    let arguments = match env::args(rt) {
+        Ok(arguments) => arguments,
+        Err(error) if error.kind() == ErrorKind::InvalidData => {
+            return Err(OptionsError::Refused(String::from_str(
+                alloc,
+                "error: an argument is not valid UTF-8\n",
+            )?));
+        }
+        Err(_) => return Err(OptionsError::NoMemory),
     };
     let words: Vec<String> = arguments.collect(alloc)?;
     let mut texts = Vec::with_capacity(alloc, words.len())?;

@@ -1,5 +1,5 @@
 -- The links of all trees, by rising place, with what the words hold, are the holdings.
-use Rattle.std.proofs.Common.{◌≡◌, ℕ, zero, suc, ◌+◌, ◌≤◌, ◌<◌, true, false, Bool, ◌&&◌, ◌||◌, List, [], ◌∷◌, ◌++◌, length, map, Option, Some, None, get_or, refl, sym, ap, ◌∙◌, subst, arith, ◌⊎◌, inl, inr, if◌then◌else◌, ◌==◌}
+use Rattle.std.proofs.Common.{◌≡◌, ℕ, zero, suc, ◌+◌, ◌≤◌, ◌<◌, true, false, Bool, ◌||◌, List, [], ◌∷◌, ◌++◌, length, map, Option, Some, None, get_or, refl, sym, ap, ◌∙◌, subst, arith, ◌⊎◌, inl, inr, if◌then◌else◌, ◌==◌}
 use Rattle.std.specs.Prelude.{not, option_map}
 use Rattle.std.specs.List.{All, list_any, list_all, flat_map, sum_by}
 use Rattle.std.specs.List.Sorted.{IsPermutation, IsSorted}
@@ -21,7 +21,7 @@ use Rattle.maptree.specs.Origins.{Origins, Shape, are_once, origin_in}
 use Rattle.model.specs.Calls.{Limits}
 use Rattle.model.specs.Holdings.{Held, at, keep}
 use Rattle.mapdb.specs.Derivation.{stands_in}
-use Rattle.mapdb.specs.Held.{IsWithin, is_place, links_in, is_listed, held_of, held_at, has_frame, listed, listing}
+use Rattle.mapdb.specs.Held.{IsWithin, is_place, links_in, is_listed, held_of, held_at, has_frame, listed}
 use Rattle.mapdb.specs.Mappings.{held_with, entered}
 use Rattle.mapdb.specs.Stripping.{limits_in, holdings_in, AreSound}
 use Rattle.mapdb.proofs.Listing.{are_rising, sorted_listed, at_listed, listing_is, within_from_place}

@@ -27,7 +27,8 @@ pub mod PageByPage
 pub mod OnePlace
 pub mod PlainWords
 pub mod MovedPages
-pub mod MovingPages
+pub mod MovingWords
+pub mod MovingTrees
 pub mod Entered
 pub mod Noting
 pub mod LinkedTrees

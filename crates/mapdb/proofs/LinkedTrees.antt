@@ -1,6 +1,6 @@
 -- New mappings put into trees, one by one or many in one pass.
 use Rattle.std.proofs.Common.{◌≡◌, ℕ, zero, suc, ◌+◌, ◌<◌, ◌≤◌, true, false, Bool, ◌||◌, List, [], ◌∷◌, ◌++◌, length, take, get_or, Option, Some, None, Ok, Err, refl, sym, ap, ◌∙◌, subst, arith, ◌⊎◌, inl, inr, if◌then◌else◌, cond}
-use Rattle.std.specs.Prelude.{count_by, position, Result, OnOk}
+use Rattle.std.specs.Prelude.{count_by, position, Result, OnOk, IfOk}
 use Rattle.std.specs.List.{All, list_any}
 use Rattle.std.specs.Option.{option_and_then}
 use Rattle.std.specs.FinMap.Entries.{find}
@@ -18,7 +18,7 @@ use Rattle.maptree.specs.Growing.{with_new, with_below, AreApart}
 use Rattle.mapdb.specs.declared.link.Link.{Link}
 use Rattle.mapdb.proofs.Trees.{none_found}
 use Rattle.mapdb.specs.Derivation.{stands_in, IsDerived}
-use Rattle.mapdb.specs.Links.{is_new_in, AreLinkedIn, AreOnce, target_below, AreBelow}
+use Rattle.mapdb.specs.Links.{is_new_in, AreLinkedIn, AreOnce, last_target, AreTargets}
 use Rattle.mapdb.specs.declared.transfer.Transfer.{Transfer}
 
 abbrev pub no_link : Link
@@ -111,24 +111,24 @@ any_index test (x ∷ xs) d any = by (test x) refl any (any_index test xs d)
     by true is any rest = (0, omega arith, is)
     by false is any rest = let at = rest any in (suc at.0, omega (arith, at.1), at.2)
 
-below_last : (ls : List Link) (l : Link) (p : Place) (last : Option Place) → target_below (ls ++ l ∷ []) p last ≡ (if same_place p l.source then Some l.target else target_below ls p last)
-below_last [] l p last = refl
-below_last (m ∷ ls) l p last = below_last ls l p (if same_place p m.source then Some m.target else last)
+told_last : (ls : List Link) (l : Link) (p : Place) (last : Option Place) → last_target (ls ++ l ∷ []) p last ≡ (if same_place p l.source then Some l.target else last_target ls p last)
+told_last [] l p last = refl
+told_last (m ∷ ls) l p last = told_last ls l p (if same_place p m.source then Some m.target else last)
 
 -- one more is told
-pub one_below : (ls : List Link) (i : ℕ) (d : Link) (p : Place) → i < length ls → target_below (take (i + 1) ls) p None ≡ (if same_place p (get_or ls i d).source then Some (get_or ls i d).target else target_below (take i ls) p None)
-one_below ls i d p within = ap (λ xs. target_below xs p None) (take_more ls i d within) ∙ below_last (take i ls) (get_or ls i d) p None
+pub one_told : (ls : List Link) (i : ℕ) (d : Link) (p : Place) → i < length ls → last_target (take (i + 1) ls) p None ≡ (if same_place p (get_or ls i d).source then Some (get_or ls i d).target else last_target (take i ls) p None)
+one_told ls i d p within = ap (λ xs. last_target xs p None) (take_more ls i d within) ∙ told_last (take i ls) (get_or ls i d) p None
 
 -- one of the list
-record IsAt (ls : List Link) (p q : Place) : Type 0 where
-  k : ℕ
-  within : k < length ls
-  source : (get_or ls k no_link).source ≡ p
-  target : (get_or ls k no_link).target ≡ q
+pub record IsAt (ls : List Link) (p q : Place) : Type 0 where
+  pub k : ℕ
+  pub within : k < length ls
+  pub source : (get_or ls k no_link).source ≡ p
+  pub target : (get_or ls k no_link).target ≡ q
 
-below_some : (ls : List Link) (p q : Place) (last : Option Place) → target_below ls p last ≡ Some q → IsAt ls p q ⊎ (last ≡ Some q)
-below_some [] p q last is = inr is
-below_some (l ∷ ls) p q last is = by (below_some ls p q (if same_place p l.source then Some l.target else last) is)
+pub last_some : (ls : List Link) (p q : Place) (last : Option Place) → last_target ls p last ≡ Some q → IsAt ls p q ⊎ (last ≡ Some q)
+last_some [] p q last is = inr is
+last_some (l ∷ ls) p q last is = by (last_some ls p q (if same_place p l.source then Some l.target else last) is)
   where
     here : (b : Bool) → same_place p l.source ≡ b → (if b then Some l.target else last) ≡ Some q → IsAt (l ∷ ls) p q ⊎ (last ≡ Some q)
     here true same got = inl (record { k = 0; within = omega arith; source = sym (same_is p l.source same); target = same_Some l.target q got })
@@ -138,18 +138,18 @@ below_some (l ∷ ls) p q last is = by (below_some ls p q (if same_place p l.sou
     by (inl at) = inl (record { k = suc at.k; within = (let w = at.within in omega (arith, w)); source = at.source; target = at.target })
     by (inr got) = here (same_place p l.source) refl got
 
-below_none : (ls : List Link) (p : Place) (last : Option Place) → ((k : ℕ) → k < length ls → same_place p (get_or ls k no_link).source ≡ false) → target_below ls p last ≡ last
-below_none [] p last apart = refl
-below_none (l ∷ ls) p last apart =
-    below_none ls p (if same_place p l.source then Some l.target else last) (λ k within. apart (suc k) (omega (arith, within))) ∙ ap (λ b. if b then Some l.target else last) (apart 0 (omega arith))
+pub told_none : (ls : List Link) (p : Place) (last : Option Place) → ((k : ℕ) → k < length ls → same_place p (get_or ls k no_link).source ≡ false) → last_target ls p last ≡ last
+told_none [] p last apart = refl
+told_none (l ∷ ls) p last apart =
+    told_none ls p (if same_place p l.source then Some l.target else last) (λ k within. apart (suc k) (omega (arith, within))) ∙ ap (λ b. if b then Some l.target else last) (apart 0 (omega arith))
 
-below_at : (ls : List Link) → ((q : Place) → count_by (λ l. same_place q l.source) ls ≤ 1) → (k : ℕ) (last : Option Place) → k < length ls → target_below ls (get_or ls k no_link).source last ≡ Some (get_or ls k no_link).target
-below_at [] once k last within = absurd (omega (arith, within))
-below_at (l ∷ ls) once zero last within =
-    below_none ls l.source (if same_place l.source l.source then Some l.target else last) (λ k less. apart_before (λ m. m.source) (l ∷ ls) once 0 (suc k) no_link (omega arith) (omega (arith, less)))
+told_at : (ls : List Link) → ((q : Place) → count_by (λ l. same_place q l.source) ls ≤ 1) → (k : ℕ) (last : Option Place) → k < length ls → last_target ls (get_or ls k no_link).source last ≡ Some (get_or ls k no_link).target
+told_at [] once k last within = absurd (omega (arith, within))
+told_at (l ∷ ls) once zero last within =
+    told_none ls l.source (if same_place l.source l.source then Some l.target else last) (λ k less. apart_before (λ m. m.source) (l ∷ ls) once 0 (suc k) no_link (omega arith) (omega (arith, less)))
     ∙ ap (λ b. if b then Some l.target else last) (same_self l.source)
-below_at (l ∷ ls) once (suc k) last within =
-    below_at ls (λ q. let here = counted (λ m. same_place q m.source) l ls in let most = once q in omega (arith, here, most)) k _ (omega (arith, within))
+told_at (l ∷ ls) once (suc k) last within =
+    told_at ls (λ q. let here = counted (λ m. same_place q m.source) l ls in let most = once q in omega (arith, here, most)) k _ (omega (arith, within))
 
 -- ---- new places in a tree
 
@@ -205,9 +205,9 @@ module _ (new : Place → Option Place) where
 
 -- ---- a group
 
-module _ (ls : List Link) (once : AreOnce ls) (new : Place → Option Place) (are : AreBelow ls new) where
+module _ (ls : List Link) (once : AreOnce ls) (new : Place → Option Place) (are : AreTargets ls new) where
   at_of : (p q : Place) → new p ≡ Some q → IsAt ls p q
-  at_of p q is = by (below_some ls p q None (sym (are p) ∙ is))
+  at_of p q is = by (last_some ls p q None (sym (are p) ∙ is))
     where
       by : IsAt ls p q ⊎ (None ≡ Some q) → IsAt ls p q
       by (inl at) = at
@@ -251,7 +251,7 @@ module _ (ls : List Link) (once : AreOnce ls) (new : Place → Option Place) (ar
             let l = get_or ls k.0 no_link in
             let j = any_index (λ (o : Place × Option Place). same_place l.source o.0) os (p, None) (sources k.0 no_link k.1) in
             let o = get_or os j.0 (p, None) in
-            let at : new o.0 ≡ Some l.target = ap new (sym (same_is l.source o.0 j.2)) ∙ are l.source ∙ below_at ls once.sources k.0 None k.1 in
+            let at : new o.0 ≡ Some l.target = ap new (sym (same_is l.source o.0 j.2)) ∙ are l.source ∙ told_at ls once.sources k.0 None k.1 in
             list_any_at (λ (o : Place × Option Place). is_it p (new o.0)) os j.0 (p, None) j.1 (ap (is_it p) at ∙ k.2)
         by false is = list_any_none (λ o. is_it p (new o.0)) os (All-from_get_or (λ o. is_it p (new o.0) ≡ false) os (p, None) (λ i within. not_it is (get_or os i (p, None)) (new (get_or os i (p, None)).0) refl))
 
@@ -262,13 +262,17 @@ module _ (ls : List Link) (once : AreOnce ls) (new : Place → Option Place) (ar
       there = All-from_get_or (λ (l : Link). origin_in result l.target ≡ Some l.source) ls no_link
           (λ k within.
           let l = get_or ls k no_link in
-          ap (λ r. origin_in r l.target) is ∙ ap (option_and_then (λ o. o)) (find_below new apart_below os l.source l.target (are l.source ∙ below_at ls once.sources k None within) (sources k no_link within) (targets k no_link within)));
+          ap (λ r. origin_in r l.target) is ∙ ap (option_and_then (λ o. o)) (find_below new apart_below os l.source l.target (are l.source ∙ told_at ls once.sources k None within) (sources k no_link within) (targets k no_link within)));
     }
 
 -- what a call promises of its success
 pub on_ok_as : {A E : Type 0} (r : Result A E) (P Q : Type 0) → (P → Q) → OnOk r P → OnOk r Q
 on_ok_as (Ok a) P Q step p = step p
 on_ok_as (Err e) P Q step p = tt
+
+pub if_ok_as : {A E : Type 0} (r : Result A E) (P Q : A → Type 0) → ((a : A) → P a → Q a) → IfOk r P → IfOk r Q
+if_ok_as (Ok a) P Q step p = step a p
+if_ok_as (Err e) P Q step p = tt
 
 abbrev pub no_transfer : Transfer
 no_transfer = record { source = record { space = 0; page = 0 }; target = record { space = 0; page = 0 }; extends = false }

@@ -5,11 +5,12 @@ use Rattle.space.specs.declared.place.Place.{Place}
 use Rattle.space.specs.declared.place.Entry.{Entry}
 use Rattle.space.specs.declared.shards.Shards.{Shards}
 use Rattle.space.specs.Place.{same_place}
-use Rattle.space.specs.Shards.{IsSetAt, IsLaidOutAs, entry_at, is_taken}
+use Rattle.space.specs.Shards.{IsPlace, IsSetAt, IsLaidOutAs, entry_at, is_taken}
 use Rattle.std.specs.Prelude.{IsFalse, option_map}
 use Rattle.fpage.specs.declared.rights.Rights.{Rights}
 use Rattle.fpage.specs.Rights.{no_rights, meet}
 use Rattle.maptree.specs.Origins.{Origins, Shape, origin_in}
+use Rattle.maptree.specs.Renamings.{all_renamed, StayApart}
 use Rattle.model.specs.Items.{Counts, counts_of, goes}
 use Rattle.mapdb.specs.declared.transfer.Transfer.{Transfer}
 use Rattle.mapdb.specs.declared.link.Link.{Link}
@@ -67,7 +68,7 @@ pub record AreLinkable (trees : List Shape) (ls : List Link) : Type 0 where
 abbrev pub word_after : Rights → Transfer → Entry → Option Entry → Option Entry
 word_after rights t e old = if t.extends then option_map (word.extended (meet e.rights rights)) old else Some (record { frame = e.frame; rights = meet e.rights rights; status = no_rights })
 
--- the words after one page of a MapItem whose source holds nothing, and how it counts
+-- the words after one page whose source holds nothing, and how it counts
 pub record IsPageLost (old new : Shards) (counts : Counts) : Type 0 where
   pub same : new ≡ old
   pub counted : counts ≡ counts_of goes false
@@ -79,11 +80,40 @@ pub record IsPageMapped (old new : Shards) (rights : Rights) (t : Transfer) (e :
   pub layout : IsLaidOutAs old new
   pub counted : counts ≡ counts_of (fate_in t) true
 
--- the last of these with a source tells the target that is put below it
-abbrev pub target_below : List Link → Place → Option Place → Option Place
-target_below [] p last = last
-target_below (l ∷ ls) p last = target_below ls p (if same_place p l.source then Some l.target else last)
+-- the target that the last of these with a source tells
+abbrev pub last_target : List Link → Place → Option Place → Option Place
+last_target [] p last = last
+last_target (l ∷ ls) p last = last_target ls p (if same_place p l.source then Some l.target else last)
 
--- new places are the targets, each below its source
-abbrev pub AreBelow : List Link → (Place → Option Place) → Type 0
-AreBelow ls new = (p : Place) → new p ≡ target_below ls p None
+-- each source has its target
+abbrev pub AreTargets : List Link → (Place → Option Place) → Type 0
+AreTargets ls new = (p : Place) → new p ≡ last_target ls p None
+
+-- ---- pages that move
+
+-- whether there is one of the frame
+abbrev pub is_of_frame : List Link → ℕ → Bool
+is_of_frame ls f = list_any (λ l. l.frame == f) ls
+
+-- in trees each source can become its target: no two places of a tree become one
+pub record AreMovable (trees : List Shape) (ls : List Link) : Type 0 where
+  pub space : ℕ
+  pub sources : All (λ l. l.source.space ≡ space) ls
+  pub targets : All (λ l. l.target.space ≡ space → ⊥) ls
+  pub frames : All (λ l. l.frame < length trees) ls
+  pub apart : (f : ℕ) → StayApart (λ p. last_target ls p None) (links_in trees f)
+
+-- places were replaced in the trees of these frames
+pub record AreRenamed (new : Place → Option Place) (ls : List Link) (old now : List Shape) : Type 0 where
+  pub count : length now ≡ length old
+  pub there : (f : ℕ) → is_of_frame ls f ≡ true → links_in now f ≡ all_renamed new (links_in old f)
+  pub elsewhere : (f : ℕ) → is_of_frame ls f ≡ false → links_in now f ≡ links_in old f
+
+-- the words after a page moved that held this, and how it counts
+pub record IsPageMoved (old new : Shards) (source target : Place) (e : Entry) (counts : Counts) : Type 0 where
+  pub gone : entry_at new source ≡ None
+  pub there : entry_at new target ≡ Some (record e { status = no_rights })
+  pub elsewhere : (p : Place) → IsPlace old p → same_place p source ≡ false → same_place p target ≡ false → entry_at new p ≡ entry_at old p
+  pub present : IsFalse (is_taken new)
+  pub layout : IsLaidOutAs old new
+  pub counted : counts ≡ counts_of goes true

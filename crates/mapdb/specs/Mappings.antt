@@ -1,5 +1,5 @@
 -- What is held, as a list of mappings.
-use Rattle.std.specs.Prelude.{List, [], ◌∷◌, Option, option_map}
+use Rattle.std.specs.Prelude.{[], ◌∷◌, Option, option_map}
 use Rattle.space.specs.declared.place.Place.{Place}
 use Rattle.space.specs.declared.place.Entry.{Entry}
 use Rattle.space.specs.declared.shards.Shards.{Shards}

@@ -1,6 +1,6 @@
 //! The pages of a GrantItem, after the flush: the sources lose what the item withholds, and then each moves to its target.
 
-ghost use Rattle.std.specs.Prelude.{◌≡◌, [], ◌∷◌, true, false, None, Some, IfOk, OnOk};
+ghost use Rattle.std.specs.Prelude.{◌≡◌, true, None, Some, IfOk, OnOk};
 ghost use Rattle.std.specs.List.{All};
 ghost use Rattle.fpage.specs.Rights.{all_rights, without};
 ghost use Rattle.model.specs.Holdings.{at};
@@ -9,9 +9,11 @@ ghost use Rattle.model.specs.Grant.{renamed};
 ghost use Rattle.model.specs.Strip.{strip};
 ghost use Rattle.mapdb.specs.Meaning.{counts_of};
 ghost use Rattle.mapdb.specs.Stripping.{limits_in, holdings_in, AreSound};
-ghost use Rattle.mapdb.specs.Sending.{IsTransferWithin, ArePlanned, IsReady, AllGo, moving_of, pair_of, worked};
+ghost use Rattle.mapdb.specs.Sending.{ArePlanned, IsReady, AllGo, moving_of, worked};
 
+use crate::link::new_links;
 use crate::pages::strip_held;
+use crate::renaming::rename_links;
 use crate::reply::SendReply;
 use crate::transfer::{End, Transfer, held_ends};
 use fpage::Rights;
@@ -42,54 +44,57 @@ pub fn grant_pages(
     let sources = held_ends(alloc, shards, transfers, End::Source)?;
     let withheld = Rights::all().without(rights);
     strip_held(alloc, shards, trees, sources, withheld, true)?;
-    Ok(move_pages(shards, trees, transfers))
+    move_pages(alloc, shards, trees, transfers)
 }
 
 /// Moves pages that are held to their targets, which hold nothing. The others are lost.
-fn move_pages(shards: &mut Shards, trees: &mut [Tree], transfers: &[Transfer]) -> SendReply
+///
+/// Refused, where memory is: `NoMemory`.
+fn move_pages(
+    alloc: Global,
+    shards: &mut Shards,
+    trees: &mut [Tree],
+    transfers: &[Transfer],
+) -> Result<SendReply, NoMemory>
     requires sound { AreSound shards.old trees.old }
     requires planned { ArePlanned (limits_in shards.old trees.old) transfers.now }
     requires all_go { AllGo transfers.now }
     requires free { All (λ t. at (holdings_in shards.old trees.old) t.target ≡ None) transfers.now }
-    ensures counts { counts_of result ≡ worked (holdings_in shards.old trees.old) transfers.now }
-    ensures left { holdings_in shards.new trees.new ≡ renamed (moving_of (holdings_in shards.old trees.old) transfers.now) (holdings_in shards.old trees.old) }
-    ensures sound { AreSound shards.new trees.new }
-    ensures limits { limits_in shards.new trees.new ≡ limits_in shards.old trees.old }
+    ensures counts { IfOk result (λ reply. counts_of reply ≡ worked (holdings_in shards.old trees.old) transfers.now) }
+    ensures left { OnOk result (holdings_in shards.new trees.new ≡ renamed (moving_of (holdings_in shards.old trees.old) transfers.now) (holdings_in shards.old trees.old)) }
+    ensures sound { OnOk result (AreSound shards.new trees.new) }
+    ensures limits { OnOk result (limits_in shards.new trees.new ≡ limits_in shards.old trees.old) }
 {
+    let links = new_links(alloc, shards, transfers)?;
+    rename_links(alloc, trees, links)?;
     let mut reply = SendReply::none();
     for transfer in transfers {
-        let one = match shards.get(transfer.source) {
-            None => SendReply::lost(),
-            Some(entry) => {
-                move_page(shards, trees, transfer.source, transfer.target, entry);
-                SendReply::linked()
-            }
-        };
+        let one = move_page(shards, transfer.source, transfer.target);
         reply = reply.plus(one);
     }
-    reply
+    Ok(reply)
 }
 
-ghost use Rattle.space.specs.Shards.{entry_at};
+ghost use Rattle.std.specs.Prelude.{false, IsFalse};
+ghost use Rattle.space.specs.declared.place.Entry.{Entry};
 ghost use Rattle.space.specs.Place.{same_place};
-ghost use Rattle.mapdb.specs.Held.{IsWithin};
+ghost use Rattle.space.specs.Shards.{IsPlace, entry_at, is_taken};
+ghost use Rattle.mapdb.specs.Links.{IsPageLost, IsPageMoved};
 
-/// Moves a page to its target, as a place and as an origin of others. Its status is cleared.
-fn move_page(shards: &mut Shards, trees: &mut [Tree], source: Place, target: Place, entry: Entry)
-    requires sound { AreSound shards.old trees.old }
-    requires source { IsWithin (limits_in shards.old trees.old) source }
-    requires target { IsWithin (limits_in shards.old trees.old) target }
+/// Moves what a page holds, without its status, to the target, which stands in its place in the tree already.
+fn move_page(shards: &mut Shards, source: Place, target: Place) -> SendReply
+    requires source { IsPlace shards.old source }
+    requires target { IsPlace shards.old target }
     requires apart { same_place source target ≡ false }
-    requires entry { entry_at shards.old source ≡ Some entry }
-    requires free { at (holdings_in shards.old trees.old) target ≡ None }
-    ensures left { holdings_in shards.new trees.new ≡ renamed ((source, target) ∷ []) (holdings_in shards.old trees.old) }
-    ensures sound { AreSound shards.new trees.new }
-    ensures limits { limits_in shards.new trees.new ≡ limits_in shards.old trees.old }
+    requires present { IsFalse (is_taken shards.old) }
+    ensures lost { entry_at shards.old source ≡ None → IsPageLost shards.old shards.new (counts_of result) }
+    ensures moved { (e : Entry) → entry_at shards.old source ≡ Some e → IsPageMoved shards.old shards.new source target e (counts_of result) }
 {
-    let tree = &mut trees[entry.frame as usize];
-    let i = tree.find(source).unwrap();
-    tree.rename(i, target);
-    let status = Rights::none();
+    let Some(entry) = shards.get(source) else {
+        return SendReply::lost();
+    };
     shards.set(source, None);
+    let status = Rights::none();
     shards.set(target, Some(Entry { status, ..entry }));
+    SendReply::linked()
 }

@@ -13,6 +13,7 @@ mod mapping;
 mod outcome;
 mod pages;
 mod plain;
+mod renaming;
 mod reply;
 mod spots;
 mod start;

@@ -1,4 +1,4 @@
-//! The new mappings of an item, put into the trees: those of one frame in one pass.
+//! Pages that are mapped or moved to targets, and the new mappings in the trees: those of one frame in one pass.
 
 ghost use Rattle.std.specs.Prelude.{◌≡◌, ◌<◌, IfOk, OnOk, IsFalse, length};
 ghost use Rattle.std.specs.List.{All};
@@ -7,14 +7,14 @@ ghost use Rattle.mapdb.specs.Links.{links_of, AreLinkable, AreLinked};
 
 use crate::transfer::Transfer;
 use crate::tree;
-use maptree::{Below, Tree};
+use maptree::{PlaceMap, Tree};
 use space::{NoMemory, Place, Shards};
 use std::alloc::{AllocError, Global};
 
 /// So many new mappings of one frame are put into its tree one by one; where there are more, in one pass.
 const FEW: usize = 8;
 
-/// A new mapping: of a frame, at the target, derived from the source.
+/// A held page and the target to which it is mapped or moved, with the frame of both.
 #[derive(Clone, Copy, Debug, PartialEq, Eq)]
 pub struct Link {
     pub frame: u32,
@@ -22,7 +22,7 @@ pub struct Link {
     pub target: Place,
 }
 
-/// The new mappings of transfers, as the words stand.
+/// The links of transfers that go and whose source is held, as the words stand.
 pub fn new_links(
     alloc: Global,
     shards: &Shards,
@@ -84,7 +84,7 @@ fn same_frame(links: &[Link], frame: u32) -> usize
     links.len()
 }
 
-ghost use Rattle.std.specs.Prelude.{false};
+ghost use Rattle.std.specs.Prelude.{ℕ, false};
 ghost use Rattle.mapdb.specs.Derivation.{stands_in};
 ghost use Rattle.mapdb.specs.Links.{AreOnce, AreLinkedIn};
 
@@ -101,8 +101,8 @@ fn insert_group(alloc: Global, tree: &mut Tree, links: &[Link]) -> Result<(), No
     if links.len() <= FEW {
         return insert_each(tree, links);
     }
-    let below = below_of(alloc, links[0].source.space, links)?;
-    tree.insert_all_below(alloc, &below)
+    let targets = targets_of(alloc, links[0].source.space, links)?;
+    tree.insert_all_below(alloc, &targets)
 }
 
 /// Puts new mappings of one frame into its tree, one by one.
@@ -120,19 +120,28 @@ fn insert_each(tree: &mut Tree, links: &[Link]) -> Result<(), NoMemory>
     Ok(())
 }
 
-ghost use Rattle.std.specs.Prelude.{ℕ};
-ghost use Rattle.space.specs.declared.place.Place.{Place};
-ghost use Rattle.maptree.specs.Growing.{below};
-ghost use Rattle.mapdb.specs.Links.{AreBelow};
+ghost use Rattle.maptree.specs.PlaceMaps.{place_for};
+ghost use Rattle.mapdb.specs.Links.{AreTargets};
 
-/// The targets, each to be put below its source.
-fn below_of(alloc: Global, space: u16, links: &[Link]) -> Result<Below, AllocError>
+/// The targets, each for its source.
+pub fn targets_of(alloc: Global, space: u16, links: &[Link]) -> Result<PlaceMap, AllocError>
     requires { All (λ l. l.source.space ≡ space) links.now }
-    ensures { IfOk result (λ new. AreBelow links.now (below new)) }
+    ensures { IfOk result (λ targets. AreTargets links.now (place_for targets)) }
 {
-    let mut below = Below::none(alloc, space);
+    let mut targets = PlaceMap::none(alloc, space, first_page(links));
     for link in links {
-        below.put(link.source, link.target)?;
+        targets.put(link.source, link.target)?;
     }
-    Ok(below)
+    Ok(targets)
+}
+
+/// The lowest page of the sources.
+fn first_page(links: &[Link]) -> u32
+    ensures { All (λ l. result ≤ l.source.page) links.now }
+{
+    let mut first = u32::MAX;
+    for link in links {
+        first = first.min(link.source.page);
+    }
+    first
 }

@@ -2,7 +2,9 @@ pub mod Paths
 pub mod Runs
 pub mod Positions
 pub mod Origin
+pub mod Mapped
 pub mod Renaming
+pub mod ManyRenamed
 pub mod Insertion
 pub mod Outermost
 pub mod Cuttings
@@ -12,3 +14,4 @@ pub mod Splicing
 pub mod Linking
 pub mod RunEnds
 pub mod Growth
+pub mod OnePlace

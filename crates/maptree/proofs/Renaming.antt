@@ -1,5 +1,5 @@
 -- A node renamed renames its place in the tree.
-use Rattle.std.proofs.Common.{◌≡◌, ℕ, zero, suc, ◌+◌, ◌-◌, ◌<◌, ◌≤◌, true, false, Bool, not, nat_le, nat_lt, ◌&&◌, List, [], ◌∷◌, length, drop, map, get_or, Some, None, option_map, refl, sym, ap, ◌∙◌, arith, ◌⊎◌, inl, inr, if◌then◌else◌}
+use Rattle.std.proofs.Common.{◌≡◌, ℕ, zero, suc, ◌+◌, ◌<◌, ◌≤◌, true, false, Bool, not, nat_lt, ◌&&◌, List, [], ◌∷◌, length, map, get_or, Some, None, refl, sym, ap, ◌∙◌, arith, ◌⊎◌, inl, inr, if◌then◌else◌}
 use Rattle.std.specs.List.{prefix_len}
 use Rattle.std.specs.Prelude.{position}
 use Rattle.std.proofs.lemmas.Bool.{and_parts, ltb-false}
@@ -9,7 +9,9 @@ use Rattle.space.specs.Place.{same_place}
 use Rattle.space.proofs.Places.{same_self, same_or_apart, apart_back}
 use Rattle.maptree.specs.declared.node.Node.{Node}
 use Rattle.maptree.specs.Origins.{swapped, renamed, place_at}
-use Rattle.maptree.specs.Nodes.{are_depths, is_new, are_distinct, is_forest, above, first, links, origins_of}
+use Rattle.maptree.specs.Nodes.{are_depths, is_new, are_distinct, is_forest, origins_of}
+use Rattle.maptree.proofs.Paths.{new_apart}
+use Rattle.maptree.proofs.Mapped.{with_place, links-mapped, are_depths-mapped, are_distinct-mapped}
 use Rattle.maptree.proofs.Positions.{place_at-links, place_of_read, position-links}
 
 not_true : (b : Bool) → not b ≡ true → b ≡ false
@@ -17,39 +19,9 @@ not_true b is = grind (arith, is)
 
 -- a node with one place for another
 abbrev pub replaced : Place → Place → Node → Node
-replaced p q n = record { place = swapped p q n.place; depth = n.depth }
+replaced p q n = with_place (swapped p q) n
 
 module _ (p q : Place) where
-  drop-swapped : (k : ℕ) (path : List Place) → drop k (map (swapped p q) path) ≡ map (swapped p q) (drop k path)
-  drop-swapped zero path = refl
-  drop-swapped (suc k) [] = refl
-  drop-swapped (suc k) (x ∷ path) = drop-swapped k path
-
-  length-swapped : (path : List Place) → length (map (swapped p q) path) ≡ length path
-  length-swapped [] = refl
-  length-swapped (x ∷ path) = ap suc (length-swapped path)
-
-  first-swapped : (path : List Place) → first (map (swapped p q) path) ≡ option_map (swapped p q) (first path)
-  first-swapped [] = refl
-  first-swapped (x ∷ path) = refl
-
-  above-swapped : (n : Node) (path : List Place) → above (replaced p q n) (map (swapped p q) path) ≡ map (swapped p q) (above n path)
-  above-swapped n path = ap (λ k. drop (k - n.depth) (map (swapped p q) path)) (length-swapped path) ∙ drop-swapped (length path - n.depth) path
-
-  links-replaced : (path : List Place) (ns : List Node) → links (map (swapped p q) path) (map (replaced p q) ns) ≡ renamed p q (links path ns)
-  links-replaced path [] = refl
-  links-replaced path (n ∷ ns) =
-      let up = above-swapped n path in
-      let head : first (above (replaced p q n) (map (swapped p q) path)) ≡ option_map (swapped p q) (first (above n path)) = ap first up ∙ first-swapped (above n path) in
-      let rest : links (swapped p q n.place ∷ above (replaced p q n) (map (swapped p q) path)) (map (replaced p q) ns) ≡ renamed p q (links (n.place ∷ above n path) ns) =
-      ap (λ x. links (swapped p q n.place ∷ x) (map (replaced p q) ns)) up ∙ links-replaced (n.place ∷ above n path) ns in
-      ap (λ o. (swapped p q n.place, o) ∷ links (swapped p q n.place ∷ above (replaced p q n) (map (swapped p q) path)) (map (replaced p q) ns)) head
-      ∙ ap (λ l. (swapped p q n.place, option_map (swapped p q) (first (above n path))) ∷ l) rest
-
-  are_depths-replaced : (most : ℕ) (ns : List Node) → are_depths most (map (replaced p q) ns) ≡ are_depths most ns
-  are_depths-replaced most [] = refl
-  are_depths-replaced most (n ∷ ns) = ap (λ b. nat_le n.depth most && b) (are_depths-replaced (n.depth + 1) ns)
-
   -- a node that has another place is kept
   kept : (n : Node) → same_place p n.place ≡ false → replaced p q n ≡ n
   kept n apart = rw apart refl
@@ -60,31 +32,21 @@ module _ (p q : Place) where
       let parts = and_parts (not (same_place p n.place)) (is_new p ns) new in
       ap (λ m. m ∷ map (replaced p q) ns) (kept n (not_true (same_place p n.place) parts.0)) ∙ ap (λ l. n ∷ l) (all_kept ns parts.1)
 
-  -- distinct places stay distinct
-  swapped_apart : (x y : Place) → same_place x y ≡ false → same_place q x ≡ false → same_place q y ≡ false → same_place (swapped p q x) (swapped p q y) ≡ false
-  swapped_apart x y apart new_x new_y = by (same_or_apart p x) (same_or_apart p y)
+  -- places other than the new one stay apart
+  swapped_apart : (x y : Place) → same_place q x ≡ false → same_place q y ≡ false → swapped p q x ≡ swapped p q y → x ≡ y
+  swapped_apart x y new_x new_y same = by (same_or_apart p x) (same_or_apart p y)
     where
-      by : (p ≡ x) ⊎ (same_place p x ≡ false) → (p ≡ y) ⊎ (same_place p y ≡ false) → same_place (swapped p q x) (swapped p q y) ≡ false
-      by (inl is_x) (inl is_y) = let same : same_place x y ≡ true = ap (same_place x) (sym is_y ∙ is_x) ∙ same_self x in absurd (cc (same, apart))
-      by (inl is_x) (inr not_y) = let e : same_place p x ≡ true = ap (same_place p) (sym is_x) ∙ same_self p in rw (e, not_y) new_y
-      by (inr not_x) (inl is_y) = let e : same_place p y ≡ true = ap (same_place p) (sym is_y) ∙ same_self p in rw (not_x, e) (apart_back q x new_x)
-      by (inr not_x) (inr not_y) = rw (not_x, not_y) apart
+      goes : (z : Place) → p ≡ z → swapped p q z ≡ q
+      goes z is = let here : same_place p z ≡ true = ap (same_place p) (sym is) ∙ same_self p in rw here refl
 
-  is_new-replaced : (x : Place) (ns : List Node) → is_new x ns ≡ true → same_place q x ≡ false → is_new q ns ≡ true → is_new (swapped p q x) (map (replaced p q) ns) ≡ true
-  is_new-replaced x [] new apart other = refl
-  is_new-replaced x (n ∷ ns) new apart other =
-      let here = and_parts (not (same_place x n.place)) (is_new x ns) new in
-      let there = and_parts (not (same_place q n.place)) (is_new q ns) other in
-      let e = swapped_apart x n.place (not_true (same_place x n.place) here.0) apart (not_true (same_place q n.place) there.0) in
-      rw e (is_new-replaced x ns here.1 apart there.1)
+      stays : (z : Place) → same_place p z ≡ false → swapped p q z ≡ z
+      stays z apart = rw apart refl
 
-  are_distinct-replaced : (ns : List Node) → are_distinct ns ≡ true → is_new q ns ≡ true → are_distinct (map (replaced p q) ns) ≡ true
-  are_distinct-replaced [] distinct other = refl
-  are_distinct-replaced (n ∷ ns) distinct other =
-      let here = and_parts (is_new n.place ns) (are_distinct ns) distinct in
-      let there = and_parts (not (same_place q n.place)) (is_new q ns) other in
-      let e = is_new-replaced n.place ns here.0 (not_true (same_place q n.place) there.0) there.1 in
-      rw e (are_distinct-replaced ns here.1 there.1)
+      by : (p ≡ x) ⊎ (same_place p x ≡ false) → (p ≡ y) ⊎ (same_place p y ≡ false) → x ≡ y
+      by (inl is_x) (inl is_y) = sym is_x ∙ is_y
+      by (inl is_x) (inr not_y) = let one : q ≡ y = sym (goes x is_x) ∙ same ∙ stays y not_y in absurd (cc (new_y, ap (same_place q) one, same_self q))
+      by (inr not_x) (inl is_y) = let one : q ≡ x = sym (goes y is_y) ∙ sym same ∙ stays x not_x in absurd (cc (new_x, ap (same_place q) one, same_self q))
+      by (inr not_x) (inr not_y) = sym (stays x not_x) ∙ same ∙ stays y not_y
 
 -- where places are distinct, the place of one node is replaced alone
 pub set_is_replaced : (q : Place) (ns : List Node) (i : ℕ) (d : Node) → are_distinct ns ≡ true → i < length ns
@@ -109,7 +71,7 @@ pub links_of_set : (q : Place) (ns : List Node) (i : ℕ) (d : Node) → is_fore
     → origins_of (set ns i (record { place = q; depth = (get_or ns i d).depth })) ≡ renamed (get_or ns i d).place q (origins_of ns)
 links_of_set q ns i d forest within =
     let parts = and_parts (are_depths 0 ns) (are_distinct ns) forest in
-    ap origins_of (set_is_replaced q ns i d parts.1 within) ∙ links-replaced (get_or ns i d).place q [] ns
+    ap origins_of (set_is_replaced q ns i d parts.1 within) ∙ links-mapped (swapped (get_or ns i d).place q) [] ns
 
 -- it is a forest again
 pub forest_of_set : (q : Place) (ns : List Node) (i : ℕ) (d : Node) → is_forest ns ≡ true → is_new q ns ≡ true → i < length ns
@@ -117,8 +79,8 @@ pub forest_of_set : (q : Place) (ns : List Node) (i : ℕ) (d : Node) → is_for
 forest_of_set q ns i d forest new within =
     let parts = and_parts (are_depths 0 ns) (are_distinct ns) forest in
     let p = (get_or ns i d).place in
-    let depths = are_depths-replaced p q 0 ns ∙ parts.0 in
-    let distinct = are_distinct-replaced p q ns parts.1 new in
+    let depths = are_depths-mapped (swapped p q) 0 ns ∙ parts.0 in
+    let distinct = are_distinct-mapped (swapped p q) ns parts.1 (λ x y here there. swapped_apart p q x y (new_apart q x ns new here) (new_apart q y ns new there)) in
     ap is_forest (set_is_replaced q ns i d parts.1 within) ∙ rw (depths, distinct) refl
 
 -- a place that is not in the tree is that of no node

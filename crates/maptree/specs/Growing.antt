@@ -1,17 +1,8 @@
 -- A tree that gains many places at once, each right behind another and one deeper.
-use Rattle.std.specs.Prelude.{◌≡◌, ℕ, ◌+◌, ◌==◌, List, [], ◌∷◌, Option, Some, None, slice_index_or, if◌then◌else◌}
+use Rattle.std.specs.Prelude.{◌≡◌, ℕ, ◌+◌, List, [], ◌∷◌, Option, Some, None}
 use Rattle.space.specs.declared.place.Place.{Place}
 use Rattle.maptree.specs.declared.node.Node.{Node}
 use Rattle.maptree.specs.Origins.{Origins}
-
--- new places, each to be put below a place of one space: by the pages of these places
-pub record NewPlaces : Type 0 where
-  pub space : ℕ
-  pub places : List (Option Place)
-
--- the new place that is to be put below a place, if there is one
-abbrev pub below : NewPlaces → Place → Option Place
-below new p = if p.space == new.space then slice_index_or new.places p.page None else None
 
 -- a new place in front of others, below this one
 abbrev pub with_new : Place → Option Place → Origins → Origins

@@ -1,18 +1,19 @@
 //! The derivation tree of a frame, as a list of nodes in preorder with their depths.
 #![tactic(auto)]
 
-mod below;
 mod cutting;
 mod ends;
 mod growing;
 mod links;
 mod node;
+mod place_map;
+mod replacing;
 mod slice;
 #[cfg(test)]
 mod tests;
 mod tree;
 
-pub use below::Below;
 pub use node::Node;
+pub use place_map::PlaceMap;
 pub use slice::Slice;
 pub use tree::Tree;

@@ -1,19 +1,22 @@
 //! The answers that are known for one tree.
 
-ghost use Rattle.std.specs.Prelude.{◌≡◌, ◌<◌, ◌+◌, IfOk, length};
+ghost use Rattle.std.specs.Prelude.{◌≡◌, ◌<◌, ◌+◌, IfOk, OnOk, length};
 
 mod cases;
 mod cuts;
 mod large;
 mod lists;
 
-use crate::Tree;
+use crate::{PlaceMap, Tree};
+use lists::tree_of;
 use space::{NoMemory, Place};
 use std::alloc::Global;
 use std::process::Abort;
 use std::test::Fail;
 
-fn place(space: u16, page: u32) -> Place {
+fn place(space: u16, page: u32) -> Place
+    ensures { result ≡ record { space = space; page = page } }
+{
     Place { space, page }
 }
 
@@ -160,5 +163,52 @@ fn renames_one_node(rt: HostRuntime) -> Result<(), Fail> {
     assert_eq!(rt; at, 1);
     assert_eq!(rt; tree.node(at).depth, 1);
     assert_eq!(rt; tree.run_of(at), 1..4);
+    Ok(())
+}
+
+/// The tree has these places with their origins, in this order.
+fn assert_links(
+    rt: &impl Abort,
+    alloc: Global,
+    tree: &Tree,
+    expected: &[(Place, Option<Place>)],
+) -> Result<(), NoMemory>
+    ensures { OnOk result (tree.now.links ≡ expected.now) }
+{
+    let links = tree.links(alloc)?;
+    if links.as_slice() != expected {
+        panic!(rt; "the tree has other links");
+    }
+    Ok(())
+}
+
+#[test]
+fn renames_many_nodes_at_once(rt: HostRuntime) -> Result<(), Fail> {
+    let (mut tree, _) = tree_of(&rt, rt.alloc(), "0:5/0 1:0/1 0:7/2 2:0/3 2:4/1")?;
+    let before = [
+        (place(0, 5), None),
+        (place(1, 0), Some(place(0, 5))),
+        (place(0, 7), Some(place(1, 0))),
+        (place(2, 0), Some(place(0, 7))),
+        (place(2, 4), Some(place(0, 5))),
+    ];
+    assert_links(&rt, rt.alloc(), &tree, &before)?;
+    let mut new = PlaceMap::none(rt.alloc(), 0, 5);
+    new.put(place(0, 5), place(3, 1))?;
+    new.put(place(0, 7), place(0, 5))?;
+    new.put(place(0, 9), place(3, 2))?;
+    tree.rename_all(&new);
+    let after = [
+        (place(3, 1), None),
+        (place(1, 0), Some(place(3, 1))),
+        (place(0, 5), Some(place(1, 0))),
+        (place(2, 0), Some(place(0, 5))),
+        (place(2, 4), Some(place(3, 1))),
+    ];
+    assert_links(&rt, rt.alloc(), &tree, &after)?;
+    for (page, renamed) in [(4, None), (6, None), (9, Some(place(3, 2))), (10, None)] {
+        assert_eq!(rt; new.get(place(0, page)), renamed);
+    }
+    assert_eq!(rt; new.get(place(1, 9)), None);
     Ok(())
 }

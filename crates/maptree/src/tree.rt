@@ -5,12 +5,13 @@ ghost use Rattle.space.specs.declared.place.Place.{Place};
 ghost use Rattle.maptree.specs.Origins.{origin_in, place_at, AreOuterRuns};
 ghost use Rattle.maptree.specs.Nodes.{is_forest, origins_of, run_len};
 
-use crate::below::Below;
 use crate::cutting::{Cutting, joined};
 use crate::ends::ends_of;
 use crate::growing::grown;
 use crate::links::linked;
 use crate::node::Node;
+use crate::place_map::PlaceMap;
+use crate::replacing::replace_places;
 use crate::slice::Slice;
 use space::{NoMemory, Place};
 use std::alloc::{AllocError, Global};
@@ -51,7 +52,9 @@ impl Tree {
     ghost use Rattle.std.specs.Prelude.{filter};
     ghost use Rattle.std.specs.List.{All};
     ghost use Rattle.maptree.specs.Origins.{are_once, origin_in, place_at, renamed, LeadsTo, HasDepth, IsRun, AreRising, AreOuterRuns, AreRunEnds};
-    ghost use Rattle.maptree.specs.Growing.{below, with_below, AreApart};
+    ghost use Rattle.maptree.specs.PlaceMaps.{place_for};
+    ghost use Rattle.maptree.specs.Growing.{with_below, AreApart};
+    ghost use Rattle.maptree.specs.Renamings.{all_renamed, StayApart};
     ghost use Rattle.maptree.specs.Cuts.{outside, nodes_of, ArePartsOf, IsCut, AreKept};
 
     /// A tree of one root.
@@ -212,6 +215,16 @@ impl Tree {
         node.place = place;
     }
 
+    /// Replaces each place that has one in the map by it, as a place and as an origin, all at once. Depths stay. This takes
+    /// no memory.
+    pub fn rename_all(&mut self, new: &PlaceMap)
+        requires apart { StayApart (place_for new.now) self.old.links }
+        ensures links { self.new.links ≡ all_renamed (place_for new.now) self.old.links }
+        ensures room { self.new.room ≡ self.old.room }
+    {
+        replace_places(&mut self.nodes, new);
+    }
+
     /// Puts a new node directly behind a node, one deeper. This takes no memory.
     pub fn insert_below(&mut self, i: usize, place: Place)
         requires within { i < length self.old.links }
@@ -230,10 +243,10 @@ impl Tree {
     /// place is not in the tree are passed over.
     ///
     /// Refused, where memory is: `NoMemory`. Then the tree is as it was.
-    pub fn insert_all_below(&mut self, alloc: Global, new: &Below) -> Result<(), NoMemory>
-        requires absent { (p q : Place) → below new.now p ≡ Some q → position (λ o. same_place q o.0) self.old.links ≡ None }
-        requires apart { AreApart (below new.now) }
-        ensures links { OnOk result (self.new.links ≡ with_below (below new.now) self.old.links) }
+    pub fn insert_all_below(&mut self, alloc: Global, new: &PlaceMap) -> Result<(), NoMemory>
+        requires absent { (p q : Place) → place_for new.now p ≡ Some q → position (λ o. same_place q o.0) self.old.links ≡ None }
+        requires apart { AreApart (place_for new.now) }
+        ensures links { OnOk result (self.new.links ≡ with_below (place_for new.now) self.old.links) }
         ensures err { OnErr result (self.new ≡ self.old) }
     {
         let room = self.nodes.capacity();

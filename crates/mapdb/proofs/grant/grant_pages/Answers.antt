@@ -13,6 +13,7 @@ use Rattle.mapdb.specs.Sending.{ends_of, moving_of, worked}
 use Rattle.mapdb.proofs.Named.{places_of_set, strip_of_set}
 use Rattle.mapdb.proofs.Phases.{ends_within}
 use Rattle.mapdb.proofs.Granting.{source_set, after_strip_free, after_strip_moving, after_strip_worked}
+use Rattle.mapdb.proofs.LinkedTrees.{on_ok_as, if_ok_as}
 use Rattle.mapdb.proofs.grant.grant_pages.Goals as goal
 
 pub strip_held-requires-clause-places : goal.strip_held-requires-clause-places
@@ -50,10 +51,14 @@ module _ (c : goal.After-trees-2-1) where
 pub returns-clause-counts : goal.returns-clause-counts
 returns-clause-counts c =
     let h = holdings_in c.args.shards.now c.args.trees.now in
-    c.move_pages.ensures.counts ∙ ap (λ g. worked g c.args.transfers.now) (left_stripped c) ∙ after_strip_worked h (lawful_parts h c.requires.sound.kept.lawful) c.args.rights c.args.transfers.now c.requires.ready
+    if_ok_as c.move_pages.result _ _
+    (λ reply counts. counts ∙ ap (λ g. worked g c.args.transfers.now) (left_stripped c) ∙ after_strip_worked h (lawful_parts h c.requires.sound.kept.lawful) c.args.rights c.args.transfers.now c.requires.ready)
+    c.move_pages.ensures.counts
 
 pub returns-clause-left : goal.returns-clause-left
 returns-clause-left c =
     let h = holdings_in c.args.shards.now c.args.trees.now in
     let left = strip h (sources_of (moving_of h c.args.transfers.now)) (without all_rights c.args.rights) true in
-    c.move_pages.ensures.left ∙ ap (λ g. renamed (moving_of g c.args.transfers.now) g) (left_stripped c) ∙ ap (λ es. renamed es left) (after_strip_moving h (lawful_parts h c.requires.sound.kept.lawful) c.args.rights c.args.transfers.now c.requires.ready)
+    on_ok_as c.move_pages.result _ _
+    (λ moved. moved ∙ ap (λ g. renamed (moving_of g c.args.transfers.now) g) (left_stripped c) ∙ ap (λ es. renamed es left) (after_strip_moving h (lawful_parts h c.requires.sound.kept.lawful) c.args.rights c.args.transfers.now c.requires.ready))
+    c.move_pages.ensures.left

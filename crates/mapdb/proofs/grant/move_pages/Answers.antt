@@ -1,91 +1,72 @@
--- One page more is lost or moves.
-use Rattle.std.proofs.Common.{◌+◌, drop, sym, ap, ◌∙◌, subst}
-use Rattle.model.specs.SendLaws.{total}
+-- The trees first, and then word by word.
+use Rattle.std.proofs.Common.{sym, subst}
 use Rattle.mapdb.specs.Meaning.{counts_of}
 use Rattle.mapdb.specs.Stripping.{limits_in, holdings_in}
-use Rattle.mapdb.proofs.MovingPages.{AreMoving, none_moved, source_within, target_within, source_place, source_apart, target_empty, count_fits, carried, step_lost, step_moved, all_moved}
-use Rattle.mapdb.proofs.grant.move_pages.Goals.{in-None, in-Some}
+use Rattle.mapdb.specs.Links.{AreMovable}
+use Rattle.mapdb.proofs.LinkedTrees.{no_transfer}
+use Rattle.mapdb.proofs.MovingWords.{AreMoving, none_moved, ends_apart, source_place, target_place, step, one_counts, all_moved}
+use Rattle.mapdb.proofs.MovingTrees.{movable, all_left, all_sound, same_limits}
 use Rattle.mapdb.proofs.grant.move_pages.Goals as goal
+
+pub rename_links-requires : goal.rename_links-requires
+rename_links-requires c =
+    subst (AreMovable c.args.trees.now) (sym c.in_ok-links.ensures)
+    (movable (limits_in c.args.shards.now c.args.trees.now) c.args.shards.now c.args.trees.now c.requires.sound c.args.transfers.now c.requires.planned c.requires.all_go c.requires.free (sym c.requires.sound.kept.fits.count))
 
 pub loop-transfer-init : goal.loop-transfer-init
 loop-transfer-init c =
-    subst (AreMoving (limits_in c.args.shards.now c.args.trees.now) (holdings_in c.args.shards.now c.args.trees.now) c.args.transfers.now c.args.transfers.now 0 c.args.shards.now c.args.trees.now) (sym c.none-reply.ensures)
-    (none_moved c.args.shards.now c.args.trees.now c.args.transfers.now c.requires.sound c.requires.free)
+    subst (AreMoving (limits_in c.args.shards.now c.args.trees.now) (holdings_in c.args.shards.now c.args.trees.now) c.args.shards.now c.args.transfers.now 0 c.args.shards.now) (sym c.none-reply.ensures)
+    (none_moved (limits_in c.args.shards.now c.args.trees.now) c.args.shards.now c.args.trees.now c.requires.sound c.args.transfers.now c.requires.planned c.requires.all_go c.requires.free)
 
-pub get-requires-clause-place : goal.get-requires-clause-place
-get-requires-clause-place c =
-    source_place (limits_in c.args.shards.now c.args.trees.now) (holdings_in c.args.shards.now c.args.trees.now) c.args.transfers.now c.requires.planned c.requires.all_go c.loop-transfer.transfer-index _ c.loop-transfer-test.true
-    c.loop-transfer.shards c.loop-transfer.trees (counts_of c.loop-transfer.reply) c.loop-transfer.invariant
+pub move_page-one-requires-clause-source : goal.move_page-one-requires-clause-source
+move_page-one-requires-clause-source c =
+    source_place (limits_in c.args.shards.now c.args.trees.now) c.args.shards.now c.args.trees.now c.requires.sound c.args.transfers.now c.requires.planned c.requires.all_go c.requires.free
+    c.loop-transfer.transfer-index no_transfer c.loop-transfer-test.true c.loop-transfer.shards (counts_of c.loop-transfer.reply) c.loop-transfer.invariant
 
-pub get-requires-clause-present : goal.get-requires-clause-present
-get-requires-clause-present c =
-    c.loop-transfer.invariant.sound.kept.fits.present
+pub move_page-one-requires-clause-target : goal.move_page-one-requires-clause-target
+move_page-one-requires-clause-target c =
+    target_place (limits_in c.args.shards.now c.args.trees.now) c.args.shards.now c.args.trees.now c.requires.sound c.args.transfers.now c.requires.planned c.requires.all_go c.requires.free
+    c.loop-transfer.transfer-index no_transfer c.loop-transfer-test.true c.loop-transfer.shards (counts_of c.loop-transfer.reply) c.loop-transfer.invariant
 
-pub move_page-requires-clause-sound : goal.move_page-requires-clause-sound
-move_page-requires-clause-sound c =
-    c.loop-transfer.invariant.sound
+pub move_page-one-requires-clause-apart : goal.move_page-one-requires-clause-apart
+move_page-one-requires-clause-apart c =
+    ends_apart (limits_in c.args.shards.now c.args.trees.now) c.args.shards.now c.args.trees.now c.requires.sound c.args.transfers.now c.requires.planned c.requires.all_go c.requires.free
+    c.loop-transfer.transfer-index no_transfer c.loop-transfer-test.true c.loop-transfer.shards (counts_of c.loop-transfer.reply) c.loop-transfer.invariant
 
-pub move_page-requires-clause-source : goal.move_page-requires-clause-source
-move_page-requires-clause-source c =
-    source_within (limits_in c.args.shards.now c.args.trees.now) (holdings_in c.args.shards.now c.args.trees.now) c.args.transfers.now c.requires.planned c.requires.all_go c.loop-transfer.transfer-index _ c.loop-transfer-test.true
-    c.loop-transfer.shards c.loop-transfer.trees (counts_of c.loop-transfer.reply) c.loop-transfer.invariant
-
-pub move_page-requires-clause-target : goal.move_page-requires-clause-target
-move_page-requires-clause-target c =
-    target_within (limits_in c.args.shards.now c.args.trees.now) (holdings_in c.args.shards.now c.args.trees.now) c.args.transfers.now c.requires.planned c.requires.all_go c.loop-transfer.transfer-index _ c.loop-transfer-test.true
-    c.loop-transfer.shards c.loop-transfer.trees (counts_of c.loop-transfer.reply) c.loop-transfer.invariant
-
-pub move_page-requires-clause-apart : goal.move_page-requires-clause-apart
-move_page-requires-clause-apart c =
-    source_apart (limits_in c.args.shards.now c.args.trees.now) (holdings_in c.args.shards.now c.args.trees.now) c.args.transfers.now c.requires.planned c.requires.all_go c.loop-transfer.transfer-index _ c.loop-transfer-test.true
-    c.loop-transfer.shards c.loop-transfer.trees (counts_of c.loop-transfer.reply) c.loop-transfer.invariant
-
-pub move_page-requires-clause-free : goal.move_page-requires-clause-free
-move_page-requires-clause-free c =
-    target_empty (limits_in c.args.shards.now c.args.trees.now) (holdings_in c.args.shards.now c.args.trees.now) c.args.transfers.now c.requires.planned c.requires.all_go c.loop-transfer.transfer-index _ c.loop-transfer-test.true
-    c.loop-transfer.shards c.loop-transfer.trees (counts_of c.loop-transfer.reply) c.loop-transfer.invariant
+pub move_page-one-requires-clause-present : goal.move_page-one-requires-clause-present
+move_page-one-requires-clause-present c = c.loop-transfer.invariant.words.present
 
 pub plus-reply-requires : goal.plus-reply-requires
 plus-reply-requires c =
-    elim c.match-get.branch [
-      | in-None w ↦ count_fits (limits_in c.args.shards.now c.args.trees.now) (holdings_in c.args.shards.now c.args.trees.now) c.args.transfers.now (drop c.loop-transfer.transfer-index c.args.transfers.now) c.loop-transfer.transfer-index c.requires.planned c.loop-transfer-test.true
-          c.loop-transfer.shards c.loop-transfer.trees (counts_of c.loop-transfer.reply) c.loop-transfer.invariant (counts_of c.match-get.one) (ap (λ r. total (counts_of r)) w.one-is ∙ ap total w.lost-one.ensures)
-      | in-Some w ↦ count_fits (limits_in c.args.shards.now c.args.trees.now) (holdings_in c.args.shards.now c.args.trees.now) c.args.transfers.now (drop c.loop-transfer.transfer-index c.args.transfers.now) c.loop-transfer.transfer-index c.requires.planned c.loop-transfer-test.true
-          c.loop-transfer.shards c.loop-transfer.trees (counts_of c.loop-transfer.reply) c.loop-transfer.invariant (counts_of c.match-get.one) (ap (λ r. total (counts_of r)) w.one-is ∙ ap total w.linked-one.ensures)
-    ]
+    one_counts (limits_in c.args.shards.now c.args.trees.now) c.args.shards.now c.args.trees.now c.requires.sound c.args.transfers.now c.requires.planned c.requires.all_go c.requires.free
+    c.loop-transfer.transfer-index no_transfer c.loop-transfer-test.true c.loop-transfer.shards (counts_of c.loop-transfer.reply) c.loop-transfer.invariant
+    c.move_page-one.new.shards (counts_of c.move_page-one.result) c.move_page-one.ensures.lost c.move_page-one.ensures.moved
 
 pub loop-transfer-preserved : goal.loop-transfer-preserved
 loop-transfer-preserved c =
-    elim c.match-get.branch [
-      | in-None w ↦
-          carried (limits_in c.args.shards.now c.args.trees.now) (holdings_in c.args.shards.now c.args.trees.now) c.args.transfers.now (drop (c.loop-transfer.transfer-index + 1) c.args.transfers.now) (c.loop-transfer.transfer-index + 1)
-          c.loop-transfer.shards c.match-get.shards c.loop-transfer.trees c.match-get.trees (counts_of c.plus-reply.result) w.shards-is w.trees-is
-          (step_lost (limits_in c.args.shards.now c.args.trees.now) (holdings_in c.args.shards.now c.args.trees.now) c.args.transfers.now c.requires.planned c.requires.all_go c.loop-transfer.transfer-index _ c.loop-transfer-test.true
-          c.loop-transfer.shards c.loop-transfer.trees (counts_of c.loop-transfer.reply) c.loop-transfer.invariant
-          (sym c.get.ensures ∙ w.in-None.is) (counts_of c.match-get.one) (counts_of c.plus-reply.result) (ap counts_of w.one-is ∙ w.lost-one.ensures) c.plus-reply.ensures)
-      | in-Some w ↦
-          carried (limits_in c.args.shards.now c.args.trees.now) (holdings_in c.args.shards.now c.args.trees.now) c.args.transfers.now (drop (c.loop-transfer.transfer-index + 1) c.args.transfers.now) (c.loop-transfer.transfer-index + 1)
-          w.move_page.new.shards c.match-get.shards w.move_page.new.trees c.match-get.trees (counts_of c.plus-reply.result) w.shards-is w.trees-is
-          (step_moved (limits_in c.args.shards.now c.args.trees.now) (holdings_in c.args.shards.now c.args.trees.now) c.args.transfers.now c.requires.planned c.requires.all_go c.loop-transfer.transfer-index _ c.loop-transfer-test.true
-          c.loop-transfer.shards c.loop-transfer.trees (counts_of c.loop-transfer.reply) c.loop-transfer.invariant
-          w.in-Some.entry (sym c.get.ensures ∙ w.in-Some.is) w.move_page.new.shards w.move_page.new.trees w.move_page.ensures.left w.move_page.ensures.sound w.move_page.ensures.limits
-          (counts_of c.match-get.one) (counts_of c.plus-reply.result) (ap counts_of w.one-is ∙ w.linked-one.ensures) c.plus-reply.ensures)
-    ]
+    step (limits_in c.args.shards.now c.args.trees.now) c.args.shards.now c.args.trees.now c.requires.sound c.args.transfers.now c.requires.planned c.requires.all_go c.requires.free
+    c.loop-transfer.transfer-index no_transfer c.loop-transfer-test.true c.loop-transfer.shards (counts_of c.loop-transfer.reply) c.loop-transfer.invariant
+    c.move_page-one.new.shards (counts_of c.move_page-one.result) c.move_page-one.ensures.lost c.move_page-one.ensures.moved (counts_of c.plus-reply.result) c.plus-reply.ensures
 
 pub returns-clause-counts : goal.returns-clause-counts
 returns-clause-counts c =
-    (all_moved (limits_in c.args.shards.now c.args.trees.now) (holdings_in c.args.shards.now c.args.trees.now) c.args.transfers.now c.loop-transfer.transfer-index c.loop-transfer.shards c.loop-transfer.trees
+    (all_moved (limits_in c.args.shards.now c.args.trees.now) (holdings_in c.args.shards.now c.args.trees.now) c.args.shards.now c.args.transfers.now c.loop-transfer.transfer-index c.loop-transfer.shards
     (counts_of c.loop-transfer.reply) c.loop-transfer-test.false c.loop-transfer.invariant).1
 
 pub returns-clause-left : goal.returns-clause-left
 returns-clause-left c =
-    (all_moved (limits_in c.args.shards.now c.args.trees.now) (holdings_in c.args.shards.now c.args.trees.now) c.args.transfers.now c.loop-transfer.transfer-index c.loop-transfer.shards c.loop-transfer.trees
+    all_left c.args.shards.now c.args.trees.now c.requires.sound c.args.transfers.now c.requires.planned c.requires.all_go c.requires.free c.loop-transfer.shards c.rename_links.new.trees c.in_ok-links.links.items c.in_ok-links.ensures c.in_ok-rename_links.ensures
+    (all_moved (limits_in c.args.shards.now c.args.trees.now) (holdings_in c.args.shards.now c.args.trees.now) c.args.shards.now c.args.transfers.now c.loop-transfer.transfer-index c.loop-transfer.shards
     (counts_of c.loop-transfer.reply) c.loop-transfer-test.false c.loop-transfer.invariant).0
 
 pub returns-clause-sound : goal.returns-clause-sound
 returns-clause-sound c =
-    c.loop-transfer.invariant.sound
+    all_sound c.args.shards.now c.args.trees.now c.requires.sound c.args.transfers.now c.requires.planned c.requires.all_go c.requires.free c.loop-transfer.shards c.rename_links.new.trees c.in_ok-links.links.items c.in_ok-links.ensures c.in_ok-rename_links.ensures
+    (all_moved (limits_in c.args.shards.now c.args.trees.now) (holdings_in c.args.shards.now c.args.trees.now) c.args.shards.now c.args.transfers.now c.loop-transfer.transfer-index c.loop-transfer.shards
+    (counts_of c.loop-transfer.reply) c.loop-transfer-test.false c.loop-transfer.invariant).0
 
 pub returns-clause-limits : goal.returns-clause-limits
 returns-clause-limits c =
-    c.loop-transfer.invariant.bounds
+    same_limits c.args.shards.now c.args.trees.now c.requires.sound c.args.transfers.now c.requires.planned c.requires.all_go c.requires.free c.loop-transfer.shards c.rename_links.new.trees c.in_ok-links.links.items c.in_ok-links.ensures c.in_ok-rename_links.ensures
+    (all_moved (limits_in c.args.shards.now c.args.trees.now) (holdings_in c.args.shards.now c.args.trees.now) c.args.shards.now c.args.transfers.now c.loop-transfer.transfer-index c.loop-transfer.shards
+    (counts_of c.loop-transfer.reply) c.loop-transfer-test.false c.loop-transfer.invariant).0

@@ -1,5 +1,5 @@
 -- The links of all trees, sorted, with what the words hold.
-use Rattle.std.proofs.Common.{◌≡◌, ◌∙◌, ap, subst, sym}
+use Rattle.std.proofs.Common.{◌∙◌, ap, subst, sym}
 use Rattle.std.specs.Option.{option_cmp}
 use Rattle.space.specs.Place.{place_cmp}
 use Rattle.space.specs.Shards.{IsPlace}

@@ -2,7 +2,8 @@
 use Rattle.std.proofs.Common.{◌≤◌, ◌+◌, ◌++◌, [], ◌∷◌, length, drop, get_or, None, Some, sym, ap, ◌∙◌, arith, rules}
 use Rattle.std.proofs.lemmas.List.{append_assoc}
 use Rattle.maptree.specs.declared.node.Node.{Node}
-use Rattle.maptree.specs.Growing.{below, nodes_below}
+use Rattle.maptree.specs.PlaceMaps.{place_for}
+use Rattle.maptree.specs.Growing.{nodes_below}
 use Rattle.maptree.proofs.Origin.{blank}
 use Rattle.maptree.proofs.Insertion.{depth_fits}
 use Rattle.maptree.proofs.Positions.{read_any}
@@ -22,7 +23,7 @@ overflow_add-depth c =
 pub loop-node-preserved : goal.loop-node-preserved
 loop-node-preserved c =
     let nodes = c.args.nodes.now in
-    let new = below c.args.new.now in
+    let new = place_for c.args.new.now in
     let i = c.loop-node.node-index in
     let n = get_or nodes i blank in
     let rest = nodes_below new (drop (i + 1) nodes) in

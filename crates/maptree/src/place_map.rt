@@ -1,0 +1,70 @@
+//! A place for each of some pages of one space.
+
+use space::Place;
+use std::alloc::{AllocError, Global};
+use std::marker::Model;
+
+/// A place for each of some pages of one space, from a first page on; looked up by page.
+#[derive(Drop)]
+pub struct PlaceMap {
+    space: u16,
+    /// The page of the first entry.
+    first: u32,
+    places: Vec<Option<Place>>,
+}
+
+impl Model for PlaceMap {
+    ghost use Rattle.maptree.specs.PlaceMaps.{Places};
+
+    ghost Value = { Places };
+
+    ghost view = { λ m. record { space = m.space; first = m.first; places = m.places.items } };
+}
+
+impl PlaceMap {
+    ghost use Rattle.std.specs.Prelude.{◌≡◌, ◌≤◌, OnOk, None, Some, if◌then◌else◌};
+    ghost use Rattle.space.specs.declared.place.Place.{Place};
+    ghost use Rattle.space.specs.Place.{same_place};
+    ghost use Rattle.maptree.specs.PlaceMaps.{place_for};
+
+    /// No places yet, for the pages of a space from this one on.
+    pub fn none(alloc: Global, space: u16, first: u32) -> PlaceMap
+        ensures space { result.space ≡ space }
+        ensures first { result.first ≡ first }
+        ensures none { (p : Place) → place_for result p ≡ None }
+    {
+        let places = Vec::new(alloc);
+        PlaceMap {
+            space,
+            first,
+            places,
+        }
+    }
+
+    /// Sets the place for one; any that was there for it goes.
+    pub fn put(&mut self, key: Place, place: Place) -> Result<(), AllocError>
+        requires space { key.space ≡ self.old.space }
+        requires page { self.old.first ≤ key.page }
+        ensures space { self.new.space ≡ self.old.space }
+        ensures first { self.new.first ≡ self.old.first }
+        ensures put { OnOk result ((p : Place) → place_for self.new p ≡ (if same_place p key then Some place else place_for self.old p)) }
+    {
+        let at = (key.page - self.first) as usize;
+        if self.places.len() <= at {
+            self.places.resize(at + 1, None)?;
+        }
+        self.places[at] = Some(place);
+        Ok(())
+    }
+
+    /// The place for one, if it has any.
+    pub fn get(&self, key: Place) -> Option<Place>
+        ensures { result ≡ place_for self.now key }
+    {
+        if key.space != self.space || key.page < self.first {
+            return None;
+        }
+        let at = self.places.get((key.page - self.first) as usize);
+        at.copied().flatten()
+    }
+}
