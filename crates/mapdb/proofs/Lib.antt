@@ -6,6 +6,7 @@ pub mod NewMappings
 pub mod Accesses
 pub mod Roots
 pub mod Chains
+pub mod RunOrigins
 pub mod Walks
 pub mod Visits
 pub mod Sequences

@@ -409,11 +409,14 @@ place_any [] i d e within = absurd (omega (arith, within))
 place_any (o ∷ os) zero d e within = refl
 place_any (o ∷ os) (suc i) d e within = place_any os i d e (omega (arith, within))
 
+-- a place that stands in a tree has a word
+pub standing_place : (shards : Shards) (trees : List Shape) (frame : ℕ) → AreLoose shards trees → (p : Place) → is_listed trees frame p ≡ true → IsPlace shards p
+standing_place shards trees frame loose p stands = let inside = within_from_place (limits_in shards trees) p (loose.within frame p stands) in record { space = inside.space; page = inside.page }
+
 -- a listed place has a word
 pub listed_place : (shards : Shards) (trees : List Shape) (frame : ℕ) → AreLoose shards trees → (i : ℕ) (p : Place) → i < length (links_in trees frame) → ((d : Place) → place_at (links_in trees frame) i d ≡ p) → IsPlace shards p
 listed_place shards trees frame loose i p within at =
-    let inside = within_from_place (limits_in shards trees) p (loose.within frame p (subst (λ q. is_listed trees frame q ≡ true) (at p) (listed_at (links_in trees frame) i p within))) in
-    record { space = inside.space; page = inside.page }
+    standing_place shards trees frame loose p (subst (λ q. is_listed trees frame q ≡ true) (at p) (listed_at (links_in trees frame) i p within))
 
 -- places of one layout
 pub place_kept : (old new : Shards) → IsLaidOutAs old new → (p : Place) → IsPlace old p → IsPlace new p

@@ -1,5 +1,6 @@
 -- Words and trees while rights are revoked: words change first, and then the trees lose the places that hold nothing.
-use Rattle.std.specs.Prelude.{◌≡◌, ℕ, true, Bool, ◌&&◌, List, length, map, filter, Some, is_some}
+use Rattle.std.specs.Prelude.{◌≡◌, ◌<◌, ℕ, true, Bool, ◌&&◌, List, length, map, filter, Option, Some, is_some, get_or}
+use Rattle.mapdb.specs.Derivation.{stands_in}
 use Rattle.std.specs.List.{All, list_any}
 use Rattle.std.specs.declared.ops.Range.{Range}
 use Rattle.space.specs.declared.place.Place.{Place}
@@ -76,3 +77,13 @@ pub record AreHeldPages (shards : Shards) (space : ℕ) (fpage : Flexpage) (page
 -- the places of pages
 abbrev pub places_in : List HeldPage → List Place
 places_in pages = map (λ h. h.place) pages
+
+-- the place from which the place at a position derives, which stands in the tree too
+pub record IsOriginAt (os : Origins) (i : ℕ) (origin : Option Place) : Type 0 where
+  pub is : (d : Place) → origin_in os (place_at os i d) ≡ origin
+  pub stands : (q : Place) → origin ≡ Some q → stands_in os q ≡ true
+
+-- those of the first places of runs
+pub record AreRunOrigins (os : Origins) (runs : List (Range ℕ)) (origins : List (Option Place)) : Type 0 where
+  pub count : length origins ≡ length runs
+  pub each : (k : ℕ) (r : Range ℕ) (o : Option Place) → k < length runs → IsOriginAt os (get_or runs k r).start (get_or origins k o)

@@ -6,13 +6,10 @@ ghost use Rattle.space.specs.Shards.{IsPlace, is_taken};
 ghost use Rattle.mapdb.specs.Links.{links_of, AreLinkable, AreLinked};
 
 use crate::transfer::Transfer;
-use crate::tree;
+use crate::tree::{self, FEW};
 use maptree::{PlaceMap, Tree};
 use space::{NoMemory, Place, Shards};
 use std::alloc::{AllocError, Global};
-
-/// So many new mappings of one frame are put into its tree one by one; where there are more, in one pass.
-const FEW: usize = 8;
 
 /// A held page and the target to which it is mapped or moved, with the frame of both.
 #[derive(Clone, Copy, Debug, PartialEq, Eq)]

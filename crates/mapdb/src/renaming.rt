@@ -9,7 +9,11 @@ use std::alloc::{AllocError, Global};
 
 /// Replaces each source by its target in the trees, as a place and as an origin. A tree is passed over once, however many of
 /// its places move.
-pub fn rename_links(alloc: Global, trees: &mut [Tree], mut links: Vec<Link>) -> Result<(), AllocError>
+pub fn rename_links(
+    alloc: Global,
+    trees: &mut [Tree],
+    mut links: Vec<Link>,
+) -> Result<(), AllocError>
     requires { AreMovable trees.old links.items }
     ensures { OnOk result (AreRenamed (λ p. last_target links.items p None) links.items trees.old trees.new) }
 {

@@ -7,12 +7,10 @@ ghost use Rattle.mapdb.specs.Sending.{AreItemPages};
 ghost use Rattle.mapdb.specs.Spots.{AreSpots};
 
 use crate::item_pages::ItemPages;
+use crate::tree::FEW;
 use maptree::Tree;
 use space::{Place, Shards};
 use std::alloc::{AllocError, Global};
-
-/// So many pairs of one frame are searched for one by one; where there are more, their places are noted first.
-const FEW: usize = 8;
 
 /// Where a place stands in the tree of its frame.
 #[derive(Clone, Copy, Debug, PartialEq, Eq)]

@@ -11,9 +11,10 @@ ghost use Rattle.mapdb.specs.Stripping.{holdings_in, AreLoose};
 ghost use Rattle.std.specs.Prelude.{IfOk, OnOk};
 ghost use Rattle.std.specs.List.{All};
 ghost use Rattle.maptree.specs.Origins.{AreRising};
-ghost use Rattle.mapdb.specs.Stripping.{limits_in, any_of, firsts, AreSound, AreOfFrame};
+ghost use Rattle.mapdb.specs.Stripping.{limits_in, any_of, firsts, AreSound, AreOfFrame, IsOriginAt};
 
 use crate::tidy::tidy;
+use crate::tree::run_origins;
 use fpage::Rights;
 use maptree::Tree;
 use space::{Entry, NoMemory, Place, Shards};
@@ -42,46 +43,53 @@ pub fn strip_frame(
     ensures limits { limits_in shards.new trees.new ≡ limits_in shards.old trees.old }
 {
     let runs = trees[frame].outer_runs(alloc, places)?;
-    let status = strip_runs(shards, trees, frame, &runs, revoked, first_too);
+    let status = strip_runs(alloc, shards, trees, frame, &runs, revoked, first_too)?;
     tidy(alloc, shards, &mut trees[frame], &runs)?;
     Ok(status)
 }
 
 /// Strips the first places of runs of one tree.
+///
+/// Refused, where memory is: `NoMemory`.
 fn strip_runs(
+    alloc: Global,
     shards: &mut Shards,
     trees: &[Tree],
     frame: usize,
     runs: &[Range<usize>],
     revoked: Rights,
     first_too: bool,
-) -> Rights
+) -> Result<Rights, NoMemory>
     requires loose { AreLoose shards.old trees.now }
     requires frame { frame < length trees.now }
     requires rising { AreRising 0 runs.now (length (links_in trees.now frame)) }
     requires runs { All (IsRun (links_in trees.now frame)) runs.now }
-    ensures status { result ≡ strip_word (holdings_in shards.old trees.now) (any_of (firsts (links_in trees.now frame) runs.now)) }
-    ensures left { holdings_in shards.new trees.now ≡ strip (holdings_in shards.old trees.now) (any_of (firsts (links_in trees.now frame) runs.now)) revoked first_too }
-    ensures loose { AreLoose shards.new trees.now }
+    ensures status { IfOk result (λ status. status ≡ strip_word (holdings_in shards.old trees.now) (any_of (firsts (links_in trees.now frame) runs.now))) }
+    ensures left { OnOk result (holdings_in shards.new trees.now ≡ strip (holdings_in shards.old trees.now) (any_of (firsts (links_in trees.now frame) runs.now)) revoked first_too) }
+    ensures loose { OnOk result (AreLoose shards.new trees.now) }
     ensures layout { IsLaidOutAs shards.old shards.new }
 {
+    let origins = run_origins(alloc, &trees[frame], runs)?;
     let mut status = Rights::none();
-    for run in runs {
-        status = status.join(strip_run(shards, trees, frame, run, revoked, first_too));
+    for i in 0..runs.len() {
+        let run = &runs[i];
+        let origin = origins[i];
+        status = status.join(strip_run(shards, trees, frame, run, origin, revoked, first_too));
     }
-    status
+    Ok(status)
 }
 
 /// Strips the first place of a run of rights: all of the run loses them, the first place too if it is to lose them
 /// itself, and a page that has no rights left goes. The status of the run is cleared, given back, and added to that of
-/// the page from which the first place derives.
+/// the page from which the first place derives, if there is one.
 ///
 /// The tree stays: it may then list places that hold nothing.
-pub fn strip_run(
+fn strip_run(
     shards: &mut Shards,
     trees: &[Tree],
     frame: usize,
     run: &Range<usize>,
+    origin: Option<Place>,
     revoked: Rights,
     first_too: bool,
 ) -> Rights
@@ -90,6 +98,7 @@ pub fn strip_run(
     requires run { IsRun (links_in trees.now frame) run.now }
     requires some { run.now.start < run.now.end }
     requires within { run.now.end ≤ length (links_in trees.now frame) }
+    requires origin { IsOriginAt (links_in trees.now frame) run.now.start origin }
     ensures status { (d : Place) → result ≡ strip_word (holdings_in shards.old trees.now) (only (place_at (links_in trees.now frame) run.now.start d)) }
     ensures left { (d : Place) → holdings_in shards.new trees.now ≡ strip (holdings_in shards.old trees.now) (only (place_at (links_in trees.now frame) run.now.start d)) revoked first_too }
     ensures loose { AreLoose shards.new trees.now }
@@ -100,8 +109,8 @@ pub fn strip_run(
     for i in run.start + 1..run.end {
         status = status.join(narrow(shards, tree.node(i).place, revoked, true));
     }
-    if let Some(origin) = tree.origin_of(run.start) {
-        add_status(shards, tree.node(origin).place, status);
+    if let Some(origin) = origin {
+        add_status(shards, origin, status);
     }
     status
 }

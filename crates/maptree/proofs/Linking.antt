@@ -1,13 +1,18 @@
 -- The path to a node, kept with the root's place first, and the links that it gives.
-use Rattle.std.proofs.Common.{◌≡◌, ℕ, zero, suc, ◌+◌, ◌-◌, ◌<◌, ◌≤◌, true, List, [], ◌∷◌, ◌++◌, length, take, drop, get_or, map, Some, None, refl, sym, ap, ◌∙◌, arith}
+use Rattle.std.proofs.Common.{◌≡◌, ℕ, zero, suc, ◌+◌, ◌-◌, ◌<◌, ◌≤◌, true, false, Bool, ◌||◌, List, [], ◌∷◌, ◌++◌, length, take, drop, get_or, map, Some, None, refl, sym, ap, ◌∙◌, arith, ◌⊎◌, inl, inr, if◌then◌else◌}
 use Rattle.std.specs.Prelude.{reverse, not, ◌&&◌}
-use Rattle.std.specs.List.{slice_get, list_all}
+use Rattle.std.specs.List.{slice_get, list_all, list_any}
+use Rattle.std.specs.Option.{option_and_then}
+use Rattle.std.specs.FinMap.Entries.{find}
 use Rattle.std.proofs.lemmas.Bool.{and_parts, and_from}
+use Rattle.std.proofs.lemmas.Option.{same_Some}
+use Rattle.std.proofs.Math.Bool.{or-true}
 use Rattle.std.proofs.lemmas.List.{take-append-drop, drop_more, length-drop, length-reverse, reverse-append, append_assoc}
 use Rattle.space.specs.declared.place.Place.{Place}
-use Rattle.space.specs.Place.{same_place}
+use Rattle.space.specs.Place.{place_cmp, same_place}
+use Rattle.space.proofs.Places.{same_self}
 use Rattle.maptree.specs.declared.node.Node.{Node}
-use Rattle.maptree.specs.Origins.{Origins, are_once}
+use Rattle.maptree.specs.Origins.{Origins, OriginsStand, are_once, origin_in}
 use Rattle.maptree.specs.Nodes.{is_new, are_distinct, are_depths, is_forest, above, first, links, origins_of}
 
 -- the first of the reversed list is the last of the list
@@ -70,3 +75,43 @@ distinct_once path (n ∷ ns) distinct =
 
 pub forest_once : (ns : List Node) → is_forest ns ≡ true → are_once (origins_of ns) ≡ true
 forest_once ns forest = distinct_once [] ns (and_parts (are_depths 0 ns) (are_distinct ns) forest).1
+
+-- ---- each origin stands there
+
+in_drop : (k : ℕ) (path : List Place) (q : Place) → list_any (same_place q) (drop k path) ≡ true → list_any (same_place q) path ≡ true
+in_drop zero path q there = there
+in_drop (suc k) [] q there = there
+in_drop (suc k) (p ∷ path) q there = ap (λ b. same_place q p || b) (in_drop k path q there) ∙ or-true (same_place q p)
+
+in_first : (path : List Place) (q : Place) → first path ≡ Some q → list_any (same_place q) path ≡ true
+in_first [] q is = absurd (cc is)
+in_first (p ∷ path) q is = ap (λ x. same_place q x || list_any (same_place q) path) (same_Some p q is) ∙ ap (λ b. b || list_any (same_place q) path) (same_self q)
+
+-- or in the path to the first node
+stands_or : (path : List Place) (ns : List Node) (p q : Place) → origin_in (links path ns) p ≡ Some q → (list_any (λ o. same_place q o.0) (links path ns) ≡ true) ⊎ (list_any (same_place q) path ≡ true)
+stands_or path [] p q is = absurd (cc is)
+stands_or path (n ∷ ns) p q is = by (same_place p n.place) is (stands_or (n.place ∷ above n path) ns p q)
+  where
+    rest : Origins
+    rest = links (n.place ∷ above n path) ns
+
+    behind : (list_any (λ o. same_place q o.0) rest ≡ true) ⊎ (list_any (same_place q) (n.place ∷ above n path) ≡ true) → (list_any (λ o. same_place q o.0) (links path (n ∷ ns)) ≡ true) ⊎ (list_any (same_place q) path ≡ true)
+    behind (inl there) = inl (ap (λ b. same_place q n.place || b) there ∙ or-true (same_place q n.place))
+    behind (inr among) = which (same_place q n.place) refl among
+      where
+        which : (b : Bool) → same_place q n.place ≡ b → (b || list_any (same_place q) (above n path)) ≡ true → (list_any (λ o. same_place q o.0) (links path (n ∷ ns)) ≡ true) ⊎ (list_any (same_place q) path ≡ true)
+        which true same _ = inl (ap (λ b. b || list_any (λ o. same_place q o.0) rest) same)
+        which false other there = inr (in_drop (length path - n.depth) path q there)
+
+    by : (b : Bool) → option_and_then (λ o. o) (if b then Some (first (above n path)) else find place_cmp p rest) ≡ Some q
+        → (origin_in rest p ≡ Some q → (list_any (λ o. same_place q o.0) rest ≡ true) ⊎ (list_any (same_place q) (n.place ∷ above n path) ≡ true))
+        → (list_any (λ o. same_place q o.0) (links path (n ∷ ns)) ≡ true) ⊎ (list_any (same_place q) path ≡ true)
+    by true here more = inr (in_drop (length path - n.depth) path q (in_first (above n path) q here))
+    by false there more = behind (more there)
+
+pub origins_stand : (ns : List Node) → OriginsStand (origins_of ns)
+origins_stand ns p q is = by (stands_or [] ns p q is)
+  where
+    by : (list_any (λ o. same_place q o.0) (origins_of ns) ≡ true) ⊎ (list_any (same_place q) [] ≡ true) → list_any (λ o. same_place q o.0) (origins_of ns) ≡ true
+    by (inl there) = there
+    by (inr none) = absurd (cc none)

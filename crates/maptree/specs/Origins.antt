@@ -20,6 +20,10 @@ are_once (o ∷ os) = list_all (λ q. not (same_place o.0 q.0)) os && are_once o
 abbrev pub origin_in : Origins → Place → Option Place
 origin_in os p = option_and_then (λ o. o) (find place_cmp p os)
 
+-- each origin stands in the tree too
+abbrev pub OriginsStand : Origins → Type 0
+OriginsStand os = (p q : Place) → origin_in os p ≡ Some q → list_any (λ o. same_place q o.0) os ≡ true
+
 -- the place to which so many origins lead, one after another
 abbrev pub after_origins : ℕ → Origins → Place → Option Place
 after_origins zero os p = Some p

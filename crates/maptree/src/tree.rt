@@ -51,7 +51,7 @@ impl Tree {
     ghost use Rattle.space.specs.Place.{same_place};
     ghost use Rattle.std.specs.Prelude.{filter};
     ghost use Rattle.std.specs.List.{All};
-    ghost use Rattle.maptree.specs.Origins.{are_once, origin_in, place_at, renamed, LeadsTo, HasDepth, IsRun, AreRising, AreOuterRuns, AreRunEnds};
+    ghost use Rattle.maptree.specs.Origins.{are_once, OriginsStand, origin_in, place_at, renamed, LeadsTo, HasDepth, IsRun, AreRising, AreOuterRuns, AreRunEnds};
     ghost use Rattle.maptree.specs.PlaceMaps.{place_for};
     ghost use Rattle.maptree.specs.Growing.{with_below, AreApart};
     ghost use Rattle.maptree.specs.Renamings.{all_renamed, StayApart};
@@ -146,6 +146,7 @@ impl Tree {
     pub fn links(&self, alloc: Global) -> Result<Vec<(Place, Option<Place>)>, NoMemory>
         ensures links { IfOk result (λ links. links.items ≡ self.now.links) }
         ensures once { OnOk result (are_once self.now.links ≡ true) }
+        ensures origins { OnOk result (OriginsStand self.now.links) }
     {
         let links = linked(alloc, &self.nodes)?;
         Ok(links)

@@ -37,9 +37,9 @@ bounds-trees-link c =
 pub rename_all-requires : goal.rename_all-requires
 rename_all-requires c = record {
   apart = apart_there (place_for c.in_ok-targets.targets) c.args.trees.now c.args.links.items c.deref-link-items.result.now
-    (in_order c.args.links.items c.sort_unstable_by_key.new.self.items c.deref-link-items.result.now c.sort_unstable_by_key.ensures.permutation c.deref-link-items.ensures.value)
-    c.requires (told_of c.args.links.items c.deref-2.result.now (place_for c.in_ok-targets.targets) c.deref-2.ensures.value c.in_ok-targets.ensures)
-    c.loop-link.link-index no_link c.loop-link-test.true c.loop-link.trees c.loop-link.passed c.loop-link.invariant c.index-trees-link.result c.index-trees-link.is;
+      (in_order c.args.links.items c.sort_unstable_by_key.new.self.items c.deref-link-items.result.now c.sort_unstable_by_key.ensures.permutation c.deref-link-items.ensures.value)
+      c.requires (told_of c.args.links.items c.deref-2.result.now (place_for c.in_ok-targets.targets) c.deref-2.ensures.value c.in_ok-targets.ensures)
+      c.loop-link.link-index no_link c.loop-link-test.true c.loop-link.trees c.loop-link.passed c.loop-link.invariant c.index-trees-link.result c.index-trees-link.is;
 }
 
 pub loop-link-preserved : goal.loop-link-preserved

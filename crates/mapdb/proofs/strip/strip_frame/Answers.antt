@@ -20,8 +20,8 @@ outer c =
     subst (AreOuterRuns (links_in c.args.trees.now c.args.frame) c.args.places.now) (sym c.deref.ensures.value)
     (subst (λ os. AreOuterRuns os c.args.places.now c.in_ok-runs.runs.items) (sym links) c.in_ok-runs.ensures)
 
-pub strip_runs-status-requires-clause-runs : goal.strip_runs-status-requires-clause-runs
-strip_runs-status-requires-clause-runs c = (outer c).whole
+pub strip_runs-requires-clause-runs : goal.strip_runs-requires-clause-runs
+strip_runs-requires-clause-runs c = (outer c).whole
 
 -- the words have lost
 outer_then : (c : goal.After-deref-2) → AreOuterRuns (links_in c.args.trees.now c.args.frame) c.args.places.now c.deref-2.result.now
@@ -30,10 +30,10 @@ outer_then c =
     subst (AreOuterRuns (links_in c.args.trees.now c.args.frame) c.args.places.now) (sym c.deref-2.ensures.value)
     (subst (λ os. AreOuterRuns os c.args.places.now c.in_ok-runs.runs.items) (sym links) c.in_ok-runs.ensures)
 
-done_then : (c : goal.After-deref-2) → AreStripped c.args.shards.now c.args.trees.now (firsts (links_in c.args.trees.now c.args.frame) c.deref-2.result.now) c.args.revoked c.args.first_too c.strip_runs-status.new.shards c.strip_runs-status.result
+done_then : (c : goal.After-deref-2) → AreStripped c.args.shards.now c.args.trees.now (firsts (links_in c.args.trees.now c.args.frame) c.deref-2.result.now) c.args.revoked c.args.first_too c.strip_runs.new.shards c.in_ok-status.status
 done_then c =
-    subst (λ rs. AreStripped c.args.shards.now c.args.trees.now (firsts (links_in c.args.trees.now c.args.frame) rs) c.args.revoked c.args.first_too c.strip_runs-status.new.shards c.strip_runs-status.result) (c.deref.ensures.value ∙ sym c.deref-2.ensures.value)
-    (record { word = c.strip_runs-status.ensures.status; left = c.strip_runs-status.ensures.left; loose = c.strip_runs-status.ensures.loose; layout = c.strip_runs-status.ensures.layout })
+    subst (λ rs. AreStripped c.args.shards.now c.args.trees.now (firsts (links_in c.args.trees.now c.args.frame) rs) c.args.revoked c.args.first_too c.strip_runs.new.shards c.in_ok-status.status) (c.deref.ensures.value ∙ sym c.deref-2.ensures.value)
+    (record { word = c.in_ok-status.ensures.status; left = c.in_ok-status.ensures.left; loose = c.in_ok-status.ensures.loose; layout = c.strip_runs.ensures.layout })
 
 tree_is : (c : goal.After-deref-2) → links_in c.args.trees.now c.args.frame ≡ (get_or c.args.trees.now c.args.frame c.index-trees-frame-2.result).links
 tree_is c =
@@ -41,21 +41,21 @@ tree_is c =
 
 pub tidy-requires-clause-places : goal.tidy-requires-clause-places
 tidy-requires-clause-places c =
-    subst (All (λ o. IsPlace c.strip_runs-status.new.shards o.0)) (tree_is c)
-    (tree_places c.args.shards.now c.args.trees.now c.requires.sound c.args.frame c.args.places.now c.requires.places c.deref-2.result.now (outer_then c) c.args.revoked c.args.first_too c.strip_runs-status.new.shards c.strip_runs-status.result (done_then c))
+    subst (All (λ o. IsPlace c.strip_runs.new.shards o.0)) (tree_is c)
+    (tree_places c.args.shards.now c.args.trees.now c.requires.sound c.args.frame c.args.places.now c.requires.places c.deref-2.result.now (outer_then c) c.args.revoked c.args.first_too c.strip_runs.new.shards c.in_ok-status.status (done_then c))
 
 pub tidy-requires-clause-runs : goal.tidy-requires-clause-runs
 tidy-requires-clause-runs c = subst (λ os. All (IsRun os) c.deref-2.result.now) (tree_is c) (outer_then c).whole
 
 pub tidy-requires-clause-outside : goal.tidy-requires-clause-outside
 tidy-requires-clause-outside c =
-    subst (λ os. list_all (λ o. has_entry c.strip_runs-status.new.shards o.0) (outside 0 c.deref-2.result.now os) ≡ true) (tree_is c)
-    (outside_held c.args.shards.now c.args.trees.now c.requires.sound c.args.frame c.args.places.now c.requires.places c.deref-2.result.now (outer_then c) c.args.revoked c.args.first_too c.strip_runs-status.new.shards c.strip_runs-status.result (done_then c))
+    subst (λ os. list_all (λ o. has_entry c.strip_runs.new.shards o.0) (outside 0 c.deref-2.result.now os) ≡ true) (tree_is c)
+    (outside_held c.args.shards.now c.args.trees.now c.requires.sound c.args.frame c.args.places.now c.requires.places c.deref-2.result.now (outer_then c) c.args.revoked c.args.first_too c.strip_runs.new.shards c.in_ok-status.status (done_then c))
 
 pub tidy-requires-clause-origins : goal.tidy-requires-clause-origins
 tidy-requires-clause-origins c =
-    subst (OriginsHaveEntries c.strip_runs-status.new.shards) (tree_is c)
-    (origins_stay c.args.shards.now c.args.trees.now c.requires.sound c.args.frame c.args.places.now c.requires.places c.deref-2.result.now (outer_then c) c.args.revoked c.args.first_too c.strip_runs-status.new.shards c.strip_runs-status.result (done_then c))
+    subst (OriginsHaveEntries c.strip_runs.new.shards) (tree_is c)
+    (origins_stay c.args.shards.now c.args.trees.now c.requires.sound c.args.frame c.args.places.now c.requires.places c.deref-2.result.now (outer_then c) c.args.revoked c.args.first_too c.strip_runs.new.shards c.in_ok-status.status (done_then c))
 
 -- the outermost runs, and what was done, at the end
 outer_last : (c : goal.After-drop-runs-2) → AreOuterRuns (links_in c.args.trees.now c.args.frame) c.args.places.now c.deref-2.result.now
@@ -64,29 +64,29 @@ outer_last c =
     subst (AreOuterRuns (links_in c.args.trees.now c.args.frame) c.args.places.now) (sym c.deref-2.ensures.value)
     (subst (λ os. AreOuterRuns os c.args.places.now c.in_ok-runs.runs.items) (sym links) c.in_ok-runs.ensures)
 
-done_last : (c : goal.After-drop-runs-2) → AreStripped c.args.shards.now c.args.trees.now (firsts (links_in c.args.trees.now c.args.frame) c.deref-2.result.now) c.args.revoked c.args.first_too c.strip_runs-status.new.shards c.strip_runs-status.result
+done_last : (c : goal.After-drop-runs-2) → AreStripped c.args.shards.now c.args.trees.now (firsts (links_in c.args.trees.now c.args.frame) c.deref-2.result.now) c.args.revoked c.args.first_too c.strip_runs.new.shards c.in_ok-status.status
 done_last c =
-    subst (λ rs. AreStripped c.args.shards.now c.args.trees.now (firsts (links_in c.args.trees.now c.args.frame) rs) c.args.revoked c.args.first_too c.strip_runs-status.new.shards c.strip_runs-status.result) (c.deref.ensures.value ∙ sym c.deref-2.ensures.value)
-    (record { word = c.strip_runs-status.ensures.status; left = c.strip_runs-status.ensures.left; loose = c.strip_runs-status.ensures.loose; layout = c.strip_runs-status.ensures.layout })
+    subst (λ rs. AreStripped c.args.shards.now c.args.trees.now (firsts (links_in c.args.trees.now c.args.frame) rs) c.args.revoked c.args.first_too c.strip_runs.new.shards c.in_ok-status.status) (c.deref.ensures.value ∙ sym c.deref-2.ensures.value)
+    (record { word = c.in_ok-status.ensures.status; left = c.in_ok-status.ensures.left; loose = c.in_ok-status.ensures.loose; layout = c.strip_runs.ensures.layout })
 
-tidied_last : (c : goal.After-drop-runs-2) → IsTreeSet c.args.trees.now (slice_set c.args.trees.now c.args.frame c.tidy.new.tree) c.args.frame (tidied c.strip_runs-status.new.shards (links_in c.args.trees.now c.args.frame))
+tidied_last : (c : goal.After-drop-runs-2) → IsTreeSet c.args.trees.now (slice_set c.args.trees.now c.args.frame c.tidy.new.tree) c.args.frame (tidied c.strip_runs.new.shards (links_in c.args.trees.now c.args.frame))
 tidied_last c =
     let is : links_in c.args.trees.now c.args.frame ≡ (get_or c.args.trees.now c.args.frame c.index-trees-frame-2.result).links =
     links_read c.args.trees.now c.args.frame c.index-trees-frame-2.result c.requires.frame c.index-trees-frame-2.is ∙ ap (λ (t : Shape). t.links) c.index-trees-frame-2.is in
-    subst (IsTreeSet c.args.trees.now (slice_set c.args.trees.now c.args.frame c.tidy.new.tree) c.args.frame) (c.in_ok-tidy.ensures ∙ ap (tidied c.strip_runs-status.new.shards) (sym is))
+    subst (IsTreeSet c.args.trees.now (slice_set c.args.trees.now c.args.frame c.tidy.new.tree) c.args.frame) (c.in_ok-tidy.ensures ∙ ap (tidied c.strip_runs.new.shards) (sym is))
     (tree_set c.args.trees.now c.args.frame c.tidy.new.tree c.requires.frame)
 
 pub returns-clause-status : goal.returns-clause-status
 returns-clause-status c =
-    frame_status c.args.shards.now c.args.trees.now c.requires.sound c.args.frame c.args.places.now c.requires.places c.deref-2.result.now (outer_last c) c.args.revoked c.args.first_too c.strip_runs-status.new.shards c.strip_runs-status.result (done_last c)
+    frame_status c.args.shards.now c.args.trees.now c.requires.sound c.args.frame c.args.places.now c.requires.places c.deref-2.result.now (outer_last c) c.args.revoked c.args.first_too c.strip_runs.new.shards c.in_ok-status.status (done_last c)
     (slice_set c.args.trees.now c.args.frame c.tidy.new.tree) (tidied_last c)
 
 pub returns-clause-left : goal.returns-clause-left
 returns-clause-left c =
-    frame_left c.args.shards.now c.args.trees.now c.requires.sound c.args.frame c.args.places.now c.requires.places c.deref-2.result.now (outer_last c) c.args.revoked c.args.first_too c.strip_runs-status.new.shards c.strip_runs-status.result (done_last c)
+    frame_left c.args.shards.now c.args.trees.now c.requires.sound c.args.frame c.args.places.now c.requires.places c.deref-2.result.now (outer_last c) c.args.revoked c.args.first_too c.strip_runs.new.shards c.in_ok-status.status (done_last c)
     (slice_set c.args.trees.now c.args.frame c.tidy.new.tree) (tidied_last c)
 
 pub returns-clause-sound : goal.returns-clause-sound
 returns-clause-sound c =
-    frame_sound c.args.shards.now c.args.trees.now c.requires.sound c.args.frame c.args.places.now c.requires.places c.deref-2.result.now (outer_last c) c.args.revoked c.args.first_too c.strip_runs-status.new.shards c.strip_runs-status.result (done_last c)
+    frame_sound c.args.shards.now c.args.trees.now c.requires.sound c.args.frame c.args.places.now c.requires.places c.deref-2.result.now (outer_last c) c.args.revoked c.args.first_too c.strip_runs.new.shards c.in_ok-status.status (done_last c)
     (slice_set c.args.trees.now c.args.frame c.tidy.new.tree) (tidied_last c)

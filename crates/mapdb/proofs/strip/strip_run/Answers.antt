@@ -1,5 +1,5 @@
 -- The run loses, and its origin gains.
-use Rattle.std.proofs.Common.{◌≡◌, ℕ, ◌<◌, ◌+◌, ◌||◌, not, true, false, Bool, length, Some, None, option_map, sym, ap, ◌∙◌, subst, arith}
+use Rattle.std.proofs.Common.{◌≡◌, ℕ, ◌<◌, ◌+◌, ◌||◌, not, true, false, Bool, length, Some, None, sym, ap, ◌∙◌, subst, arith}
 use Rattle.std.proofs.lemmas.Bool.{false_from_ne_true}
 use Rattle.fpage.specs.Rights.{no_rights}
 use Rattle.space.specs.declared.place.Place.{Place}
@@ -8,7 +8,7 @@ use Rattle.space.proofs.Places.{same_is, same_self}
 use Rattle.maptree.specs.Origins.{origin_in, place_at}
 use Rattle.mapdb.specs.Held.{links_in}
 use Rattle.mapdb.proofs.Holders.{links_read}
-use Rattle.mapdb.proofs.Walks.{IsWalked, IsStripped, walk_begins, walk_goes, place_any, listed_place, place_kept, run_without_origin, run_with_origin}
+use Rattle.mapdb.proofs.Walks.{IsWalked, IsStripped, walk_begins, walk_goes, place_any, listed_place, standing_place, place_kept, run_without_origin, run_with_origin}
 use Rattle.mapdb.proofs.strip.strip_run.Goals as goal
 
 pub narrow-status-requires-clause-place : goal.narrow-status-requires-clause-place
@@ -72,55 +72,32 @@ loop-i-preserved c = λ p first.
     of_other : (f : Bool) → true ≡ (f || not false)
     of_other f = grind arith
 
-pub origin_of-requires : goal.origin_of-requires
-origin_of-requires c =
-    let links = links_read c.args.trees.now c.args.frame c.index-trees-frame.result c.requires.frame c.index-trees-frame.is in
-    let within : c.args.run.now.start < length (links_in c.args.trees.now c.args.frame) = omega (arith, c.requires.some, c.requires.within) in
-    subst (λ os. c.args.run.now.start < length os) links within
-
-pub node-requires-in-Some : goal.node-requires-in-Some
-node-requires-in-Some c =
-    let links = links_read c.args.trees.now c.args.frame c.index-trees-frame.result c.requires.frame c.index-trees-frame.is in
-    let less = c.in-Some.ensures.before in
-    let within : c.in-Some.origin < length (links_in c.args.trees.now c.args.frame) = omega (arith, less, c.requires.some, c.requires.within) in
-    subst (λ os. c.in-Some.origin < length os) links within
-
 pub add_status-requires-clause-place : goal.add_status-requires-clause-place
 add_status-requires-clause-place c =
-    let links = links_read c.args.trees.now c.args.frame c.index-trees-frame.result c.requires.frame c.index-trees-frame.is in
     let within : c.args.run.now.start < length (links_in c.args.trees.now c.args.frame) = omega (arith, c.requires.some, c.requires.within) in
-    let less = c.in-Some.ensures.before in
-    let d = c.node-in-Some.result.place in
+    let d = c.in-Some.origin in
     let walked = c.loop-i.invariant (place_at (links_in c.args.trees.now c.args.frame) c.args.run.now.start d) (λ e. place_any (links_in c.args.trees.now c.args.frame) c.args.run.now.start e d within) in
-    place_kept c.args.shards.now c.loop-i.shards walked.layout d
-    (listed_place c.args.shards.now c.args.trees.now c.args.frame c.requires.loose c.in-Some.origin d (omega (arith, less, c.requires.some, c.requires.within))
-    (λ e. ap (λ os. place_at os c.in-Some.origin e) links ∙ sym (c.node-in-Some.ensures.place e)))
+    place_kept c.args.shards.now c.loop-i.shards walked.layout d (standing_place c.args.shards.now c.args.trees.now c.args.frame c.requires.loose d (c.requires.origin.stands d c.in-Some.is))
 
 pub add_status-requires-clause-present : goal.add_status-requires-clause-present
 add_status-requires-clause-present c =
     let within : c.args.run.now.start < length (links_in c.args.trees.now c.args.frame) = omega (arith, c.requires.some, c.requires.within) in
-    let d = c.node-in-Some.result.place in
+    let d = c.in-Some.origin in
     (c.loop-i.invariant (place_at (links_in c.args.trees.now c.args.frame) c.args.run.now.start d) (λ e. place_any (links_in c.args.trees.now c.args.frame) c.args.run.now.start e d within)).present
 
 -- with an origin
 passed : (c : goal.After-add_status) (d : Place) → IsStripped c.args.shards.now c.args.trees.now (place_at (links_in c.args.trees.now c.args.frame) c.args.run.now.start d) c.args.revoked c.args.first_too c.add_status.new.shards c.loop-i.status
 passed c d =
-    let links = links_read c.args.trees.now c.args.frame c.index-trees-frame.result c.requires.frame c.index-trees-frame.is in
     let within : c.args.run.now.start < length (links_in c.args.trees.now c.args.frame) = omega (arith, c.requires.some, c.requires.within) in
-    let less = c.in-Some.ensures.before in
     let p = place_at (links_in c.args.trees.now c.args.frame) c.args.run.now.start d in
     let first : (e : Place) → place_at (links_in c.args.trees.now c.args.frame) c.args.run.now.start e ≡ p = λ e. place_any (links_in c.args.trees.now c.args.frame) c.args.run.now.start e d within in
     let upto = c.loop-i.auto.i-end (omega (arith, c.requires.some)) in
     let at_end : c.loop-i.i ≡ c.args.run.now.end = omega (arith, c.loop-i-test.false, upto) in
     let walked = subst (λ i. IsWalked c.args.shards.now c.args.trees.now c.args.frame c.args.run.now.start p c.args.revoked c.args.first_too i c.loop-i.shards c.loop-i.status) at_end (c.loop-i.invariant p first) in
-    let origin : origin_in (links_in c.args.trees.now c.args.frame) p ≡ Some c.node-in-Some.result.place =
-    ap (λ os. origin_in os (place_at os c.args.run.now.start d)) links ∙ c.origin_of.ensures.origin d ∙ ap (option_map (λ r. place_at c.index-trees-frame.result.links r d)) c.in-Some.is
-    ∙ ap Some (sym (c.node-in-Some.ensures.place d)) in
-    let place = place_kept c.args.shards.now c.loop-i.shards walked.layout c.node-in-Some.result.place
-    (listed_place c.args.shards.now c.args.trees.now c.args.frame c.requires.loose c.in-Some.origin c.node-in-Some.result.place (omega (arith, less, c.requires.some, c.requires.within))
-    (λ e. ap (λ os. place_at os c.in-Some.origin e) links ∙ sym (c.node-in-Some.ensures.place e))) in
+    let origin : origin_in (links_in c.args.trees.now c.args.frame) p ≡ Some c.in-Some.origin = c.requires.origin.is d ∙ c.in-Some.is in
+    let place = place_kept c.args.shards.now c.loop-i.shards walked.layout c.in-Some.origin (standing_place c.args.shards.now c.args.trees.now c.args.frame c.requires.loose c.in-Some.origin (c.requires.origin.stands c.in-Some.origin c.in-Some.is)) in
     run_with_origin c.args.shards.now c.args.trees.now c.requires.loose c.args.frame c.args.run.now c.requires.run c.requires.some c.requires.within p first c.args.revoked c.args.first_too c.loop-i.shards c.loop-i.status walked
-    c.node-in-Some.result.place c.add_status.new.shards origin place c.add_status.ensures.set c.add_status.ensures.present c.add_status.ensures.layout
+    c.in-Some.origin c.add_status.new.shards origin place c.add_status.ensures.set c.add_status.ensures.present c.add_status.ensures.layout
 
 pub returns-in-Some-clause-status : goal.returns-in-Some-clause-status
 returns-in-Some-clause-status c = λ d. (passed c d).word
@@ -129,23 +106,21 @@ pub returns-in-Some-clause-left : goal.returns-in-Some-clause-left
 returns-in-Some-clause-left c = λ d. (passed c d).left
 
 pub returns-in-Some-clause-loose : goal.returns-in-Some-clause-loose
-returns-in-Some-clause-loose c = (passed c c.node-in-Some.result.place).loose
+returns-in-Some-clause-loose c = (passed c c.in-Some.origin).loose
 
 pub returns-in-Some-clause-layout : goal.returns-in-Some-clause-layout
-returns-in-Some-clause-layout c = (passed c c.node-in-Some.result.place).layout
+returns-in-Some-clause-layout c = (passed c c.in-Some.origin).layout
 
 -- without
 kept : (c : goal.In_default) (d : Place) → IsStripped c.args.shards.now c.args.trees.now (place_at (links_in c.args.trees.now c.args.frame) c.args.run.now.start d) c.args.revoked c.args.first_too c.loop-i.shards c.loop-i.status
 kept c d =
-    let links = links_read c.args.trees.now c.args.frame c.index-trees-frame.result c.requires.frame c.index-trees-frame.is in
     let within : c.args.run.now.start < length (links_in c.args.trees.now c.args.frame) = omega (arith, c.requires.some, c.requires.within) in
     let p = place_at (links_in c.args.trees.now c.args.frame) c.args.run.now.start d in
     let first : (e : Place) → place_at (links_in c.args.trees.now c.args.frame) c.args.run.now.start e ≡ p = λ e. place_any (links_in c.args.trees.now c.args.frame) c.args.run.now.start e d within in
     let upto = c.loop-i.auto.i-end (omega (arith, c.requires.some)) in
     let at_end : c.loop-i.i ≡ c.args.run.now.end = omega (arith, c.loop-i-test.false, upto) in
     let walked = subst (λ i. IsWalked c.args.shards.now c.args.trees.now c.args.frame c.args.run.now.start p c.args.revoked c.args.first_too i c.loop-i.shards c.loop-i.status) at_end (c.loop-i.invariant p first) in
-    let origin : origin_in (links_in c.args.trees.now c.args.frame) p ≡ None =
-    ap (λ os. origin_in os (place_at os c.args.run.now.start d)) links ∙ c.origin_of.ensures.origin d ∙ ap (option_map (λ r. place_at c.index-trees-frame.result.links r d)) c.in_default.is in
+    let origin : origin_in (links_in c.args.trees.now c.args.frame) p ≡ None = c.requires.origin.is d ∙ c.in_default.is in
     run_without_origin c.args.shards.now c.args.trees.now c.requires.loose c.args.frame c.args.run.now c.requires.run c.requires.some c.requires.within p first c.args.revoked c.args.first_too c.loop-i.shards c.loop-i.status walked origin
 
 pub returns-in_default-clause-status : goal.returns-in_default-clause-status

@@ -5,5 +5,5 @@ use Rattle.mapdb.specs.Stripping.{firsts}
 use Rattle.mapdb.proofs.Sequences.{AreStripped}
 use Rattle.mapdb.proofs.strip.strip_runs.Given as goal
 
-abbrev pub invariant-loop-run : goal.invariant-loop-run
-invariant-loop-run l = AreStripped l.fn.shards l.trees (firsts (links_in l.trees l.frame) (take l.run-index l.runs)) l.revoked l.first_too l.shards l.status
+abbrev pub invariant-loop-i : goal.invariant-loop-i
+invariant-loop-i l = AreStripped l.fn.shards l.trees (firsts (links_in l.trees l.frame) (take l.i l.runs)) l.revoked l.first_too l.shards l.status
