@@ -1,5 +1,5 @@
 #!/usr/bin/env python3
-"""Time and peak memory of the proved program on traces of twelve kinds, each at three sizes.
+"""Time and peak memory of the proved program on traces of thirteen kinds, each at three sizes.
 
     bench/bench.py [PROGRAM]
 
@@ -28,6 +28,7 @@ FIRST_PAGES = 0x140  # the fpage of pages 0 to 255, no rights: an unmap of it re
 FIRST_16_PAGES = 0x107  # the fpages of so many pages from page 0 on, all rights
 FIRST_512_PAGES = 0x157
 ALL_PAGES = 0x17
+COMPLETE = 0x10  # the same, no rights
 
 
 def send(sender, receiver, page, target):
@@ -168,6 +169,13 @@ def shared(records):
         yield send_fpage(sender, sender + 1, ALL_PAGES)
 
 
+def siblings(records):
+    """One frame at all 4,096 pages of a space, each from space 0; the space reads and clears their status, again and again."""
+    yield from aliases(min(records, PAGES))
+    for _ in range(records - PAGES):
+        yield unmap(1, COMPLETE)
+
+
 def passed(records):
     """One frame at all 4,096 pages of a space, which two spaces then grant to and fro, all in one item."""
     yield from aliases(min(records, PAGES))
@@ -189,6 +197,7 @@ KINDS = [
     (audit, [5, 25, 250]),
     (aliases, [100, 1_000, 10_000]),
     (shared, [PAGES, PAGES + 8, PAGES + 80]),
+    (siblings, [PAGES, PAGES + 8, PAGES + 80]),
     (passed, [PAGES, PAGES + 8, PAGES + 80]),
 ]
 

@@ -458,6 +458,76 @@ WHOLE_RUNS = [
             "end 8 0",
         ),
     ),
+    # Pages 0 to 15 of space 1 all derive from 0:5. From 1:1 derives 2:0; from 1:3 derives 2:1, and from that 1:16, which no
+    # word names. The first unmap takes the status of all of them, and 0:5 gains it; the second finds none; the third takes w
+    # from what derives from the named pages.
+    (
+        "unmap of 16 pages of one frame",
+        lines(
+            HEADER,
+            *(f"send,0,1,{page:x}0c0,8,50c7" for page in range(16)),
+            "send,1,2,c0,8,10c7",
+            "send,1,2,10c0,8,30c7",
+            "send,2,1,100c0,8,10c7",
+            "access,1,0,r",
+            "access,2,0,w",
+            "access,1,10000,x",
+            "unmap,1,0,100",
+            "unmap,1,0,100",
+            "unmap,1,0,102",
+        ),
+        lines(
+            *(f"{number} {LINKED}" for number in range(1, 20)),
+            "20 access ok",
+            "21 access ok",
+            "22 access ok",
+            "23 unmap 00000107",
+            "24 unmap 00000100",
+            "25 unmap 00000100",
+            roots(5),
+            "0,5,5,rwx,RWX,-",
+            roots(10, first=6),
+            *(f"1,{page},5,rwx,---,0:5" for page in range(16)),
+            "1,16,5,r-x,---,2:1",
+            "2,0,5,r-x,---,1:1",
+            "2,1,5,r-x,---,1:3",
+            "end 25 0",
+        ),
+    ),
+    # Pages 0 to 15 of space 1 are of frame 5, but 1:7 is of frame 6. From 1:4 derives 2:0, and from that 1:16; from 1:7 derives
+    # 2:1. A grant moves the 16 pages to 2:16 to 2:31; the strip of the sources gives their status to 0:5 and 0:6.
+    (
+        "grant of 15 pages of one frame and one of another",
+        lines(
+            HEADER,
+            *(f"send,0,1,{page:x}0c0,8,{6 if page == 7 else 5}0c7" for page in range(16)),
+            "send,1,2,c0,8,40c7",
+            "send,1,2,10c0,8,70c7",
+            "send,2,1,100c0,8,c7",
+            "access,1,4000,w",
+            "access,2,1000,w",
+            "access,1,10000,x",
+            "send,1,2,10,1000a,107",
+        ),
+        lines(
+            *(f"{number} {LINKED}" for number in range(1, 20)),
+            "20 access ok",
+            "21 access ok",
+            "22 access ok",
+            f"23 {sent(linked=16)}",
+            roots(5),
+            "0,5,5,rwx,RWX,-",
+            "0,6,6,rwx,RW-,-",
+            roots(9, first=7),
+            "1,16,5,rwx,---,2:0",
+            "2,0,5,rwx,---,2:20",
+            "2,1,6,rwx,---,2:23",
+            *(f"2,{page},5,rwx,---,0:5" for page in range(16, 23)),
+            "2,23,6,rwx,---,0:6",
+            *(f"2,{page},5,rwx,---,0:5" for page in range(24, 32)),
+            "end 23 0",
+        ),
+    ),
     # A chain of page 0 of all spaces. Its head is an origin of its end. Space 255 grants its page to 0:16 without w: 256:0 and
     # what follows lose w, and the status of 511:0 goes to 254:0. At last space 0 grants its page to 1:0, which derives from it
     # with all the rest, 0:16 too.
