@@ -1,15 +1,14 @@
 -- The end of a node's run, from run to run behind it.
 use Rattle.std.proofs.Common.{◌≡◌, ℕ, zero, suc, ◌+◌, ◌<◌, ◌≤◌, true, false, Bool, nat_lt, List, [], ◌∷◌, length, drop, get_or, refl, sym, ap, ◌∙◌, subst, arith, if◌then◌else◌}
 use Rattle.std.specs.Prelude.{slice_index, Decides, ◌&&◌, nat_le}
-use Rattle.std.specs.declared.ops.Range.{Range}
-use Rattle.std.proofs.lemmas.Bool.{lt-ltb, ltb-true, ltb-false}
+use Rattle.std.proofs.lemmas.Bool.{lt-ltb, ltb-true}
 use Rattle.std.proofs.lemmas.List.{drop-drop, length-drop}
 use Rattle.space.specs.declared.place.Place.{Place}
 use Rattle.maptree.specs.declared.node.Node.{Node}
 use Rattle.maptree.specs.Origins.{place_at, LeadsTo, AreRunEnds}
 use Rattle.maptree.specs.Nodes.{is_forest, origins_of, run_len, run_end, AreEnds}
 use Rattle.maptree.proofs.Runs.{place_of, depth_of, run_at, forest_run}
-use Rattle.maptree.proofs.Positions.{depth_of_read, run_at_read, run_on, run_ends, run_len-le, length-links, place_at-links}
+use Rattle.maptree.proofs.Positions.{depth_of_read, run_at_read, run_on, run_len-le, length-links, place_at-links}
 
 -- ---- where a run ends
 

@@ -1,9 +1,6 @@
 -- One run more.
-use Rattle.std.proofs.Common.{◌≡◌, ◌<◌, ◌≤◌, ◌+◌, length, get_or, drop, sym, ap, ◌∙◌, arith}
-use Rattle.std.specs.Prelude.{slice_index}
-use Rattle.maptree.specs.Nodes.{run_end}
-use Rattle.maptree.proofs.Origin.{blank}
-use Rattle.maptree.proofs.RunEnds.{end_within, end_ahead, run_begins, one_run_passed, run_over}
+use Rattle.std.proofs.Common.{◌∙◌, arith}
+use Rattle.maptree.proofs.RunEnds.{end_within, end_ahead, run_begins, one_run_passed}
 use Rattle.maptree.proofs.ends.end_behind.Goals as goal
 
 pub loop-j-init : goal.loop-j-init

@@ -1,5 +1,5 @@
 -- One more node.
-use Rattle.std.proofs.Common.{◌≡◌, ◌-◌, ◌++◌, ◌+◌, [], ◌∷◌, length, drop, get_or, ap, sym, ◌∙◌}
+use Rattle.std.proofs.Common.{◌-◌, ◌++◌, ◌+◌, [], ◌∷◌, length, drop, get_or, ap, ◌∙◌}
 use Rattle.std.specs.Prelude.{reverse}
 use Rattle.std.specs.List.{slice_get}
 use Rattle.maptree.specs.Nodes.{links}
