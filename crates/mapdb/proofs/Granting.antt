@@ -1,5 +1,6 @@
 -- The strip of the sources of a grant: each that was held is still held.
-use Rattle.std.proofs.Common.{◌≡◌, suc, true, false, Bool, ◌&&◌, ◌||◌, not, if◌then◌else◌, [], ◌∷◌, List, Option, Some, None, refl, sym, ap, ◌∙◌, arith, ◌⊎◌, inl, inr, get_or}
+use Rattle.std.specs.Prelude.{Result, IfOk}
+use Rattle.std.proofs.Common.{◌≡◌, Ok, Err, subst, suc, true, false, Bool, ◌&&◌, ◌||◌, not, if◌then◌else◌, [], ◌∷◌, List, Option, Some, None, refl, sym, ap, ◌∙◌, arith, ◌⊎◌, inl, inr, get_or}
 use Rattle.std.specs.List.{All}
 use Rattle.std.specs.Option.{is_some}
 use Rattle.std.proofs.lemmas.Bool.{or_right}
@@ -13,15 +14,23 @@ use Rattle.model.specs.Holdings.{Held, Holdings, PlaceSet, at, is_held}
 use Rattle.model.specs.Derived.{is_under}
 use Rattle.model.specs.Items.{sources_of, add_counts, counts_of}
 use Rattle.model.specs.Strip.{is_narrowed, strip}
-use Rattle.model.proofs.LawfulParts.{IsLawful}
+use Rattle.model.specs.Grant.{renamed}
+use Rattle.model.specs.Lawful.{is_lawful}
+use Rattle.model.proofs.LawfulParts.{IsLawful, lawful_parts}
 use Rattle.model.proofs.StripAt.{is_stripped}
 use Rattle.model.proofs.StripUnions.{strip_same}
 use Rattle.model.proofs.Flushes.{strip_absent}
 use Rattle.model.proofs.Grants.{without_withheld}
-use Rattle.mapdb.specs.declared.transfer.Transfer.{Transfer}
-use Rattle.mapdb.specs.declared.transfer.End.TheVariants.{Source}
-use Rattle.mapdb.specs.Sending.{pair_of, fate_in, ends_of, AllGo, IsReady, moving_of, worked}
-use Rattle.mapdb.proofs.HeldEnds.{same_back}
+use Rattle.fpage.specs.declared.item.ItemKind.TheVariants.{Grant}
+use Rattle.space.specs.declared.error.NoMemory.{NoMemory}
+use Rattle.holdings.specs.declared.transfer.Transfer.{Transfer}
+use Rattle.holdings.specs.declared.worked.Worked.{Worked}
+use Rattle.holdings.specs.Contents.{Contents, left_with, IsStripped, AreMoved}
+use Rattle.holdings.specs.Stripping.{any_of}
+use Rattle.mapdb.specs.declared.plan.End.TheVariants.{Source}
+use Rattle.holdings.specs.Sending.{pair_of, fate_in, AllGo, IsReady, moving_of, worked}
+use Rattle.mapdb.specs.Sending.{ends_of, AreWorkedBy}
+use Rattle.mapdb.proofs.Ends.{same_back}
 
 module _ (h : Holdings) (lawful : IsLawful h) (rights : Rights) where
   -- the held sources are those of the pairs that move
@@ -94,3 +103,28 @@ module _ (h : Holdings) (lawful : IsLawful h) (rights : Rights) where
         by : (xs : List Transfer) → All (λ t. is_held left_of_sources t.source ≡ is_held h t.source) xs → worked left_of_sources xs ≡ worked h xs
         by [] same = refl
         by (x ∷ xs) same = λ i. add_counts (counts_of (fate_in x) (same 0 x (omega arith) i)) (by xs (λ k d within. same (suc k) d (omega (arith, within))) i)
+
+-- what the strip of the sources leaves
+module _ (old : Contents) (lawful : is_lawful old.holdings ≡ true) (rights : Rights) (ts : List Transfer) (go : AllGo ts) (now : Contents) (status : Rights) (places : List Place) (are : (p : Place) → any_of places p ≡ ends_of Source ts p)
+    (withheld : Rights) (withheld_is : withheld ≡ without all_rights rights) (done : IsStripped old (any_of places) withheld true (now, status)) where
+  pub sources_stripped : now ≡ left_with old (strip old.holdings (sources_of (moving_of old.holdings ts)) (without all_rights rights) true)
+  sources_stripped =
+      let set : any_of places ≡ ends_of Source ts = λ i p. are p i in
+      done.left ∙ (λ i. left_with old (strip old.holdings (set i) (withheld_is i) true)) ∙ ap (left_with old) (source_set old.holdings (lawful_parts old.holdings lawful) rights ts go)
+
+  pub still_free : All (IsReady old.holdings rights) ts → All (λ t. at now.holdings t.target ≡ None) ts
+  still_free ready =
+      subst (λ (g : Contents). All (λ t. at g.holdings t.target ≡ None) ts) (sym sources_stripped)
+      (after_strip_free old.holdings (lawful_parts old.holdings lawful) rights (sources_of (moving_of old.holdings ts)) ts go ready)
+
+  -- what was moved then is what the definition moves
+  pub moved_after : All (IsReady old.holdings rights) ts → (r : Result (Contents × Worked) NoMemory) → IfOk r (AreMoved now ts) → IfOk r (AreWorkedBy old Grant rights ts)
+  moved_after ready (Err e) moved = tt
+  moved_after ready (Ok r) moved =
+      let h = old.holdings in
+      let l = lawful_parts h lawful in
+      let left = strip h (sources_of (moving_of h ts)) (without all_rights rights) true in
+      record {
+        left = moved.left ∙ ap (λ (g : Contents). left_with g (renamed (moving_of g.holdings ts) g.holdings)) sources_stripped ∙ ap (λ es. left_with old (renamed es left)) (after_strip_moving h l rights ts ready);
+        counted = moved.counted ∙ ap (λ (g : Contents). worked g.holdings ts) sources_stripped ∙ after_strip_worked h l rights ts ready;
+      }

@@ -29,15 +29,17 @@ use Rattle.model.proofs.Fates.{going_in, goes_some, extends_some}
 use Rattle.model.proofs.Flushes.{was_flushed, target_gone}
 use Rattle.model.proofs.LawfulMaps.{extending_target}
 use Rattle.model.proofs.Puts.{apart_places}
-use Rattle.mapdb.specs.declared.transfer.Transfer.{Transfer}
-use Rattle.mapdb.specs.declared.transfer.End.TheVariants.{Source, Target}
-use Rattle.mapdb.specs.declared.transfer.End.{End}
-use Rattle.mapdb.specs.declared.item_pages.ItemPages.{ItemPages}
-use Rattle.mapdb.specs.Held.{is_place}
-use Rattle.mapdb.proofs.Listing.{place_from_within}
-use Rattle.mapdb.specs.Sending.{transfer_of, transfers_of, decided_of, decided, pair_of, fate_in, end_of, ends_of, IsTransferWithin, IsApartFrom, ArePaired, AllGo, IsReady, worked, map_transfers, moving_of, after_flush, job_of_pages, AreItemPages, ArePlanned}
-use Rattle.mapdb.proofs.HeldEnds.{same_back}
-use Rattle.mapdb.proofs.Plans.{add_assoc, transfers_few, pairs_length}
+use Rattle.holdings.specs.declared.transfer.Transfer.{Transfer}
+use Rattle.mapdb.specs.declared.plan.End.TheVariants.{Source, Target}
+use Rattle.mapdb.specs.declared.plan.End.{End}
+use Rattle.holdings.specs.declared.item_pages.ItemPages.{ItemPages}
+use Rattle.holdings.specs.Held.{is_place}
+use Rattle.holdings.proofs.Listing.{place_from_within}
+use Rattle.holdings.specs.Sending.{pair_of, fate_in, IsTransferWithin, IsApartFrom, ArePaired, AllGo, IsReady, worked, map_transfers, moving_of, job_of_pages, AreItemPages, ArePlanned}
+use Rattle.mapdb.specs.Sending.{transfer_of, transfers_of, decided_of, decided, end_of, ends_of, after_flush}
+use Rattle.mapdb.proofs.Ends.{same_back}
+use Rattle.holdings.proofs.CountSums.{add_assoc}
+use Rattle.mapdb.proofs.Plans.{transfers_few, pairs_length}
 
 -- ---- which pairs
 

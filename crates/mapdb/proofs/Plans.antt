@@ -1,59 +1,16 @@
 -- The outcomes of the pages so far, and those of the pages to come.
-use Rattle.std.proofs.Common.{◌≡◌, ℕ, zero, suc, ◌+◌, ◌-◌, ◌<◌, ◌≤◌, List, [], ◌∷◌, ◌++◌, length, Option, Some, None, refl, sym, ap, ◌∙◌, subst, arith}
+use Rattle.std.proofs.Common.{◌≡◌, ℕ, zero, suc, ◌+◌, ◌-◌, ◌<◌, ◌≤◌, List, [], ◌∷◌, ◌++◌, length, refl, sym, ap, ◌∙◌, subst, arith}
 use Rattle.std.proofs.lemmas.List.{append_assoc, append-nil}
 use Rattle.space.specs.declared.place.Place.{Place}
-use Rattle.fpage.specs.declared.item.ItemKind.{ItemKind}
-use Rattle.fpage.specs.declared.rights.Rights.{Rights}
-use Rattle.model.specs.Holdings.{Held, Holdings, at}
-use Rattle.model.specs.Items.{Job, Pair, next_page, pairs_from, Fate, absent, norights, to_origin, extends, goes, fate_of, fate, Counts, no_counts, add_counts}
+use Rattle.model.specs.Holdings.{Holdings}
+use Rattle.model.specs.Items.{Job, Pair, next_page, pairs_from, Fate, absent, norights, to_origin, extends, goes, fate, Counts, no_counts, add_counts}
 use Rattle.model.specs.SendLaws.{total}
-use Rattle.mapdb.specs.declared.transfer.Transfer.{Transfer}
+use Rattle.holdings.specs.declared.transfer.Transfer.{Transfer}
+use Rattle.holdings.specs.Sending.{page_on}
+use Rattle.holdings.proofs.CountSums.{add_assoc, add_none, none_add, total_sum}
 use Rattle.mapdb.specs.Sending.{transfer_of, transfers_of, decided_of, decided}
 
--- ---- counts
-
-pub add_assoc : (a b c : Counts) → add_counts (add_counts a b) c ≡ add_counts a (add_counts b c)
-add_assoc a b c = λ i. record {
-  absent = one a.absent b.absent c.absent i;
-  norights = one a.norights b.norights c.norights i;
-  origin = one a.origin b.origin c.origin i;
-  lost = one a.lost b.lost c.lost i;
-  extended = one a.extended b.extended c.extended i;
-  linked = one a.linked b.linked c.linked i;
-}
-  where
-    one : (x y z : ℕ) → x + y + z ≡ x + (y + z)
-    one x y z = omega arith
-
-pub add_none : (a : Counts) → add_counts a no_counts ≡ a
-add_none a = λ i. record { absent = one a.absent i; norights = one a.norights i; origin = one a.origin i; lost = one a.lost i; extended = one a.extended i; linked = one a.linked i }
-  where
-    one : (x : ℕ) → x + 0 ≡ x
-    one x = omega arith
-
-pub none_add : (a : Counts) → add_counts no_counts a ≡ a
-none_add a = λ i. record { absent = one a.absent i; norights = one a.norights i; origin = one a.origin i; lost = one a.lost i; extended = one a.extended i; linked = one a.linked i }
-  where
-    one : (x : ℕ) → 0 + x ≡ x
-    one x = omega arith
-
-pub total_sum : (a b : Counts) → total (add_counts a b) ≡ total a + total b
-total_sum a b = omega arith
-
--- ---- an item's outcome goes by its kind and rights
-
-pub same_fate : (h : Holdings) (kind : ItemKind) (rights : Rights) (ps qs : List Pair) (e : Pair) → fate h (record { kind = kind; rights = rights; pairs = ps }) e ≡ fate h (record { kind = kind; rights = rights; pairs = qs }) e
-same_fate h kind rights ps qs e = by (at h e.0)
-  where
-    by : (m : Option Held) → fate_of h (record { kind = kind; rights = rights; pairs = ps }) e m ≡ fate_of h (record { kind = kind; rights = rights; pairs = qs }) e m
-    by None = refl
-    by (Some m) = refl
-
 -- ---- pages
-
--- the page so far behind it in its space
-abbrev pub page_on : Place → ℕ → Place
-page_on p i = record p { page = p.page + i }
 
 -- the pages from the i-th on
 pub pairs_on : (n i : ℕ) (source target : Place) → i < n
@@ -71,7 +28,7 @@ transfers_before e to_origin ts = refl
 transfers_before e extends ts = refl
 transfers_before e goes ts = refl
 
-decided_one : (f : Fate) → total (decided_of f) ≤ 1
+pub decided_one : (f : Fate) → total (decided_of f) ≤ 1
 decided_one absent = omega arith
 decided_one norights = omega arith
 decided_one to_origin = omega arith

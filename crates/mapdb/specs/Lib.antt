@@ -1,12 +1,3 @@
 pub mod Meaning
-pub mod Derivation
-pub mod Held
-pub mod Start
 pub mod State
-pub mod Sound
-pub mod Words
-pub mod Stripping
 pub mod Sending
-pub mod Mappings
-pub mod Spots
-pub mod Links

@@ -1,12 +1,6 @@
 -- What the types of the database stand for in the definitions.
-use Rattle.model.specs.Calls.{Limits}
 use Rattle.model.specs.Items.{Counts}
-use Rattle.mapdb.specs.declared.limits.Limits.{Limits as TheLimits}
 use Rattle.mapdb.specs.declared.reply.SendReply.{SendReply}
-
--- the limits that those of a database are
-abbrev pub limits_of : TheLimits → Limits
-limits_of l = record { spaces = l.spaces; bits = l.bits; frames = l.frames }
 
 -- the six counts that a reply has
 abbrev pub counts_of : SendReply → Counts

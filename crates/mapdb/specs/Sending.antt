@@ -1,65 +1,32 @@
--- One item of a send, in phases: its pairs that go or extend are found first, then the replaced targets are flushed, then
--- pages are mapped or moved.
-use Rattle.std.specs.Prelude.{◌≡◌, ℕ, ◌+◌, ◌^◌, ◌≤◌, ◌<◌, true, false, IsFalse, ◌&&◌, not, List, [], ◌∷◌, length, Some, None, if◌then◌else◌}
-use Rattle.std.specs.List.{All, list_any}
-use Rattle.std.specs.Option.{option_map_or}
+-- One item of a send: its pairs that go or extend, and what the phases after the flush leave.
+use Rattle.std.specs.Prelude.{◌≡◌, ℕ, ◌+◌, ◌≤◌, true, false, ◌&&◌, not, List, [], ◌∷◌}
+use Rattle.std.specs.List.{list_any}
 use Rattle.fpage.specs.declared.item.ItemKind.{ItemKind}
-use Rattle.fpage.specs.declared.rights.Rights.{Rights}
-use Rattle.fpage.specs.Rights.{no_rights, all_rights, is_empty, meet, without}
 use Rattle.fpage.specs.declared.item.ItemKind.TheVariants.{Map, Grant}
+use Rattle.fpage.specs.declared.rights.Rights.{Rights}
+use Rattle.fpage.specs.Rights.{all_rights, without}
 use Rattle.space.specs.declared.place.Place.{Place}
-use Rattle.space.specs.declared.place.Entry.{Entry}
-use Rattle.space.specs.declared.shards.Shards.{Shards}
-use Rattle.space.specs.Shards.{IsSetAt, IsLaidOutAs, is_taken}
-use Rattle.space.specs.Place.{same_place}
 use Rattle.space.specs.Directory.{pages_of}
-use Rattle.maptree.specs.Origins.{Origins, Shape, LeadsTo, origin_in}
-use Rattle.model.specs.Calls.{Limits}
-use Rattle.model.specs.Holdings.{Held, Holdings, PlaceSet, at, is_held}
-use Rattle.model.specs.Items.{Job, Pair, pairs_from, sources_of, is_map, Fate, absent, norights, to_origin, extends, goes, fate, Counts, no_counts, add_counts, counts_of}
-use Rattle.model.specs.Map.{map_pair}
+use Rattle.space.specs.Place.{same_place}
 use Rattle.model.specs.Grant.{renamed}
+use Rattle.model.specs.Holdings.{Holdings, PlaceSet}
+use Rattle.model.specs.Items.{Job, Pair, sources_of, Fate, absent, norights, to_origin, extends, goes, fate, Counts, no_counts, add_counts}
 use Rattle.model.specs.Strip.{strip}
-use Rattle.mapdb.specs.Derivation.{IsDerived}
-use Rattle.mapdb.specs.Held.{links_in}
-use Rattle.mapdb.specs.declared.outcome.Outcome.{Outcome}
-use Rattle.mapdb.specs.declared.outcome.Outcome.TheVariants as outcome
-use Rattle.mapdb.specs.declared.transfer.Transfer.{Transfer}
-use Rattle.mapdb.specs.declared.transfer.End.{End}
-use Rattle.mapdb.specs.declared.transfer.End.TheVariants.{Source, Target}
-use Rattle.mapdb.specs.declared.item_pages.ItemPages.{ItemPages}
-
--- the outcome as the definitions name it
-abbrev pub fate_of_outcome : Outcome → Fate
-fate_of_outcome outcome.Absent = absent
-fate_of_outcome outcome.NoRights = norights
-fate_of_outcome outcome.Origin = to_origin
-fate_of_outcome outcome.Extends = extends
-fate_of_outcome outcome.Goes = goes
-
--- the outcome of a pair whose source is held with some right that the item lets through, and whose target is held with
--- the same frame, as the tree of that frame has them
-pub record IsOutcomeIn (os : Origins) (kind : ItemKind) (source target : Place) (o : Outcome) : Type 0 where
-  pub origin : LeadsTo os 1 source target → o ≡ outcome.Origin
-  pub extends : (LeadsTo os 1 source target → ⊥) → (is_map kind && option_map_or (same_place source) (origin_in os target) false) ≡ true → o ≡ outcome.Extends
-  pub goes : (LeadsTo os 1 source target → ⊥) → (is_map kind && option_map_or (same_place source) (origin_in os target) false) ≡ false → o ≡ outcome.Goes
-
--- the item that a pages is
-abbrev pub job_of_pages : ItemPages → Job
-job_of_pages p = record { kind = p.kind; rights = p.rights; pairs = pairs_from p.count p.source p.target }
+use Rattle.holdings.specs.declared.item_pages.ItemPages.{ItemPages}
+use Rattle.holdings.specs.declared.transfer.Transfer.{Transfer}
+use Rattle.holdings.specs.declared.worked.Worked.{Worked}
+use Rattle.holdings.specs.Contents.{Contents, left_with}
+use Rattle.holdings.specs.Meaning as phase
+use Rattle.holdings.specs.Sending.{map_transfers, moving_of, worked}
+use Rattle.mapdb.specs.declared.plan.End.{End}
+use Rattle.mapdb.specs.declared.plan.End.TheVariants.{Source, Target}
+use Rattle.mapdb.specs.declared.reply.SendReply.{SendReply}
+use Rattle.mapdb.specs.Meaning.{counts_of}
 
 -- its pages lie in spaces of 2^bits bytes
 pub record FitsIn (bits : ℕ) (p : ItemPages) : Type 0 where
   pub sources : p.source.page + p.count ≤ pages_of bits
   pub targets : p.target.page + p.count ≤ pages_of bits
-
--- its pages lie within the limits, and its spaces differ
-pub record AreItemPages (limits : Limits) (p : ItemPages) : Type 0 where
-  pub source_space : p.source.space < limits.spaces
-  pub target_space : p.target.space < limits.spaces
-  pub source_pages : p.source.page + p.count ≤ pages_of limits.bits
-  pub target_pages : p.target.page + p.count ≤ pages_of limits.bits
-  pub differ : p.source.space ≡ p.target.space → ⊥
 
 -- ---- the pairs that go or extend
 
@@ -89,14 +56,6 @@ abbrev pub decided : Holdings → Job → List Pair → Counts
 decided h job [] = no_counts
 decided h job (e ∷ es) = add_counts (decided_of (fate h job e)) (decided h job es)
 
--- the pair
-abbrev pub pair_of : Transfer → Pair
-pair_of t = (t.source, t.target)
-
--- its outcome
-abbrev pub fate_in : Transfer → Fate
-fate_in t = if t.extends then extends else goes
-
 -- the end of a pair
 abbrev pub end_of : End → Transfer → Place
 end_of Source t = t.source
@@ -106,78 +65,19 @@ end_of Target t = t.target
 abbrev pub ends_of : End → List Transfer → PlaceSet
 ends_of end ts p = list_any (λ t. not t.extends && same_place p (end_of end t)) ts
 
--- a pair's places
-pub record IsTransferWithin (limits : Limits) (t : Transfer) : Type 0 where
-  pub source_space : t.source.space < limits.spaces
-  pub source_page : t.source.page < pages_of limits.bits
-  pub target_space : t.target.space < limits.spaces
-  pub target_page : t.target.page < pages_of limits.bits
-
--- one that goes beside others has another source and another target
-abbrev pub IsApartFrom : Transfer → List Transfer → Type 0
-IsApartFrom t ts = All (λ d. (same_place d.source t.source ≡ false) × (same_place d.target t.target ≡ false)) ts
-
--- within the limits, from one space to another, and no two with one source or one target
-abbrev pub ArePaired : ℕ → ℕ → List Transfer → Type 0
-ArePaired from to [] = Unit {0}
-ArePaired from to (t ∷ ts) = (t.source.space ≡ from) × (t.target.space ≡ to) × IsApartFrom t ts × ArePaired from to ts
-
-pub record ArePlanned (limits : Limits) (ts : List Transfer) : Type 0 where
-  pub from : ℕ
-  pub to : ℕ
-  pub differ : from ≡ to → ⊥
-  pub paired : ArePaired from to ts
-  pub within : All (IsTransferWithin limits) ts
-  pub few : length ts ≤ 2 ^ 32
-
--- none extends
-abbrev pub AllGo : List Transfer → Type 0
-AllGo ts = All (λ t. t.extends ≡ false) ts
-
--- ---- after the flush
-
--- of a held source some right is let through; the target of one that goes holds nothing; that of one that extends holds what
--- derives from the source, if the source is held
-pub record IsReady (h : Holdings) (rights : Rights) (t : Transfer) : Type 0 where
-  pub some : (m : Held) → at h t.source ≡ Some m → is_empty (meet m.rights rights) ≡ false
-  pub free : t.extends ≡ false → at h t.target ≡ None
-  pub derived : (m : Held) → t.extends ≡ true → at h t.source ≡ Some m → (k : Held) × (at h t.target ≡ Some k) × (k.origin ≡ Some t.source)
-
--- what becomes of one that goes or extends: it is lost if its source was flushed
-abbrev pub worked_of : Holdings → Transfer → Counts
-worked_of flushed t = counts_of (fate_in t) (is_held flushed t.source)
-
--- of some
-abbrev pub worked : Holdings → List Transfer → Counts
-worked flushed [] = no_counts
-worked flushed (t ∷ ts) = add_counts (worked_of flushed t) (worked flushed ts)
-
--- the pages of a MapItem, one after another, as sources and targets stand after the flush
-abbrev pub map_transfers : Holdings → Job → List Transfer → Holdings → Holdings
-map_transfers flushed job [] h = h
-map_transfers flushed job (t ∷ ts) h = map_transfers flushed job ts (map_pair flushed job (pair_of t) (fate_in t) h)
-
--- the tree of this frame became another, and no other did
-pub record IsTreeSet (old new : List Shape) (frame : ℕ) (links : Origins) : Type 0 where
-  pub count : length new ≡ length old
-  pub there : links_in new frame ≡ links
-  pub elsewhere : (f : ℕ) → (f ≡ frame → ⊥) → links_in new f ≡ links_in old f
-
--- a page became a mapping of another: its word was set, and it was put into the tree of the frame
-pub record IsLinked (old new : Shards) (trees new_trees : List Shape) (source target : Place) (e : Entry) : Type 0 where
-  pub links : Origins
-  pub set : IsSetAt old new target (Some (record e { status = no_rights }))
-  pub present : IsFalse (is_taken new)
-  pub layout : IsLaidOutAs old new
-  pub tree : IsTreeSet trees new_trees e.frame links
-  pub derived : IsDerived (links_in trees e.frame) links source target
-
--- the pairs of those whose source is held
-abbrev pub moving_of : Holdings → List Transfer → List Pair
-moving_of flushed [] = []
-moving_of flushed (t ∷ ts) = if is_held flushed t.source then pair_of t ∷ moving_of flushed ts else moving_of flushed ts
+-- ---- what is left
 
 -- what is left of the holdings after the flush when the pages are mapped, or moved
 abbrev pub after_flush : ItemKind → Rights → List Transfer → Holdings → Holdings
 after_flush Map rights ts h = map_transfers h (record { kind = Map; rights = rights; pairs = [] }) ts h
 after_flush Grant rights ts h = renamed (moving_of h ts) (strip h (sources_of (moving_of h ts)) (without all_rights rights) true)
+
+-- the phase after the flush left this, and counted its transfers
+pub record AreWorkedBy (old : Contents) (kind : ItemKind) (rights : Rights) (ts : List Transfer) (r : Contents × Worked) : Type 0 where
+  pub left : r.0 ≡ left_with old (after_flush kind rights ts old.holdings)
+  pub counted : phase.counts_of r.1 ≡ worked old.holdings ts
+
+-- items left this, and were counted so
+pub record IsSent (old : Contents) (left : Holdings) (counts : Counts) (r : Contents × SendReply) : Type 0 where
+  pub left_is : r.0 ≡ left_with old left
+  pub counted : counts_of r.1 ≡ counts

@@ -1,48 +1,47 @@
 -- A database as its callers see it.
-use Rattle.std.specs.Prelude.{ℕ, Bool, false, true, Result, Ok, Err, if◌then◌else◌, List, [], ◌∷◌}
-use Rattle.fpage.specs.declared.rights.Access.{Access}
-use Rattle.space.specs.declared.place.Place.{Place}
-use Rattle.space.specs.declared.place.Entry.{Entry}
-use Rattle.space.specs.declared.shards.Shards.{Shards}
-use Rattle.maptree.specs.Origins.{Shape}
-use Rattle.model.specs.Calls.{Limits}
-use Rattle.model.specs.Holdings.{Held, Holdings}
+use Rattle.std.specs.Prelude.{◌≡◌, ℕ, Bool, false, true, Result, Ok, Err, Option, Some, None, if◌then◌else◌, List, [], ◌∷◌}
 use Rattle.fpage.specs.Fpage.{Flexpage}
+use Rattle.fpage.specs.declared.rights.Access.{Access}
 use Rattle.fpage.specs.declared.rights.Rights.{Rights}
-use Rattle.model.specs.Strip.{strip, strip_word}
-use Rattle.model.specs.Recursion.{recur}
+use Rattle.space.specs.declared.place.Place.{Place}
 use Rattle.model.specs.Answers.{pages_in}
+use Rattle.model.specs.Calls.{Limits}
+use Rattle.model.specs.Holdings.{Holdings}
+use Rattle.model.specs.Recursion.{recur}
 use Rattle.model.specs.Replay.{start}
+use Rattle.model.specs.Strip.{strip, strip_word}
 use Rattle.model.specs.Touch.{can_touch, touch}
-use Rattle.mapdb.specs.Held.{holdings_of}
+use Rattle.holdings.specs.Contents.{Contents}
 use Rattle.mapdb.specs.declared.error.DbError.{DbError}
 use Rattle.mapdb.specs.declared.error.DbError.TheVariants.{Halted}
 
--- its limits, what is held, and whether a call before wanted memory
+-- its limits, what is held, and whether it was halted by a call that ran out of memory; then nothing is held
 pub record State : Type 0 where
   pub limits : Limits
   pub holdings : Holdings
   pub is_halted : Bool
 
--- what the fields of a database say: the holdings are those of its words and trees
-abbrev pub state_of : Limits → Shards → List Shape → Bool → State
-state_of limits shards trees is_halted = record { limits = limits; holdings = holdings_of limits shards trees; is_halted = is_halted }
+-- what the fields of a database say
+abbrev pub state_of : Limits → Option Contents → State
+state_of limits None = record { limits = limits; holdings = []; is_halted = true }
+state_of limits (Some c) = record { limits = limits; holdings = c.holdings; is_halted = false }
+
+-- what is held has these limits
+abbrev pub AreLimitsOf : Limits → Option Contents → Type 0
+AreLimitsOf limits None = Unit {0}
+AreLimitsOf limits (Some c) = c.limits ≡ limits
 
 -- a new database
 abbrev pub new_state : Limits → State
 new_state limits = record { limits = limits; holdings = start limits; is_halted = false }
 
--- after a call that wanted memory
+-- after a call that ran out of memory
 abbrev pub halted : State → State
-halted s = record s { is_halted = true }
+halted s = record s { holdings = []; is_halted = true }
 
 -- after a call that changed what is held
 abbrev pub left_with : State → Holdings → State
 left_with s h = record s { holdings = h }
-
--- frame, rights and status of what is held
-abbrev pub entry_of : Held → Entry
-entry_of m = record { frame = m.frame; rights = m.rights; status = m.status }
 
 -- what accesses leave, one after another
 abbrev pub touched_all : Holdings → List (Place × Access) → Holdings

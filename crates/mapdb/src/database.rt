@@ -1,43 +1,33 @@
+use crate::access::touch_all;
 use crate::error::DbError;
 use crate::item::work_items;
-use crate::limits::Limits;
-use crate::mapping::{Mapping, mappings};
-use crate::pages::unmap_words;
-use crate::plain::visit_words;
 use crate::reply::SendReply;
-use crate::start::{root_trees, root_words};
-use crate::tree;
-use crate::words::marks;
+use crate::unmap::{Way, unmap_words};
 use fpage::{Access, Control, Fpage, Item, Rights};
-use maptree::Tree;
-use space::{Entry, Place, Shards};
+use holdings::{Holdings, Limits, Mapping};
+use space::{Entry, Place};
 use std::alloc::Global;
 use std::marker::Model;
 
 /// A mapping database. A contract sees its limits, its holdings, and whether it is halted.
 ///
-/// Frame, rights and status of a page are in its word, its origin in the derivation tree of its frame. After a call
-/// that wanted memory the database is halted: every later call is refused.
+/// A call that runs out of memory halts the database: what it held is gone, and every later call is refused.
 #[derive(Drop)]
 pub struct Database {
     limits: Limits,
-    shards: Shards,
-    /// The tree of each frame, at its number.
-    trees: Vec<Tree>,
-    halted: bool,
+    /// None once a call has run out of memory.
+    held: Option<Holdings>,
 }
 
 impl Model for Database {
-    ghost use Rattle.std.specs.Prelude.{◌≡◌, false};
-    ghost use Rattle.mapdb.specs.Meaning.{limits_of};
-    ghost use Rattle.mapdb.specs.Sound.{IsSound};
-    ghost use Rattle.mapdb.specs.State.{State, state_of};
+    ghost use Rattle.holdings.specs.Meaning.{limits_of};
+    ghost use Rattle.mapdb.specs.State.{State, state_of, AreLimitsOf};
 
     ghost Value = { State };
 
-    ghost view = { λ d. state_of (limits_of d.limits) d.shards d.trees.items d.halted };
+    ghost view = { λ d. state_of (limits_of d.limits) d.held };
 
-    ghost invariant = { λ d. d.halted ≡ false → IsSound (limits_of d.limits) d.shards d.trees.items };
+    ghost invariant = { λ d. AreLimitsOf (limits_of d.limits) d.held };
 }
 
 impl Database {
@@ -46,14 +36,16 @@ impl Database {
     ghost use Rattle.std.specs.List.{All};
     ghost use Rattle.model.specs.Holdings.{at, origin_at};
     ghost use Rattle.model.specs.Records.{are_limits};
-    ghost use Rattle.model.specs.Touch.{can_touch, touch};
     ghost use Rattle.model.specs.Answers.{call_refusal, send_answer};
     ghost use Rattle.model.specs.Calls.{send, no_such_space, same_space, no_window};
     ghost use Rattle.fpage.specs.Fpage.{IsFpageOf};
-    ghost use Rattle.mapdb.specs.Meaning.{limits_of, counts_of};
-    ghost use Rattle.mapdb.specs.Held.{IsWithin, listing};
-    ghost use Rattle.mapdb.specs.Mappings.{mapped_of};
-    ghost use Rattle.mapdb.specs.State.{new_state, halted, left_with, entry_of, unless_halted};
+    ghost use Rattle.model.specs.Lawful.{is_lawful};
+    ghost use Rattle.holdings.specs.Meaning.{limits_of};
+    ghost use Rattle.holdings.specs.Held.{IsWithin, listing};
+    ghost use Rattle.holdings.specs.Mappings.{mapped_of};
+    ghost use Rattle.holdings.specs.Contents.{entry_of};
+    ghost use Rattle.mapdb.specs.Meaning.{counts_of};
+    ghost use Rattle.mapdb.specs.State.{new_state, halted, left_with, unless_halted};
     ghost use Rattle.mapdb.specs.State.{touched_all, access_answers, unmap_status, unmap_left, plain_status, plain_left};
     ghost use Rattle.mapdb.specs.declared.error.DbError.TheVariants.{BadLimits, NoSuchSpace, SameSpace, NoWindow, NoMemory, Halted};
 
@@ -75,13 +67,10 @@ impl Database {
         if !limits.are_served() {
             return Err(DbError::BadLimits);
         }
-        let shards = root_words(alloc, &limits)?;
-        let trees = root_trees(alloc, frames)?;
+        let held = Holdings::new(alloc, &limits)?;
         Ok(Database {
             limits,
-            shards,
-            trees,
-            halted: false,
+            held: Some(held),
         })
     }
 
@@ -90,15 +79,19 @@ impl Database {
         ensures limits { limits_of result ≡ self.now.limits }
         ensures served { self.now.is_halted ≡ false → are_limits self.now.limits ≡ true }
         ensures held { self.now.holdings ≡ listing self.now.limits (at self.now.holdings) }
+        ensures lawful { self.now.is_halted ≡ false → is_lawful self.now.holdings ≡ true }
     {
-        self.limits
+        match &self.held {
+            Some(held) => held.limits(),
+            None => self.limits,
+        }
     }
 
-    /// Whether a call wanted memory: every later call is then refused.
+    /// Whether a call ran out of memory: every later call is then refused.
     pub fn is_halted(&self) -> bool
         ensures { result ≡ self.now.is_halted }
     {
-        self.halted
+        self.held.is_none()
     }
 
     /// Frame, rights and status of what a page holds.
@@ -108,10 +101,10 @@ impl Database {
         requires { IsWithin self.now.limits place }
         ensures { result ≡ unless_halted self.now (option_map entry_of (at self.now.holdings place)) }
     {
-        if self.halted {
+        let Some(held) = &self.held else {
             return Err(DbError::Halted);
-        }
-        Ok(self.shards.get(place))
+        };
+        Ok(held.entry(place))
     }
 
     /// The page from which a page came; none for a root, and where nothing is held.
@@ -121,13 +114,10 @@ impl Database {
         requires { IsWithin self.now.limits place }
         ensures { result ≡ unless_halted self.now (origin_at self.now.holdings place) }
     {
-        if self.halted {
+        let Some(held) = &self.held else {
             return Err(DbError::Halted);
-        }
-        let Some(entry) = self.shards.get(place) else {
-            return Ok(None);
         };
-        Ok(tree::origin(&self.trees[entry.frame as usize], place))
+        Ok(held.origin(place))
     }
 
     /// Every mapping, by rising place. It takes time by what is held, and not by how many pages there are.
@@ -139,10 +129,10 @@ impl Database {
         ensures errors { IfErr result (λ e. (e ≡ Halted) ⊎ (e ≡ NoMemory)) }
         ensures mappings { IfOk result (λ mappings. map mapped_of mappings.items ≡ self.now.holdings) }
     {
-        if self.halted {
+        let Some(held) = &self.held else {
             return Err(DbError::Halted);
-        }
-        let mappings = mappings(alloc, &self.shards, &self.trees)?;
+        };
+        let mappings = held.mappings(alloc)?;
         Ok(mappings)
     }
 
@@ -162,16 +152,11 @@ impl Database {
             answers.items ≡ access_answers self.old.holdings accesses.now) }
         ensures left { OnOk result (self.new ≡ left_with self.old (touched_all self.old.holdings accesses.now)) }
     {
-        if self.halted {
+        let Some(held) = self.held.take() else {
             return Err(DbError::Halted);
-        }
-        let Ok(mut answers) = Vec::with_capacity(alloc, accesses.len()) else {
-            return Err(self.halt());
         };
-        for (place, access) in accesses {
-            let pushed = answers.push(self.touch(*place, *access));
-            prove!(pushed.is_ok());
-        }
+        let (held, answers) = touch_all(alloc, held, accesses)?;
+        self.held = Some(held);
         Ok(answers)
     }
 
@@ -206,7 +191,7 @@ impl Database {
         ensures left { OnOk result (
             self.new ≡ left_with self.old (send_answer from to window.now items.now self.old.holdings).left) }
     {
-        if self.halted {
+        if self.held.is_none() {
             return Err(DbError::Halted);
         }
         if u32::from(from) >= self.limits.spaces || u32::from(to) >= self.limits.spaces {
@@ -218,17 +203,10 @@ impl Database {
         if window.is_nil() {
             return Err(DbError::NoWindow);
         }
-        let reply = work_items(
-            alloc,
-            &mut self.shards,
-            &mut self.trees,
-            from,
-            to,
-            window,
-            items,
-        );
-        self.halted = reply.is_err();
-        Ok(reply?)
+        let held = self.held.take().unwrap();
+        let (held, reply) = work_items(alloc, held, from, to, window, items)?;
+        self.held = Some(held);
+        Ok(reply)
     }
 
     /// Takes rights from the pages of a space that each fpage names, if the control word says so, and from all that derives
@@ -257,23 +235,17 @@ impl Database {
         ensures left { OnOk result (self.new ≡
             left_with self.old (unmap_left space control.flush fpages.now self.old.holdings)) }
     {
-        if self.halted {
+        if self.held.is_none() {
             return Err(DbError::Halted);
         }
-        if u32::from(space) >= self.limits.spaces {
+        if u32::from(space) >= self.limits().spaces {
             return Err(DbError::NoSuchSpace);
         }
+        let held = self.held.take().unwrap();
         let flush = control.is_flush();
-        let status = unmap_words(
-            alloc,
-            &mut self.shards,
-            &mut self.trees,
-            space,
-            flush,
-            fpages,
-        );
-        self.halted = status.is_err();
-        Ok(status?)
+        let (held, status) = unmap_words(alloc, held, space, flush, fpages, Way::Runs)?;
+        self.held = Some(held);
+        Ok(status)
     }
 
     /// The same as `unmap`, by recursion: page by page of those that an fpage names and that are still held, first what
@@ -295,58 +267,24 @@ impl Database {
         ensures stays_halted { IsErrOf result Halted → self.new ≡ self.old }
         ensures no_memory { IsErrOf result NoMemory → (self.new.is_halted ≡ true) × (self.new.limits ≡ self.old.limits) }
         ensures status { IfOk result (λ status.
-            status.items ≡ plain_status space control.flush fpages.now self.old.holdings) }
+            status.items ≡ unmap_status space control.flush fpages.now self.old.holdings) }
         ensures left { OnOk result (self.new ≡
+            left_with self.old (unmap_left space control.flush fpages.now self.old.holdings)) }
+        ensures recursion_status { IfOk result (λ status.
+            status.items ≡ plain_status space control.flush fpages.now self.old.holdings) }
+        ensures recursion_left { OnOk result (self.new ≡
             left_with self.old (plain_left space control.flush fpages.now self.old.holdings)) }
-
-        // It gives and leaves what `unmap` does.
-        ensures as_unmap { self.old.is_halted ≡ false →
-            (plain_status space control.flush fpages.now self.old.holdings ≡ unmap_status space control.flush fpages.now self.old.holdings)
-            × (plain_left space control.flush fpages.now self.old.holdings ≡ unmap_left space control.flush fpages.now self.old.holdings) }
     {
-        if self.halted {
+        if self.held.is_none() {
             return Err(DbError::Halted);
         }
-        if u32::from(space) >= self.limits.spaces {
+        if u32::from(space) >= self.limits().spaces {
             return Err(DbError::NoSuchSpace);
         }
-        let first_too = control.is_flush();
-        let visited = visit_words(
-            alloc,
-            &mut self.shards,
-            &mut self.trees,
-            space,
-            first_too,
-            fpages,
-        );
-        self.halted = visited.is_err();
-        Ok(visited?)
-    }
-
-    /// Makes one access, if the page is held with the right for it, and says whether it was.
-    fn touch(&mut self, place: Place, access: Access) -> bool
-        requires running { self.old.is_halted ≡ false }
-        requires within { IsWithin self.old.limits place }
-        ensures answer { result ≡ can_touch self.old.holdings place access }
-        ensures left { self.new ≡ left_with self.old (touch self.old.holdings place access) }
-    {
-        let Some(entry) = self.shards.get(place) else {
-            return false;
-        };
-        if !entry.rights.holds(access) {
-            return false;
-        }
-        let status = entry.status.join(marks(access));
-        self.shards.set(place, Some(Entry { status, ..entry }));
-        true
-    }
-
-    /// Halts the database: memory was refused.
-    fn halt(&mut self) -> DbError
-        ensures error { result ≡ NoMemory }
-        ensures left { self.new ≡ halted self.old }
-    {
-        self.halted = true;
-        DbError::NoMemory
+        let held = self.held.take().unwrap();
+        let flush = control.is_flush();
+        let (held, status) = unmap_words(alloc, held, space, flush, fpages, Way::Recursion)?;
+        self.held = Some(held);
+        Ok(status)
     }
 }

@@ -1,4 +1,5 @@
 use space::NoMemory;
+use std::alloc::AllocError;
 use thiserror::Error;
 
 /// Why a call of the database was refused.
@@ -16,7 +17,7 @@ pub enum DbError {
     /// The receiver's window is nil.
     #[error("NoWindow")]
     NoWindow,
-    /// Memory was refused. A call of a database leaves it halted.
+    /// The call ran out of memory. A call that changes a database leaves it halted.
     #[error("NoMemory")]
     NoMemory,
     /// The database was halted by a call before.
@@ -31,6 +32,17 @@ impl From<NoMemory> for DbError {
     ghost from_gives = { λ _ e. e ≡ NoMemory };
 
     fn from(_: NoMemory) -> Self {
+        DbError::NoMemory
+    }
+}
+
+impl From<AllocError> for DbError {
+    ghost use Rattle.std.specs.Prelude.{◌≡◌};
+    ghost use Rattle.mapdb.specs.declared.error.DbError.TheVariants.{NoMemory};
+
+    ghost from_gives = { λ _ e. e ≡ NoMemory };
+
+    fn from(_: AllocError) -> Self {
         DbError::NoMemory
     }
 }

@@ -1,23 +1,19 @@
 //! The items of a send, one after another, each in phases.
 
-ghost use Rattle.std.specs.Prelude.{◌≡◌, ◌<◌, IfOk, OnOk};
+ghost use Rattle.std.specs.Prelude.{◌≡◌, ◌<◌, IfOk};
 ghost use Rattle.std.specs.List.{All};
-ghost use Rattle.space.specs.Shards.{bits_of, spaces_of};
 ghost use Rattle.fpage.specs.Fpage.{IsFpageOf};
 ghost use Rattle.model.specs.Answers.{item_answer, send_answer};
-ghost use Rattle.mapdb.specs.Meaning.{counts_of};
-ghost use Rattle.mapdb.specs.Stripping.{limits_in, holdings_in, AreSound};
-ghost use Rattle.mapdb.specs.Sending.{job_of_pages, AreItemPages};
+ghost use Rattle.holdings.specs.Sending.{job_of_pages, AreItemPages};
+ghost use Rattle.mapdb.specs.Sending.{IsSent};
 
 use crate::grant::grant_pages;
-use crate::item_pages::ItemPages;
-use crate::map::map_pages;
-use crate::pages::strip_held;
+use crate::item_pages::item_pages;
+use crate::plan::{End, ends, plan_item};
 use crate::reply::SendReply;
-use crate::transfer::{End, Transfer, held_ends, plan_item};
 use fpage::{Fpage, Item, ItemKind, Rights};
-use maptree::Tree;
-use space::{NoMemory, Shards};
+use holdings::{Holdings, ItemPages, Transfer, Worked};
+use space::NoMemory;
 use std::alloc::Global;
 
 /// Works items from one space to the window of another, one after another, and adds their counts.
@@ -25,32 +21,34 @@ use std::alloc::Global;
 /// Refused, where memory is: `NoMemory`.
 pub fn work_items(
     alloc: Global,
-    shards: &mut Shards,
-    trees: &mut [Tree],
+    held: Holdings,
     from: u16,
     to: u16,
     window: &Fpage,
     items: &[Item],
-) -> Result<SendReply, NoMemory>
-    requires sound { AreSound shards.old trees.old }
-    requires from { from < spaces_of shards.old }
-    requires to { to < spaces_of shards.old }
+) -> Result<(Holdings, SendReply), NoMemory>
+    requires from { from < held.limits.spaces }
+    requires to { to < held.limits.spaces }
     requires differ { from ≡ to → ⊥ }
-    requires window { IsFpageOf (bits_of shards.old) window.now }
+    requires window { IsFpageOf held.limits.bits window.now }
     requires some { 0 < window.now.count }
-    requires items { All (λ item. IsFpageOf (bits_of shards.old) item.sent) items.now }
-    ensures counts { IfOk result (λ reply. counts_of reply ≡ (send_answer from to window.now items.now (holdings_in shards.old trees.old)).counts) }
-    ensures left { OnOk result (holdings_in shards.new trees.new ≡ (send_answer from to window.now items.now (holdings_in shards.old trees.old)).left) }
-    ensures sound { OnOk result (AreSound shards.new trees.new) }
-    ensures limits { OnOk result (limits_in shards.new trees.new ≡ limits_in shards.old trees.old) }
+    requires items { All (λ item. IsFpageOf held.limits.bits item.sent) items.now }
+    ensures { IfOk result (IsSent held (send_answer from to window.now items.now held.holdings).left (send_answer from to window.now items.now held.holdings).counts) }
 {
+    let mut held = held;
     let mut reply = SendReply::none();
     for item in items {
-        let pages = ItemPages::of(from, to, window, item);
-        reply = reply.plus(work_item(alloc, shards, trees, &pages)?);
+        let pages = item_pages(from, to, window, item);
+        let (left, worked) = work_item(alloc, held, &pages)?;
+        held = left;
+        reply = reply.plus(worked);
     }
-    Ok(reply)
+    Ok((held, reply))
 }
+
+ghost use Rattle.std.specs.Prelude.{◌^◌};
+ghost use Rattle.model.specs.SendLaws.{total};
+ghost use Rattle.mapdb.specs.Meaning.{counts_of};
 
 /// Works one item: the outcome of each page from the start; the flush of the targets that are replaced; then the pages
 /// whose sources are still held (profile).
@@ -58,81 +56,61 @@ pub fn work_items(
 /// Refused, where memory is: `NoMemory`.
 fn work_item(
     alloc: Global,
-    shards: &mut Shards,
-    trees: &mut [Tree],
+    held: Holdings,
     pages: &ItemPages,
-) -> Result<SendReply, NoMemory>
-    requires sound { AreSound shards.old trees.old }
-    requires pages { AreItemPages (limits_in shards.old trees.old) pages.now }
-    ensures counts { IfOk result (λ reply. counts_of reply ≡ (item_answer (holdings_in shards.old trees.old) (job_of_pages pages.now)).counts) }
-    ensures left { OnOk result (holdings_in shards.new trees.new ≡ (item_answer (holdings_in shards.old trees.old) (job_of_pages pages.now)).left) }
-    ensures sound { OnOk result (AreSound shards.new trees.new) }
-    ensures limits { OnOk result (limits_in shards.new trees.new ≡ limits_in shards.old trees.old) }
+) -> Result<(Holdings, SendReply), NoMemory>
+    requires { AreItemPages held.limits pages.now }
+    ensures sent { IfOk result (IsSent held (item_answer held.holdings (job_of_pages pages.now)).left (item_answer held.holdings (job_of_pages pages.now)).counts) }
+    ensures few { IfOk result (λ r. total (counts_of r.1) < 2 ^ 32) }
 {
-    let plan = plan_item(alloc, shards, trees, pages)?;
-    flush(alloc, shards, trees, &plan.transfers)?;
-    let worked = map_or_grant(
-        alloc,
-        shards,
-        trees,
-        pages.kind,
-        pages.rights,
-        &plan.transfers,
-    )?;
-    Ok(plan.decided.plus(worked))
+    let plan = plan_item(alloc, &held, pages)?;
+    let held = flush(alloc, held, &plan.transfers)?;
+    let (held, worked) = map_or_grant(alloc, held, pages, &plan.transfers)?;
+    Ok((held, plan.decided.plus(SendReply::of_worked(worked))))
 }
 
 ghost use Rattle.std.specs.Prelude.{true};
 ghost use Rattle.fpage.specs.Rights.{all_rights};
 ghost use Rattle.model.specs.Strip.{strip};
-ghost use Rattle.mapdb.specs.declared.transfer.End.TheVariants.{Target};
-ghost use Rattle.mapdb.specs.Sending.{IsTransferWithin, ends_of};
+ghost use Rattle.holdings.specs.Contents.{left_with};
+ghost use Rattle.holdings.specs.Sending.{IsTransferWithin};
+ghost use Rattle.mapdb.specs.declared.plan.End.TheVariants.{Target};
+ghost use Rattle.mapdb.specs.Sending.{ends_of};
 
 /// The pages that are to be replaced are revoked, with all that derives from them.
 ///
 /// Refused, where memory is: `NoMemory`.
-fn flush(
-    alloc: Global,
-    shards: &mut Shards,
-    trees: &mut [Tree],
-    transfers: &[Transfer],
-) -> Result<(), NoMemory>
-    requires sound { AreSound shards.old trees.old }
-    requires within { All (IsTransferWithin (limits_in shards.old trees.old)) transfers.now }
-    ensures left { OnOk result (holdings_in shards.new trees.new ≡ strip (holdings_in shards.old trees.old) (ends_of Target transfers.now) all_rights true) }
-    ensures sound { OnOk result (AreSound shards.new trees.new) }
-    ensures limits { OnOk result (limits_in shards.new trees.new ≡ limits_in shards.old trees.old) }
+fn flush(alloc: Global, held: Holdings, transfers: &[Transfer]) -> Result<Holdings, NoMemory>
+    requires { All (IsTransferWithin held.limits) transfers.now }
+    ensures { IfOk result (λ r. r ≡ left_with held (strip held.holdings (ends_of Target transfers.now) all_rights true)) }
 {
-    let replaced = held_ends(alloc, shards, transfers, End::Target)?;
-    strip_held(alloc, shards, trees, replaced, Rights::all(), true)?;
-    Ok(())
+    let replaced = ends(alloc, transfers, End::Target)?;
+    let (held, _) = held.strip(alloc, &replaced, Rights::all(), true)?;
+    Ok(held)
 }
 
 ghost use Rattle.fpage.specs.declared.item.ItemKind.TheVariants.{Grant};
-ghost use Rattle.mapdb.specs.Sending.{after_flush, ArePlanned, AllGo, IsReady, worked};
+ghost use Rattle.model.specs.Lawful.{is_lawful};
+ghost use Rattle.holdings.specs.Sending.{ArePlanned, AreReady, AllGo};
+ghost use Rattle.mapdb.specs.Sending.{AreWorkedBy};
 
 /// Works the pages whose sources are still held after the flush.
 ///
 /// Refused, where memory is: `NoMemory`.
 fn map_or_grant(
     alloc: Global,
-    shards: &mut Shards,
-    trees: &mut [Tree],
-    kind: ItemKind,
-    rights: Rights,
+    held: Holdings,
+    pages: &ItemPages,
     transfers: &[Transfer],
-) -> Result<SendReply, NoMemory>
-    requires sound { AreSound shards.old trees.old }
-    requires planned { ArePlanned (limits_in shards.old trees.old) transfers.now }
-    requires all_go { kind ≡ Grant → AllGo transfers.now }
-    requires ready { All (IsReady (holdings_in shards.old trees.old) rights) transfers.now }
-    ensures counts { IfOk result (λ reply. counts_of reply ≡ worked (holdings_in shards.old trees.old) transfers.now) }
-    ensures left { OnOk result (holdings_in shards.new trees.new ≡ after_flush kind rights transfers.now (holdings_in shards.old trees.old)) }
-    ensures sound { OnOk result (AreSound shards.new trees.new) }
-    ensures limits { OnOk result (limits_in shards.new trees.new ≡ limits_in shards.old trees.old) }
+) -> Result<(Holdings, Worked), NoMemory>
+    requires lawful { is_lawful held.holdings ≡ true }
+    requires planned { ArePlanned held.limits transfers.now }
+    requires all_go { pages.now.kind ≡ Grant → AllGo transfers.now }
+    requires ready { AreReady held.holdings pages.now.rights transfers.now }
+    ensures { IfOk result (AreWorkedBy held pages.now.kind pages.now.rights transfers.now) }
 {
-    match kind {
-        ItemKind::Map => map_pages(alloc, shards, trees, transfers, rights),
-        ItemKind::Grant => grant_pages(alloc, shards, trees, transfers, rights),
+    match pages.kind {
+        ItemKind::Map => held.map(alloc, transfers, pages.rights),
+        ItemKind::Grant => grant_pages(alloc, held, transfers, pages.rights),
     }
 }

@@ -1,8 +1,12 @@
-ghost use Rattle.std.specs.Prelude.{◌≡◌};
-ghost use Rattle.std.specs.Prelude.{◌+◌, ◌^◌, ◌<◌};
+ghost use Rattle.std.specs.Prelude.{◌≡◌, ◌+◌, ◌^◌, ◌<◌};
 ghost use Rattle.model.specs.Items.{no_counts, add_counts};
 ghost use Rattle.model.specs.SendLaws.{total};
+ghost use Rattle.holdings.specs.Meaning as phase;
+ghost use Rattle.holdings.specs.Sending.{fate_of_outcome};
 ghost use Rattle.mapdb.specs.Meaning.{counts_of};
+ghost use Rattle.mapdb.specs.Sending.{decided_of};
+
+use holdings::{Outcome, Worked};
 
 /// How many pairs of a send had which outcome. Their numbers have no bound but that of a slice of items.
 #[derive(Clone, Copy, Debug, PartialEq, Eq)]
@@ -39,56 +43,35 @@ impl SendReply {
         NONE
     }
 
-    /// One pair, whose source is not held.
-    pub fn absent() -> Self
-        ensures { counts_of result ≡ record no_counts { absent = 1 } }
+    /// One pair that is decided at an item's start, if it neither goes nor extends.
+    pub(crate) fn of_decided(outcome: Outcome) -> Self
+        ensures { counts_of result ≡ decided_of (fate_of_outcome outcome) }
     {
-        SendReply { absent: 1, ..NONE }
-    }
-
-    /// One pair, for which no right is left.
-    pub fn norights() -> Self
-        ensures { counts_of result ≡ record no_counts { norights = 1 } }
-    {
-        SendReply {
-            norights: 1,
-            ..NONE
+        match outcome {
+            Outcome::Absent => SendReply { absent: 1, ..NONE },
+            Outcome::NoRights => SendReply {
+                norights: 1,
+                ..NONE
+            },
+            Outcome::Origin => SendReply { origin: 1, ..NONE },
+            Outcome::Extends | Outcome::Goes => NONE,
         }
     }
 
-    /// One pair, whose target is an origin of its source.
-    pub fn origin() -> Self
-        ensures { counts_of result ≡ record no_counts { origin = 1 } }
-    {
-        SendReply { origin: 1, ..NONE }
-    }
-
-    /// One pair, whose source was flushed.
-    pub fn lost() -> Self
-        ensures { counts_of result ≡ record no_counts { lost = 1 } }
-    {
-        SendReply { lost: 1, ..NONE }
-    }
-
-    /// One pair, which gave rights to a mapping.
-    pub fn extended() -> Self
-        ensures { counts_of result ≡ record no_counts { extended = 1 } }
+    /// The pairs that were worked after the flush.
+    pub(crate) fn of_worked(worked: Worked) -> Self
+        ensures { counts_of result ≡ phase.counts_of worked }
     {
         SendReply {
-            extended: 1,
+            lost: u128::from(worked.lost),
+            extended: u128::from(worked.extended),
+            linked: u128::from(worked.linked),
             ..NONE
         }
-    }
-
-    /// One pair, which made a new mapping.
-    pub fn linked() -> Self
-        ensures { counts_of result ≡ record no_counts { linked = 1 } }
-    {
-        SendReply { linked: 1, ..NONE }
     }
 
     /// The pairs of both.
-    pub fn plus(self, more: SendReply) -> Self
+    pub(crate) fn plus(self, more: SendReply) -> Self
         requires { total (counts_of self) + total (counts_of more) < 2 ^ 128 }
         ensures { counts_of result ≡ add_counts (counts_of self) (counts_of more) }
     {

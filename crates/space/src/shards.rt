@@ -59,6 +59,20 @@ impl Shards {
         })
     }
 
+    /// How many spaces there are.
+    pub fn spaces(&self) -> u32
+        ensures { result ≡ spaces_of self.now }
+    {
+        self.spaces
+    }
+
+    /// A space has `2^bits` bytes.
+    pub fn bits(&self) -> u32
+        ensures { result ≡ bits_of self.now }
+    {
+        self.bits
+    }
+
     /// Which word is a place's.
     pub fn index(&self, place: Place) -> usize
         requires { IsPlace self.now place }

@@ -1,108 +1,74 @@
 -- The phases of an item, one after another, are those of the definition.
-use Rattle.std.proofs.Common.{◌≡◌, ℕ, ◌<◌, ◌+◌, ◌^◌, true, sym, ap, ◌∙◌, subst, arith}
+use Rattle.std.proofs.Common.{◌≡◌, ◌+◌, ◌^◌, ◌<◌, true, List, sym, ap, ◌∙◌, subst}
 use Rattle.std.specs.List.{All}
 use Rattle.fpage.specs.Rights.{all_rights}
-use Rattle.model.specs.Calls.{Limits}
-use Rattle.model.specs.Items.{flush, going, add_counts, counts}
+use Rattle.model.specs.Items.{Counts, add_counts}
 use Rattle.model.specs.SendLaws.{total}
 use Rattle.model.specs.Strip.{strip}
-use Rattle.model.proofs.LawfulParts.{IsLawful, lawful_parts}
-use Rattle.mapdb.specs.declared.transfer.End.TheVariants.{Target}
+use Rattle.holdings.specs.declared.transfer.Transfer.{Transfer}
+use Rattle.holdings.specs.Contents.{left_with}
+use Rattle.holdings.specs.Meaning as phase
+use Rattle.holdings.specs.Sending.{job_of_pages, IsTransferWithin, ArePlanned, AllGo, AreReady}
+use Rattle.mapdb.specs.declared.plan.End.TheVariants.{Target}
 use Rattle.mapdb.specs.Meaning.{counts_of}
-use Rattle.mapdb.specs.Stripping.{limits_in, holdings_in}
-use Rattle.mapdb.specs.Sending.{job_of_pages, transfers_of, ends_of, IsTransferWithin, ArePlanned, AllGo, IsReady, after_flush, worked}
-use Rattle.mapdb.proofs.Plans.{total_sum}
-use Rattle.mapdb.proofs.Phases.{is_job, flush_is, left_is, counts_are, total_is, are_planned, all_ready, grant_goes, few_pages}
+use Rattle.mapdb.specs.Sending.{ends_of, transfers_of, AreWorkedBy}
+use Rattle.mapdb.proofs.Phases.{grant_goes}
+use Rattle.mapdb.proofs.OneItem.{planned, lawful_then, planned_then, ready_then, left_then, counts_then, total_then, fits_then}
 use Rattle.mapdb.proofs.item.work_item.Goals as goal
 
-module _ (c : goal.After-deref) where
-  lawful_start : IsLawful (holdings_in c.args.shards.now c.args.trees.now)
-  lawful_start = lawful_parts (holdings_in c.args.shards.now c.args.trees.now) c.requires.sound.kept.lawful
-
-  few : c.args.pages.now.count < 2 ^ 32
-  few = few_pages (limits_in c.args.shards.now c.args.trees.now) c.args.pages.now c.requires.sound.kept.fits.served c.requires.pages
-
-pub flush-requires-clause-within : goal.flush-requires-clause-within
-flush-requires-clause-within c =
-    let limits = limits_in c.args.shards.now c.args.trees.now in
-    subst (All (IsTransferWithin limits)) (sym (c.deref.ensures.value ∙ c.in_ok-plan.ensures.transfers))
-    (are_planned (holdings_in c.args.shards.now c.args.trees.now) (lawful_start c) c.args.pages.now c.requires.pages.differ limits c.requires.pages (few c)).within
+pub flush-requires : goal.flush-requires
+flush-requires c = subst (All (IsTransferWithin c.args.held.limits)) (sym (c.deref.ensures.value ∙ c.in_ok-plan.ensures.transfers)) (planned c.args.held c.args.pages.now c.in_ok-plan.ensures.consistent c.requires).within
 
 module _ (c : goal.After-deref-2) where
-  lawful_before : IsLawful (holdings_in c.args.shards.now c.args.trees.now)
-  lawful_before = lawful_parts (holdings_in c.args.shards.now c.args.trees.now) c.requires.sound.kept.lawful
+  flushed : c.in_ok-held.held ≡ left_with c.args.held (strip c.args.held.holdings (ends_of Target (transfers_of c.args.held.holdings (job_of_pages c.args.pages.now) (job_of_pages c.args.pages.now).pairs)) all_rights true)
+  flushed = c.in_ok-held.ensures ∙ ap (λ (ts : List Transfer). left_with c.args.held (strip c.args.held.holdings (ends_of Target ts) all_rights true)) (c.deref.ensures.value ∙ c.in_ok-plan.ensures.transfers)
 
-  -- what is planned, and what the flush leaves
-  planned : c.deref-2.result.now ≡ transfers_of (holdings_in c.args.shards.now c.args.trees.now) (job_of_pages c.args.pages.now) (job_of_pages c.args.pages.now).pairs
-  planned = c.deref-2.ensures.value ∙ c.in_ok-plan.ensures.transfers
+  shown : c.deref-2.result.now ≡ transfers_of c.args.held.holdings (job_of_pages c.args.pages.now) (job_of_pages c.args.pages.now).pairs
+  shown = c.deref-2.ensures.value ∙ c.in_ok-plan.ensures.transfers
 
-  flushed : holdings_in c.flush.new.shards c.flush.new.trees ≡ flush (holdings_in c.args.shards.now c.args.trees.now) (going (holdings_in c.args.shards.now c.args.trees.now) (job_of_pages c.args.pages.now))
-  flushed =
-      let h = holdings_in c.args.shards.now c.args.trees.now in
-      c.in_ok-flush.ensures.left ∙ ap (λ ts. strip h (ends_of Target ts) all_rights true) (c.deref.ensures.value ∙ c.in_ok-plan.ensures.transfers) ∙ flush_is h lawful_before c.args.pages.now c.requires.pages.differ
-
-  fewer : c.args.pages.now.count < 2 ^ 32
-  fewer = few_pages (limits_in c.args.shards.now c.args.trees.now) c.args.pages.now c.requires.sound.kept.fits.served c.requires.pages
+pub map_or_grant-requires-clause-lawful : goal.map_or_grant-requires-clause-lawful
+map_or_grant-requires-clause-lawful c = lawful_then c.args.held c.args.pages.now c.in_ok-plan.ensures.consistent c.requires c.in_ok-held.held (flushed c)
 
 pub map_or_grant-requires-clause-planned : goal.map_or_grant-requires-clause-planned
-map_or_grant-requires-clause-planned c =
-    let limits = limits_in c.args.shards.now c.args.trees.now in
-    subst (λ (limits : Limits). ArePlanned limits c.deref-2.result.now) (sym c.in_ok-flush.ensures.limits)
-    (subst (ArePlanned limits) (sym (planned c)) (are_planned (holdings_in c.args.shards.now c.args.trees.now) (lawful_before c) c.args.pages.now c.requires.pages.differ limits c.requires.pages (fewer c)))
+map_or_grant-requires-clause-planned c = subst (ArePlanned c.in_ok-held.held.limits) (sym (shown c)) (planned_then c.args.held c.args.pages.now c.in_ok-plan.ensures.consistent c.requires c.in_ok-held.held (flushed c))
 
 pub map_or_grant-requires-clause-all_go : goal.map_or_grant-requires-clause-all_go
-map_or_grant-requires-clause-all_go c grants =
-    subst AllGo (sym (planned c)) (grant_goes (holdings_in c.args.shards.now c.args.trees.now) (job_of_pages c.args.pages.now) grants (job_of_pages c.args.pages.now).pairs)
+map_or_grant-requires-clause-all_go c grants = subst AllGo (sym (shown c)) (grant_goes c.args.held.holdings (job_of_pages c.args.pages.now) grants (job_of_pages c.args.pages.now).pairs)
 
 pub map_or_grant-requires-clause-ready : goal.map_or_grant-requires-clause-ready
-map_or_grant-requires-clause-ready c =
-    let h = holdings_in c.args.shards.now c.args.trees.now in
-    let job = job_of_pages c.args.pages.now in
-    subst (λ g. All (IsReady g c.args.pages.now.rights) c.deref-2.result.now) (sym (flushed c))
-    (subst (All (IsReady (flush h (going h job)) c.args.pages.now.rights)) (sym (planned c)) (all_ready h job (lawful_before c) (is_job h (lawful_before c) c.args.pages.now c.requires.pages.differ)))
+map_or_grant-requires-clause-ready c = subst (AreReady c.in_ok-held.held.holdings c.args.pages.now.rights) (sym (shown c)) (ready_then c.args.held c.args.pages.now c.in_ok-plan.ensures.consistent c.requires c.in_ok-held.held (flushed c))
 
-module _ (c : goal.After-plus-arg-1) where
-  lawful_then : IsLawful (holdings_in c.args.shards.now c.args.trees.now)
-  lawful_then = lawful_parts (holdings_in c.args.shards.now c.args.trees.now) c.requires.sound.kept.lawful
+module _ (c : goal.After-of_worked) where
+  flushed_before : c.in_ok-held.held ≡ left_with c.args.held (strip c.args.held.holdings (ends_of Target (transfers_of c.args.held.holdings (job_of_pages c.args.pages.now) (job_of_pages c.args.pages.now).pairs)) all_rights true)
+  flushed_before = c.in_ok-held.ensures ∙ ap (λ (ts : List Transfer). left_with c.args.held (strip c.args.held.holdings (ends_of Target ts) all_rights true)) (c.deref.ensures.value ∙ c.in_ok-plan.ensures.transfers)
 
-  -- the counts are those of the definition
-  counted : add_counts (counts_of c.in_ok-plan.plan.decided) (counts_of c.in_ok-worked.worked) ≡ counts (holdings_in c.args.shards.now c.args.trees.now) (job_of_pages c.args.pages.now)
-  counted =
-      let h = holdings_in c.args.shards.now c.args.trees.now in
-      let job = job_of_pages c.args.pages.now in
-      let planned : c.deref-2.result.now ≡ transfers_of h job job.pairs = c.deref-2.ensures.value ∙ c.in_ok-plan.ensures.transfers in
-      let flushed : holdings_in c.flush.new.shards c.flush.new.trees ≡ flush h (going h job) =
-      c.in_ok-flush.ensures.left ∙ ap (λ ts. strip h (ends_of Target ts) all_rights true) (c.deref.ensures.value ∙ c.in_ok-plan.ensures.transfers) ∙ flush_is h lawful_then c.args.pages.now c.requires.pages.differ in
-      let worked_is : counts_of c.in_ok-worked.worked ≡ worked (flush h (going h job)) (transfers_of h job job.pairs) = c.in_ok-worked.ensures.counts ∙ (λ i. worked (flushed i) (planned i)) in
-      (λ i. add_counts (c.in_ok-plan.ensures.decided i) (worked_is i)) ∙ counts_are h lawful_then c.args.pages.now c.requires.pages.differ
+  phased : AreWorkedBy c.in_ok-held.held c.args.pages.now.kind c.args.pages.now.rights (transfers_of c.args.held.holdings (job_of_pages c.args.pages.now) (job_of_pages c.args.pages.now).pairs) (c.in_ok-held-2.held, c.in_ok-held-2.worked)
+  phased =
+      subst (λ (ts : List Transfer). AreWorkedBy c.in_ok-held.held c.args.pages.now.kind c.args.pages.now.rights ts (c.in_ok-held-2.held, c.in_ok-held-2.worked)) (c.deref-2.ensures.value ∙ c.in_ok-plan.ensures.transfers) c.in_ok-held-2.ensures
 
 pub plus-requires : goal.plus-requires
 plus-requires c =
-    let all : total (counts_of c.in_ok-plan.plan.decided) + total (counts_of c.in_ok-worked.worked) ≡ c.args.pages.now.count =
-    sym (total_sum (counts_of c.in_ok-plan.plan.decided) (counts_of c.in_ok-worked.worked)) ∙ ap total (counted c) ∙ total_is (holdings_in c.args.shards.now c.args.trees.now) (lawful_then c) c.args.pages.now c.requires.pages.differ in
-    let few = few_pages (limits_in c.args.shards.now c.args.trees.now) c.args.pages.now c.requires.sound.kept.fits.served c.requires.pages in
-    fits (total (counts_of c.in_ok-plan.plan.decided)) (total (counts_of c.in_ok-worked.worked)) c.args.pages.now.count all few
-  where
-    fits : (a b n : ℕ) → a + b ≡ n → n < 2 ^ 32 → a + b < 2 ^ 128
-    fits a b n same few = omega (arith, same, few)
+    subst (λ (more : Counts). total (counts_of c.in_ok-plan.plan.decided) + total more < 2 ^ 128) (sym c.of_worked.ensures)
+    (fits_then c.args.held c.args.pages.now c.in_ok-plan.ensures.consistent c.requires c.in_ok-held.held (flushed_before c) (c.in_ok-held-2.held, c.in_ok-held-2.worked) (phased c) (counts_of c.in_ok-plan.plan.decided) c.in_ok-plan.ensures.decided)
 
-pub returns-clause-counts : goal.returns-clause-counts
-returns-clause-counts c =
-    let h = holdings_in c.args.shards.now c.args.trees.now in
-    let job = job_of_pages c.args.pages.now in
-    let lawful = lawful_parts h c.requires.sound.kept.lawful in
-    let planned : c.deref-2.result.now ≡ transfers_of h job job.pairs = c.deref-2.ensures.value ∙ c.in_ok-plan.ensures.transfers in
-    let flushed : holdings_in c.flush.new.shards c.flush.new.trees ≡ flush h (going h job) =
-    c.in_ok-flush.ensures.left ∙ ap (λ ts. strip h (ends_of Target ts) all_rights true) (c.deref.ensures.value ∙ c.in_ok-plan.ensures.transfers) ∙ flush_is h lawful c.args.pages.now c.requires.pages.differ in
-    let worked_is : counts_of c.in_ok-worked.worked ≡ worked (flush h (going h job)) (transfers_of h job job.pairs) = c.in_ok-worked.ensures.counts ∙ (λ i. worked (flushed i) (planned i)) in
-    c.plus.ensures ∙ (λ i. add_counts (c.in_ok-plan.ensures.decided i) (worked_is i)) ∙ counts_are h lawful c.args.pages.now c.requires.pages.differ
+module _ (c : goal.After-drop-plan-2) where
+  flushed_last : c.in_ok-held.held ≡ left_with c.args.held (strip c.args.held.holdings (ends_of Target (transfers_of c.args.held.holdings (job_of_pages c.args.pages.now) (job_of_pages c.args.pages.now).pairs)) all_rights true)
+  flushed_last = c.in_ok-held.ensures ∙ ap (λ (ts : List Transfer). left_with c.args.held (strip c.args.held.holdings (ends_of Target ts) all_rights true)) (c.deref.ensures.value ∙ c.in_ok-plan.ensures.transfers)
 
-pub returns-clause-left : goal.returns-clause-left
-returns-clause-left c =
-    let h = holdings_in c.args.shards.now c.args.trees.now in
-    let job = job_of_pages c.args.pages.now in
-    let lawful = lawful_parts h c.requires.sound.kept.lawful in
-    let planned : c.deref-2.result.now ≡ transfers_of h job job.pairs = c.deref-2.ensures.value ∙ c.in_ok-plan.ensures.transfers in
-    let flushed : holdings_in c.flush.new.shards c.flush.new.trees ≡ flush h (going h job) =
-    c.in_ok-flush.ensures.left ∙ ap (λ ts. strip h (ends_of Target ts) all_rights true) (c.deref.ensures.value ∙ c.in_ok-plan.ensures.transfers) ∙ flush_is h lawful c.args.pages.now c.requires.pages.differ in
-    c.in_ok-worked.ensures.left ∙ (λ i. after_flush c.args.pages.now.kind c.args.pages.now.rights (planned i) (flushed i)) ∙ left_is h lawful c.args.pages.now c.requires.pages.differ
+  phased_last : AreWorkedBy c.in_ok-held.held c.args.pages.now.kind c.args.pages.now.rights (transfers_of c.args.held.holdings (job_of_pages c.args.pages.now) (job_of_pages c.args.pages.now).pairs) (c.in_ok-held-2.held, c.in_ok-held-2.worked)
+  phased_last =
+      subst (λ (ts : List Transfer). AreWorkedBy c.in_ok-held.held c.args.pages.now.kind c.args.pages.now.rights ts (c.in_ok-held-2.held, c.in_ok-held-2.worked)) (c.deref-2.ensures.value ∙ c.in_ok-plan.ensures.transfers) c.in_ok-held-2.ensures
+
+  counted : counts_of c.plus.result ≡ add_counts (counts_of c.in_ok-plan.plan.decided) (phase.counts_of c.in_ok-held-2.worked)
+  counted = c.plus.ensures ∙ ap (add_counts (counts_of c.in_ok-plan.plan.decided)) c.of_worked.ensures
+
+pub returns-clause-sent : goal.returns-clause-sent
+returns-clause-sent c = record {
+  left_is = left_then c.args.held c.args.pages.now c.in_ok-plan.ensures.consistent c.requires c.in_ok-held.held (flushed_last c) (c.in_ok-held-2.held, c.in_ok-held-2.worked) (phased_last c) (counts_of c.in_ok-plan.plan.decided) c.in_ok-plan.ensures.decided;
+  counted = counted c ∙ counts_then c.args.held c.args.pages.now c.in_ok-plan.ensures.consistent c.requires c.in_ok-held.held (flushed_last c) (c.in_ok-held-2.held, c.in_ok-held-2.worked) (phased_last c) (counts_of c.in_ok-plan.plan.decided) c.in_ok-plan.ensures.decided;
+}
+
+pub returns-clause-few : goal.returns-clause-few
+returns-clause-few c =
+    subst (λ (k : Counts). total k < 2 ^ 32) (sym (counted c))
+    (total_then c.args.held c.args.pages.now c.in_ok-plan.ensures.consistent c.requires c.in_ok-held.held (flushed_last c) (c.in_ok-held-2.held, c.in_ok-held-2.worked) (phased_last c) (counts_of c.in_ok-plan.plan.decided) c.in_ok-plan.ensures.decided)

@@ -1,16 +1,16 @@
--- What is held is listed by place.
-use Rattle.std.proofs.Common.{◌≡◌, subst, sym}
-use Rattle.model.specs.Holdings.{at}
-use Rattle.mapdb.specs.Meaning.{limits_of}
-use Rattle.mapdb.specs.Held.{held_at, listing}
-use Rattle.mapdb.specs.State.{State}
-use Rattle.mapdb.proofs.Listing.{listing_same, at_within}
+-- A database that is halted holds nothing, and nothing is listed.
+use Rattle.std.proofs.Common.{◌≡◌, [], None, refl, sym, ap, ◌∙◌, subst}
+use Rattle.model.specs.Holdings.{Holdings, at}
+use Rattle.holdings.specs.Held.{listing}
+use Rattle.holdings.specs.Meaning.{limits_of}
+use Rattle.holdings.proofs.Listing.{listing_is}
+use Rattle.mapdb.specs.State.{State, state_of}
 use Rattle.mapdb.proofs.database.Database.limits.Goals as goal
 
-pub returns-clause-held : goal.returns-clause-held
-returns-clause-held c =
-    let d = c.self.inside in
-    let l = limits_of d.limits in
-    let held = held_at d.shards d.trees.items in
-    subst (λ (s : State). s.holdings ≡ listing s.limits (at s.holdings)) c.self.view_is
-    (listing_same l held (at (listing l held)) (λ p within. sym (at_within held l p within)))
+pub returns-in-None-clause-held : goal.returns-in-None-clause-held
+returns-in-None-clause-held c =
+    let limits = limits_of c.self.inside.limits in
+    let nothing : Holdings = [] in
+    let none : state_of limits None ≡ c.args.self.now = sym (ap (state_of limits) c.in-None.is) ∙ c.self.view_is in
+    subst (λ (s : State). s.holdings ≡ listing s.limits (at s.holdings)) none
+    (sym (listing_is (at nothing) limits nothing refl (λ p _. refl) (λ p _. refl)))

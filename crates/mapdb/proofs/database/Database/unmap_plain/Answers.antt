@@ -1,21 +1,30 @@
 -- What is held is lawful, so the recursion and strip give and leave the same.
-use Rattle.std.proofs.Common.{subst}
-use Rattle.model.proofs.LawfulParts.{IsLawful, lawful_parts}
-use Rattle.mapdb.specs.State.{State}
+use Rattle.std.proofs.Common.{◌≡◌, false, Some, sym, ap, ◌∙◌}
+use Rattle.model.proofs.LawfulParts.{lawful_parts}
+use Rattle.holdings.specs.Contents.{Contents}
+use Rattle.holdings.specs.Meaning.{limits_of}
+use Rattle.mapdb.specs.State.{State, state_of, unmap_status, unmap_left}
 use Rattle.mapdb.proofs.PlainWords.{plain_status_is, plain_left_is}
 use Rattle.mapdb.proofs.database.Database.unmap_plain.Goals as goal
 
-pub returns-then-from-self-clause-as_unmap : goal.returns-then-from-self-clause-as_unmap
-returns-then-from-self-clause-as_unmap c = λ running.
-    let l : IsLawful c.args.self.now.holdings = subst (λ (s : State). IsLawful s.holdings) c.self.view_is (lawful_parts _ (c.self.invariant c.if-self.false).kept.lawful) in
-    (plain_status_is c.args.space c.args.control.flush c.args.fpages.now c.args.self.now.holdings l, plain_left_is c.args.space c.args.control.flush c.args.fpages.now c.args.self.now.holdings l)
+module _ (c : goal.Joined-self) where
+  -- the database that was not halted
+  seen : state_of (limits_of c.self.inside.limits) (Some c.unwrap-held.result) ≡ c.args.self.now
+  seen = ap (state_of (limits_of c.self.inside.limits)) (sym c.unwrap-held.ensures ∙ c.take.ensures.value) ∙ c.self.view_is
 
-pub returns-in_err-visited-clause-as_unmap : goal.returns-in_err-visited-clause-as_unmap
-returns-in_err-visited-clause-as_unmap c = λ running.
-    let l : IsLawful c.args.self.now.holdings = subst (λ (s : State). IsLawful s.holdings) c.self.view_is (lawful_parts _ (c.self.invariant c.if-self.false).kept.lawful) in
-    (plain_status_is c.args.space c.args.control.flush c.args.fpages.now c.args.self.now.holdings l, plain_left_is c.args.space c.args.control.flush c.args.fpages.now c.args.self.now.holdings l)
+  held : c.unwrap-held.result.holdings ≡ c.args.self.now.holdings
+  held = ap (λ (s : State). s.holdings) seen
 
-pub returns-clause-as_unmap : goal.returns-clause-as_unmap
-returns-clause-as_unmap c = λ running.
-    let l : IsLawful c.args.self.now.holdings = subst (λ (s : State). IsLawful s.holdings) c.self.view_is (lawful_parts _ (c.self.invariant c.if-self.false).kept.lawful) in
-    (plain_status_is c.args.space c.args.control.flush c.args.fpages.now c.args.self.now.holdings l, plain_left_is c.args.space c.args.control.flush c.args.fpages.now c.args.self.now.holdings l)
+  running : c.args.self.now.is_halted ≡ false
+  running = sym (ap (λ (s : State). s.is_halted) seen)
+
+pub returns-clause-recursion_status : goal.returns-clause-recursion_status
+returns-clause-recursion_status c =
+    c.in_ok-held.ensures.status ∙ (λ i. unmap_status c.args.space (c.is_flush-flush.ensures i) c.args.fpages.now (held c i))
+    ∙ sym (plain_status_is c.args.space c.args.control.flush c.args.fpages.now c.args.self.now.holdings (lawful_parts c.args.self.now.holdings (c.limits.ensures.lawful (running c))))
+
+pub returns-clause-recursion_left : goal.returns-clause-recursion_left
+returns-clause-recursion_left c =
+    let left = ap (λ (k : Contents). k.holdings) c.in_ok-held.ensures.left ∙ (λ i. unmap_left c.args.space (c.is_flush-flush.ensures i) c.args.fpages.now (held c i))
+    ∙ sym (plain_left_is c.args.space c.args.control.flush c.args.fpages.now c.args.self.now.holdings (lawful_parts c.args.self.now.holdings (c.limits.ensures.lawful (running c)))) in
+    λ i. record { limits = ap (λ (s : State). s.limits) (seen c) i; holdings = left i; is_halted = sym (running c) i }

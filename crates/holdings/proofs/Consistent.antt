@@ -1,0 +1,19 @@
+-- Sound words and trees are consistent.
+use Rattle.std.proofs.Common.{List, sym}
+use Rattle.space.specs.declared.shards.Shards.{Shards}
+use Rattle.maptree.specs.Origins.{Shape}
+use Rattle.model.specs.Holdings.{at}
+use Rattle.holdings.specs.Held.{held_at, listing}
+use Rattle.holdings.specs.Contents.{contents_of, IsConsistent}
+use Rattle.holdings.specs.Stripping.{limits_in, AreSound}
+use Rattle.holdings.proofs.Listing.{listing_same, at_within}
+
+pub consistent : (shards : Shards) (trees : List Shape) → AreSound shards trees → IsConsistent (contents_of shards trees)
+consistent shards trees sound =
+    let l = limits_in shards trees in
+    let held = held_at shards trees in
+    record {
+      served = sound.kept.fits.served;
+      listed = listing_same l held (at (listing l held)) (λ p within. sym (at_within held l p within));
+      lawful = sound.kept.lawful;
+    }

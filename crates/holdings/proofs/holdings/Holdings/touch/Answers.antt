@@ -1,0 +1,75 @@
+-- An access that is made marks its word; a fault changes nothing.
+use Rattle.std.proofs.Common.{◌≡◌, length, true, false, Some, sym, ap, ◌∙◌, subst}
+use Rattle.fpage.specs.Rights.{has, join}
+use Rattle.model.specs.Calls.{Limits}
+use Rattle.model.specs.Touch.{can_touch, touch}
+use Rattle.holdings.specs.Held.{IsWithin, holdings_of}
+use Rattle.holdings.specs.Contents.{Contents, contents_of, left_with}
+use Rattle.holdings.specs.Sound.{IsSound}
+use Rattle.holdings.specs.Stripping.{limits_in}
+use Rattle.holdings.proofs.Accesses.{touch_fault, can_touch_absent, can_touch_present, touched, touched_sound, marked_entry, marked_word}
+use Rattle.holdings.proofs.WordChanges.{IsWordSet}
+use Rattle.holdings.proofs.holdings.Holdings.touch.Goals as goal
+
+pub returns-in_default-clause-answer : goal.returns-in_default-clause-answer
+returns-in_default-clause-answer c =
+    let d = c.self.inside in
+    let within = subst (λ (s : Contents). IsWithin s.limits c.args.place) (sym c.self.view_is) c.requires in
+    sym (subst (λ (s : Contents). can_touch s.holdings c.args.place c.args.access ≡ false) c.self.view_is
+    (can_touch_absent (limits_in d.shards d.trees.items) d.shards d.trees.items c.args.place c.args.access within (sym c.get.ensures ∙ c.in_default.is)))
+
+pub returns-in_default-clause-left : goal.returns-in_default-clause-left
+returns-in_default-clause-left c = ap (left_with c.args.self.now) (sym (touch_fault _ _ _ (sym (returns-in_default-clause-answer c))))
+
+-- whether the access is made
+by_right : (c : goal.Then-not-holds) → can_touch c.args.self.now.holdings c.args.place c.args.access ≡ has c.in-Some.entry.rights c.args.access
+by_right c =
+    let d = c.self.inside in
+    let within = subst (λ (s : Contents). IsWithin s.limits c.args.place) (sym c.self.view_is) c.requires in
+    subst (λ (s : Contents). can_touch s.holdings c.args.place c.args.access ≡ has c.in-Some.entry.rights c.args.access) c.self.view_is
+    (can_touch_present (limits_in d.shards d.trees.items) d.shards d.trees.items c.args.place c.args.access within c.in-Some.entry (sym c.get.ensures ∙ c.in-Some.is))
+
+pub returns-then-not-holds-clause-answer : goal.returns-then-not-holds-clause-answer
+returns-then-not-holds-clause-answer c = sym (by_right c ∙ sym c.holds.ensures ∙ c.if-not-holds.true)
+
+pub returns-then-not-holds-clause-left : goal.returns-then-not-holds-clause-left
+returns-then-not-holds-clause-left c = ap (left_with c.args.self.now) (sym (touch_fault _ _ _ (sym (returns-then-not-holds-clause-answer c))))
+
+-- the word has the marks
+word_set : (c : goal.After-set) → IsWordSet c.self.inside.shards c.set.new.self c.args.place (Some (marked_entry c.args.access c.in-Some.entry))
+word_set c =
+    marked_word c.self.inside.shards c.set.new.self c.args.place c.args.access c.in-Some.entry c.join-status.result (c.join-status.ensures ∙ ap (join c.in-Some.entry.status) c.marks.ensures)
+    (record { set = c.set.ensures.set; present = c.set.ensures.present; layout = c.set.ensures.layout })
+
+-- the limits stay
+same_limits : (c : goal.After-set) → limits_in c.set.new.self c.self.inside.trees.items ≡ limits_in c.self.inside.shards c.self.inside.trees.items
+same_limits c = λ i. record { spaces = c.set.ensures.layout.spaces i; bits = c.set.ensures.layout.bits i; frames = length c.self.inside.trees.items }
+
+pub invariant_of-self : goal.invariant_of-self
+invariant_of-self c =
+    let d = c.self.inside in
+    let within = subst (λ (s : Contents). IsWithin s.limits c.args.place) (sym c.self.view_is) c.requires in
+    subst (λ (l : Limits). IsSound l c.set.new.self d.trees.items) (sym (same_limits c))
+    (touched_sound (limits_in d.shards d.trees.items) d.shards c.set.new.self d.trees.items c.args.place c.args.access c.in-Some.entry c.self.invariant (word_set c) within
+    (sym c.get.ensures ∙ c.in-Some.is) (sym c.holds.ensures ∙ c.if-not-holds.false))
+
+pub returns-clause-answer : goal.returns-clause-answer
+returns-clause-answer c =
+    let d = c.self.inside in
+    let within = subst (λ (s : Contents). IsWithin s.limits c.args.place) (sym c.self.view_is) c.requires in
+    sym (subst (λ (s : Contents). can_touch s.holdings c.args.place c.args.access ≡ true) c.self.view_is
+    (can_touch_present (limits_in d.shards d.trees.items) d.shards d.trees.items c.args.place c.args.access within c.in-Some.entry (sym c.get.ensures ∙ c.in-Some.is)
+    ∙ sym c.holds.ensures ∙ c.if-not-holds.false))
+
+pub returns-clause-left : goal.returns-clause-left
+returns-clause-left c =
+    let d = c.self.inside in
+    let t = d.trees.items in
+    let new = c.set.new.self in
+    let within = subst (λ (s : Contents). IsWithin s.limits c.args.place) (sym c.self.view_is) c.requires in
+    let left =
+    touched (limits_in d.shards t) d.shards new t c.args.place c.args.access c.in-Some.entry c.self.invariant.kept.fits (word_set c) within
+    (sym c.get.ensures ∙ c.in-Some.is) (sym c.holds.ensures ∙ c.if-not-holds.false) in
+    let same : limits_in new t ≡ limits_in d.shards t = λ i. record { spaces = c.set.ensures.layout.spaces i; bits = c.set.ensures.layout.bits i; frames = length t } in
+    subst (λ (s : Contents). contents_of new t ≡ left_with s (touch s.holdings c.args.place c.args.access)) c.self.view_is
+    ((λ i. record { limits = same i; holdings = holdings_of (same i) new t }) ∙ ap (λ h. record { limits = limits_in d.shards t; holdings = h }) left)

@@ -1,0 +1,123 @@
+-- The place's run is its tree's outermost run of that place alone.
+use Rattle.std.proofs.Common.{◌≡◌, true, [], ◌∷◌, length, get_or, slice_set, subst, sym, ap, ◌∙◌}
+use Rattle.std.specs.Prelude.{is_some}
+use Rattle.std.specs.List.{All, list_all}
+use Rattle.space.specs.Place.{same_place}
+use Rattle.space.specs.Shards.{IsPlace}
+use Rattle.maptree.specs.Origins.{Origins, Shape, IsRun, AreRising, AreOuterRuns}
+use Rattle.maptree.specs.Cuts.{outside}
+use Rattle.holdings.specs.Held.{links_in}
+use Rattle.holdings.specs.Derivation.{stands_in}
+use Rattle.holdings.specs.Stripping.{AreOfFrame, firsts, has_entry, pruned, OriginsHaveEntries, holdings_in}
+use Rattle.model.proofs.LawfulParts.{lawful_parts}
+use Rattle.holdings.proofs.Holders.{links_read}
+use Rattle.holdings.specs.Sending.{IsTreeSet}
+use Rattle.holdings.proofs.NewMappings.{tree_set}
+use Rattle.holdings.proofs.Trees.{some_found}
+use Rattle.holdings.proofs.Sequences.{AreStripped}
+use Rattle.holdings.proofs.Frames.{loose_from, tree_places, outside_held, origins_stay, frame_left, frame_status, frame_sound}
+use Rattle.holdings.proofs.OnePlace.{IsRunOf, run_found, one_run, one_of_frame, one_word, one_strip, one_first}
+use Rattle.holdings.proofs.recursion.visit_place.Goals as goal
+
+-- the tree as it is read
+read : (c : goal.After-find) → links_in c.args.trees.now c.args.frame ≡ (get_or c.args.trees.now c.args.frame c.index-trees-frame.result).links
+read c = links_read c.args.trees.now c.args.frame c.index-trees-frame.result c.requires.frame c.index-trees-frame.is ∙ ap (λ (t : Shape). t.links) c.index-trees-frame.is
+
+pub unwrap-i-requires : goal.unwrap-i-requires
+unwrap-i-requires c =
+    let links = (get_or c.args.trees.now c.args.frame c.index-trees-frame.result).links in
+    ap is_some c.find.ensures ∙ some_found (λ o. same_place c.args.place o.0) links (ap (λ (os : Origins). stands_in os c.args.place) (sym (read c)) ∙ c.requires.listed)
+
+-- the run is the place's
+run_begun : (c : goal.After-run-1) → IsRunOf (links_in c.args.trees.now c.args.frame) c.args.place c.run_of-run.result
+run_begun c =
+    let read = links_read c.args.trees.now c.args.frame c.index-trees-frame.result c.requires.frame c.index-trees-frame.is ∙ ap (λ (t : Shape). t.links) c.index-trees-frame.is in
+    subst (λ os. IsRunOf os c.args.place c.run_of-run.result) (sym read)
+    (run_found (get_or c.args.trees.now c.args.frame c.index-trees-frame.result).links c.args.place c.unwrap-i.result c.run_of-run.result (sym c.find.ensures ∙ c.unwrap-i.ensures) c.run_of-run.ensures.start c.run_of-run.ensures.end c.run_of-run.ensures.run)
+
+pub visit-requires-clause-run : goal.visit-requires-clause-run
+visit-requires-clause-run c = (run_begun c).whole
+
+pub visit-requires-clause-some : goal.visit-requires-clause-some
+visit-requires-clause-some c = (run_begun c).some
+
+pub visit-requires-clause-within : goal.visit-requires-clause-within
+visit-requires-clause-within c = (run_begun c).within
+
+-- what was visited, before the tree is pruned
+outer : (c : goal.After-prune-arg-1) → AreOuterRuns (links_in c.args.trees.now c.args.frame) (c.args.place ∷ []) (c.run_of-run.result ∷ [])
+outer c =
+    let read = links_read c.args.trees.now c.args.frame c.index-trees-frame.result c.requires.frame c.index-trees-frame.is ∙ ap (λ (t : Shape). t.links) c.index-trees-frame.is in
+    one_run (links_in c.args.trees.now c.args.frame) c.args.place c.run_of-run.result (subst (λ os. IsRunOf os c.args.place c.run_of-run.result) (sym read)
+    (run_found (get_or c.args.trees.now c.args.frame c.index-trees-frame.result).links c.args.place c.unwrap-i.result c.run_of-run.result (sym c.find.ensures ∙ c.unwrap-i.ensures) c.run_of-run.ensures.start c.run_of-run.ensures.end c.run_of-run.ensures.run))
+
+done : (c : goal.After-prune-arg-1) → AreStripped c.args.shards.now c.args.trees.now (firsts (links_in c.args.trees.now c.args.frame) (c.run_of-run.result ∷ [])) c.args.revoked c.args.flush c.visit.new.shards c.in_ok-status.status
+done c =
+    one_first c.args.shards.now c.args.trees.now (loose_from c.args.shards.now c.args.trees.now c.requires.sound) (links_in c.args.trees.now c.args.frame) c.run_of-run.result c.args.revoked c.args.flush c.visit.new.shards c.in_ok-status.status
+    (c.in_ok-status.ensures.status (record { space = 0; page = 0 })) (c.in_ok-status.ensures.left (record { space = 0; page = 0 })) c.in_ok-status.ensures.loose c.in_ok-status.ensures.layout
+
+tree_is : (c : goal.After-prune-arg-1) → links_in c.args.trees.now c.args.frame ≡ (get_or c.args.trees.now c.args.frame c.index-trees-frame-2.result).links
+tree_is c = links_read c.args.trees.now c.args.frame c.index-trees-frame-2.result c.requires.frame c.index-trees-frame-2.is ∙ ap (λ (t : Shape). t.links) c.index-trees-frame-2.is
+
+of_frame : (c : goal.After-prune-arg-1) → AreOfFrame c.args.shards.now c.args.trees.now c.args.frame (c.args.place ∷ [])
+of_frame c = one_of_frame c.args.shards.now c.args.trees.now c.requires.sound c.args.frame c.args.place c.requires.listed
+
+pub prune-requires-clause-places : goal.prune-requires-clause-places
+prune-requires-clause-places c =
+    subst (All (λ o. IsPlace c.visit.new.shards o.0)) (tree_is c)
+    (tree_places c.args.shards.now c.args.trees.now c.requires.sound c.args.frame (c.args.place ∷ []) (of_frame c) (c.run_of-run.result ∷ []) (outer c) c.args.revoked c.args.flush c.visit.new.shards c.in_ok-status.status (done c))
+
+pub prune-requires-clause-rising : goal.prune-requires-clause-rising
+prune-requires-clause-rising c = subst (λ os. AreRising 0 (c.run_of-run.result ∷ []) (length os)) (tree_is c) (outer c).rising
+
+pub prune-requires-clause-runs : goal.prune-requires-clause-runs
+prune-requires-clause-runs c = subst (λ os. All (IsRun os) (c.run_of-run.result ∷ [])) (tree_is c) (outer c).whole
+
+pub prune-requires-clause-outside : goal.prune-requires-clause-outside
+prune-requires-clause-outside c =
+    subst (λ os. list_all (λ o. has_entry c.visit.new.shards o.0) (outside 0 (c.run_of-run.result ∷ []) os) ≡ true) (tree_is c)
+    (outside_held c.args.shards.now c.args.trees.now c.requires.sound c.args.frame (c.args.place ∷ []) (of_frame c) (c.run_of-run.result ∷ []) (outer c) c.args.revoked c.args.flush c.visit.new.shards c.in_ok-status.status (done c))
+
+pub prune-requires-clause-origins : goal.prune-requires-clause-origins
+prune-requires-clause-origins c =
+    subst (OriginsHaveEntries c.visit.new.shards) (tree_is c)
+    (origins_stay c.args.shards.now c.args.trees.now c.requires.sound c.args.frame (c.args.place ∷ []) (of_frame c) (c.run_of-run.result ∷ []) (outer c) c.args.revoked c.args.flush c.visit.new.shards c.in_ok-status.status (done c))
+
+-- and then
+outer_last : (c : goal.In_ok-prune) → AreOuterRuns (links_in c.args.trees.now c.args.frame) (c.args.place ∷ []) (c.run_of-run.result ∷ [])
+outer_last c =
+    let read = links_read c.args.trees.now c.args.frame c.index-trees-frame.result c.requires.frame c.index-trees-frame.is ∙ ap (λ (t : Shape). t.links) c.index-trees-frame.is in
+    one_run (links_in c.args.trees.now c.args.frame) c.args.place c.run_of-run.result (subst (λ os. IsRunOf os c.args.place c.run_of-run.result) (sym read)
+    (run_found (get_or c.args.trees.now c.args.frame c.index-trees-frame.result).links c.args.place c.unwrap-i.result c.run_of-run.result (sym c.find.ensures ∙ c.unwrap-i.ensures) c.run_of-run.ensures.start c.run_of-run.ensures.end c.run_of-run.ensures.run))
+
+done_last : (c : goal.In_ok-prune) → AreStripped c.args.shards.now c.args.trees.now (firsts (links_in c.args.trees.now c.args.frame) (c.run_of-run.result ∷ [])) c.args.revoked c.args.flush c.visit.new.shards c.in_ok-status.status
+done_last c =
+    one_first c.args.shards.now c.args.trees.now (loose_from c.args.shards.now c.args.trees.now c.requires.sound) (links_in c.args.trees.now c.args.frame) c.run_of-run.result c.args.revoked c.args.flush c.visit.new.shards c.in_ok-status.status
+    (c.in_ok-status.ensures.status (record { space = 0; page = 0 })) (c.in_ok-status.ensures.left (record { space = 0; page = 0 })) c.in_ok-status.ensures.loose c.in_ok-status.ensures.layout
+
+pruned_last : (c : goal.In_ok-prune) → IsTreeSet c.args.trees.now (slice_set c.args.trees.now c.args.frame c.prune.new.tree) c.args.frame (pruned c.visit.new.shards (links_in c.args.trees.now c.args.frame))
+pruned_last c =
+    let is : links_in c.args.trees.now c.args.frame ≡ (get_or c.args.trees.now c.args.frame c.index-trees-frame-2.result).links =
+    links_read c.args.trees.now c.args.frame c.index-trees-frame-2.result c.requires.frame c.index-trees-frame-2.is ∙ ap (λ (t : Shape). t.links) c.index-trees-frame-2.is in
+    subst (IsTreeSet c.args.trees.now (slice_set c.args.trees.now c.args.frame c.prune.new.tree) c.args.frame) (c.in_ok-prune.ensures ∙ ap (pruned c.visit.new.shards) (sym is))
+    (tree_set c.args.trees.now c.args.frame c.prune.new.tree c.requires.frame)
+
+framed : (c : goal.In_ok-prune) → AreOfFrame c.args.shards.now c.args.trees.now c.args.frame (c.args.place ∷ [])
+framed c = one_of_frame c.args.shards.now c.args.trees.now c.requires.sound c.args.frame c.args.place c.requires.listed
+
+pub returns-clause-status : goal.returns-clause-status
+returns-clause-status c =
+    frame_status c.args.shards.now c.args.trees.now c.requires.sound c.args.frame (c.args.place ∷ []) (framed c) (c.run_of-run.result ∷ []) (outer_last c) c.args.revoked c.args.flush c.visit.new.shards c.in_ok-status.status (done_last c)
+    (slice_set c.args.trees.now c.args.frame c.prune.new.tree) (pruned_last c)
+    ∙ one_word (holdings_in c.args.shards.now c.args.trees.now) (lawful_parts (holdings_in c.args.shards.now c.args.trees.now) c.requires.sound.kept.lawful) c.args.place
+
+pub returns-clause-left : goal.returns-clause-left
+returns-clause-left c =
+    frame_left c.args.shards.now c.args.trees.now c.requires.sound c.args.frame (c.args.place ∷ []) (framed c) (c.run_of-run.result ∷ []) (outer_last c) c.args.revoked c.args.flush c.visit.new.shards c.in_ok-status.status (done_last c)
+    (slice_set c.args.trees.now c.args.frame c.prune.new.tree) (pruned_last c)
+    ∙ one_strip (holdings_in c.args.shards.now c.args.trees.now) (lawful_parts (holdings_in c.args.shards.now c.args.trees.now) c.requires.sound.kept.lawful) c.args.place c.args.revoked c.args.flush
+
+pub returns-clause-sound : goal.returns-clause-sound
+returns-clause-sound c =
+    frame_sound c.args.shards.now c.args.trees.now c.requires.sound c.args.frame (c.args.place ∷ []) (framed c) (c.run_of-run.result ∷ []) (outer_last c) c.args.revoked c.args.flush c.visit.new.shards c.in_ok-status.status (done_last c)
+    (slice_set c.args.trees.now c.args.frame c.prune.new.tree) (pruned_last c)

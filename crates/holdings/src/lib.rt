@@ -1,0 +1,31 @@
+//! What is held, as one value: the entry words of all pages and the derivation trees of all frames, and the phases by
+//! which calls change them.
+#![tactic(auto)]
+
+mod holdings;
+mod item_pages;
+mod limits;
+mod link;
+mod map;
+mod mapping;
+mod moves;
+mod outcome;
+mod pages;
+mod prune;
+mod recursion;
+mod renaming;
+mod spots;
+mod start;
+mod strip;
+mod transfer;
+mod tree;
+mod words;
+mod worked;
+
+pub use holdings::Holdings;
+pub use item_pages::ItemPages;
+pub use limits::Limits;
+pub use mapping::Mapping;
+pub use outcome::Outcome;
+pub use transfer::Transfer;
+pub use worked::Worked;

@@ -1,0 +1,100 @@
+//! A tree loses the places that hold nothing any more.
+
+ghost use Rattle.std.specs.Prelude.{◌≡◌, ◌≤◌, ◌++◌, true, not, length, map, filter, Some, IfOk, OnOk, IsFalse};
+ghost use Rattle.std.specs.List.{All, list_all, slice_range};
+ghost use Rattle.space.specs.declared.place.Place.{Place};
+ghost use Rattle.space.specs.Shards.{IsPlace, is_taken};
+ghost use Rattle.maptree.specs.Origins.{IsRun, AreRising};
+ghost use Rattle.maptree.specs.Cuts.{outside, nodes_of, kept_of};
+ghost use Rattle.holdings.specs.Stripping.{has_entry, pruned, OriginsHaveEntries};
+
+use maptree::{Node, Slice, Tree};
+use space::{NoMemory, Shards};
+use std::alloc::{AllocError, Global};
+use std::ops::Range;
+
+/// Takes the places without an entry out of a tree. They lie in these runs, and with a place goes what derives from it.
+/// Where every place of the runs has an entry, the tree stays as it is.
+///
+/// Refused, where memory is: `NoMemory`.
+pub fn prune(
+    alloc: Global,
+    shards: &Shards,
+    tree: &mut Tree,
+    runs: &[Range<usize>],
+) -> Result<(), NoMemory>
+    requires present { IsFalse (is_taken shards.now) }
+    requires places { All (λ o. IsPlace shards.now o.0) tree.old.links }
+    requires rising { AreRising 0 runs.now (length tree.old.links) }
+    requires runs { All (IsRun tree.old.links) runs.now }
+    requires outside { list_all (λ o. has_entry shards.now o.0) (outside 0 runs.now tree.old.links) ≡ true }
+    requires origins { OriginsHaveEntries shards.now tree.old.links }
+    ensures { OnOk result (tree.new.links ≡ pruned shards.now tree.old.links) }
+{
+    // Most calls take no page away, and a cut and a splice copy the whole list of the tree.
+    if are_held(shards, tree, runs) {
+        return Ok(());
+    }
+    let parts = tree.cut(alloc, runs, usize::MAX)?;
+    let kept = held_parts(alloc, shards, &parts)?;
+    tree.splice(kept)
+}
+
+/// Whether each place of these runs has an entry.
+fn are_held(shards: &Shards, tree: &Tree, runs: &[Range<usize>]) -> bool
+    requires present { IsFalse (is_taken shards.now) }
+    requires places { All (λ o. IsPlace shards.now o.0) tree.now.links }
+    requires within { All (λ run. run.end ≤ length tree.now.links) runs.now }
+    ensures { result ≡ list_all (λ run. list_all (λ o. has_entry shards.now o.0) (slice_range tree.now.links run.start run.end)) runs.now }
+{
+    for run in runs {
+        if !is_held(shards, tree, run) {
+            return false;
+        }
+    }
+    true
+}
+
+/// Whether each place of a run has an entry.
+fn is_held(shards: &Shards, tree: &Tree, run: &Range<usize>) -> bool
+    requires present { IsFalse (is_taken shards.now) }
+    requires places { All (λ o. IsPlace shards.now o.0) tree.now.links }
+    requires within { run.now.end ≤ length tree.now.links }
+    ensures { result ≡ list_all (λ o. has_entry shards.now o.0) (slice_range tree.now.links run.now.start run.now.end) }
+{
+    for i in run.start..run.end {
+        if shards.get(tree.node(i).place).is_none() {
+            return false;
+        }
+    }
+    true
+}
+
+/// The nodes of each part whose places have an entry.
+fn held_parts(alloc: Global, shards: &Shards, parts: &[Slice]) -> Result<Vec<Slice>, AllocError>
+    requires present { IsFalse (is_taken shards.now) }
+    requires places { All (λ s. All (λ n. IsPlace shards.now n.place) s.nodes.items) parts.now }
+    ensures { IfOk result (λ kept. nodes_of kept.items ≡ kept_of (has_entry shards.now) (nodes_of parts.now)) }
+{
+    let mut kept = Vec::with_capacity(alloc, parts.len())?;
+    for part in parts {
+        let nodes = held_nodes(alloc, shards, &part.nodes)?;
+        kept.push(Slice { nodes })?;
+    }
+    Ok(kept)
+}
+
+/// The nodes whose places have an entry.
+fn held_nodes(alloc: Global, shards: &Shards, nodes: &[Node]) -> Result<Vec<Node>, AllocError>
+    requires present { IsFalse (is_taken shards.now) }
+    requires places { All (λ n. IsPlace shards.now n.place) nodes.now }
+    ensures { IfOk result (λ kept. kept.items ≡ filter (λ n. has_entry shards.now n.place) nodes.now) }
+{
+    let mut kept = Vec::with_capacity(alloc, nodes.len())?;
+    for node in nodes {
+        if shards.get(node.place).is_some() {
+            kept.push(*node)?;
+        }
+    }
+    Ok(kept)
+}

@@ -1,0 +1,149 @@
+//! Unmap as a recursion, page by page.
+
+ghost use Rattle.std.specs.Prelude.{◌≡◌, ◌<◌, ◌≤◌, true, ◌||◌, not, [], ◌∷◌, ◌++◌, length, IfOk, OnOk, IfSome, IfNone, IsFalse};
+ghost use Rattle.std.specs.List.{All};
+ghost use Rattle.std.specs.Option.{option_and_then};
+ghost use Rattle.space.specs.declared.place.Place.{Place};
+ghost use Rattle.space.specs.Place.{same_place};
+ghost use Rattle.space.specs.Shards.{IsPlace, IsSetAt, IsLaidOutAs, entry_at, is_taken};
+ghost use Rattle.maptree.specs.Origins.{place_at, IsRun};
+ghost use Rattle.model.specs.Holdings.{only};
+ghost use Rattle.model.specs.Strip.{strip, strip_word};
+ghost use Rattle.holdings.specs.Held.{IsWithin, is_listed, links_in};
+ghost use Rattle.holdings.specs.Words.{narrowed, status_of};
+ghost use Rattle.holdings.specs.Stripping.{limits_in, holdings_in, any_of, AreSound, AreLoose};
+
+use crate::prune::prune;
+use crate::strip::{add_status, narrow};
+use fpage::Rights;
+use maptree::{Node, Tree};
+use space::{NoMemory, Place, Shards};
+use std::alloc::{AllocError, Global};
+use std::ops::Range;
+
+/// Visits places one after another, each that is still held by then.
+///
+/// Refused, where memory is: `NoMemory`.
+pub fn visit_places(
+    alloc: Global,
+    shards: &mut Shards,
+    trees: &mut [Tree],
+    places: &[Place],
+    revoked: Rights,
+    flush: bool,
+) -> Result<Rights, NoMemory>
+    requires sound { AreSound shards.old trees.old }
+    requires places { All (IsWithin (limits_in shards.old trees.old)) places.now }
+    ensures status { IfOk result (λ status. status ≡ strip_word (holdings_in shards.old trees.old) (any_of places.now)) }
+    ensures left { OnOk result (holdings_in shards.new trees.new ≡ strip (holdings_in shards.old trees.old) (any_of places.now) revoked flush) }
+    ensures sound { OnOk result (AreSound shards.new trees.new) }
+    ensures limits { OnOk result (limits_in shards.new trees.new ≡ limits_in shards.old trees.old) }
+{
+    let mut status = Rights::none();
+    for place in places {
+        let Some(entry) = shards.get(*place) else {
+            continue;
+        };
+        let frame = entry.frame as usize;
+        let gained = visit_place(alloc, shards, trees, frame, *place, revoked, flush)?;
+        status = status.join(gained);
+    }
+    Ok(status)
+}
+
+/// Visits a place, takes out of its tree what is gone then, and gives back the status that was gathered.
+fn visit_place(
+    alloc: Global,
+    shards: &mut Shards,
+    trees: &mut [Tree],
+    frame: usize,
+    place: Place,
+    revoked: Rights,
+    flush: bool,
+) -> Result<Rights, NoMemory>
+    requires sound { AreSound shards.old trees.old }
+    requires frame { frame < length trees.old }
+    requires listed { is_listed trees.old frame place ≡ true }
+    ensures status { IfOk result (λ status. status ≡ strip_word (holdings_in shards.old trees.old) (only place)) }
+    ensures left { OnOk result (holdings_in shards.new trees.new ≡ strip (holdings_in shards.old trees.old) (only place) revoked flush) }
+    ensures sound { OnOk result (AreSound shards.new trees.new) }
+    ensures limits { OnOk result (limits_in shards.new trees.new ≡ limits_in shards.old trees.old) }
+{
+    let tree = &trees[frame];
+    let i = tree.find(place).unwrap();
+    let run = tree.run_of(i);
+    let status = visit(alloc, shards, trees, frame, &run, revoked, flush)?;
+    prune(alloc, shards, &mut trees[frame], &[run])?;
+    Ok(status)
+}
+
+/// Visits the first place of a run: first what derives from it directly, each in the same way, and then the place itself
+/// loses the rights, if it is to, and its status is taken. What the visit took is added to the status of the origin.
+///
+/// The tree stays: it may then list places that hold nothing.
+fn visit(
+    alloc: Global,
+    shards: &mut Shards,
+    trees: &[Tree],
+    frame: usize,
+    run: &Range<usize>,
+    revoked: Rights,
+    flush: bool,
+) -> Result<Rights, AllocError>
+    requires loose { AreLoose shards.old trees.now }
+    requires frame { frame < length trees.now }
+    requires run { IsRun (links_in trees.now frame) run.now }
+    requires some { run.now.start < run.now.end }
+    requires within { run.now.end ≤ length (links_in trees.now frame) }
+    ensures status { IfOk result (λ status. (d : Place) → status ≡ strip_word (holdings_in shards.old trees.now) (only (place_at (links_in trees.now frame) run.now.start d))) }
+    ensures left { OnOk result ((d : Place) → holdings_in shards.new trees.now ≡ strip (holdings_in shards.old trees.now) (only (place_at (links_in trees.now frame) run.now.start d)) revoked flush) }
+    ensures loose { OnOk result (AreLoose shards.new trees.now) }
+    ensures layout { OnOk result (IsLaidOutAs shards.old shards.new) }
+{
+    let tree = &trees[frame];
+    let first = tree.node(run.start).place;
+    let mut status = Rights::none();
+    // The pages whose visit has begun and not ended, each derived from the one before it: the stack of the recursion.
+    let mut begun = Vec::with_capacity(alloc, run.end - run.start)?;
+    for i in run.start..run.end {
+        let node = tree.node(i);
+        // This page derives from none that stands as deep, so their visits end.
+        while let Some(page) = pop_from(&mut begun, node.depth) {
+            status = status.join(take(shards, page.place, first, revoked, flush));
+        }
+        begun.push(node)?;
+    }
+    while let Some(page) = begun.pop() {
+        status = status.join(take(shards, page.place, first, revoked, flush));
+    }
+    if let Some(origin) = tree.origin_of(run.start) {
+        add_status(shards, tree.node(origin).place, status);
+    }
+    Ok(status)
+}
+
+/// Takes the last page off, if it stands at least so deep.
+fn pop_from(begun: &mut Vec<Node>, depth: usize) -> Option<Node>
+    ensures some { IfSome result (λ page. begun.old.items ≡ begun.new.items ++ page ∷ []) }
+    ensures none { IfNone result (begun.new ≡ begun.old) }
+{
+    let last = begun.last()?;
+    if last.depth < depth {
+        return None;
+    }
+    begun.pop()
+}
+
+/// Ends the visit of a place: what it holds loses the rights, unless it is the first place of the recursion and is to keep
+/// them, and its status is cleared and given back.
+fn take(shards: &mut Shards, place: Place, first: Place, revoked: Rights, flush: bool) -> Rights
+    requires place { IsPlace shards.old place }
+    requires present { IsFalse (is_taken shards.old) }
+    ensures status { result ≡ status_of (entry_at shards.old place) }
+    ensures set { IsSetAt shards.old shards.new place (option_and_then (narrowed (flush || not (same_place place first)) revoked) (entry_at shards.old place)) }
+    ensures present { IsFalse (is_taken shards.new) }
+    ensures layout { IsLaidOutAs shards.old shards.new }
+{
+    let loses = flush || place != first;
+    narrow(shards, place, revoked, loses)
+}

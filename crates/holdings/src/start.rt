@@ -1,0 +1,60 @@
+//! The words and trees of a new database: page `i` of space 0 is the root of frame `i`.
+
+ghost use Rattle.std.specs.Prelude.{◌≡◌, ◌<◌, ℕ, true, [], ◌∷◌, length, IfOk, IsFalse, None};
+ghost use Rattle.space.specs.declared.place.Place.{Place};
+ghost use Rattle.space.specs.Shards.{spaces_of, bits_of, IsPlace, entry_at, is_taken};
+ghost use Rattle.model.specs.Records.{are_limits};
+ghost use Rattle.holdings.specs.Meaning.{limits_of};
+ghost use Rattle.holdings.specs.Held.{links_in};
+ghost use Rattle.holdings.specs.Start.{root_entry, root_place};
+
+use crate::limits::Limits;
+use fpage::Rights;
+use maptree::Tree;
+use space::{Entry, NoMemory, Place, Shards};
+use std::alloc::{AllocError, Global};
+
+/// The place of a frame at the start.
+fn root_place(frame: u32) -> Place
+    ensures { result ≡ root_place frame }
+{
+    Place {
+        space: 0,
+        page: frame,
+    }
+}
+
+/// Words that hold the root of each frame, with all rights, and nothing else.
+pub fn root_words(alloc: Global, limits: &Limits) -> Result<Shards, NoMemory>
+    requires { are_limits (limits_of limits.now) ≡ true }
+    ensures spaces { IfOk result (λ s. spaces_of s ≡ limits.now.spaces) }
+    ensures bits { IfOk result (λ s. bits_of s ≡ limits.now.bits) }
+    ensures present { IfOk result (λ s. IsFalse (is_taken s)) }
+    ensures entries { IfOk result (λ s.
+        (p : Place) → IsPlace s p → entry_at s p ≡ root_entry limits.now.frames p) }
+{
+    let mut shards = Shards::new(alloc, limits.spaces, limits.bits)?;
+    for frame in 0..limits.frames {
+        let entry = Entry {
+            frame,
+            rights: Rights::all(),
+            status: Rights::none(),
+        };
+        shards.set(root_place(frame), Some(entry));
+    }
+    Ok(shards)
+}
+
+/// The tree of each frame, of its root alone.
+pub fn root_trees(alloc: Global, frames: u32) -> Result<Vec<Tree>, NoMemory>
+    ensures count { IfOk result (λ trees. length trees.items ≡ frames) }
+    ensures roots { IfOk result (λ trees.
+        (f : ℕ) → f < frames → links_in trees.items f ≡ (root_place f, None) ∷ []) }
+{
+    let mut trees = Vec::with_capacity(alloc, frames as usize)?;
+    for frame in 0..frames {
+        let tree = Tree::root(alloc, root_place(frame))?;
+        trees.push(tree).map_err(AllocError::from)?;
+    }
+    Ok(trees)
+}

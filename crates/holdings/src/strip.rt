@@ -1,0 +1,175 @@
+//! Rights revoked from pages and from all that derives from them.
+
+ghost use Rattle.std.specs.Prelude.{◌≡◌, ◌<◌, ◌≤◌, length};
+ghost use Rattle.space.specs.declared.place.Place.{Place};
+ghost use Rattle.space.specs.Shards.{IsLaidOutAs};
+ghost use Rattle.maptree.specs.Origins.{place_at, IsRun};
+ghost use Rattle.model.specs.Holdings.{only};
+ghost use Rattle.model.specs.Strip.{strip, strip_word};
+ghost use Rattle.holdings.specs.Held.{links_in};
+ghost use Rattle.holdings.specs.Stripping.{holdings_in, AreLoose};
+ghost use Rattle.std.specs.Prelude.{IfOk, OnOk};
+ghost use Rattle.std.specs.List.{All};
+ghost use Rattle.maptree.specs.Origins.{AreRising};
+ghost use Rattle.holdings.specs.Stripping.{limits_in, any_of, firsts, AreSound, AreOfFrame, IsOriginAt};
+
+use crate::prune::prune;
+use crate::tree::run_origins;
+use fpage::Rights;
+use maptree::Tree;
+use space::{Entry, NoMemory, Place, Shards};
+use std::alloc::Global;
+use std::ops::Range;
+
+/// Strips places that hold pages of one frame: what derives from them loses the rights, and they lose them too if that
+/// is asked. The status of all of these is cleared and given back, and each run's is added to that of its origin.
+///
+/// Refused, where memory is: `NoMemory`.
+pub fn strip_frame(
+    alloc: Global,
+    shards: &mut Shards,
+    trees: &mut [Tree],
+    frame: usize,
+    places: &[Place],
+    revoked: Rights,
+    flush: bool,
+) -> Result<Rights, NoMemory>
+    requires sound { AreSound shards.old trees.old }
+    requires frame { frame < length trees.old }
+    requires places { AreOfFrame shards.old trees.old frame places.now }
+    ensures status { IfOk result (λ status. status ≡ strip_word (holdings_in shards.old trees.old) (any_of places.now)) }
+    ensures left { OnOk result (holdings_in shards.new trees.new ≡ strip (holdings_in shards.old trees.old) (any_of places.now) revoked flush) }
+    ensures sound { OnOk result (AreSound shards.new trees.new) }
+    ensures limits { limits_in shards.new trees.new ≡ limits_in shards.old trees.old }
+{
+    let runs = trees[frame].outer_runs(alloc, places)?;
+    let status = strip_runs(alloc, shards, trees, frame, &runs, revoked, flush)?;
+    prune(alloc, shards, &mut trees[frame], &runs)?;
+    Ok(status)
+}
+
+/// Strips the first places of runs of one tree.
+///
+/// Refused, where memory is: `NoMemory`.
+fn strip_runs(
+    alloc: Global,
+    shards: &mut Shards,
+    trees: &[Tree],
+    frame: usize,
+    runs: &[Range<usize>],
+    revoked: Rights,
+    flush: bool,
+) -> Result<Rights, NoMemory>
+    requires loose { AreLoose shards.old trees.now }
+    requires frame { frame < length trees.now }
+    requires rising { AreRising 0 runs.now (length (links_in trees.now frame)) }
+    requires runs { All (IsRun (links_in trees.now frame)) runs.now }
+    ensures status { IfOk result (λ status. status ≡ strip_word (holdings_in shards.old trees.now) (any_of (firsts (links_in trees.now frame) runs.now))) }
+    ensures left { OnOk result (holdings_in shards.new trees.now ≡ strip (holdings_in shards.old trees.now) (any_of (firsts (links_in trees.now frame) runs.now)) revoked flush) }
+    ensures loose { OnOk result (AreLoose shards.new trees.now) }
+    ensures layout { IsLaidOutAs shards.old shards.new }
+{
+    let origins = run_origins(alloc, &trees[frame], runs)?;
+    let mut status = Rights::none();
+    for i in 0..runs.len() {
+        let run = &runs[i];
+        let origin = origins[i];
+        status = status.join(strip_run(shards, trees, frame, run, origin, revoked, flush));
+    }
+    Ok(status)
+}
+
+/// Strips the first place of a run of rights: all of the run loses them, the first place too if it is to lose them
+/// itself, and a page that has no rights left goes. The status of the run is cleared, given back, and added to that of
+/// the page from which the first place derives, if there is one.
+///
+/// The tree stays: it may then list places that hold nothing.
+fn strip_run(
+    shards: &mut Shards,
+    trees: &[Tree],
+    frame: usize,
+    run: &Range<usize>,
+    origin: Option<Place>,
+    revoked: Rights,
+    flush: bool,
+) -> Rights
+    requires loose { AreLoose shards.old trees.now }
+    requires frame { frame < length trees.now }
+    requires run { IsRun (links_in trees.now frame) run.now }
+    requires some { run.now.start < run.now.end }
+    requires within { run.now.end ≤ length (links_in trees.now frame) }
+    requires origin { IsOriginAt (links_in trees.now frame) run.now.start origin }
+    ensures status { (d : Place) → result ≡ strip_word (holdings_in shards.old trees.now) (only (place_at (links_in trees.now frame) run.now.start d)) }
+    ensures left { (d : Place) → holdings_in shards.new trees.now ≡ strip (holdings_in shards.old trees.now) (only (place_at (links_in trees.now frame) run.now.start d)) revoked flush }
+    ensures loose { AreLoose shards.new trees.now }
+    ensures layout { IsLaidOutAs shards.old shards.new }
+{
+    let tree = &trees[frame];
+    let mut status = narrow(shards, tree.node(run.start).place, revoked, flush);
+    for i in run.start + 1..run.end {
+        status = status.join(narrow(shards, tree.node(i).place, revoked, true));
+    }
+    if let Some(origin) = origin {
+        add_status(shards, origin, status);
+    }
+    status
+}
+
+ghost use Rattle.std.specs.Prelude.{IsFalse, option_map};
+ghost use Rattle.std.specs.Option.{option_and_then};
+ghost use Rattle.space.specs.Shards.{IsPlace, IsSetAt, entry_at, is_taken};
+ghost use Rattle.holdings.specs.Words.{narrowed, status_of, with_status};
+
+/// Takes rights from what a page holds, if it is to lose them, clears its status and gives it back. With no rights left
+/// the page goes.
+pub fn narrow(shards: &mut Shards, place: Place, revoked: Rights, loses: bool) -> Rights
+    requires place { IsPlace shards.old place }
+    requires present { IsFalse (is_taken shards.old) }
+    ensures status { result ≡ status_of (entry_at shards.old place) }
+    ensures set { IsSetAt shards.old shards.new place (option_and_then (narrowed loses revoked) (entry_at shards.old place)) }
+    ensures present { IsFalse (is_taken shards.new) }
+    ensures layout { IsLaidOutAs shards.old shards.new }
+{
+    let Some(entry) = shards.get(place) else {
+        return Rights::none();
+    };
+    shards.set(place, left_of(entry, revoked, loses));
+    entry.status
+}
+
+ghost use Rattle.std.specs.Prelude.{Some};
+
+/// What is left of an entry that may lose rights: its status is cleared, and with no rights left nothing is.
+fn left_of(entry: Entry, revoked: Rights, loses: bool) -> Option<Entry>
+    ensures { result ≡ narrowed loses revoked entry }
+{
+    let rights = if loses {
+        entry.rights.without(revoked)
+    } else {
+        entry.rights
+    };
+    if loses && rights.is_empty() {
+        return None;
+    }
+    let status = Rights::none();
+    Some(Entry {
+        rights,
+        status,
+        ..entry
+    })
+}
+
+/// Adds status to what a page holds.
+pub fn add_status(shards: &mut Shards, place: Place, status: Rights)
+    requires place { IsPlace shards.old place }
+    requires present { IsFalse (is_taken shards.old) }
+    ensures set { IsSetAt shards.old shards.new place (option_map (with_status status) (entry_at shards.old place)) }
+    ensures present { IsFalse (is_taken shards.new) }
+    ensures layout { IsLaidOutAs shards.old shards.new }
+{
+    let Some(entry) = shards.get(place) else {
+        return;
+    };
+    let status = entry.status.join(status);
+    shards.set(place, Some(Entry { status, ..entry }));
+}

@@ -1,0 +1,77 @@
+-- The phases of one item, one after another, are those of the definition.
+use Rattle.std.proofs.Common.{◌≡◌, ℕ, ◌+◌, ◌^◌, ◌<◌, true, List, sym, ap, ◌∙◌, subst, arith}
+use Rattle.fpage.specs.Rights.{all_rights}
+use Rattle.model.specs.Calls.{Limits}
+use Rattle.model.specs.Holdings.{Holdings}
+use Rattle.model.specs.Lawful.{is_lawful}
+use Rattle.model.specs.Items.{Job, Counts, flush, going, add_counts}
+use Rattle.model.specs.Answers.{item_answer}
+use Rattle.model.specs.SendLaws.{total}
+use Rattle.model.specs.Strip.{strip}
+use Rattle.model.proofs.LawfulParts.{IsLawful, lawful_parts, lawful_from}
+use Rattle.model.proofs.StripAt.{lawful_strip}
+use Rattle.holdings.specs.declared.item_pages.ItemPages.{ItemPages}
+use Rattle.holdings.specs.declared.transfer.Transfer.{Transfer}
+use Rattle.holdings.specs.declared.worked.Worked.{Worked}
+use Rattle.holdings.specs.Contents.{Contents, left_with, IsConsistent}
+use Rattle.holdings.specs.Meaning as phase
+use Rattle.holdings.specs.Sending.{job_of_pages, AreItemPages, ArePlanned, AreReady, worked}
+use Rattle.holdings.proofs.CountSums.{total_sum}
+use Rattle.mapdb.specs.declared.plan.End.TheVariants.{Target}
+use Rattle.mapdb.specs.Sending.{transfers_of, decided, ends_of, after_flush, AreWorkedBy}
+use Rattle.mapdb.proofs.Phases.{is_job, flush_is, left_is, counts_are, total_is, are_planned, all_ready, few_pages}
+
+module _ (old : Contents) (p : ItemPages) (consistent : IsConsistent old) (pages : AreItemPages old.limits p) where
+  lawful : IsLawful old.holdings
+  lawful = lawful_parts old.holdings consistent.lawful
+
+  abbrev pub the_job : Job
+  the_job = job_of_pages p
+
+  abbrev pub the_transfers : List Transfer
+  the_transfers = transfers_of old.holdings (job_of_pages p) (job_of_pages p).pairs
+
+  few : p.count < 2 ^ 32
+  few = few_pages old.limits p consistent.served pages
+
+  pub planned : ArePlanned old.limits the_transfers
+  planned = are_planned old.holdings lawful p pages.differ old.limits pages few
+
+  module _ (flushed : Contents) (is : flushed ≡ left_with old (strip old.holdings (ends_of Target the_transfers) all_rights true)) where
+    -- what the flush leaves
+    flushed_is : flushed.holdings ≡ flush old.holdings (going old.holdings the_job)
+    flushed_is = ap (λ (c : Contents). c.holdings) is ∙ flush_is old.holdings lawful p pages.differ
+
+    same_limits : flushed.limits ≡ old.limits
+    same_limits = ap (λ (c : Contents). c.limits) is
+
+    pub lawful_then : is_lawful flushed.holdings ≡ true
+    lawful_then = ap (λ (c : Contents). is_lawful c.holdings) is ∙ lawful_from (strip old.holdings (ends_of Target the_transfers) all_rights true) (lawful_strip old.holdings (ends_of Target the_transfers) all_rights true lawful)
+
+    pub planned_then : ArePlanned flushed.limits the_transfers
+    planned_then = subst (λ (l : Limits). ArePlanned l the_transfers) (sym same_limits) planned
+
+    pub ready_then : AreReady flushed.holdings p.rights the_transfers
+    ready_then = subst (λ (h : Holdings). AreReady h p.rights the_transfers) (sym flushed_is) (all_ready old.holdings the_job lawful (is_job old.holdings lawful p pages.differ))
+
+    module _ (done : Contents × Worked) (by_phase : AreWorkedBy flushed p.kind p.rights the_transfers done) (first : Counts) (first_is : first ≡ decided old.holdings the_job the_job.pairs) where
+      -- what is left is that of the definition
+      pub left_then : done.0 ≡ left_with old (item_answer old.holdings the_job).left
+      left_then =
+          let left = ap (after_flush p.kind p.rights the_transfers) flushed_is ∙ left_is old.holdings lawful p pages.differ in
+          by_phase.left ∙ (λ i. record { limits = same_limits i; holdings = left i })
+
+      -- and so are the counts
+      pub counts_then : add_counts first (phase.counts_of done.1) ≡ (item_answer old.holdings the_job).counts
+      counts_then =
+          let after = by_phase.counted ∙ ap (λ h. worked h the_transfers) flushed_is in
+          (λ i. add_counts (first_is i) (after i)) ∙ counts_are old.holdings lawful p pages.differ
+
+      pub total_then : total (add_counts first (phase.counts_of done.1)) < 2 ^ 32
+      total_then = subst (λ n. n < 2 ^ 32) (sym (ap total counts_then ∙ total_is old.holdings lawful p pages.differ)) few
+
+      pub fits_then : total first + total (phase.counts_of done.1) < 2 ^ 128
+      fits_then = by (total first) (total (phase.counts_of done.1)) (total (add_counts first (phase.counts_of done.1))) (total_sum first (phase.counts_of done.1)) total_then
+        where
+          by : (a b n : ℕ) → n ≡ a + b → n < 2 ^ 32 → a + b < 2 ^ 128
+          by a b n same less = omega (arith, same, less)

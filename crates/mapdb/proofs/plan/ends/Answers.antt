@@ -1,0 +1,25 @@
+-- One transfer more.
+use Rattle.std.proofs.Common.{◌+◌, take, refl, sym, ap, ◌∙◌, subst}
+use Rattle.mapdb.proofs.Ends.{AreEnds, one_extends, one_goes, all_ends}
+use Rattle.mapdb.proofs.plan.ends.Goals.{then-not-transfer+in_ok-push, else-not-transfer}
+use Rattle.mapdb.proofs.plan.ends.Goals as goal
+
+pub loop-transfer-init : goal.loop-transfer-init
+loop-transfer-init c = subst (AreEnds c.args.end (take 0 c.args.transfers.now)) (sym c.new-places.ensures.items) (λ p. refl)
+
+pub loop-transfer-preserved : goal.loop-transfer-preserved
+loop-transfer-preserved c =
+    let end = c.args.end in
+    let ts = c.args.transfers.now in
+    let i = c.loop-transfer.transfer-index in
+    elim c.if-not-transfer.branch [
+      | then-not-transfer+in_ok-push w ↦
+          subst (AreEnds end (take (i + 1) ts)) (sym (ap (λ v. v.items) w.places-is ∙ w.in_ok-push.ensures.items))
+          (one_goes end ts i _ c.loop-transfer-test.true c.loop-transfer.places.items c.loop-transfer.invariant w.if-not-transfer.true w.place_at.result w.place_at.ensures)
+      | else-not-transfer w ↦
+          subst (AreEnds end (take (i + 1) ts)) (sym (ap (λ v. v.items) w.places-is))
+          (one_extends end ts i _ c.loop-transfer-test.true c.loop-transfer.places.items c.loop-transfer.invariant w.if-not-transfer.false)
+    ]
+
+pub returns : goal.returns
+returns c = all_ends c.args.end c.args.transfers.now c.loop-transfer.transfer-index c.loop-transfer.places.items c.loop-transfer-test.false c.loop-transfer.invariant

@@ -1,6 +1,0 @@
--- What was noted so far.
-use Rattle.mapdb.specs.Spots.{AreSpots}
-use Rattle.mapdb.proofs.spots.spots_of.Given as goal
-
-abbrev pub invariant-loop-frame : goal.invariant-loop-frame
-invariant-loop-frame l = record { sources : AreSpots l.shards l.trees l.pages.source l.sources.items; targets : AreSpots l.shards l.trees l.pages.target l.targets.items }

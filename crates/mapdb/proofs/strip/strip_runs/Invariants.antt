@@ -1,9 +1,0 @@
--- The runs so far are stripped.
-use Rattle.std.proofs.Common.{take}
-use Rattle.mapdb.specs.Held.{links_in}
-use Rattle.mapdb.specs.Stripping.{firsts}
-use Rattle.mapdb.proofs.Sequences.{AreStripped}
-use Rattle.mapdb.proofs.strip.strip_runs.Given as goal
-
-abbrev pub invariant-loop-i : goal.invariant-loop-i
-invariant-loop-i l = AreStripped l.fn.shards l.trees (firsts (links_in l.trees l.frame) (take l.i l.runs)) l.revoked l.first_too l.shards l.status

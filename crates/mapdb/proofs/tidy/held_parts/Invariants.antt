@@ -1,8 +1,0 @@
--- The parts so far.
-use Rattle.std.proofs.Common.{◌≡◌, take}
-use Rattle.maptree.specs.Cuts.{nodes_of, kept_of}
-use Rattle.mapdb.specs.Stripping.{has_entry}
-use Rattle.mapdb.proofs.tidy.held_parts.Given as goal
-
-abbrev pub invariant-loop-part : goal.invariant-loop-part
-invariant-loop-part l = nodes_of l.kept.items ≡ kept_of (has_entry l.shards) (nodes_of (take l.part-index l.parts))

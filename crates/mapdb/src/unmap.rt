@@ -1,0 +1,87 @@
+//! The words of an unmap, one after another.
+
+ghost use Rattle.std.specs.Prelude.{◌≡◌, ◌<◌, IfOk};
+ghost use Rattle.std.specs.List.{All};
+ghost use Rattle.fpage.specs.Fpage.{IsFpageOf};
+ghost use Rattle.holdings.specs.Contents.{left_with};
+ghost use Rattle.mapdb.specs.State.{unmap_status, unmap_left};
+
+use fpage::{Fpage, Rights};
+use holdings::Holdings;
+use space::{NoMemory, Place};
+use std::alloc::{AllocError, Global};
+
+/// How the pages of a word are revoked. Both ways give and leave the same.
+#[derive(Clone, Copy, Debug, PartialEq, Eq)]
+pub enum Way {
+    /// Run by run of each tree.
+    Runs,
+    /// By recursion, page by page.
+    Recursion,
+}
+
+/// Works the words of an unmap one after another. Each gives back the status of its pages and of all that derives from
+/// them, and these lose its rights; with `flush` the pages themselves do.
+///
+/// Refused, where memory is: `NoMemory`.
+pub fn unmap_words(
+    alloc: Global,
+    held: Holdings,
+    space: u16,
+    flush: bool,
+    fpages: &[Fpage],
+    way: Way,
+) -> Result<(Holdings, Vec<Rights>), NoMemory>
+    requires space { space < held.limits.spaces }
+    requires fpages { All (IsFpageOf held.limits.bits) fpages.now }
+    ensures left { IfOk result (λ r. r.0 ≡ left_with held (unmap_left space flush fpages.now held.holdings)) }
+    ensures status { IfOk result (λ r. r.1.items ≡ unmap_status space flush fpages.now held.holdings) }
+{
+    let mut held = held;
+    let mut status = Vec::with_capacity(alloc, fpages.len())?;
+    for fpage in fpages {
+        let (left, word) = unmap_word(alloc, held, space, flush, fpage, way)?;
+        held = left;
+        status.push(word).map_err(AllocError::from)?;
+    }
+    Ok((held, status))
+}
+
+ghost use Rattle.model.specs.Answers.{pages_in};
+ghost use Rattle.holdings.specs.Contents.{IsStripped};
+
+/// Works one word of an unmap.
+///
+/// Refused, where memory is: `NoMemory`.
+fn unmap_word(
+    alloc: Global,
+    held: Holdings,
+    space: u16,
+    flush: bool,
+    fpage: &Fpage,
+    way: Way,
+) -> Result<(Holdings, Rights), NoMemory>
+    requires space { space < held.limits.spaces }
+    requires fpage { IsFpageOf held.limits.bits fpage.now }
+    ensures { IfOk result (IsStripped held (pages_in space fpage.now) fpage.now.rights flush) }
+{
+    let places = named_places(alloc, space, fpage)?;
+    match way {
+        Way::Runs => held.strip(alloc, &places, fpage.rights(), flush),
+        Way::Recursion => held.strip_by_recursion(alloc, &places, fpage.rights(), flush),
+    }
+}
+
+ghost use Rattle.holdings.specs.Held.{pages_from};
+
+/// The pages of a space that an fpage names, by rising page.
+fn named_places(alloc: Global, space: u16, fpage: &Fpage) -> Result<Vec<Place>, AllocError>
+    ensures { IfOk result (λ places. places.items ≡ pages_from space fpage.now.first fpage.now.count) }
+{
+    let named = fpage.pages();
+    let mut places = Vec::new(alloc);
+    for page in named.start..named.end {
+        places.push(Place { space, page })?;
+    }
+    Ok(places)
+}
