@@ -80,10 +80,10 @@ def main():
         )
     for words in (["--help"], ["-h"], ["--help", "--plain"]):
         got = run([program, *words], TRACE)
-        wanting = [word.decode() for word in HELP if word not in got.stdout]
+        missing = [word.decode() for word in HELP if word not in got.stdout]
         cases.check(
             f"help: {' '.join(words)}",
-            f"status {got.status}, {got.stderr!r}, without {wanting}" if got.status or got.stderr or wanting else "",
+            f"status {got.status}, {got.stderr!r}, without {missing}" if got.status or got.stderr or missing else "",
         )
     for words in (["--version"], ["-V"]):
         got = run([program, *words], TRACE)
