@@ -30,11 +30,8 @@ run_part() {
 }
 
 run_part 'rt ci' rt ci
-for script in tests/*.sh tests/*.py; do
-    case $script in
-        *.sh) run_part "$script" bash "$script" ;;
-        *.py) run_part "$script" python3 "$script" ;;
-    esac
+for script in tests/*.py; do
+    run_part "$script" python3 "$script"
 done
 
 printf '%s passed, %s failed\n' "$passed" "$failed"
