@@ -11,7 +11,6 @@ import os
 import pty
 import re
 import shutil
-import subprocess
 import tempfile
 
 from support.program import TOP, Cases, Ended, program_path, run

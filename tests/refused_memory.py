@@ -60,25 +60,24 @@ def what_is_wrong(replay, got):
 
 def check_allocations(cases, program, replay, library):
     for and_rest, extent in EXTENTS:
-        effect = False
-        for at, got, was_refused in runs_refusing(program, replay.trace, library, "allocation", and_rest):
-            cases.check(f"{replay.name}: allocation {at} {extent} is refused", what_is_wrong(replay, got))
-            effect = effect or got.status == 3
-        check_extent(cases, f"{replay.name}: allocations, {extent}", was_refused, effect)
+        runs = list(runs_refusing(program, replay.trace, library, "allocation", and_rest))
+        for it in runs:
+            cases.check(f"{replay.name}: allocation {it.at} {extent} is refused", what_is_wrong(replay, it.got))
+        effect = any(it.got.status == 3 for it in runs)
+        check_extent(cases, f"{replay.name}: allocations, {extent}", runs[-1].was_refused, effect)
 
 
 def check_threads(cases, program, replay, library):
     for and_rest, extent in EXTENTS:
-        effect = False
-        for at, got, was_refused in runs_refusing(program, replay.trace, library, "thread", and_rest):
-            cases.compare(f"{replay.name}: thread {at} {extent} is refused", replay.undisturbed, got)
-            effect = effect or was_refused
-        check_extent(cases, f"{replay.name}: threads, {extent}", was_refused, effect)
+        runs = list(runs_refusing(program, replay.trace, library, "thread", and_rest))
+        for it in runs:
+            cases.compare(f"{replay.name}: thread {it.at} {extent} is refused", replay.undisturbed, it.got)
+        check_extent(cases, f"{replay.name}: threads, {extent}", runs[-1].was_refused, runs[0].was_refused)
 
 
-def check_extent(cases, name, was_refused, effect):
+def check_extent(cases, name, more, effect):
     """The last run had nothing left to refuse, and some run before it was affected."""
-    cases.check(f"{name}: none is left to refuse", "there are more" if was_refused else "")
+    cases.check(f"{name}: none is left to refuse", "there are more" if more else "")
     cases.check(f"{name}: some were refused", "" if effect else "the library has no effect")
 
 

@@ -55,11 +55,11 @@ def check_test(cases, name, words, library):
     undisturbed = run(words)
     cases.check(f"{name} passes", "" if undisturbed.status == 0 else f"status {undisturbed.status}")
     for and_rest, extent in EXTENTS:
-        effect = False
-        for at, got, was_refused in runs_refusing(words, b"", library, "allocation", and_rest):
-            cases.check(f"{name}: allocation {at} {extent} is refused", what_is_wrong(undisturbed, got))
-            effect = effect or got.status != 0
-        cases.check(f"{name}: none is left to refuse, {extent}", "there are more" if was_refused else "")
+        runs = list(runs_refusing(words, b"", library, "allocation", and_rest))
+        for it in runs:
+            cases.check(f"{name}: allocation {it.at} {extent} is refused", what_is_wrong(undisturbed, it.got))
+        effect = any(it.got.status != 0 for it in runs)
+        cases.check(f"{name}: none is left to refuse, {extent}", "there are more" if runs[-1].was_refused else "")
         cases.check(f"{name}: some run was out of memory, {extent}", "" if effect else "the library has no effect")
 
 
