@@ -21,7 +21,7 @@ build_crate() {
     fi
 }
 
-(($# == 0)) || fail "there are no arguments; usage: $0"
+(($# == 0)) || fail "no argument is taken; usage: $0"
 top=$(dirname -- "$(readlink -f -- "${BASH_SOURCE[0]}")")
 command -v rt > /dev/null || fail "the command rt is missing: install the Rattle kit and put its bin folder on the PATH"
 mapfile -t crates < <(sed -nE 's/^([a-z0-9_]+)( [^:]*)?:.*/\1/p' "$top/crates.txt")

@@ -208,7 +208,7 @@ def check_build(cases, copy, room):
     wanted = [f"{crate} run -- --version" if crate == "l4map" else f"{crate} lib" for crate in crates]
     cases.check("./build.sh builds each crate", "" if words == wanted else f"it asked for {words}")
     check_broken_build(cases, copy, room)
-    wanted = Ended(1, b"", b"./build.sh: there are no arguments; usage: ./build.sh\n")
+    wanted = Ended(1, b"", b"./build.sh: no argument is taken; usage: ./build.sh\n")
     cases.compare("./build.sh with an argument", wanted, run(["./build.sh", "--fast"], env=env, cwd=copy))
 
 

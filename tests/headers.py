@@ -8,7 +8,7 @@ Each trace is run with --plain too.
 
 from support.program import Cases, Ended, compare_replay, program_path
 
-# Name, and an input whose header has not the form of one.
+# Name, and an input whose header does not have the form of one.
 BAD_HEADERS = [
     ("empty input", b""),
     ("line feed alone", b"\n"),
