@@ -5,7 +5,6 @@
 set -u
 CDPATH="" cd -- "$(dirname -- "${BASH_SOURCE[0]}")" || exit 1
 
-program=crates/l4map/out/l4map
 passed=0
 failed=0
 room=$(mktemp -d) || exit 1
@@ -31,11 +30,8 @@ run_part() {
 }
 
 run_part 'rt ci' rt ci
-for script in tests/*.sh tests/*.py; do
-    case $script in
-        *.sh) run_part "$script" bash "$script" "$program" ;;
-        *.py) run_part "$script" python3 "$script" "$program" ;;
-    esac
+for script in tests/*.py; do
+    run_part "$script" python3 "$script"
 done
 
 printf '%s passed, %s failed\n' "$passed" "$failed"

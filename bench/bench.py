@@ -3,7 +3,7 @@
 
     bench/bench.py [PROGRAM]
 
-PROGRAM is crates/l4map/out/l4map, which `rt ci` leaves, if it is not given. Nothing here has a threshold. Beside each time
+PROGRAM is crates/l4map/out/l4map, which build.sh makes, if it is not given. Nothing here has a threshold. Beside each time
 stands that of `wc -l` over what the program read and wrote.
 """
 
@@ -252,7 +252,7 @@ def main():
     default = os.path.join(TOP, "crates", "l4map", "out", "l4map")
     program = os.path.abspath(sys.argv[1] if len(sys.argv) > 1 else default)
     if not os.access(program, os.X_OK):
-        sys.exit(f"bench.py: there is no program {program}: ./test.sh proves it and builds it")
+        sys.exit(f"bench.py: there is no program {program}: ./build.sh proves it and builds it")
     print(f"median time of {RUNS} runs each; peak memory of one run")
     print(f"{'records':>19} {'seconds':>10} {'records/s':>11} {'peak MiB':>9} {'wc -l':>8}  growth from the size before")
     with tempfile.TemporaryDirectory() as room:

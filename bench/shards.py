@@ -32,7 +32,7 @@ def median_of(words):
 
 def main():
     if not os.access(TESTS, os.X_OK):
-        sys.exit(f"shards.py: there is no {TESTS}: ./test.sh proves it and builds it")
+        sys.exit(f"shards.py: there is no {TESTS}: `rt test` in crates/space proves it and builds it")
     with tempfile.TemporaryDirectory() as room:
         plain = os.path.join(room, "shards")
         subprocess.run(["rustc", "-O", "-o", plain, os.path.join(HERE, "shards.rs")], check=True)

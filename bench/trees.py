@@ -45,7 +45,7 @@ def told(text):
 
 def main():
     if not os.access(TESTS, os.X_OK):
-        sys.exit(f"trees.py: there is no {TESTS}: ./test.sh proves it and builds it")
+        sys.exit(f"trees.py: there is no {TESTS}: `rt test` in crates/maptree proves it and builds it")
     sizes = sys.argv[1:] or NODES
     with tempfile.TemporaryDirectory() as room:
         plain = os.path.join(room, "trees")

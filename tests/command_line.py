@@ -67,24 +67,25 @@ REFUSED = [
 HELP = [b"Usage: l4map", b"--workers", b"--piece", b"--plain", b"--help", b"--version", b"standard input", b"l4map,1,2,18,1"]
 
 
-def main():
-    program, cases = program_path(), Cases()
+def check_taken(cases, program):
     for words in TAKEN:
         cases.compare(f"taken: {' '.join(words)}", Ended(0, ANSWER, b""), run([program, *words], TRACE))
+
+
+def check_refused(cases, program):
     for words in REFUSED:
         got = run([program, *words], TRACE)
         told = got.stderr.startswith(b"error: ") and got.stderr.endswith(b"\n")
-        cases.check(
-            f"refused: {words}",
-            "" if (got.status, got.stdout) == (1, b"") and told else f"it ended with {got}",
-        )
+        right = (got.status, got.stdout) == (1, b"") and told
+        cases.check(f"refused: {words}", "" if right else f"it ended with {got}")
+
+
+def check_help_and_version(cases, program):
     for words in (["--help"], ["-h"], ["--help", "--plain"]):
         got = run([program, *words], TRACE)
-        wanting = [word.decode() for word in HELP if word not in got.stdout]
-        cases.check(
-            f"help: {' '.join(words)}",
-            f"status {got.status}, {got.stderr!r}, without {wanting}" if got.status or got.stderr or wanting else "",
-        )
+        missing = [word.decode() for word in HELP if word not in got.stdout]
+        wrong = f"status {got.status}, {got.stderr!r}, without {missing}" if got.status or got.stderr or missing else ""
+        cases.check(f"help: {' '.join(words)}", wrong)
     for words in (["--version"], ["-V"]):
         got = run([program, *words], TRACE)
         right = got.status == 0 and got.stdout.startswith(b"l4map ") and got.stdout.count(b"\n") == 1 and not got.stderr
@@ -93,7 +94,10 @@ def main():
     with open("/dev/full", "wb") as full:
         got = run([program, "--help"], stdout=full)
     cases.compare("help to a full device", Ended(4, b"", b"l4map: WriteFailed\n"), got)
-    # Where standard error is closed, the status still tells.
+
+
+def check_closed_standard_error(cases, program):
+    """Where standard error is closed, the status still tells."""
     for name, words, given, status in (
         ("a refused command line", ["--fast"], TRACE, 1),
         ("a bad header", [], b"", 2),
@@ -101,6 +105,14 @@ def main():
     ):
         got = run([program, *words], given, stderr=None, preexec_fn=lambda: os.close(2))
         cases.compare(f"{name}, with standard error closed", Ended(status, b"", b""), got)
+
+
+def main():
+    program, cases = program_path(), Cases()
+    check_taken(cases, program)
+    check_refused(cases, program)
+    check_help_and_version(cases, program)
+    check_closed_standard_error(cases, program)
     cases.end()
 
 

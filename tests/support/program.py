@@ -18,11 +18,11 @@ class Ended(NamedTuple):
 
 
 def program_path():
-    """The program named by the first argument, or the one that `rt ci` leaves. Without one, the script ends."""
+    """The program named by the first argument, or the one that build.sh leaves. Where there is none, the script ends."""
     default = os.path.join(TOP, "crates", "l4map", "out", "l4map")
     path = os.path.abspath(sys.argv[1]) if len(sys.argv) > 1 else default
     if not (os.path.isfile(path) and os.access(path, os.X_OK)):
-        give_up(f"there is no program {path}: ./test.sh proves it and builds it")
+        give_up(f"there is no program {path}: ./build.sh proves it and builds it")
     return path
 
 
@@ -34,10 +34,11 @@ def give_up(why):
 
 
 def build_library(source, room):
-    """Compiles a file of tests/ into a library that can be preloaded, in the folder `room`."""
+    """Compiles a file of tests/support/ into a library that can be preloaded, in the folder `room`."""
     library = os.path.join(room, source + ".so")
     compiler = os.environ.get("CC", "cc")
-    words = [compiler, "-O1", "-fno-builtin", "-shared", "-fPIC", "-o", library, os.path.join(TOP, "tests", source)]
+    path = os.path.join(TOP, "tests", "support", source)
+    words = [compiler, "-O1", "-fno-builtin", "-shared", "-fPIC", "-o", library, path]
     try:
         built = subprocess.run(words, capture_output=True, text=True, check=False)
     except OSError as error:
@@ -108,3 +109,9 @@ class Cases:
         """Prints the closing line and ends the script."""
         print(f"{self.passed} passed, {self.failed} failed")
         sys.exit(1 if self.failed else 0)
+
+
+def compare_replay(cases, program, name, given, wanted):
+    """Two cases: a trace ends as wanted, and with --plain too."""
+    cases.compare(name, wanted, run(program, given))
+    cases.compare(f"{name}; with --plain", wanted, run([program, "--plain"], given))

@@ -1,0 +1,85 @@
+#!/usr/bin/env python3
+"""Crates out of memory: each allocation of some of their tests is refused, alone and with all after it.
+
+    tests/refused_memory_in_crates.py [CRATE..]
+
+The tests that `rt ci`, or `rt test` in the crate, builds are run one by one. Each must end as the undisturbed one, or with
+the error `NoMemory`. Where a call is refused memory, the tests themselves look at what it left, and end otherwise if that is
+not what its contract says: a tree that `reserve`, `outer_runs` or `cut` changed, a database that is not halted. Allocations
+are refused by the preloaded library of support/fail_alloc.c.
+"""
+
+import os
+import sys
+import tempfile
+
+from support.program import TOP, Cases, build_library, give_up, run
+from support.refusals import EXTENTS, runs_refusing
+
+# A crate, and those of its tests that take memory. One line makes a further crate part of this.
+TESTS = {
+    "space": ["keeps_entries_at_the_least_limits", "keeps_entries_at_the_largest_limits"],
+    "maptree": [
+        "has_outer_runs",
+        "cuts::puts_back_one_node_of_a_run_of_three",
+        "cuts::stays_as_the_last_cut_left_it_where_nothing_is_put_back",
+        "cuts::cuts_runs_and_puts_back_what_is_kept",
+    ],
+    "mapdb": [
+        "holds_each_frame_once_at_the_start",
+        "maps_a_page_on",
+        "unmaps::revokes_what_derives",
+        "unmaps::revokes_by_recursion",
+    ],
+}
+OUT_OF_MEMORY = b"error: NoMemory\n"
+
+
+def built_tests(crate):
+    """The tests of a crate as a program. Where it is not built, the script ends."""
+    program = os.path.join(TOP, "crates", crate, "out", f"{crate}_tests")
+    if not os.access(program, os.X_OK):
+        give_up(f"there is no {program}: ./test.sh proves it and builds it")
+    return program
+
+
+def what_is_wrong(undisturbed, got):
+    """What is wrong with how a run ended in which an allocation was refused, or an empty text."""
+    if got == undisturbed or (got.status != 0 and OUT_OF_MEMORY in got.stdout + got.stderr):
+        return ""
+    return f"neither the undisturbed run nor out of memory: status {got.status}, {(got.stdout + got.stderr)[:200]!r}"
+
+
+def check_test(cases, name, words, library):
+    """Refuses each allocation of one test in turn."""
+    undisturbed = run(words)
+    cases.check(f"{name} passes", "" if undisturbed.status == 0 else f"status {undisturbed.status}")
+    for and_rest, extent in EXTENTS:
+        runs = list(runs_refusing(words, b"", library, "allocation", and_rest))
+        for it in runs:
+            cases.check(f"{name}: allocation {it.at} {extent} is refused", what_is_wrong(undisturbed, it.got))
+        effect = any(it.got.status != 0 for it in runs)
+        cases.check(f"{name}: none is left to refuse, {extent}", "there are more" if runs[-1].was_refused else "")
+        cases.check(f"{name}: some run was out of memory, {extent}", "" if effect else "the library has no effect")
+
+
+def asked_for():
+    """The crates that the command line names, or all."""
+    for crate in sys.argv[1:]:
+        if crate not in TESTS:
+            give_up(f"there is no table of tests of {crate}")
+    return sys.argv[1:] or list(TESTS)
+
+
+def main():
+    cases = Cases()
+    programs = {crate: built_tests(crate) for crate in asked_for()}
+    with tempfile.TemporaryDirectory() as room:
+        library = build_library("fail_alloc.c", room)
+        for crate, program in programs.items():
+            for test in TESTS[crate]:
+                check_test(cases, f"{crate}: {test}", [program, f"tests::{test}"], library)
+    cases.end()
+
+
+main()
