@@ -45,6 +45,7 @@ impl Database {
     ghost use Rattle.std.specs.Prelude.{IfOk, OnOk, IfErr, OnErr, IsErrOf, IsOkUnless};
     ghost use Rattle.std.specs.List.{All};
     ghost use Rattle.model.specs.Holdings.{at, origin_at};
+    ghost use Rattle.model.specs.Lawful.{is_lawful};
     ghost use Rattle.model.specs.Records.{are_limits};
     ghost use Rattle.model.specs.Touch.{can_touch, touch};
     ghost use Rattle.model.specs.Answers.{call_refusal, send_answer};
@@ -90,6 +91,7 @@ impl Database {
         ensures limits { limits_of result ≡ self.now.limits }
         ensures served { self.now.is_halted ≡ false → are_limits self.now.limits ≡ true }
         ensures held { self.now.holdings ≡ listing self.now.limits (at self.now.holdings) }
+        ensures lawful { self.now.is_halted ≡ false → is_lawful self.now.holdings ≡ true }
     {
         self.limits
     }
@@ -277,7 +279,7 @@ impl Database {
     }
 
     /// The same as `unmap`, by recursion: page by page of those that an fpage names and that are still held, first what
-    /// derives from the page, and then the page itself. It takes longer.
+    /// derives from the page, and then the page itself. It gives and leaves what `unmap` does, and takes longer.
     ///
     /// Refused as `unmap` is.
     pub fn unmap_plain(
@@ -295,11 +297,15 @@ impl Database {
         ensures stays_halted { IsErrOf result Halted → self.new ≡ self.old }
         ensures no_memory { IsErrOf result NoMemory → (self.new.is_halted ≡ true) × (self.new.limits ≡ self.old.limits) }
         ensures status { IfOk result (λ status.
-            status.items ≡ plain_status space control.flush fpages.now self.old.holdings) }
+            status.items ≡ unmap_status space control.flush fpages.now self.old.holdings) }
         ensures left { OnOk result (self.new ≡
-            left_with self.old (plain_left space control.flush fpages.now self.old.holdings)) }
+            left_with self.old (unmap_left space control.flush fpages.now self.old.holdings)) }
 
-        // It gives and leaves what `unmap` does.
+        // It is what the recursion gives and leaves.
+        ensures recursion_status { IfOk result (λ status.
+            status.items ≡ plain_status space control.flush fpages.now self.old.holdings) }
+        ensures recursion_left { OnOk result (self.new ≡
+            left_with self.old (plain_left space control.flush fpages.now self.old.holdings)) }
         ensures as_unmap { self.old.is_halted ≡ false →
             (plain_status space control.flush fpages.now self.old.holdings ≡ unmap_status space control.flush fpages.now self.old.holdings)
             × (plain_left space control.flush fpages.now self.old.holdings ≡ unmap_left space control.flush fpages.now self.old.holdings) }

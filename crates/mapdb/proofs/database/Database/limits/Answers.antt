@@ -1,6 +1,7 @@
--- What is held is listed by place.
-use Rattle.std.proofs.Common.{◌≡◌, subst, sym}
+-- What is held is listed by place, and lawful.
+use Rattle.std.proofs.Common.{◌≡◌, true, subst, sym, ap, ◌∙◌}
 use Rattle.model.specs.Holdings.{at}
+use Rattle.model.specs.Lawful.{is_lawful}
 use Rattle.mapdb.specs.Meaning.{limits_of}
 use Rattle.mapdb.specs.Held.{held_at, listing}
 use Rattle.mapdb.specs.State.{State}
@@ -14,3 +15,8 @@ returns-clause-held c =
     let held = held_at d.shards d.trees.items in
     subst (λ (s : State). s.holdings ≡ listing s.limits (at s.holdings)) c.self.view_is
     (listing_same l held (at (listing l held)) (λ p within. sym (at_within held l p within)))
+
+pub returns-clause-lawful : goal.returns-clause-lawful
+returns-clause-lawful c = λ running.
+    let runs = ap (λ (s : State). s.is_halted) c.self.view_is ∙ running in
+    subst (λ (s : State). is_lawful s.holdings ≡ true) c.self.view_is (c.self.invariant runs).kept.lawful
