@@ -47,6 +47,7 @@ impl RunError {
     /// Writes the line that tells of the error. Takes no memory beyond what the writer takes.
     pub fn tell<W: Sink>(&self, writer: &mut W) -> Result<(), Failed>
         ensures line { OnOk result (Appends (W.contents writer.old) (W.contents writer.new) (error_line self.now)) }
+        ensures ok { OnOk result (W.failed writer.new ≡ W.failed writer.old) }
         ensures err { OnErr result (W.failed writer.new ≡ true) }
     {
         match self {
@@ -62,6 +63,7 @@ impl RunError {
 
 fn tell_record<W: Sink>(writer: &mut W, number: u64, what: &[u8]) -> Result<(), Failed>
     ensures line { OnOk result (Appends (W.contents writer.old) (W.contents writer.new) (record_line number what.now)) }
+    ensures ok { OnOk result (W.failed writer.new ≡ W.failed writer.old) }
     ensures err { OnErr result (W.failed writer.new ≡ true) }
 {
     writer.write_all(b"l4map: record ")?;
