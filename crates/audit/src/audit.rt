@@ -1,10 +1,12 @@
 //! The audit of a database, as lines and as text.
 
 ghost use Rattle.std.specs.Prelude.{◌≡◌, ◌↔◌, ◌⊎◌, true, map, IfOk, IfErr, IsErrOf};
+ghost use Rattle.model.specs.Lawful.{is_lawful};
 ghost use Rattle.model.specs.Text.{audit_lines};
 ghost use Rattle.mapdb.specs.Mappings.{mapped_of};
 ghost use Rattle.audit.specs.declared.error.AuditError.TheVariants.{Halted, NoMemory};
 
+use crate::checker::check;
 use crate::error::AuditError;
 use crate::line::{Line, LineText};
 use mapdb::{Database, DbError};
@@ -20,12 +22,27 @@ pub fn lines(alloc: Global, database: &Database) -> Result<Vec<Line>, AuditError
     ensures halted { IsErrOf result Halted ↔ (database.now.is_halted ≡ true) }
     ensures errors { IfErr result (λ e. (e ≡ Halted) ⊎ (e ≡ NoMemory)) }
     ensures lines { IfOk result (λ lines. map mapped_of lines.items ≡ database.now.holdings) }
+    ensures lawful { IfOk result (λ lines. is_lawful (map mapped_of lines.items) ≡ true) }
 {
+    // Its contract says that what is held is lawful.
+    let _ = database.limits();
     match database.mappings(alloc) {
         Ok(lines) => Ok(lines),
         Err(DbError::Halted) => Err(AuditError::Halted),
         Err(_) => Err(AuditError::NoMemory),
     }
+}
+
+/// Whether the audit of a database passes `check`. It always does, as the contract says: what a database holds is lawful.
+///
+/// Refused as `lines` is.
+pub fn check_database(alloc: Global, database: &Database) -> Result<bool, AuditError>
+    ensures halted { IsErrOf result Halted ↔ (database.now.is_halted ≡ true) }
+    ensures errors { IfErr result (λ e. (e ≡ Halted) ⊎ (e ≡ NoMemory)) }
+    ensures passes { IfOk result (λ passes. passes ≡ true) }
+{
+    let lines = lines(alloc, database)?;
+    Ok(check(&lines))
 }
 
 /// The text of every mapping of a database, by rising place, a line for each. The lines of each space are made side by
