@@ -7,11 +7,11 @@ use Rattle.model.specs.Text.{audit_lines}
 use Rattle.mapdb.specs.declared.mapping.Mapping.{Mapping}
 use Rattle.mapdb.specs.Mappings.{mapped_of}
 
--- the text of some lines, unless memory was refused
+-- the text of some lines, unless memory ran out
 abbrev pub IsTextOf : List Mapping → Result (String Global) AllocError → Type 0
 IsTextOf lines text = IfOk text (λ t. string_bytes t ≡ audit_lines (map mapped_of lines))
 
--- the bytes of a text; none where memory was refused
+-- the bytes of a text; none where memory ran out
 abbrev pub bytes_in : Result (String Global) AllocError → List ℕ
 bytes_in (Ok t) = string_bytes t
 bytes_in (Err e) = []

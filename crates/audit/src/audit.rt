@@ -15,9 +15,9 @@ use std::alloc::{AllocError, Global};
 use std::fmt::Write;
 use std::thread::Threads;
 
-/// Every mapping of a database, by rising place.
+/// Returns every mapping of a database, by rising place.
 ///
-/// Refused where the database is halted, `Halted`, and where memory is, `NoMemory`.
+/// The errors are `Halted`, if the database is halted, and `NoMemory`, if memory runs out.
 pub fn lines(alloc: Global, database: &Database) -> Result<Vec<Line>, AuditError>
     ensures halted { IsErrOf result Halted ↔ (database.now.is_halted ≡ true) }
     ensures errors { IfErr result (λ e. (e ≡ Halted) ⊎ (e ≡ NoMemory)) }
@@ -33,9 +33,10 @@ pub fn lines(alloc: Global, database: &Database) -> Result<Vec<Line>, AuditError
     }
 }
 
-/// Whether the audit of a database passes `check`. It always does, as the contract says: what a database holds is lawful.
+/// Returns whether the lines of a database pass `check`. They always do, as the contract says: what a database holds is
+/// lawful.
 ///
-/// Refused as `lines` is.
+/// The errors are those of `lines`.
 pub fn check_database(alloc: Global, database: &Database) -> Result<bool, AuditError>
     ensures halted { IsErrOf result Halted ↔ (database.now.is_halted ≡ true) }
     ensures errors { IfErr result (λ e. (e ≡ Halted) ⊎ (e ≡ NoMemory)) }
@@ -45,11 +46,10 @@ pub fn check_database(alloc: Global, database: &Database) -> Result<bool, AuditE
     Ok(check(&lines))
 }
 
-/// The text of every mapping of a database, by rising place, a line for each. The lines of each space are made side by
-/// side with those of others.
+/// Returns the text of every mapping of a database, by rising place, a line for each. The lines of each space are made
+/// side by side with those of others; where a thread cannot be started, with fewer threads.
 ///
-/// Refused where the database is halted, `Halted`, and where memory is, `NoMemory`. Where a thread is refused, the lines
-/// are made with fewer.
+/// The errors are `Halted`, if the database is halted, and `NoMemory`, if memory runs out.
 pub fn report(
     rt: &(impl AllocGlobal + Threads + Sync),
     database: &Database,
@@ -66,13 +66,13 @@ pub fn report(
 
 ghost use Rattle.std.specs.Prelude.{flat_map};
 
-/// The text of lines, made section by section side by side.
+/// Returns the text of lines, made section by section side by side.
 fn text_of(rt: &(impl Threads + Sync), alloc: Global, lines: &[Line]) -> Result<Vec<u8>, AllocError>
     ensures { IfOk result (λ text. text.items ≡ audit_lines (map mapped_of lines.now)) }
 {
     let sections = sections(alloc, lines)?;
     let texts = section_texts(rt, alloc, &sections)?;
-    let text = joined(alloc, &texts)?;
+    let text = whole_text(alloc, &texts)?;
     Ok(text)
 }
 
@@ -92,7 +92,7 @@ fn sections<'a>(alloc: Global, lines: &'a [Line]) -> Result<Vec<&'a [Line]>, All
 
 ghost use Rattle.std.specs.Prelude.{◌<◌, ◌≤◌, length};
 
-/// How many lines from the front on are of the space of the first.
+/// Returns how many lines from the front on are of the space of the first.
 fn first_section(lines: &[Line]) -> usize
     requires { 0 < length lines.now }
     ensures some { 0 < result }
@@ -146,8 +146,8 @@ ghost use Rattle.std.specs.Prelude.{IsOk, OnOk};
 ghost use Rattle.std.specs.List.{All};
 ghost use Rattle.audit.specs.Sections.{bytes_in};
 
-/// The texts one after another, if none was refused memory.
-fn joined(alloc: Global, texts: &[Result<String, AllocError>]) -> Result<Vec<u8>, AllocError>
+/// Returns the texts one after another, if memory sufficed for each.
+fn whole_text(alloc: Global, texts: &[Result<String, AllocError>]) -> Result<Vec<u8>, AllocError>
     ensures whole { IfOk result (λ whole. whole.items ≡ flat_map bytes_in texts.now) }
     ensures all { OnOk result (All IsOk texts.now) }
 {

@@ -16,8 +16,7 @@ use space::Place;
 use std::alloc::{AllocError, Global};
 use trace::{Call, Refusal, Reply};
 
-/// Answers a request, and leaves what it changed; an unmap by recursion, where it is to be plain. Only want of memory is
-/// an error.
+/// Answers a request, and leaves what it changed; an unmap by recursion if `plain`. The only error is out of memory.
 pub fn answer(
     alloc: Global,
     database: &mut Database,
@@ -93,7 +92,7 @@ fn send_items(
     }
 }
 
-/// An unmap, whose words come with the fpage of each; by recursion, where it is to be plain.
+/// An unmap, whose words come with the fpage of each; by recursion if `plain`.
 fn unmap_pages(
     alloc: Global,
     database: &mut Database,

@@ -17,7 +17,7 @@ use std::alloc::{AllocError, Global};
 use std::thread::Threads;
 use trace::{Record, Reply, Sink, Source, push_reply, read_all};
 
-/// What a run came to: the numbers of its last line.
+/// The numbers of the last line of a run.
 #[derive(Clone, Copy, Debug, PartialEq, Eq)]
 pub struct Summary {
     /// How many records followed the header.
@@ -48,7 +48,7 @@ fn reply_line(
     Ok(matches!(reply, Reply::Refused(_)))
 }
 
-/// Answers the records in order, writes their reply lines, and counts those that were refused. Where memory is refused at
+/// Answers the records in order, writes their reply lines, and counts those that were refused. Where memory runs out at
 /// a record, the reply lines before it are flushed.
 fn write_replies<W: Sink>(
     alloc: Global,
@@ -100,7 +100,7 @@ fn closing_text(
 
 /// Replays a trace: reads it to its end, answers its records one by one, and writes the replies and the audit.
 ///
-/// Where memory is refused at a record, the reply lines before it have been written and flushed.
+/// Where memory runs out at a record, the reply lines before it have been written and flushed.
 pub fn run<T: AllocGlobal + Threads + Sync, R: Source, W: Sink>(
     rt: &T,
     reader: &mut R,
@@ -139,7 +139,7 @@ fn start(alloc: Global, limits: &Limits) -> Result<Database, RunError>
     }
 }
 
-/// Replays records: writes the reply lines, the audit lines and the end line, and flushes them. Where memory is refused at
+/// Replays records: writes the reply lines, the audit lines and the end line, and flushes them. Where memory runs out at
 /// a record, the reply lines before it are flushed.
 fn replay<W: Sink>(
     rt: &(impl AllocGlobal + Threads + Sync),
@@ -169,7 +169,7 @@ fn replay<W: Sink>(
     })
 }
 
-/// Flushes the reply lines before a record at which memory was refused, and tells why the run ends there.
+/// Flushes the reply lines before a record at which memory ran out, and returns why the run ends there.
 fn stop_at<W: Sink>(writer: &mut W, number: u64) -> RunError
     ensures { StopsAt number (W.contents writer.old) (W.contents writer.new) (W.failed writer.old) (W.failed writer.new) result }
 {
