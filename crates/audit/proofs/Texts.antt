@@ -8,8 +8,8 @@ use Rattle.std.proofs.lemmas.Grind.{flat_map-append}
 use Rattle.std.proofs.lemmas.List.{drop_more, map-append}
 use Rattle.std.proofs.lemmas.List.Elements.{All-head, All-tail}
 use Rattle.model.specs.Text.{audit_line, audit_lines}
-use Rattle.mapdb.specs.declared.mapping.Mapping.{Mapping}
-use Rattle.mapdb.specs.Mappings.{mapped_of}
+use Rattle.holdings.specs.declared.mapping.Mapping.{Mapping}
+use Rattle.holdings.specs.Mappings.{mapped_of}
 use Rattle.audit.specs.Sections.{IsTextOf, bytes_in}
 
 abbrev Text : Type 0
@@ -32,7 +32,7 @@ text_is_ok texts i item text read is = is_ok_from (get_or texts i item) text (sy
 lines_append : (xs ys : List Mapping) → audit_lines (map mapped_of (xs ++ ys)) ≡ audit_lines (map mapped_of xs) ++ audit_lines (map mapped_of ys)
 lines_append xs ys = ap audit_lines (map-append mapped_of xs ys) ∙ flat_map-append audit_line (map mapped_of xs) (map mapped_of ys)
 
--- the texts of all sections, where none was refused memory
+-- the texts of all sections, where memory sufficed for each
 pub all_texts : (sections : List (Bor (List Mapping))) (texts : List Text) → AllZip (λ s t. IsTextOf s.now t) sections texts → All IsOk texts
     → flat_map bytes_in texts ≡ audit_lines (map mapped_of (flat_map (λ s. s.now) sections))
 all_texts [] [] each all = refl

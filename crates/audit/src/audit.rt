@@ -1,10 +1,12 @@
 //! The audit of a database, as lines and as text.
 
 ghost use Rattle.std.specs.Prelude.{◌≡◌, ◌↔◌, ◌⊎◌, true, map, IfOk, IfErr, IsErrOf};
+ghost use Rattle.model.specs.Lawful.{is_lawful};
 ghost use Rattle.model.specs.Text.{audit_lines};
-ghost use Rattle.mapdb.specs.Mappings.{mapped_of};
+ghost use Rattle.holdings.specs.Mappings.{mapped_of};
 ghost use Rattle.audit.specs.declared.error.AuditError.TheVariants.{Halted, NoMemory};
 
+use crate::checker::check;
 use crate::error::AuditError;
 use crate::line::{Line, LineText};
 use mapdb::{Database, DbError};
@@ -13,14 +15,17 @@ use std::alloc::{AllocError, Global};
 use std::fmt::Write;
 use std::thread::Threads;
 
-/// Every mapping of a database, by rising place.
+/// Returns every mapping of a database, by rising place.
 ///
-/// Refused where the database is halted, `Halted`, and where memory is, `NoMemory`.
+/// The errors are `Halted`, if the database is halted, and `NoMemory`, if memory runs out.
 pub fn lines(alloc: Global, database: &Database) -> Result<Vec<Line>, AuditError>
     ensures halted { IsErrOf result Halted ↔ (database.now.is_halted ≡ true) }
     ensures errors { IfErr result (λ e. (e ≡ Halted) ⊎ (e ≡ NoMemory)) }
     ensures lines { IfOk result (λ lines. map mapped_of lines.items ≡ database.now.holdings) }
+    ensures lawful { IfOk result (λ lines. is_lawful (map mapped_of lines.items) ≡ true) }
 {
+    // Its contract says that what is held is lawful.
+    let _ = database.limits();
     match database.mappings(alloc) {
         Ok(lines) => Ok(lines),
         Err(DbError::Halted) => Err(AuditError::Halted),
@@ -28,11 +33,23 @@ pub fn lines(alloc: Global, database: &Database) -> Result<Vec<Line>, AuditError
     }
 }
 
-/// The text of every mapping of a database, by rising place, a line for each. The lines of each space are made side by
-/// side with those of others.
+/// Returns whether the lines of a database pass `check`. They always do, as the contract says: what a database holds is
+/// lawful.
 ///
-/// Refused where the database is halted, `Halted`, and where memory is, `NoMemory`. Where a thread is refused, the lines
-/// are made with fewer.
+/// The errors are those of `lines`.
+pub fn check_database(alloc: Global, database: &Database) -> Result<bool, AuditError>
+    ensures halted { IsErrOf result Halted ↔ (database.now.is_halted ≡ true) }
+    ensures errors { IfErr result (λ e. (e ≡ Halted) ⊎ (e ≡ NoMemory)) }
+    ensures passes { IfOk result (λ passes. passes ≡ true) }
+{
+    let lines = lines(alloc, database)?;
+    Ok(check(&lines))
+}
+
+/// Returns the text of every mapping of a database, by rising place, a line for each. The lines of each space are made
+/// side by side with those of others; where a thread cannot be started, with fewer threads.
+///
+/// The errors are `Halted`, if the database is halted, and `NoMemory`, if memory runs out.
 pub fn report(
     rt: &(impl AllocGlobal + Threads + Sync),
     database: &Database,
@@ -49,13 +66,13 @@ pub fn report(
 
 ghost use Rattle.std.specs.Prelude.{flat_map};
 
-/// The text of lines, made section by section side by side.
+/// Returns the text of lines, made section by section side by side.
 fn text_of(rt: &(impl Threads + Sync), alloc: Global, lines: &[Line]) -> Result<Vec<u8>, AllocError>
     ensures { IfOk result (λ text. text.items ≡ audit_lines (map mapped_of lines.now)) }
 {
     let sections = sections(alloc, lines)?;
     let texts = section_texts(rt, alloc, &sections)?;
-    let text = joined(alloc, &texts)?;
+    let text = whole_text(alloc, &texts)?;
     Ok(text)
 }
 
@@ -75,7 +92,7 @@ fn sections<'a>(alloc: Global, lines: &'a [Line]) -> Result<Vec<&'a [Line]>, All
 
 ghost use Rattle.std.specs.Prelude.{◌<◌, ◌≤◌, length};
 
-/// How many lines from the front on are of the space of the first.
+/// Returns how many lines from the front on are of the space of the first.
 fn first_section(lines: &[Line]) -> usize
     requires { 0 < length lines.now }
     ensures some { 0 < result }
@@ -129,8 +146,8 @@ ghost use Rattle.std.specs.Prelude.{IsOk, OnOk};
 ghost use Rattle.std.specs.List.{All};
 ghost use Rattle.audit.specs.Sections.{bytes_in};
 
-/// The texts one after another, if none was refused memory.
-fn joined(alloc: Global, texts: &[Result<String, AllocError>]) -> Result<Vec<u8>, AllocError>
+/// Returns the texts one after another, if memory sufficed for each.
+fn whole_text(alloc: Global, texts: &[Result<String, AllocError>]) -> Result<Vec<u8>, AllocError>
     ensures whole { IfOk result (λ whole. whole.items ≡ flat_map bytes_in texts.now) }
     ensures all { OnOk result (All IsOk texts.now) }
 {

@@ -2,15 +2,15 @@
 
 ghost use Rattle.std.specs.Prelude.{◌≡◌, map};
 ghost use Rattle.model.specs.Lawful.{is_lawful};
-ghost use Rattle.mapdb.specs.Mappings.{mapped_of};
+ghost use Rattle.holdings.specs.Mappings.{mapped_of};
 
 use crate::line::Line;
 use space::Place;
 
-/// Whether lines rise by place and are lawful: each origin has a line, with the same frame and at least the rights; each
+/// Returns whether lines rise by place and are lawful: each origin has a line, with the same frame and at least the rights; each
 /// chain of origins ends; a frame has at most one mapping without origin; no rights are empty.
 ///
-/// Takes no memory. It takes time by the lines times the longest chain, and by the lines times the roots.
+/// It allocates nothing. Its time grows with the lines times the longest chain, and with the lines times the roots.
 pub fn check(lines: &[Line]) -> bool
     ensures { result ≡ is_lawful (map mapped_of lines.now) }
 {

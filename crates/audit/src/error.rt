@@ -8,7 +8,7 @@ pub enum AuditError {
     /// The database is halted.
     #[error("Halted")]
     Halted,
-    /// Memory was refused.
+    /// Out of memory.
     #[error("NoMemory")]
     NoMemory,
 }

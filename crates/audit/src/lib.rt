@@ -8,7 +8,7 @@ mod line;
 #[cfg(test)]
 mod tests;
 
-pub use audit::{lines, report};
+pub use audit::{check_database, lines, report};
 pub use checker::check;
 pub use error::AuditError;
 pub use line::Line;

@@ -78,7 +78,7 @@ pub struct LineText(pub Line);
 impl fmt::Display for LineText {
     ghost use Rattle.std.specs.Prelude.{Some};
     ghost use Rattle.model.specs.Text.{audit_line};
-    ghost use Rattle.mapdb.specs.Mappings.{mapped_of};
+    ghost use Rattle.holdings.specs.Mappings.{mapped_of};
 
     ghost output = { λ line. Some (audit_line (mapped_of line.0)) };
 

@@ -1,6 +1,6 @@
 //! Lines that are lawful or not, and the audit of a small database, worked out by hand.
 
-use crate::{Line, check, lines, report};
+use crate::{Line, check, check_database, lines, report};
 use fpage::{Access, Fpage, Item, Rights};
 use mapdb::Database;
 use space::Place;
@@ -101,5 +101,6 @@ fn reports_a_small_database(rt: HostRuntime) -> Result<(), Fail> {
     let lines = lines(alloc, &database)?;
     assert_eq!(rt; lines.len(), 3);
     assert!(rt; check(&lines));
+    assert!(rt; check_database(alloc, &database)?);
     Ok(())
 }

@@ -1,16 +1,15 @@
 -- From the trace that was read to the input that the reader had.
-use Rattle.std.proofs.Common.{◌≡◌, ℕ, zero, suc, Bool, true, List, map, Option, Some, None, Result, Ok, Err, IfOk, IfErr, IfSome, ◌∙◌, refl}
-use Rattle.std.specs.Io.KnownBytes.{Keeps}
+use Rattle.std.proofs.Common.{◌≡◌, ℕ, zero, suc, ◌+◌, arith, Bool, true, List, map, Option, Some, None, Result, Ok, Err, IfOk, IfErr, IfSome, ◌∙◌, refl}
 use Rattle.std.proofs.KnownBytes.{Appends-kept}
 use Rattle.model.specs.Records.{Trace, trace_of, request, are_limits}
 use Rattle.model.specs.Replay.{Told, start}
-use Rattle.mapdb.specs.Meaning.{limits_of}
+use Rattle.holdings.specs.Meaning.{limits_of}
 use Rattle.trace.specs.declared.read.Trace.{Trace as TheTrace}
 use Rattle.trace.specs.Trace.{IsTraceOf}
 use Rattle.l4map.specs.declared.run.Summary.{Summary}
 use Rattle.l4map.specs.declared.error.RunError.{RunError}
 use Rattle.l4map.specs.declared.error.RunError.TheVariants.{BadHeader, BadLimits, NoMemory, NoWorker, Unreadable, WriteFailed}
-use Rattle.l4map.specs.Run.{told_of, WritesText, WritesReplay, StopsEarly, EndsEarly}
+use Rattle.l4map.specs.Run.{told_of, WritesText, WritesReplay, StopsBefore, StopsAt, StopsEarly, EndsEarly}
 
 -- ---- the trace
 
@@ -44,8 +43,15 @@ ended (Some input) t old new was failed (Err WriteFailed) is limits w = record {
 
 -- ---- a replay
 
--- why the replies were not all written, once what was written is flushed
-pub flushed : (t : Told) (old mid new : Option (List ℕ)) (was is failed : Bool) (n : ℕ) → StopsEarly t old mid was is (NoMemory n) → Keeps mid new → failed ≡ is → StopsEarly t old new was failed (NoMemory n)
-flushed t old mid new was is failed zero h keeps same = absurd h
-flushed t old mid new was is failed (suc k) h keeps same =
-    (record { within = h.0.within; written = Appends-kept old mid new _ h.0.written keeps }, same ∙ h.1)
+-- why the replies were not all written, once those before record number k + 1 are flushed
+pub stopped : (t : Told) (old mid new : Option (List ℕ)) (was is failed : Bool) (k : ℕ) (e : RunError) → StopsBefore t old mid k → is ≡ was → StopsAt (k + 1) mid new is failed e → StopsEarly t old new was failed e
+stopped t old mid new was is failed k (NoMemory zero) before same stop = absurd (omega (arith, stop.0))
+stopped t old mid new was is failed k (NoMemory (suc n)) before same stop =
+    let number : n ≡ k = omega (arith, stop.0) in
+    let written = Appends-kept old mid new _ before.written stop.1 in
+    (rw number (record { within = before.within; written = written }), stop.2 ∙ same)
+stopped t old mid new was is failed k WriteFailed before same stop = stop
+stopped t old mid new was is failed k BadHeader before same stop = stop
+stopped t old mid new was is failed k BadLimits before same stop = stop
+stopped t old mid new was is failed k (NoWorker n) before same stop = stop
+stopped t old mid new was is failed k Unreadable before same stop = stop

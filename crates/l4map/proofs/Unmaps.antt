@@ -1,5 +1,5 @@
 -- The words that an unmap gives back, and what it leaves.
-use Rattle.std.proofs.Common.{◌≡◌, ◌≤◌, nat_lt, true, false, Ok, ℕ, Bool, List, [], ◌∷◌, ◌++◌, map, length, ◌⊎◌, inl, inr, refl, sym, ap, ◌∙◌, append_assoc, append-nil, arith}
+use Rattle.std.proofs.Common.{◌≡◌, ◌≤◌, ◌↔◌, nat_lt, true, false, Result, Ok, Err, IfOk, OnOk, IsErrOf, Vec, Global, ℕ, Bool, List, [], ◌∷◌, ◌++◌, map, length, ◌⊎◌, inl, inr, refl, sym, ap, ◌∙◌, append_assoc, append-nil, arith}
 use Rattle.std.specs.List.{zip}
 use Rattle.std.proofs.lemmas.Bool.Decides.{nat_tests}
 use Rattle.fpage.specs.Fpage.{Flexpage}
@@ -7,9 +7,11 @@ use Rattle.fpage.specs.Control.{with_status}
 use Rattle.fpage.specs.declared.rights.Rights.{Rights}
 use Rattle.model.specs.Holdings.{Holdings}
 use Rattle.model.specs.Strip.{strip, strip_word}
-use Rattle.model.specs.Calls.{Limits, unmap, unmapped}
+use Rattle.model.specs.Calls.{unmap, unmapped}
 use Rattle.model.specs.Answers.{Answer, UnmapAnswer, answer, unmap_answer, unmapped_answer, pages_in}
-use Rattle.mapdb.specs.State.{unmap_status, unmap_left}
+use Rattle.mapdb.specs.State.{State, left_with, unmap_status, unmap_left}
+use Rattle.mapdb.specs.declared.error.DbError.{DbError}
+use Rattle.mapdb.specs.declared.error.DbError.TheVariants.{NoSuchSpace, Halted}
 
 -- ---- each word with its status
 
@@ -52,10 +54,26 @@ space_there false space spaces running there = by (nat_lt space spaces) refl
     by true is = refl
     by false is = absurd (there (refl, grind (arith, nat_tests)))
 
+-- what an unmap that was not refused gave and left
+pub record IsUnmapped (s : State) (space : ℕ) (f : Bool) (fpages : List Flexpage) (status : List Rights) (new : State) : Type 0 where
+  pub there : nat_lt space s.limits.spaces ≡ true
+  pub status_is : status ≡ unmap_status space f fpages s.holdings
+  pub left_is : new.holdings ≡ unmap_left space f fpages s.holdings
+
+-- by what either way to unmap promises
+pub unmapped_by : (s new : State) (space : ℕ) (f : Bool) (fpages : List Flexpage) (status : Vec Rights Global) (r : Result (Vec Rights Global) DbError) → r ≡ Ok status
+    → (IsErrOf r Halted ↔ (s.is_halted ≡ true)) → (IsErrOf r NoSuchSpace ↔ ((s.is_halted ≡ false) × (s.limits.spaces ≤ space)))
+    → IfOk r (λ told. told.items ≡ unmap_status space f fpages s.holdings) → OnOk r (new ≡ left_with s (unmap_left space f fpages s.holdings)) → IsUnmapped s space f fpages status.items new
+unmapped_by s new space f fpages status (Ok v) is halted gone told left = record {
+  there = space_there s.is_halted space s.limits.spaces (λ running. cc (halted.1 running)) (λ past. cc (gone.1 past));
+  status_is = cc;
+  left_is = ap (λ (t : State). t.holdings) left;
+}
+unmapped_by s new space f fpages status (Err e) is halted gone told left = absurd (cc is)
+
 -- the answer to an unmap, from what the database gave and left
-pub unmap_answered : (limits : Limits) (h : Holdings) (space : ℕ) (f : Bool) (words : List ℕ) (fpages : List Flexpage) (status : List Rights) (left : Holdings) (reply : List ℕ)
-    → nat_lt space limits.spaces ≡ true → length fpages ≡ length words → status ≡ unmap_status space f fpages h → left ≡ unmap_left space f fpages h → reply ≡ told words status
-    → answer limits h (Ok (unmap space f (zip words fpages))) ≡ record { reply = unmapped reply; left = left }
-unmap_answered limits h space f words fpages status left reply there same status_is left_is reply_is =
+pub unmap_answered : {s new : State} {space : ℕ} {f : Bool} {fpages : List Flexpage} {status : List Rights} → IsUnmapped s space f fpages status new → (words reply : List ℕ) → length fpages ≡ length words → reply ≡ told words status
+    → answer s.limits s.holdings (Ok (unmap space f (zip words fpages))) ≡ record { reply = unmapped reply; left = new.holdings }
+unmap_answered {s} {new} {space} {f} {fpages} {status} is words reply same reply_is =
     let as_answer : UnmapAnswer → Answer = λ a. unmapped_answer a in
-    rw there (ap as_answer (unmap_told space f words fpages h same) ∙ (λ i. record { reply = unmapped ((ap (told words) (sym status_is) ∙ sym reply_is) i); left = sym left_is i }))
+    rw is.there (ap as_answer (unmap_told space f words fpages s.holdings same) ∙ (λ i. record { reply = unmapped ((ap (told words) (sym is.status_is) ∙ sym reply_is) i); left = sym is.left_is i }))

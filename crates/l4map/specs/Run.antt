@@ -43,6 +43,15 @@ StopsEarly t old new was is BadLimits = ⊥
 StopsEarly t old new was is (NoWorker n) = ⊥
 StopsEarly t old new was is Unreadable = ⊥
 
+-- why a run ends at a record, once what was written before it is flushed; whether the writer had failed, and has
+abbrev pub StopsAt : ℕ → Option (List ℕ) → Option (List ℕ) → Bool → Bool → RunError → Type 0
+StopsAt number old new was is (NoMemory n) = (n ≡ number) × Keeps old new × (is ≡ was)
+StopsAt number old new was is WriteFailed = is ≡ true
+StopsAt number old new was is BadHeader = ⊥
+StopsAt number old new was is BadLimits = ⊥
+StopsAt number old new was is (NoWorker n) = ⊥
+StopsAt number old new was is Unreadable = ⊥
+
 -- the whole text was written, and its last numbers are told
 pub record WritesText (t : Told) (old new : Option (List ℕ)) (s : Summary) : Type 0 where
   pub written : Appends old new (text t)

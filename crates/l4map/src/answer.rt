@@ -6,7 +6,7 @@ ghost use Rattle.fpage.specs.Fpage.{IsFpageOf};
 ghost use Rattle.fpage.specs.Control.{with_status};
 ghost use Rattle.model.specs.Calls.{send, access, unmap};
 ghost use Rattle.model.specs.Answers.{answer};
-ghost use Rattle.mapdb.specs.Held.{IsWithin};
+ghost use Rattle.holdings.specs.Held.{IsWithin};
 ghost use Rattle.mapdb.specs.State.{left_with};
 ghost use Rattle.trace.specs.Meaning.{request_of, IsWithinLimits, reply_of};
 
@@ -16,8 +16,7 @@ use space::Place;
 use std::alloc::{AllocError, Global};
 use trace::{Call, Refusal, Reply};
 
-/// Answers a request, and leaves what it changed; an unmap by recursion, where it is to be plain. Only want of memory is
-/// an error.
+/// Answers a request, and leaves what it changed; an unmap by recursion if `plain`. The only error is out of memory.
 pub fn answer(
     alloc: Global,
     database: &mut Database,
@@ -93,7 +92,7 @@ fn send_items(
     }
 }
 
-/// An unmap, whose words come with the fpage of each.
+/// An unmap, whose words come with the fpage of each; by recursion if `plain`.
 fn unmap_pages(
     alloc: Global,
     database: &mut Database,
@@ -109,40 +108,15 @@ fn unmap_pages(
         ≡ record { reply = reply_of reply; left = database.new.holdings }) }
     ensures keeps { OnOk result (database.new ≡ left_with database.old database.new.holdings) }
 {
-    match unmap_words(alloc, database, plain, space, control, fpages) {
+    let status = if plain {
+        database.unmap_plain(alloc, space, control, fpages)
+    } else {
+        database.unmap(alloc, space, control, fpages)
+    };
+    match status {
         Ok(status) => Ok(Reply::Unmapped(reply_words(alloc, words, &status)?)),
         Err(DbError::NoSuchSpace) => Ok(Reply::Refused(Refusal::NoSuchSpace)),
         Err(_) => Err(AllocError),
-    }
-}
-
-ghost use Rattle.std.specs.Prelude.{◌↔◌, ◌≤◌, true, false, IsErrOf};
-ghost use Rattle.mapdb.specs.State.{unmap_status, unmap_left};
-ghost use Rattle.mapdb.specs.declared.error.DbError.TheVariants.{NoSuchSpace, Halted};
-
-/// The words of an unmap, by runs or, where it is to be plain, by recursion. Both give and leave the same.
-fn unmap_words(
-    alloc: Global,
-    database: &mut Database,
-    plain: bool,
-    space: u16,
-    control: Control,
-    fpages: &[Fpage],
-) -> Result<Vec<Rights>, DbError>
-    requires bits { All (IsFpageOf database.old.limits.bits) fpages.now }
-    ensures halted { IsErrOf result Halted ↔ (database.old.is_halted ≡ true) }
-    ensures no_such_space { IsErrOf result NoSuchSpace ↔ ((database.old.is_halted ≡ false) × (database.old.limits.spaces ≤ space)) }
-    ensures refused { IsErrOf result NoSuchSpace → database.new ≡ database.old }
-    ensures status { IfOk result (λ status.
-        status.items ≡ unmap_status space control.flush fpages.now database.old.holdings) }
-    ensures left { OnOk result (database.new ≡
-        left_with database.old (unmap_left space control.flush fpages.now database.old.holdings)) }
-{
-    if plain {
-        let status = database.unmap_plain(alloc, space, control, fpages)?;
-        Ok(status)
-    } else {
-        database.unmap(alloc, space, control, fpages)
     }
 }
 

@@ -20,7 +20,7 @@ pub enum OptionsError {
     Help(String),
     /// The command line was refused: why.
     Refused(String),
-    /// Memory was refused.
+    /// Out of memory.
     NoMemory,
 }
 

@@ -26,6 +26,9 @@ const EXAMPLE: &str =
 
 Exit status: 0 done; 1 command line refused; 2 bad header or limits; 3 out of memory; 4 a read or a write failed.";
 
+/// What is said below the refusal of a word that is no option.
+const TIP: &str = "  tip: a trace is read from standard input, as in 'l4map < trace.csv'";
+
 /// The command line of the program.
 fn command<'a>(alloc: Global) -> Result<Command<'a>, AllocError> {
     let workers = Arg::new(alloc, "workers")
@@ -97,8 +100,28 @@ fn fault(alloc: Global, error: &Error) -> OptionsError {
         return OptionsError::NoMemory;
     }
     if error.use_stderr() {
-        OptionsError::Refused(text)
+        refusal(alloc, text.as_str()).unwrap_or(OptionsError::NoMemory)
     } else {
         OptionsError::Help(text)
+    }
+}
+
+/// A refusal in the parser's words. Where it refuses a word that is no option, as the name of a file, a tip says where a
+/// trace comes from.
+fn refusal(alloc: Global, text: &str) -> Result<OptionsError, AllocError> {
+    let told = match text.split_once("\n\n") {
+        Some((what, rest)) if names_no_option(what) => {
+            format!(in alloc; "{what}\n\n{TIP}\n\n{rest}")?
+        }
+        _ => String::from_str(alloc, text)?,
+    };
+    Ok(OptionsError::Refused(told))
+}
+
+/// Whether the first line of a refusal names a word that is no option.
+fn names_no_option(what: &str) -> bool {
+    match what.strip_prefix("error: unexpected argument '") {
+        Some(word) => !word.starts_with("-") || word.starts_with("-'"),
+        None => false,
     }
 }

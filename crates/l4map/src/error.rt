@@ -17,7 +17,7 @@ pub enum RunError {
     /// The header names limits that are not served. Nothing was written.
     #[error("BadLimits")]
     BadLimits,
-    /// Memory was refused. The number is that of the first record whose reply line was not written: 0 before the first
+    /// Out of memory. The number is that of the first record whose reply line was not written: 0 before the first
     /// record, and one more than the number of records in the audit. The reply lines before it were written.
     #[error("record {0}: NoMemory")]
     NoMemory(u64),
@@ -44,9 +44,10 @@ impl RunError {
         }
     }
 
-    /// Writes the line that tells of the error. Takes no memory beyond what the writer takes.
+    /// Writes the line that tells of the error. It allocates nothing beyond what the writer allocates.
     pub fn tell<W: Sink>(&self, writer: &mut W) -> Result<(), Failed>
         ensures line { OnOk result (Appends (W.contents writer.old) (W.contents writer.new) (error_line self.now)) }
+        ensures ok { OnOk result (W.failed writer.new ≡ W.failed writer.old) }
         ensures err { OnErr result (W.failed writer.new ≡ true) }
     {
         match self {
@@ -62,6 +63,7 @@ impl RunError {
 
 fn tell_record<W: Sink>(writer: &mut W, number: u64, what: &[u8]) -> Result<(), Failed>
     ensures line { OnOk result (Appends (W.contents writer.old) (W.contents writer.new) (record_line number what.now)) }
+    ensures ok { OnOk result (W.failed writer.new ≡ W.failed writer.old) }
     ensures err { OnErr result (W.failed writer.new ≡ true) }
 {
     writer.write_all(b"l4map: record ")?;

@@ -2,9 +2,9 @@
 
 ghost use Rattle.std.specs.Prelude.{◌≡◌, ◌++◌, false, IfOk, IfErr, IfSome, OnOk, string_bytes};
 ghost use Rattle.model.specs.Text.{audit_lines, end_line};
-ghost use Rattle.mapdb.specs.Meaning.{limits_of};
+ghost use Rattle.holdings.specs.Meaning.{limits_of};
 ghost use Rattle.mapdb.specs.State.{left_with};
-ghost use Rattle.l4map.specs.Run.{Answers, told_of, WritesReplies, WritesText, StopsEarly, IsStarted, StartsNot};
+ghost use Rattle.l4map.specs.Run.{Answers, told_of, WritesReplies, WritesText, StopsAt, StopsEarly, IsStarted, StartsNot};
 ghost use Rattle.l4map.specs.Run.{WritesReplay, EndsEarly, WritesNothing, TellsStreams};
 
 use crate::answer::answer;
@@ -17,7 +17,7 @@ use std::alloc::{AllocError, Global};
 use std::thread::Threads;
 use trace::{Record, Reply, Sink, Source, push_reply, read_all};
 
-/// What a run came to: the numbers of its last line.
+/// The numbers of the last line of a run.
 #[derive(Clone, Copy, Debug, PartialEq, Eq)]
 pub struct Summary {
     /// How many records followed the header.
@@ -48,7 +48,8 @@ fn reply_line(
     Ok(matches!(reply, Reply::Refused(_)))
 }
 
-/// Answers the records in order, writes their reply lines, and counts those that were refused.
+/// Answers the records in order, writes their reply lines, and counts those that were refused. Where memory runs out at
+/// a record, the reply lines before it are flushed.
 fn write_replies<W: Sink>(
     alloc: Global,
     database: &mut Database,
@@ -69,7 +70,7 @@ fn write_replies<W: Sink>(
     for (i, asked) in records.iter().enumerate() {
         let number = i as u64 + 1;
         let Ok(is_refused) = reply_line(alloc, database, asked, plain, number, &mut line) else {
-            return Err(RunError::NoMemory(number));
+            return Err(stop_at(writer, number));
         };
         if writer.write_all(line.as_bytes()).is_err() {
             return Err(RunError::WriteFailed);
@@ -77,35 +78,6 @@ fn write_replies<W: Sink>(
         refused += u64::from(is_refused);
     }
     Ok(refused)
-}
-
-/// Writes the text of the replay of these records: the reply lines, the audit lines and the end line.
-fn write_replay<W: Sink>(
-    rt: &(impl AllocGlobal + Threads + Sync),
-    database: &mut Database,
-    records: &[Record],
-    plain: bool,
-    writer: &mut W,
-) -> Result<Summary, RunError>
-    requires { database.old.is_halted ≡ false }
-    ensures ok { IfOk result (WritesText (told_of database.old.limits records.now database.old.holdings)
-        (W.contents writer.old) (W.contents writer.new)) }
-    ensures works { OnOk result (W.failed writer.new ≡ W.failed writer.old) }
-    ensures err { IfErr result (StopsEarly (told_of database.old.limits records.now database.old.holdings)
-        (W.contents writer.old) (W.contents writer.new) (W.failed writer.old) (W.failed writer.new)) }
-{
-    let refused = write_replies(rt.alloc(), database, records, plain, writer)?;
-    let count = records.len() as u64;
-    let Ok(text) = closing_text(rt, database, count, refused) else {
-        return Err(RunError::NoMemory(count + 1));
-    };
-    if writer.write_all(&text).is_err() {
-        return Err(RunError::WriteFailed);
-    }
-    Ok(Summary {
-        records: count,
-        refused,
-    })
 }
 
 /// The audit lines and the end line.
@@ -128,7 +100,7 @@ fn closing_text(
 
 /// Replays a trace: reads it to its end, answers its records one by one, and writes the replies and the audit.
 ///
-/// Where memory is refused at a record, the reply lines before it have been written and flushed.
+/// Where memory runs out at a record, the reply lines before it have been written and flushed.
 pub fn run<T: AllocGlobal + Threads + Sync, R: Source, W: Sink>(
     rt: &T,
     reader: &mut R,
@@ -167,7 +139,8 @@ fn start(alloc: Global, limits: &Limits) -> Result<Database, RunError>
     }
 }
 
-/// Replays records, and flushes what was written, also where memory was refused at a record.
+/// Replays records: writes the reply lines, the audit lines and the end line, and flushes them. Where memory runs out at
+/// a record, the reply lines before it are flushed.
 fn replay<W: Sink>(
     rt: &(impl AllocGlobal + Threads + Sync),
     database: &mut Database,
@@ -182,14 +155,26 @@ fn replay<W: Sink>(
     ensures err { IfErr result (StopsEarly (told_of database.old.limits records.now database.old.holdings)
         (W.contents writer.old) (W.contents writer.new) (W.failed writer.old) (W.failed writer.new)) }
 {
-    let outcome = write_replay(rt, database, records, plain, writer);
-    match outcome {
-        Ok(_) | Err(RunError::NoMemory(_)) => {
-            if writer.flush().is_err() {
-                return Err(RunError::WriteFailed);
-            }
-        }
-        Err(_) => {}
+    let refused = write_replies(rt.alloc(), database, records, plain, writer)?;
+    let count = records.len() as u64;
+    let Ok(text) = closing_text(rt, database, count, refused) else {
+        return Err(stop_at(writer, count + 1));
+    };
+    if writer.write_all(&text).is_err() || writer.flush().is_err() {
+        return Err(RunError::WriteFailed);
     }
-    outcome
+    Ok(Summary {
+        records: count,
+        refused,
+    })
+}
+
+/// Flushes the reply lines before a record at which memory ran out, and returns why the run ends there.
+fn stop_at<W: Sink>(writer: &mut W, number: u64) -> RunError
+    ensures { StopsAt number (W.contents writer.old) (W.contents writer.new) (W.failed writer.old) (W.failed writer.new) result }
+{
+    if writer.flush().is_err() {
+        return RunError::WriteFailed;
+    }
+    RunError::NoMemory(number)
 }

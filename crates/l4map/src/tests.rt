@@ -2,6 +2,8 @@
 
 ghost use Rattle.std.specs.Prelude.{◌≡◌, false, true, OnOk, OnErr};
 
+mod worked;
+
 use crate::answer::answer;
 use crate::cli::OptionsError;
 use crate::error::RunError;
@@ -13,6 +15,7 @@ use std::alloc::Global;
 use std::test::Fail;
 use std::thread::Threads;
 use trace::{Failed, Sink, Std, read_all};
+use worked::TRACES;
 
 /// The audit lines of sixteen frames that no call has changed.
 const ROOTS: &str =
@@ -125,74 +128,11 @@ fn lines_after(alloc: Global, input: &str) -> Result<Vec<Line>, Fail> {
 
 #[test]
 fn audits_of_worked_traces_pass_the_check(rt: HostRuntime) -> Result<(), Fail> {
-    // The records after the header, and how many mappings are left.
-    let traces = [
-        ("", 16),
-        ("send,0,1,10,8,50c6\n", 17),
-        ("send,0,1,10,9008,50c7\n", 17),
-        ("send,0,1,80c0,2008,40e7\n", 17),
-        ("send,0,1,10,8,117\n", 32),
-        ("send,0,1,10,8,17\n", 32),
-        ("send,0,1,10,8,0\n", 16),
-        ("send,0,1,10,8,50c6\nsend,1,2,10,8,c1\n", 17),
-        ("send,0,1,10,8,50c6\nsend,0,1,10,8,50c1\n", 17),
-        (
-            "send,0,1,c0,8,50c7\nsend,1,2,c0,8,c7\nsend,0,1,10,8,70c7\n",
-            17,
-        ),
-        (
-            "send,0,1,c0,8,50c7\nsend,1,2,c0,8,c7\nsend,2,1,c0,8,c7\n",
-            18,
-        ),
-        ("send,0,1,c0,8,50c7\nsend,1,2,c0,8,c7\nunmap,0,0,50c2\n", 18),
-        (
-            "send,0,1,c0,8,50c7\nsend,1,2,c0,8,c7\naccess,2,0,w\nunmap,1,0,10\nunmap,0,0,10\n",
-            18,
-        ),
-        (
-            "send,0,1,c0,8,50c7\nsend,1,2,c0,8,c7\nsend,2,1,30c0,8,c7\nunmap,1,0,12\n",
-            19,
-        ),
-        (
-            "send,0,1,c0,8,50c7\nsend,1,2,c0,8,c7\nsend,1,2,40c0,a,c4\n",
-            18,
-        ),
-        (
-            "send,0,1,c0,8,50c7\nsend,1,2,c0,8,c7\nsend,2,1,30c0,8,c7\nsend,1,2,40e0,a,e7\n",
-            19,
-        ),
-        ("send,0,1,10,a,50c7\n", 16),
-        (
-            "send,0,1,10c0,8,50c7\nsend,1,2,c0,8,10c7\nsend,0,2,10c0,8,70c7\nsend,2,1,d0,8,d7\n",
-            18,
-        ),
-        (
-            "send,0,1,c0,8,50c7\nsend,0,1,30c0,8,50c7\naccess,1,0,r\naccess,1,3000,x\nunmap,1,0,10\nunmap,0,0,50c0\n",
-            18,
-        ),
-        ("unmap,1,1,10\nunmap,1,0,0\nunmap,1,0,f\n", 16),
-        (
-            "send,0,1,10,8,50c6\naccess,1,fff,w\naccess,1,ffc,x\naccess,1,1000,r\naccess,1,40000,r\naccess,3,0,r\n",
-            17,
-        ),
-        ("unmap,0,0,50c", 16),
-        ("send,0,1,c0,8,50c7\nsend,1,2,c0,8,c7\nunmap,0,40,17\n", 0),
-        (
-            "send,0,1,c0,8,50c7\nsend,1,2,c0,8,c7\naccess,2,0,x\nunmap,1,41,c2,c5\n",
-            16,
-        ),
-        ("send,0,1,10,8,50c6,8,50c1\n", 17),
-        (
-            "send,0,1,c0,8,50c7\nsend,1,2,c0,8,c7\nsend,0,1,10,a,70c7\n",
-            16,
-        ),
-        ("send,0,1,10,8,50c7\nsend,0,1,10,a,50c6\n", 16),
-    ];
-    for (records, count) in traces {
-        let input = format!(in rt.alloc(); "l4map,1,3,18,16\n{records}")?;
+    for (header, records, count) in TRACES {
+        let input = format!(in rt.alloc(); "{header}\n{records}")?;
         let lines = lines_after(rt.alloc(), input.as_str())?;
-        assert_eq!(rt; lines.len(), count, "{records}");
-        assert!(rt; check(&lines), "{records}");
+        assert_eq!(rt; lines.len(), count, "{input}");
+        assert!(rt; check(&lines), "{input}");
     }
     Ok(())
 }
@@ -387,6 +327,23 @@ fn refuses_what_is_no_option(rt: HostRuntime) {
         assert!(rt;
             matches!(&refused, Err(OptionsError::Refused(text)) if !text.is_empty()),
             "{words:?}"
+        );
+    }
+}
+
+#[test]
+fn refuses_a_file_with_a_tip(rt: HostRuntime) {
+    let tip = "  tip: a trace is read from standard input, as in 'l4map < trace.csv'\n";
+    for (word, is_tipped) in [
+        ("trace.csv", true),
+        ("-", true),
+        ("--fast", false),
+        ("-w", false),
+    ] {
+        let refused = command_line::options(rt.alloc(), &["l4map", word]);
+        assert!(rt;
+            matches!(&refused, Err(OptionsError::Refused(text)) if text.starts_with("error: unexpected argument '") && text.contains(tip) == is_tipped),
+            "{word}"
         );
     }
 }

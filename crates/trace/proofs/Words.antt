@@ -1,6 +1,7 @@
 -- Words and items from a list, the first ones taken already.
 use Rattle.std.proofs.Common.{◌≡◌, ℕ, suc, ◌+◌, ◌*◌, ◌<◌, ◌≤◌, take, drop, get_or, length, add-one, arith, ◌∙◌, List, [], ◌∷◌, ◌++◌, Option, Result, Ok, Err, refl, sym, ap, append_assoc}
 use Rattle.std.specs.Option.{option_map}
+use Rattle.std.specs.Result.{IsErrAnd}
 use Rattle.std.specs.List.{zip}
 use Rattle.std.proofs.Math.Seq.{drop-cons}
 use Rattle.std.proofs.lemmas.List.{take_more, length-take-le}
@@ -10,6 +11,9 @@ use Rattle.fpage.specs.Item.{read_item}
 use Rattle.fpage.specs.Fpage.{Flexpage, read_fpage}
 use Rattle.model.specs.Calls.{Named}
 use Rattle.model.specs.Records.{read_items, with_item, read_words, with_named}
+use Rattle.trace.specs.declared.call.CallError.{CallError}
+use Rattle.trace.specs.declared.call.CallError.TheVariants.{Refused, NoMemory}
+use Rattle.trace.specs.Parts.{Refuses, ReadsWords}
 
 -- words that were taken, and those that follow, if there are any
 abbrev pub prefixed : List ℕ → Option (List ℕ) → Option (List ℕ)
@@ -40,6 +44,12 @@ two_next words i more =
     let after : 2 * (i + 1) ≡ suc (suc (2 * i)) = omega arith in
     let second : 2 * i + 1 ≡ suc (2 * i) = omega arith in
     rw (after, second) (drop-cons words (2 * i) 0 (omega arith) ∙ ap (λ rest. get_or words (2 * i) 0 ∷ rest) (drop-cons words (suc (2 * i)) 0 (omega arith)))
+
+-- words that are refused by an error
+pub reads_refused : {A B : Type 0} (of : A → B) (defined : Result B FpageError) (r : Result A CallError) (e : FpageError) → Err e ≡ defined → IsErrAnd r (Refuses e) → ReadsWords of defined r
+reads_refused of defined (Ok x) e is h = absurd h
+reads_refused of defined (Err (Refused r)) e is h = (e, is, h)
+reads_refused of defined (Err NoMemory) e is h = tt
 
 -- ---- the words of an unmap
 

@@ -1,19 +1,19 @@
 -- What the parts of a record stand for, as they are read.
-use Rattle.std.specs.Prelude.{◌≡◌, ℕ, Vec, List, [], ◌∷◌, Option, Some, None, Result, Ok, Err}
-use Rattle.std.specs.List.{zip}
-use Rattle.std.specs.declared.alloc.Global.{Global}
-use Rattle.fpage.specs.Fpage.{Flexpage}
+use Rattle.std.specs.Prelude.{◌≡◌, ⊤, List, [], ◌∷◌, Option, Some, None, Result, Ok, Err}
 use Rattle.fpage.specs.declared.error.FpageError.{FpageError}
-use Rattle.fpage.specs.declared.item.Item.{Item}
 use Rattle.model.specs.Calls as calls
-use Rattle.model.specs.Calls.{Named}
+use Rattle.model.specs.Calls.{Request}
 use Rattle.model.specs.Records.{Fields, AccessFields, SendFields, UnmapFields}
+use Rattle.trace.specs.declared.call.Call.{Call}
+use Rattle.trace.specs.declared.call.CallError.{CallError}
+use Rattle.trace.specs.declared.call.CallError.TheVariants.{Refused, NoMemory}
 use Rattle.trace.specs.declared.call.Refusal.{Refusal}
+use Rattle.trace.specs.declared.call.Refusal.TheVariants.{BadRecord}
 use Rattle.trace.specs.declared.records.Records.{Records}
 use Rattle.trace.specs.declared.request.SendFields.{SendFields as TheSendFields}
 use Rattle.trace.specs.declared.request.AccessFields.{AccessFields as TheAccessFields}
 use Rattle.trace.specs.declared.request.UnmapFields.{UnmapFields as TheUnmapFields}
-use Rattle.trace.specs.Meaning.{refusal_of}
+use Rattle.trace.specs.Meaning.{refusal_of, call_of}
 
 -- the records that were read, if there are any
 abbrev pub listed : Option Records → List Fields
@@ -32,16 +32,29 @@ send_of s = record { from = s.from; to = s.to; window = s.window; words = s.word
 abbrev pub unmap_of : TheUnmapFields → UnmapFields
 unmap_of u = record { space = u.space; control = u.control; words = u.words.items }
 
--- the items that those of the program are
-abbrev pub items_of : Result (Vec Item Global) FpageError → Result (List Item) FpageError
-items_of (Ok items) = Ok items.items
-items_of (Err e) = Err e
-
--- the words of an unmap with the fpages that were read of them
-abbrev pub named_of : List ℕ → Result (Vec Flexpage Global) FpageError → Result (List Named) FpageError
-named_of words (Ok fpages) = Ok (zip words fpages.items)
-named_of words (Err e) = Err e
-
 -- the refusal that a word's error is
 abbrev pub IsRefusalOf : FpageError → Refusal → Type 0
 IsRefusalOf e r = refusal_of r ≡ calls.refusal_of e
+
+-- the record is refused as a word's error says
+abbrev pub Refuses : FpageError → CallError → Type 0
+Refuses e (Refused r) = refusal_of r ≡ calls.refusal_of e
+Refuses e NoMemory = ⊥
+
+-- fields were read as defined, or are a bad record, unless memory ran out
+abbrev pub ReadsFields : {A B : Type 0} → (A → B) → Option B → Result A CallError → Type 0
+ReadsFields of defined (Ok x) = Some (of x) ≡ defined
+ReadsFields of defined (Err (Refused r)) = (r ≡ BadRecord) × (None ≡ defined)
+ReadsFields of defined (Err NoMemory) = ⊤
+
+-- words were read as defined, or are refused by their first error, unless memory ran out
+abbrev pub ReadsWords : {A B : Type 0} → (A → B) → Result B FpageError → Result A CallError → Type 0
+ReadsWords of defined (Ok x) = Ok (of x) ≡ defined
+ReadsWords of defined (Err (Refused r)) = (f : FpageError) × (Err f ≡ defined) × (refusal_of r ≡ calls.refusal_of f)
+ReadsWords of defined (Err NoMemory) = ⊤
+
+-- the call or the refusal is the one defined, unless memory ran out
+abbrev pub Asks : Request → Result Call CallError → Type 0
+Asks defined (Ok call) = Ok (call_of call) ≡ defined
+Asks defined (Err (Refused r)) = Err (refusal_of r) ≡ defined
+Asks defined (Err NoMemory) = ⊤

@@ -2,7 +2,7 @@
 use Rattle.std.specs.Prelude.{◌≡◌, ℕ, Bool, true, false, ⊤, List, [], ◌∷◌, Option, Some, None}
 use Rattle.model.specs.Calls.{Limits}
 use Rattle.model.specs.Records.{Fields, header_limits, records_of}
-use Rattle.mapdb.specs.Meaning.{limits_of}
+use Rattle.holdings.specs.Meaning.{limits_of}
 use Rattle.trace.specs.declared.read.Trace.{Trace}
 use Rattle.trace.specs.declared.read.TraceError.{TraceError}
 use Rattle.trace.specs.declared.read.TraceError.TheVariants.{Unreadable, BadHeader, NoMemory}

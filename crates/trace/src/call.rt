@@ -1,5 +1,6 @@
-use fpage::{Access, Control, Fpage, Item};
+use fpage::{Access, Control, Fpage, FpageError, Item};
 use space::Place;
+use std::alloc::{AllocError, AllocFailed};
 
 /// A call on the mapping database.
 #[derive(Debug, Drop)]
@@ -39,4 +40,72 @@ pub enum Refusal {
     SameSpace,
     NoWindow,
     BadRecord,
+}
+
+impl From<FpageError> for Refusal {
+    ghost use Rattle.trace.specs.Parts.{IsRefusalOf};
+
+    ghost from_gives = { IsRefusalOf };
+
+    fn from(error: FpageError) -> Self {
+        match error {
+            FpageError::BadSize => Refusal::BadSize,
+            FpageError::Misaligned => Refusal::Misaligned,
+            FpageError::OutOfSpace => Refusal::OutOfSpace,
+            FpageError::NotAnItem => Refusal::NotAnItem,
+            FpageError::BadControl => Refusal::BadControl,
+        }
+    }
+}
+
+/// Why a record gives no call.
+#[derive(Clone, Copy, Debug)]
+pub enum CallError {
+    /// The record is refused.
+    Refused(Refusal),
+    /// Out of memory.
+    NoMemory,
+}
+
+impl From<Refusal> for CallError {
+    ghost use Rattle.std.specs.Prelude.{◌≡◌};
+    ghost use Rattle.trace.specs.declared.call.CallError.TheVariants.{Refused};
+
+    ghost from_gives = { λ refusal e. e ≡ Refused refusal };
+
+    fn from(refusal: Refusal) -> Self {
+        CallError::Refused(refusal)
+    }
+}
+
+impl From<FpageError> for CallError {
+    ghost use Rattle.trace.specs.Parts.{Refuses};
+
+    ghost from_gives = { Refuses };
+
+    fn from(error: FpageError) -> Self {
+        CallError::Refused(Refusal::from(error))
+    }
+}
+
+impl From<AllocError> for CallError {
+    ghost use Rattle.std.specs.Prelude.{◌≡◌};
+    ghost use Rattle.trace.specs.declared.call.CallError.TheVariants.{NoMemory};
+
+    ghost from_gives = { λ _ e. e ≡ NoMemory };
+
+    fn from(_: AllocError) -> Self {
+        CallError::NoMemory
+    }
+}
+
+impl<T: Drop> From<AllocFailed<T>> for CallError {
+    ghost use Rattle.std.specs.Prelude.{◌≡◌};
+    ghost use Rattle.trace.specs.declared.call.CallError.TheVariants.{NoMemory};
+
+    ghost from_gives = { λ _ e. e ≡ NoMemory };
+
+    fn from(_: AllocFailed<T>) -> Self {
+        CallError::NoMemory
+    }
 }

@@ -1,19 +1,19 @@
 //! What a record asks for.
 
-ghost use Rattle.std.specs.Prelude.{◌≡◌, ◌%◌, length, true, IfOk, IfSome};
+ghost use Rattle.std.specs.Prelude.{◌≡◌, ◌%◌, length, true, IfOk};
 ghost use Rattle.std.specs.Option.{option_map};
-ghost use Rattle.std.specs.List.{All};
+ghost use Rattle.std.specs.List.{All, zip};
 ghost use Rattle.fpage.specs.Fpage.{IsSpaceBits, IsFpageOf};
 ghost use Rattle.model.specs.Records.{header_limits, access_fields, access_request, word_fields, send_fields, read_items, send_request};
 ghost use Rattle.model.specs.Records.{unmap_fields, read_words, unmap_request, request, are_limits};
-ghost use Rattle.mapdb.specs.Meaning.{limits_of};
-ghost use Rattle.trace.specs.Parts.{access_of, send_of, items_of, unmap_of, named_of};
+ghost use Rattle.holdings.specs.Meaning.{limits_of};
+ghost use Rattle.trace.specs.Parts.{access_of, send_of, unmap_of, ReadsFields, ReadsWords, Asks};
 ghost use Rattle.trace.specs.Meaning.{shown, request_of, IsWithinLimits};
 
-use crate::call::{Call, Refusal};
+use crate::call::{Call, CallError, Refusal};
 use crate::field;
 use crate::records::Record;
-use fpage::{Access, Control, Fpage, FpageError, Item};
+use fpage::{Access, Control, Fpage, Item};
 use mapdb::Limits;
 use space::{NoMemory, Place};
 use std::alloc::{AllocError, Global};
@@ -87,18 +87,16 @@ fn access(limits: &Limits, fields: &[&[u8]]) -> Result<Call, Refusal>
     })
 }
 
-/// The words of fields, if each is one.
-fn words(alloc: Global, fields: &[&[u8]]) -> Result<Option<Vec<u32>>, AllocError>
-    ensures { IfOk result (λ words. option_map (λ v. v.items) words ≡ word_fields (shown fields.now)) }
+/// Returns the words of fields; `BadRecord` if a field is no word.
+fn words(alloc: Global, fields: &[&[u8]]) -> Result<Vec<u32>, CallError>
+    ensures { ReadsFields (λ v. v.items) (word_fields (shown fields.now)) result }
 {
     let mut words = Vec::with_capacity(alloc, fields.len())?;
     for field in fields {
-        match field::word(field) {
-            Some(word) => words.push(word)?,
-            None => return Ok(None),
-        }
+        let word = field::word(field).ok_or(Refusal::BadRecord)?;
+        words.push(word)?;
     }
-    Ok(Some(words))
+    Ok(words)
 }
 
 /// The fields of a send record after its name.
@@ -110,108 +108,64 @@ struct SendFields {
     words: Vec<u32>,
 }
 
-fn send_words(alloc: Global, fields: &[&[u8]]) -> Result<Option<SendFields>, AllocError>
-    ensures fields { IfOk result (λ send. option_map send_of send ≡ send_fields (shown fields.now)) }
-    ensures pairs { IfOk result (λ send. IfSome send (λ s. length s.words.items % 2 ≡ 0)) }
+fn send_words(alloc: Global, fields: &[&[u8]]) -> Result<SendFields, CallError>
+    ensures fields { ReadsFields send_of (send_fields (shown fields.now)) result }
+    ensures pairs { IfOk result (λ s. length s.words.items % 2 ≡ 0) }
 {
     let [from, to, window, rest @ ..] = fields else {
-        return Ok(None);
+        return Err(CallError::Refused(Refusal::BadRecord));
     };
-    let Some(from) = field::space(from) else {
-        return Ok(None);
-    };
-    let Some(to) = field::space(to) else {
-        return Ok(None);
-    };
-    let Some(window) = field::word(window) else {
-        return Ok(None);
-    };
-    let Some(words) = words(alloc, rest)? else {
-        return Ok(None);
-    };
+    let from = field::space(from).ok_or(Refusal::BadRecord)?;
+    let to = field::space(to).ok_or(Refusal::BadRecord)?;
+    let window = field::word(window).ok_or(Refusal::BadRecord)?;
+    let words = words(alloc, rest)?;
     if words.len() % 2 != 0 || words.len() < 2 || words.len() > 62 {
-        return Ok(None);
+        return Err(CallError::Refused(Refusal::BadRecord));
     }
-    Ok(Some(SendFields {
+    Ok(SendFields {
         from,
         to,
         window,
         words,
-    }))
+    })
 }
 
-/// The items of words two by two, or the first refusal.
-fn items(
-    alloc: Global,
-    words: &[u32],
-    bits: u32,
-) -> Result<Result<Vec<Item>, FpageError>, AllocError>
+/// Returns the items of words two by two, or the first refusal.
+fn items(alloc: Global, words: &[u32], bits: u32) -> Result<Vec<Item>, CallError>
     requires bits { IsSpaceBits bits }
     requires pairs { length words.now % 2 ≡ 0 }
-    ensures items { IfOk result (λ items. items_of items ≡ read_items bits words.now) }
-    ensures within { IfOk result (λ items. IfOk items (λ is. All (λ item. IsFpageOf bits item.sent) is.items)) }
+    ensures items { ReadsWords (λ v. v.items) (read_items bits words.now) result }
+    ensures within { IfOk result (λ items. All (λ item. IsFpageOf bits item.sent) items.items) }
 {
     let count = words.len() / 2;
     let mut items = Vec::with_capacity(alloc, count)?;
     for i in 0..count {
-        match Item::read(words[2 * i], words[2 * i + 1], bits) {
-            Ok(item) => items.push(item)?,
-            Err(error) => return Ok(Err(error)),
-        }
+        let item = Item::read(words[2 * i], words[2 * i + 1], bits)?;
+        items.push(item)?;
     }
-    Ok(Ok(items))
+    Ok(items)
 }
 
-impl From<FpageError> for Refusal {
-    ghost use Rattle.trace.specs.Parts.{IsRefusalOf};
-
-    ghost from_gives = { IsRefusalOf };
-
-    fn from(error: FpageError) -> Self {
-        match error {
-            FpageError::BadSize => Refusal::BadSize,
-            FpageError::Misaligned => Refusal::Misaligned,
-            FpageError::OutOfSpace => Refusal::OutOfSpace,
-            FpageError::NotAnItem => Refusal::NotAnItem,
-            FpageError::BadControl => Refusal::BadControl,
-        }
-    }
-}
-
-/// A send, or the first refusal that fits: `BadRecord`, then those of the window, then those of the items in order.
-fn send(
-    alloc: Global,
-    limits: &Limits,
-    fields: &[&[u8]],
-) -> Result<Result<Call, Refusal>, AllocError>
+/// Returns a send, or the first refusal that fits: `BadRecord`, then those of the window, then those of the items in order.
+fn send(alloc: Global, limits: &Limits, fields: &[&[u8]]) -> Result<Call, CallError>
     requires { IsSpaceBits limits.now.bits }
-    ensures request { IfOk result (λ request. request_of request ≡ send_request (limits_of limits.now) (send_fields (shown fields.now))) }
-    ensures within { IfOk result (λ request. IfOk request (IsWithinLimits (limits_of limits.now))) }
+    ensures request { Asks (send_request (limits_of limits.now) (send_fields (shown fields.now))) result }
+    ensures within { IfOk result (IsWithinLimits (limits_of limits.now)) }
 {
-    let Some(
-        SendFields {
-            from,
-            to,
-            window,
-            words,
-        },
-    ) = send_words(alloc, fields)?
-    else {
-        return Ok(Err(Refusal::BadRecord));
-    };
-    let window = match Fpage::read(window, limits.bits) {
-        Ok(window) => window,
-        Err(error) => return Ok(Err(error.into())),
-    };
-    match items(alloc, &words, limits.bits)? {
-        Ok(items) => Ok(Ok(Call::Send {
-            from,
-            to,
-            window,
-            items,
-        })),
-        Err(error) => Ok(Err(error.into())),
-    }
+    let SendFields {
+        from,
+        to,
+        window,
+        words,
+    } = send_words(alloc, fields)?;
+    let window = Fpage::read(window, limits.bits)?;
+    let items = items(alloc, &words, limits.bits)?;
+    Ok(Call::Send {
+        from,
+        to,
+        window,
+        items,
+    })
 }
 
 /// The fields of an unmap record after its name.
@@ -222,110 +176,80 @@ struct UnmapFields {
     words: Vec<u32>,
 }
 
-fn unmap_words(alloc: Global, fields: &[&[u8]]) -> Result<Option<UnmapFields>, AllocError>
-    ensures { IfOk result (λ unmap. option_map unmap_of unmap ≡ unmap_fields (shown fields.now)) }
+fn unmap_words(alloc: Global, fields: &[&[u8]]) -> Result<UnmapFields, CallError>
+    ensures { ReadsFields unmap_of (unmap_fields (shown fields.now)) result }
 {
     let [space, control, rest @ ..] = fields else {
-        return Ok(None);
+        return Err(CallError::Refused(Refusal::BadRecord));
     };
-    let Some(space) = field::space(space) else {
-        return Ok(None);
-    };
-    let Some(control) = field::word(control) else {
-        return Ok(None);
-    };
-    let Some(words) = words(alloc, rest)? else {
-        return Ok(None);
-    };
-    Ok(Some(UnmapFields {
+    let space = field::space(space).ok_or(Refusal::BadRecord)?;
+    let control = field::word(control).ok_or(Refusal::BadRecord)?;
+    let words = words(alloc, rest)?;
+    Ok(UnmapFields {
         space,
         control,
         words,
-    }))
+    })
 }
 
-/// The fpage of each word, or the first refusal.
-fn fpages(
-    alloc: Global,
-    words: &[u32],
-    bits: u32,
-) -> Result<Result<Vec<Fpage>, FpageError>, AllocError>
+/// Returns the fpage of each word, or the first refusal.
+fn fpages(alloc: Global, words: &[u32], bits: u32) -> Result<Vec<Fpage>, CallError>
     requires { IsSpaceBits bits }
-    ensures fpages { IfOk result (λ fpages. named_of words.now fpages ≡ read_words bits words.now) }
-    ensures count { IfOk result (λ fpages. IfOk fpages (λ fs. length fs.items ≡ length words.now)) }
-    ensures within { IfOk result (λ fpages. IfOk fpages (λ fs. All (IsFpageOf bits) fs.items)) }
+    ensures fpages { ReadsWords (λ fs. zip words.now fs.items) (read_words bits words.now) result }
+    ensures count { IfOk result (λ fs. length fs.items ≡ length words.now) }
+    ensures within { IfOk result (λ fs. All (IsFpageOf bits) fs.items) }
 {
     let mut fpages = Vec::with_capacity(alloc, words.len())?;
     for word in words {
-        match Fpage::read(*word, bits) {
-            Ok(fpage) => fpages.push(fpage)?,
-            Err(error) => return Ok(Err(error)),
-        }
+        let fpage = Fpage::read(*word, bits)?;
+        fpages.push(fpage)?;
     }
-    Ok(Ok(fpages))
+    Ok(fpages)
 }
 
-/// An unmap, or the first refusal that fits: `BadRecord`, then `BadControl`, then those of the words in order.
-fn unmap(
-    alloc: Global,
-    limits: &Limits,
-    fields: &[&[u8]],
-) -> Result<Result<Call, Refusal>, AllocError>
+/// Returns an unmap, or the first refusal that fits: `BadRecord`, then `BadControl`, then those of the words in order.
+fn unmap(alloc: Global, limits: &Limits, fields: &[&[u8]]) -> Result<Call, CallError>
     requires { IsSpaceBits limits.now.bits }
-    ensures request { IfOk result (λ request. request_of request ≡ unmap_request (limits_of limits.now) (unmap_fields (shown fields.now))) }
-    ensures within { IfOk result (λ request. IfOk request (IsWithinLimits (limits_of limits.now))) }
+    ensures request { Asks (unmap_request (limits_of limits.now) (unmap_fields (shown fields.now))) result }
+    ensures within { IfOk result (IsWithinLimits (limits_of limits.now)) }
 {
-    let Some(
-        UnmapFields {
-            space,
-            control,
-            words,
-        },
-    ) = unmap_words(alloc, fields)?
-    else {
-        return Ok(Err(Refusal::BadRecord));
-    };
-    let control = match Control::read(control, words.len()) {
-        Ok(control) => control,
-        Err(error) => return Ok(Err(error.into())),
-    };
-    match fpages(alloc, &words, limits.bits)? {
-        Ok(fpages) => Ok(Ok(Call::Unmap {
-            space,
-            control,
-            words,
-            fpages,
-        })),
-        Err(error) => Ok(Err(error.into())),
-    }
+    let UnmapFields {
+        space,
+        control,
+        words,
+    } = unmap_words(alloc, fields)?;
+    let control = Control::read(control, words.len())?;
+    let fpages = fpages(alloc, &words, limits.bits)?;
+    Ok(Call::Unmap {
+        space,
+        control,
+        words,
+        fpages,
+    })
 }
 
-/// The call that fields mean, or the refusal that they and the limits decide.
-fn request(
-    alloc: Global,
-    limits: &Limits,
-    fields: &[&[u8]],
-) -> Result<Result<Call, Refusal>, AllocError>
+/// Returns the call that fields mean, or the refusal that they and the limits decide.
+fn request(alloc: Global, limits: &Limits, fields: &[&[u8]]) -> Result<Call, CallError>
     requires { IsSpaceBits limits.now.bits }
-    ensures request { IfOk result (λ asked. request_of asked ≡ request (limits_of limits.now) (shown fields.now)) }
-    ensures within { IfOk result (λ asked. IfOk asked (IsWithinLimits (limits_of limits.now))) }
+    ensures request { Asks (request (limits_of limits.now) (shown fields.now)) result }
+    ensures within { IfOk result (IsWithinLimits (limits_of limits.now)) }
 {
     let [name, rest @ ..] = fields else {
-        return Ok(Err(Refusal::BadRecord));
+        return Err(CallError::Refused(Refusal::BadRecord));
     };
     if *name == b"send".as_slice() {
         send(alloc, limits, rest)
     } else if *name == b"access".as_slice() {
-        Ok(access(limits, rest))
+        Ok(access(limits, rest)?)
     } else if *name == b"unmap".as_slice() {
         unmap(alloc, limits, rest)
     } else {
-        Ok(Err(Refusal::BadRecord))
+        Err(CallError::Refused(Refusal::BadRecord))
     }
 }
 
 impl Record {
-    /// The call that the record means, or why it is refused, for a database with these limits.
+    /// Returns the call that the record means, or why it is refused, for a database with these limits.
     ///
     /// Refused, the first that fits: `BadRecord`; of a send what `Fpage::read` refuses of the window, and then what
     /// `Item::read` refuses of each item in order; of an access `NoSuchSpace`, and then `OutOfSpace`; of an unmap
@@ -337,6 +261,10 @@ impl Record {
         ensures within { IfOk result (λ asked. IfOk asked (IsWithinLimits (limits_of limits.now))) }
     {
         let fields = self.fields(alloc)?;
-        Ok(request(alloc, limits, &fields)?)
+        match request(alloc, limits, &fields) {
+            Ok(call) => Ok(Ok(call)),
+            Err(CallError::Refused(refusal)) => Ok(Err(refusal)),
+            Err(CallError::NoMemory) => Err(NoMemory),
+        }
     }
 }

@@ -2,7 +2,7 @@
 
 ghost use Rattle.std.specs.Prelude.{◌≡◌, true};
 ghost use Rattle.model.specs.Records.{are_limits};
-ghost use Rattle.mapdb.specs.Meaning.{limits_of};
+ghost use Rattle.holdings.specs.Meaning.{limits_of};
 
 use crate::call::{Call, Refusal};
 use crate::read::{Trace, TraceError, read_all};

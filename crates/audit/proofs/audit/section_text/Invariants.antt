@@ -1,7 +1,7 @@
 -- The lines so far with those to come are all.
 use Rattle.std.proofs.Common.{◌≡◌, ◌++◌, drop, map, string_bytes}
 use Rattle.model.specs.Text.{audit_lines}
-use Rattle.mapdb.specs.Mappings.{mapped_of}
+use Rattle.holdings.specs.Mappings.{mapped_of}
 use Rattle.audit.proofs.audit.section_text.Given as goal
 
 abbrev pub invariant-loop-line : goal.invariant-loop-line

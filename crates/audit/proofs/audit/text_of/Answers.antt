@@ -3,7 +3,7 @@ use Rattle.std.proofs.Common.{ap, ◌∙◌, map, flat_map, subst}
 use Rattle.std.specs.List.{All, AllZip}
 use Rattle.std.specs.Result.{IsOk}
 use Rattle.model.specs.Text.{audit_lines}
-use Rattle.mapdb.specs.Mappings.{mapped_of}
+use Rattle.holdings.specs.Mappings.{mapped_of}
 use Rattle.audit.specs.Sections.{IsTextOf, bytes_in}
 use Rattle.audit.proofs.Texts.{all_texts}
 use Rattle.audit.proofs.audit.text_of.Goals as goal
