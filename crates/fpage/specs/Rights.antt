@@ -45,3 +45,9 @@ abbrev pub has : Rights → Access → Bool
 has a Read = a.read
 has a Write = a.write
 has a Execute = a.execute
+
+-- the status that an access leaves (profile): a read sets R, a write R and W, an execute R and X
+abbrev pub marks : Access → Rights
+marks Read = record { read = true; write = false; execute = false }
+marks Write = record { read = true; write = true; execute = false }
+marks Execute = record { read = true; write = false; execute = true }

@@ -113,3 +113,19 @@ impl Rights {
         }
     }
 }
+
+impl Access {
+    ghost use Rattle.std.specs.Prelude.{◌≡◌};
+    ghost use Rattle.fpage.specs.Rights.{marks};
+
+    /// The status that an access leaves: a read R, a write R and W, an execute R and X (profile).
+    pub fn marks(self) -> Rights
+        ensures { result ≡ marks self }
+    {
+        Rights {
+            read: true,
+            write: self == Access::Write,
+            execute: self == Access::Execute,
+        }
+    }
+}

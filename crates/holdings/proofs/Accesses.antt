@@ -1,7 +1,7 @@
 -- An access marks the status in one word, or is a fault.
 use Rattle.std.proofs.Common.{◌≡◌, true, false, List, Option, Some, None, refl, sym, ap, ◌∙◌, subst, ◌⊎◌, inl, inr, if◌then◌else◌}
 use Rattle.std.specs.Option.{option_map, option_map_or}
-use Rattle.fpage.specs.Rights.{has, join}
+use Rattle.fpage.specs.Rights.{has, join, marks}
 use Rattle.fpage.specs.declared.rights.Rights.{Rights}
 use Rattle.fpage.specs.declared.rights.Access.{Access}
 use Rattle.space.specs.declared.place.Place.{Place}
@@ -14,7 +14,7 @@ use Rattle.maptree.specs.Origins.{Shape}
 use Rattle.model.specs.Holdings.{Held, Holdings, each}
 use Rattle.model.specs.Calls.{Limits}
 use Rattle.model.specs.Lawful.{is_lawful}
-use Rattle.model.specs.Touch.{marks, can_touch, marked, touch}
+use Rattle.model.specs.Touch.{can_touch, marked, touch}
 use Rattle.model.proofs.Lookups.{changed}
 use Rattle.model.proofs.Touches.{touch_keeps_lawful}
 use Rattle.holdings.specs.Held.{IsWithin, held_of, held_at, has_frame, holdings_of}
@@ -72,7 +72,3 @@ module _ (limits : Limits) (old new : Shards) (trees : List Shape) (q : Place) (
   touched_sound sound w within stood right =
       sound_set limits old new trees q (Some (marked_entry a e)) w (marked_entry a e) refl (ap (has_frame e.frame) stood ∙ eq-eqb e.frame e.frame refl) sound
       (ap is_lawful (touched sound.kept.fits w within stood right) ∙ touch_keeps_lawful (holdings_of limits old trees) sound.kept.lawful q a)
-
--- the word that was set, by the status that was put in it
-pub marked_word : (old new : Shards) (q : Place) (a : Access) (e : Entry) (status : Rights) → status ≡ join e.status (marks a) → IsWordSet old new q (Some (record e { status = status })) → IsWordSet old new q (Some (marked_entry a e))
-marked_word old new q a e status is w = subst (λ s. IsWordSet old new q (Some (record e { status = s }))) is w

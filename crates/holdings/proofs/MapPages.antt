@@ -24,7 +24,7 @@ use Rattle.model.proofs.LawfulParts.{IsLawful, IsOrigin, lawful_parts, lawful_fr
 use Rattle.model.proofs.Growths.{lawful_grown}
 use Rattle.model.proofs.Puts.{put_here, put_elsewhere, sorted_put}
 use Rattle.holdings.specs.declared.transfer.Transfer.{Transfer}
-use Rattle.holdings.specs.Words as word
+use Rattle.space.specs.Entries as word
 use Rattle.holdings.specs.Held.{IsWithin, is_listed, held_of, held_at, has_frame, holdings_of}
 use Rattle.holdings.specs.Sound.{IsSound}
 use Rattle.holdings.specs.Stripping.{limits_in, holdings_in, AreSound}

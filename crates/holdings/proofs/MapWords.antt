@@ -27,7 +27,7 @@ use Rattle.holdings.specs.declared.link.Link.{Link}
 use Rattle.holdings.specs.declared.transfer.Transfer.{Transfer}
 use Rattle.holdings.specs.Derivation.{stands_in, IsDerived}
 use Rattle.holdings.specs.Held.{IsWithin, links_in, is_listed, held_of, held_at, listing}
-use Rattle.holdings.specs.Words as word
+use Rattle.space.specs.Entries as word
 use Rattle.holdings.specs.Contents.{entry_of}
 use Rattle.holdings.specs.Stripping.{limits_in, holdings_in, AreSound}
 use Rattle.holdings.specs.Sound.{IsSound}

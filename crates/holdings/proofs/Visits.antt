@@ -16,7 +16,7 @@ use Rattle.maptree.specs.declared.node.Node.{Node}
 use Rattle.maptree.specs.Origins.{Origins, Shape, place_at}
 use Rattle.model.specs.Holdings.{PlaceSet}
 use Rattle.holdings.specs.Held.{links_in}
-use Rattle.holdings.specs.Words.{narrowed, status_of}
+use Rattle.space.specs.Entries.{narrowed, status_of}
 use Rattle.holdings.specs.Stripping.{AreLoose}
 use Rattle.holdings.proofs.Chains.{is_among, among_at}
 use Rattle.holdings.proofs.Walks.{AreTaken, none_taken, same_taken, one_taken, among_more, not_among, place_any, listed_place}

@@ -4,7 +4,6 @@ pub mod Held
 pub mod Start
 pub mod Contents
 pub mod Sound
-pub mod Words
 pub mod Stripping
 pub mod Sending
 pub mod Mappings

@@ -16,7 +16,7 @@ use Rattle.holdings.specs.declared.transfer.Transfer.{Transfer}
 use Rattle.holdings.specs.declared.link.Link.{Link}
 use Rattle.holdings.specs.Derivation.{stands_in}
 use Rattle.holdings.specs.Held.{links_in, is_listed}
-use Rattle.holdings.specs.Words as word
+use Rattle.space.specs.Entries as word
 use Rattle.holdings.specs.Sending.{fate_in}
 
 -- a new mapping for a transfer whose source holds this, in front of others

@@ -9,7 +9,6 @@ use crate::recursion::visit_places;
 use crate::start::{root_trees, root_words};
 use crate::transfer::Transfer;
 use crate::tree;
-use crate::words::marks;
 use crate::worked::Worked;
 use fpage::{Access, Rights};
 use maptree::Tree;
@@ -118,8 +117,7 @@ impl Holdings {
         if !entry.rights.holds(access) {
             return false;
         }
-        let status = entry.status.join(marks(access));
-        self.shards.set(place, Some(Entry { status, ..entry }));
+        self.shards.set(place, Some(entry.marked(access)));
         true
     }
 

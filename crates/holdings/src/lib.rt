@@ -19,7 +19,6 @@ mod start;
 mod strip;
 mod transfer;
 mod tree;
-mod words;
 mod worked;
 
 pub use holdings::Holdings;

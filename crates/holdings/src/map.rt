@@ -71,7 +71,7 @@ fn map_page(shards: &mut Shards, transfer: Transfer, rights: Rights) -> Worked
 
 ghost use Rattle.std.specs.Prelude.{option_map};
 ghost use Rattle.space.specs.Shards.{IsSetAt, IsLaidOutAs};
-ghost use Rattle.holdings.specs.Words.{extended};
+ghost use Rattle.space.specs.Entries.{extended};
 
 /// Adds rights to what a page holds.
 fn extend(shards: &mut Shards, place: Place, rights: Rights)
@@ -84,8 +84,7 @@ fn extend(shards: &mut Shards, place: Place, rights: Rights)
     let Some(entry) = shards.get(place) else {
         return;
     };
-    let rights = entry.rights.join(rights);
-    shards.set(place, Some(Entry { rights, ..entry }));
+    shards.set(place, Some(entry.extended(rights)));
 }
 
 ghost use Rattle.std.specs.Prelude.{◌<◌, ◌^◌};

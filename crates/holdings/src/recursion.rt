@@ -10,7 +10,7 @@ ghost use Rattle.maptree.specs.Origins.{place_at, IsRun};
 ghost use Rattle.model.specs.Holdings.{only};
 ghost use Rattle.model.specs.Strip.{strip, strip_word};
 ghost use Rattle.holdings.specs.Held.{IsWithin, is_listed, links_in};
-ghost use Rattle.holdings.specs.Words.{narrowed, status_of};
+ghost use Rattle.space.specs.Entries.{narrowed, status_of};
 ghost use Rattle.holdings.specs.Stripping.{limits_in, holdings_in, any_of, AreSound, AreLoose};
 
 use crate::prune::prune;
@@ -144,6 +144,5 @@ fn take(shards: &mut Shards, place: Place, first: Place, revoked: Rights, flush:
     ensures present { IsFalse (is_taken shards.new) }
     ensures layout { IsLaidOutAs shards.old shards.new }
 {
-    let loses = flush || place != first;
-    narrow(shards, place, revoked, loses)
+    narrow(shards, place, revoked, flush || place != first)
 }

@@ -17,7 +17,7 @@ use crate::prune::prune;
 use crate::tree::run_origins;
 use fpage::Rights;
 use maptree::Tree;
-use space::{Entry, NoMemory, Place, Shards};
+use space::{NoMemory, Place, Shards};
 use std::alloc::Global;
 use std::ops::Range;
 
@@ -118,45 +118,23 @@ fn strip_run(
 ghost use Rattle.std.specs.Prelude.{IsFalse, option_map};
 ghost use Rattle.std.specs.Option.{option_and_then};
 ghost use Rattle.space.specs.Shards.{IsPlace, IsSetAt, entry_at, is_taken};
-ghost use Rattle.holdings.specs.Words.{narrowed, status_of, with_status};
+ghost use Rattle.space.specs.Entries.{narrowed, status_of, with_status};
 
-/// Takes rights from what a page holds, if it is to lose them, clears its status and gives it back. With no rights left
-/// the page goes.
-pub fn narrow(shards: &mut Shards, place: Place, revoked: Rights, loses: bool) -> Rights
+/// Withholds rights from what a page holds, if `flush` says so, and clears its status and returns it. With no rights left the
+/// page goes.
+pub fn narrow(shards: &mut Shards, place: Place, revoked: Rights, flush: bool) -> Rights
     requires place { IsPlace shards.old place }
     requires present { IsFalse (is_taken shards.old) }
     ensures status { result ≡ status_of (entry_at shards.old place) }
-    ensures set { IsSetAt shards.old shards.new place (option_and_then (narrowed loses revoked) (entry_at shards.old place)) }
+    ensures set { IsSetAt shards.old shards.new place (option_and_then (narrowed flush revoked) (entry_at shards.old place)) }
     ensures present { IsFalse (is_taken shards.new) }
     ensures layout { IsLaidOutAs shards.old shards.new }
 {
     let Some(entry) = shards.get(place) else {
         return Rights::none();
     };
-    shards.set(place, left_of(entry, revoked, loses));
+    shards.set(place, entry.narrowed(revoked, flush));
     entry.status
-}
-
-ghost use Rattle.std.specs.Prelude.{Some};
-
-/// What is left of an entry that may lose rights: its status is cleared, and with no rights left nothing is.
-fn left_of(entry: Entry, revoked: Rights, loses: bool) -> Option<Entry>
-    ensures { result ≡ narrowed loses revoked entry }
-{
-    let rights = if loses {
-        entry.rights.without(revoked)
-    } else {
-        entry.rights
-    };
-    if loses && rights.is_empty() {
-        return None;
-    }
-    let status = Rights::none();
-    Some(Entry {
-        rights,
-        status,
-        ..entry
-    })
 }
 
 /// Adds status to what a page holds.
@@ -170,6 +148,5 @@ pub fn add_status(shards: &mut Shards, place: Place, status: Rights)
     let Some(entry) = shards.get(place) else {
         return;
     };
-    let status = entry.status.join(status);
-    shards.set(place, Some(Entry { status, ..entry }));
+    shards.set(place, Some(entry.with_status(status)));
 }

@@ -1,19 +1,11 @@
 -- An access of a page by its space (profile).
-use Rattle.std.specs.Prelude.{Bool, true, false, Some, if◌then◌else◌}
+use Rattle.std.specs.Prelude.{Bool, false, Some, if◌then◌else◌}
 use Rattle.std.specs.Option.{option_map_or}
-use Rattle.fpage.specs.Rights.{has, join}
-use Rattle.fpage.specs.declared.rights.Rights.{Rights}
+use Rattle.fpage.specs.Rights.{has, join, marks}
 use Rattle.fpage.specs.declared.rights.Access.{Access}
-use Rattle.fpage.specs.declared.rights.Access.TheVariants.{Read, Write, Execute}
 use Rattle.space.specs.declared.place.Place.{Place}
 use Rattle.space.specs.Place.{same_place}
 use Rattle.model.specs.Holdings.{Held, Holdings, at, each}
-
--- a read sets R, a write R and W, an execute R and X
-abbrev pub marks : Access → Rights
-marks Read = record { read = true; write = false; execute = false }
-marks Write = record { read = true; write = true; execute = false }
-marks Execute = record { read = true; write = false; execute = true }
 
 -- the page is held with the right that the access needs; otherwise it is a fault
 abbrev pub can_touch : Holdings → Place → Access → Bool

@@ -4,3 +4,4 @@ pub mod EntryLaws
 pub mod Directory
 pub mod Shards
 pub mod ShardLaws
+pub mod Entries

@@ -1,13 +1,14 @@
 -- An access that is made marks its word; a fault changes nothing.
 use Rattle.std.proofs.Common.{◌≡◌, length, true, false, Some, sym, ap, ◌∙◌, subst}
-use Rattle.fpage.specs.Rights.{has, join}
+use Rattle.fpage.specs.Rights.{has}
+use Rattle.space.specs.declared.place.Entry.{Entry}
 use Rattle.model.specs.Calls.{Limits}
 use Rattle.model.specs.Touch.{can_touch, touch}
 use Rattle.holdings.specs.Held.{IsWithin, holdings_of}
 use Rattle.holdings.specs.Contents.{Contents, contents_of, left_with}
 use Rattle.holdings.specs.Sound.{IsSound}
 use Rattle.holdings.specs.Stripping.{limits_in}
-use Rattle.holdings.proofs.Accesses.{touch_fault, can_touch_absent, can_touch_present, touched, touched_sound, marked_entry, marked_word}
+use Rattle.holdings.proofs.Accesses.{touch_fault, can_touch_absent, can_touch_present, touched, touched_sound, marked_entry}
 use Rattle.holdings.proofs.WordChanges.{IsWordSet}
 use Rattle.holdings.proofs.holdings.Holdings.touch.Goals as goal
 
@@ -38,7 +39,7 @@ returns-then-not-holds-clause-left c = ap (left_with c.args.self.now) (sym (touc
 -- the word has the marks
 word_set : (c : goal.After-set) → IsWordSet c.self.inside.shards c.set.new.self c.args.place (Some (marked_entry c.args.access c.in-Some.entry))
 word_set c =
-    marked_word c.self.inside.shards c.set.new.self c.args.place c.args.access c.in-Some.entry c.join-status.result (c.join-status.ensures ∙ ap (join c.in-Some.entry.status) c.marks.ensures)
+    subst (λ (e : Entry). IsWordSet c.self.inside.shards c.set.new.self c.args.place (Some e)) c.marked.ensures
     (record { set = c.set.ensures.set; present = c.set.ensures.present; layout = c.set.ensures.layout })
 
 -- the limits stay
