@@ -16,7 +16,7 @@ use crate::records::{Fields, Record};
 use fpage::{Access, Control, Fpage, Item};
 use mapdb::Limits;
 use space::{NoMemory, Place};
-use std::alloc::{AllocError, Global};
+use std::alloc::Global;
 
 /// Returns the limits that a header names, if it has the form of one.
 pub fn header(fields: &mut Fields<'_>) -> Option<Limits>
