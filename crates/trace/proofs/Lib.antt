@@ -1,6 +1,6 @@
 mod Counted
 mod ReadRows
-mod Fields
+mod Taking
 mod Digits
 mod Words
 mod Hex

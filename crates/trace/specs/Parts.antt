@@ -1,5 +1,6 @@
 -- What the parts of a record stand for, as they are read.
-use Rattle.std.specs.Prelude.{◌≡◌, ⊤, List, [], ◌∷◌, Option, Some, None, Result, Ok, Err}
+use Rattle.std.specs.Prelude.{◌≡◌, ⊤, ℕ, List, [], ◌∷◌, Option, Some, None, Result, Ok, Err}
+use Rattle.std.specs.Borrow.{Bor}
 use Rattle.fpage.specs.declared.error.FpageError.{FpageError}
 use Rattle.model.specs.Calls as calls
 use Rattle.model.specs.Calls.{Request}
@@ -58,3 +59,8 @@ abbrev pub Asks : Request → Result Call CallError → Type 0
 Asks defined (Ok call) = Ok (call_of call) ≡ defined
 Asks defined (Err (Refused r)) = Err (refusal_of r) ≡ defined
 Asks defined (Err NoMemory) = ⊤
+
+-- the next field was taken from these, and the others are left
+abbrev pub Takes : Fields → Option (Bor (List ℕ)) → Fields → Type 0
+Takes old None new = old ≡ []
+Takes old (Some field) new = old ≡ field.now ∷ new

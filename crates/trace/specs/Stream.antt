@@ -5,7 +5,7 @@ use Rattle.trace.specs.declared.read.TraceError.TheVariants as trace
 use Rattle.trace.specs.declared.stream.ReadError.{ReadError}
 use Rattle.trace.specs.declared.stream.ReadError.TheVariants.{Failed, NoMemory}
 
--- a failed read is told as one, and want of memory comes with no failed read
+-- a failed read is told as one, and out of memory comes with no failed read
 abbrev pub TellsFailure : Bool → Bool → ReadError → Type 0
 TellsFailure old new Failed = new ≡ true
 TellsFailure old new NoMemory = new ≡ old

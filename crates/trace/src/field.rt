@@ -5,7 +5,7 @@ ghost use Rattle.model.specs.Records.{digit_in, number_field, word_field, space_
 
 use fpage::Access;
 
-/// The value of a digit of a base, in either case.
+/// Returns the value of a digit of a base, in either case.
 fn digit(byte: u8, base: u32) -> Option<u32>
     ensures value { result ≡ digit_in base byte }
     ensures below { IfSome result (λ digit. digit < base) }
@@ -19,7 +19,7 @@ fn digit(byte: u8, base: u32) -> Option<u32>
     if digit < base { Some(digit) } else { None }
 }
 
-/// The number that a field of 1 to `most` digits of a base spells.
+/// Returns the number that a field of 1 to `most` digits of a base spells.
 pub fn number(field: &[u8], base: u32, most: usize) -> Option<u32>
     requires base { 0 < base }
     requires fits { base ^ most ≤ 2 ^ 32 }
@@ -35,7 +35,7 @@ pub fn number(field: &[u8], base: u32, most: usize) -> Option<u32>
     Some(value)
 }
 
-/// The number of a space: 1 to 5 decimal digits, at most 65535.
+/// Reads the number of a space: 1 to 5 decimal digits, at most 65535.
 pub fn space(field: &[u8]) -> Option<u16>
     ensures { result ≡ space_field field.now }
 {
@@ -43,14 +43,14 @@ pub fn space(field: &[u8]) -> Option<u16>
     u16::try_from(space).ok()
 }
 
-/// A word: 1 to 8 hexadecimal digits.
+/// Reads a word: 1 to 8 hexadecimal digits.
 pub fn word(field: &[u8]) -> Option<u32>
     ensures { result ≡ word_field field.now }
 {
     number(field, 16, 8)
 }
 
-/// A kind of access: `r`, `w` or `x`.
+/// Reads a kind of access: `r`, `w` or `x`.
 pub fn kind(field: &[u8]) -> Option<Access>
     ensures { result ≡ kind_field field.now }
 {

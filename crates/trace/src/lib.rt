@@ -13,6 +13,6 @@ mod tests;
 
 pub use call::{Call, Refusal};
 pub use read::{Trace, TraceError, read_all};
-pub use records::Record;
+pub use records::{Fields, Record};
 pub use reply::{Reply, push_reply, reply_text};
 pub use stream::{Failed, Sink, Source, Std};

@@ -29,7 +29,7 @@ pub enum TraceError {
     /// There is no first record, or it does not have a header's form.
     #[error("BadHeader")]
     BadHeader,
-    /// Memory was refused.
+    /// Out of memory.
     #[error("NoMemory")]
     NoMemory,
 }
@@ -60,8 +60,8 @@ impl From<NoMemory> for TraceError {
 
 /// Reads a source to its end, and then its bytes as `csv` does: no header row, any number of fields, nothing trimmed.
 ///
-/// Refused where a read fails, `Unreadable`, where memory is refused, `NoMemory`, and where there is no first record or it
-/// does not have a header's form, `BadHeader`. Whether the limits are served is for the database to say.
+/// The errors are `Unreadable`, if a read fails, `NoMemory`, if memory runs out, and `BadHeader`, if there is no first
+/// record or it does not have a header's form. Whether the limits are served is for the database to say.
 pub fn read_all<R: Source>(alloc: Global, reader: &mut R) -> Result<Trace, TraceError>
     requires { R.failed reader.old ≡ false }
     ensures trace { IfOk result (λ trace. IfSome (R.remaining reader.old) (λ input. IsTraceOf input trace)) }
@@ -76,14 +76,14 @@ pub fn read_all<R: Source>(alloc: Global, reader: &mut R) -> Result<Trace, Trace
     }
 }
 
-/// The trace that bytes are; none where the first record does not have a header's form.
+/// Returns the trace that bytes are; none if the first record does not have a header's form.
 fn read_trace(alloc: Global, bytes: &[u8]) -> Result<Option<Trace>, NoMemory>
     ensures { IfOk result (λ trace. MatchOption trace (LacksHeader bytes.now) (IsTraceOf bytes.now)) }
 {
     let Some(Records { first, rest }) = read_records(alloc, bytes)? else {
         return Ok(None);
     };
-    match header(&first.fields(alloc)?) {
+    match header(&mut first.fields()) {
         Some(limits) => Ok(Some(Trace {
             limits,
             records: rest,

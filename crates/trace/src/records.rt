@@ -6,7 +6,7 @@ ghost use Rattle.trace.specs.Meaning.{shown};
 ghost use Rattle.trace.specs.Parts.{listed};
 ghost use Rattle.trace.specs.Rows.{IsAtStart};
 
-use csv::{ByteRecord, ByteRecordsIntoIter, ReaderBuilder};
+use csv::{ByteRecord, ByteRecordIter, ByteRecordsIntoIter, ReaderBuilder};
 use space::NoMemory;
 use std::alloc::{AllocError, Global};
 use std::marker::Model;
@@ -27,7 +27,7 @@ impl Model for Record {
 }
 
 impl Record {
-    /// A record of these fields.
+    /// Makes a record of these fields.
     pub fn new(alloc: Global, fields: &[&[u8]]) -> Result<Self, NoMemory>
         ensures { IfOk result (λ made. made ≡ shown fields.now) }
     {
@@ -35,15 +35,40 @@ impl Record {
         Ok(Record { row })
     }
 
-    /// The fields, in order.
-    pub fn fields(&self, alloc: Global) -> Result<Vec<&[u8]>, NoMemory>
-        ensures { IfOk result (λ fields. shown fields.items ≡ self.now) }
+    /// Returns the fields, to be taken in order. They are read in place, and nothing is allocated.
+    pub fn fields(&self) -> Fields<'_>
+        ensures { result ≡ self.now }
     {
-        let mut fields = Vec::with_capacity(alloc, self.row.len())?;
-        for field in &self.row {
-            fields.push(field).map_err(AllocError::from)?;
+        Fields {
+            rest: self.row.iter(),
         }
-        Ok(fields)
+    }
+}
+
+/// The fields of a record that are left to read. A contract sees the list of them.
+#[derive(Drop)]
+pub struct Fields<'a> {
+    rest: ByteRecordIter<'a>,
+}
+
+impl<'a> Model for Fields<'a> {
+    ghost use Rattle.std.specs.Prelude.{drop};
+    ghost use Rattle.csv.specs.Records.{fields_of};
+    ghost use Rattle.model.specs.Records.{Fields};
+
+    ghost Value = { Fields };
+
+    ghost view = { λ f. drop f.rest.at (fields_of f.rest.row.now) };
+}
+
+impl<'a> Fields<'a> {
+    ghost use Rattle.trace.specs.Parts.{Takes};
+
+    /// Takes the next field; none if no field is left.
+    pub fn take(&mut self) -> Option<&'a [u8]>
+        ensures { Takes self.old result self.new }
+    {
+        self.rest.next()
     }
 }
 
@@ -54,7 +79,7 @@ pub struct Records {
     pub rest: Vec<Record>,
 }
 
-/// A reader of the bytes' rows: no header row, any number of fields, nothing trimmed.
+/// Returns a reader of the bytes' rows: no header row, any number of fields, nothing trimmed.
 fn rows(alloc: Global, bytes: &[u8]) -> ByteRecordsIntoIter<&[u8]>
     ensures { IsAtStart bytes.now result }
 {
@@ -65,12 +90,12 @@ fn rows(alloc: Global, bytes: &[u8]) -> ByteRecordsIntoIter<&[u8]>
     reader.into_byte_records()
 }
 
-/// Every record of the bytes, as `csv` reads them.
+/// Reads every record of the bytes, as `csv` does; none if there is no record.
 pub fn read_records(alloc: Global, bytes: &[u8]) -> Result<Option<Records>, AllocError>
     ensures { IfOk result (λ records. listed records ≡ records_of bytes.now) }
 {
     let mut rows = rows(alloc, bytes);
-    // Bytes in memory are always readable, so what is wanting at an error is memory.
+    // Bytes in memory are always readable, so the only error is out of memory.
     let first = match rows.next() {
         Some(Ok(row)) => Record { row },
         Some(Err(_)) => return Err(AllocError),

@@ -129,9 +129,9 @@ impl fmt::Display for Reply {
     }
 }
 
-/// Adds the line of a reply to a text: the number of the record, a space, the reply, a line feed.
+/// Appends the line of a reply to a text: the number of the record, a space, the reply, a line feed.
 ///
-/// Where memory is refused, nothing is known of the text.
+/// If memory runs out, nothing is known of the text.
 pub fn push_reply(text: &mut String, number: u64, reply: &Reply) -> Result<(), NoMemory>
     ensures { OnOk result (string_bytes text.new ≡ string_bytes text.old ++ reply_line number (reply_of reply.now)) }
 {
@@ -141,7 +141,7 @@ pub fn push_reply(text: &mut String, number: u64, reply: &Reply) -> Result<(), N
     Ok(())
 }
 
-/// The line of a reply: the number of the record, a space, the reply, a line feed.
+/// Returns the line of a reply: the number of the record, a space, the reply, a line feed.
 pub fn reply_text(alloc: Global, number: u64, reply: &Reply) -> Result<Vec<u8>, NoMemory>
     ensures { IfOk result (λ text. text.items ≡ reply_line number (reply_of reply.now)) }
 {

@@ -8,27 +8,32 @@ ghost use Rattle.model.specs.Records.{header_limits, access_fields, access_reque
 ghost use Rattle.model.specs.Records.{unmap_fields, read_words, unmap_request, request, are_limits};
 ghost use Rattle.holdings.specs.Meaning.{limits_of};
 ghost use Rattle.trace.specs.Parts.{access_of, send_of, unmap_of, ReadsFields, ReadsWords, Asks};
-ghost use Rattle.trace.specs.Meaning.{shown, request_of, IsWithinLimits};
+ghost use Rattle.trace.specs.Meaning.{request_of, IsWithinLimits};
 
 use crate::call::{Call, CallError, Refusal};
 use crate::field;
-use crate::records::Record;
+use crate::records::{Fields, Record};
 use fpage::{Access, Control, Fpage, Item};
 use mapdb::Limits;
 use space::{NoMemory, Place};
-use std::alloc::{AllocError, Global};
+use std::alloc::Global;
 
-/// The limits that a header names, if it has the form of one.
-pub fn header(fields: &[&[u8]]) -> Option<Limits>
-    ensures { option_map limits_of result ≡ header_limits (shown fields.now) }
+/// Returns the limits that a header names, if it has the form of one.
+pub fn header(fields: &mut Fields<'_>) -> Option<Limits>
+    ensures { option_map limits_of result ≡ header_limits fields.old }
 {
-    let [name, version, spaces, bits, frames] = fields else {
+    let name = fields.take()?;
+    let version = fields.take()?;
+    let spaces = fields.take()?;
+    let bits = fields.take()?;
+    let frames = fields.take()?;
+    if fields.take().is_some() {
         return None;
-    };
+    }
     let spaces = field::number(spaces, 10, 7)?;
     let bits = field::number(bits, 10, 7)?;
     let frames = field::number(frames, 10, 7)?;
-    if *name == b"l4map".as_slice() && *version == b"1".as_slice() {
+    if name == b"l4map".as_slice() && version == b"1".as_slice() {
         Some(Limits {
             spaces,
             bits,
@@ -47,12 +52,15 @@ struct AccessFields {
     kind: Access,
 }
 
-fn access_words(fields: &[&[u8]]) -> Option<AccessFields>
-    ensures { option_map access_of result ≡ access_fields (shown fields.now) }
+fn access_words(fields: &mut Fields<'_>) -> Option<AccessFields>
+    ensures { option_map access_of result ≡ access_fields fields.old }
 {
-    let [space, address, kind] = fields else {
+    let space = fields.take()?;
+    let address = fields.take()?;
+    let kind = fields.take()?;
+    if fields.take().is_some() {
         return None;
-    };
+    }
     Some(AccessFields {
         space: field::space(space)?,
         address: field::word(address)?,
@@ -60,10 +68,10 @@ fn access_words(fields: &[&[u8]]) -> Option<AccessFields>
     })
 }
 
-/// An access of a page, or the first refusal that fits: `BadRecord`, `NoSuchSpace`, `OutOfSpace`.
-fn access(limits: &Limits, fields: &[&[u8]]) -> Result<Call, Refusal>
+/// Returns an access of a page, or the first refusal that fits: `BadRecord`, `NoSuchSpace`, `OutOfSpace`.
+fn access(limits: &Limits, fields: &mut Fields<'_>) -> Result<Call, Refusal>
     requires { IsSpaceBits limits.now.bits }
-    ensures request { request_of result ≡ access_request (limits_of limits.now) (access_fields (shown fields.now)) }
+    ensures request { request_of result ≡ access_request (limits_of limits.now) (access_fields fields.old) }
     ensures within { IfOk result (IsWithinLimits (limits_of limits.now)) }
 {
     let AccessFields {
@@ -88,11 +96,11 @@ fn access(limits: &Limits, fields: &[&[u8]]) -> Result<Call, Refusal>
 }
 
 /// Returns the words of fields; `BadRecord` if a field is no word.
-fn words(alloc: Global, fields: &[&[u8]]) -> Result<Vec<u32>, CallError>
-    ensures { ReadsFields (λ v. v.items) (word_fields (shown fields.now)) result }
+fn words(alloc: Global, fields: &mut Fields<'_>) -> Result<Vec<u32>, CallError>
+    ensures { ReadsFields (λ v. v.items) (word_fields fields.old) result }
 {
-    let mut words = Vec::with_capacity(alloc, fields.len())?;
-    for field in fields {
+    let mut words = Vec::new(alloc);
+    while let Some(field) = fields.take() {
         let word = field::word(field).ok_or(Refusal::BadRecord)?;
         words.push(word)?;
     }
@@ -108,17 +116,17 @@ struct SendFields {
     words: Vec<u32>,
 }
 
-fn send_words(alloc: Global, fields: &[&[u8]]) -> Result<SendFields, CallError>
-    ensures fields { ReadsFields send_of (send_fields (shown fields.now)) result }
+fn send_words(alloc: Global, fields: &mut Fields<'_>) -> Result<SendFields, CallError>
+    ensures fields { ReadsFields send_of (send_fields fields.old) result }
     ensures pairs { IfOk result (λ s. length s.words.items % 2 ≡ 0) }
 {
-    let [from, to, window, rest @ ..] = fields else {
-        return Err(CallError::Refused(Refusal::BadRecord));
-    };
+    let from = fields.take().ok_or(Refusal::BadRecord)?;
+    let to = fields.take().ok_or(Refusal::BadRecord)?;
+    let window = fields.take().ok_or(Refusal::BadRecord)?;
     let from = field::space(from).ok_or(Refusal::BadRecord)?;
     let to = field::space(to).ok_or(Refusal::BadRecord)?;
     let window = field::word(window).ok_or(Refusal::BadRecord)?;
-    let words = words(alloc, rest)?;
+    let words = words(alloc, fields)?;
     if words.len() % 2 != 0 || words.len() < 2 || words.len() > 62 {
         return Err(CallError::Refused(Refusal::BadRecord));
     }
@@ -147,9 +155,9 @@ fn items(alloc: Global, words: &[u32], bits: u32) -> Result<Vec<Item>, CallError
 }
 
 /// Returns a send, or the first refusal that fits: `BadRecord`, then those of the window, then those of the items in order.
-fn send(alloc: Global, limits: &Limits, fields: &[&[u8]]) -> Result<Call, CallError>
+fn send(alloc: Global, limits: &Limits, fields: &mut Fields<'_>) -> Result<Call, CallError>
     requires { IsSpaceBits limits.now.bits }
-    ensures request { Asks (send_request (limits_of limits.now) (send_fields (shown fields.now))) result }
+    ensures request { Asks (send_request (limits_of limits.now) (send_fields fields.old)) result }
     ensures within { IfOk result (IsWithinLimits (limits_of limits.now)) }
 {
     let SendFields {
@@ -176,15 +184,14 @@ struct UnmapFields {
     words: Vec<u32>,
 }
 
-fn unmap_words(alloc: Global, fields: &[&[u8]]) -> Result<UnmapFields, CallError>
-    ensures { ReadsFields unmap_of (unmap_fields (shown fields.now)) result }
+fn unmap_words(alloc: Global, fields: &mut Fields<'_>) -> Result<UnmapFields, CallError>
+    ensures { ReadsFields unmap_of (unmap_fields fields.old) result }
 {
-    let [space, control, rest @ ..] = fields else {
-        return Err(CallError::Refused(Refusal::BadRecord));
-    };
+    let space = fields.take().ok_or(Refusal::BadRecord)?;
+    let control = fields.take().ok_or(Refusal::BadRecord)?;
     let space = field::space(space).ok_or(Refusal::BadRecord)?;
     let control = field::word(control).ok_or(Refusal::BadRecord)?;
-    let words = words(alloc, rest)?;
+    let words = words(alloc, fields)?;
     Ok(UnmapFields {
         space,
         control,
@@ -208,9 +215,9 @@ fn fpages(alloc: Global, words: &[u32], bits: u32) -> Result<Vec<Fpage>, CallErr
 }
 
 /// Returns an unmap, or the first refusal that fits: `BadRecord`, then `BadControl`, then those of the words in order.
-fn unmap(alloc: Global, limits: &Limits, fields: &[&[u8]]) -> Result<Call, CallError>
+fn unmap(alloc: Global, limits: &Limits, fields: &mut Fields<'_>) -> Result<Call, CallError>
     requires { IsSpaceBits limits.now.bits }
-    ensures request { Asks (unmap_request (limits_of limits.now) (unmap_fields (shown fields.now))) result }
+    ensures request { Asks (unmap_request (limits_of limits.now) (unmap_fields fields.old)) result }
     ensures within { IfOk result (IsWithinLimits (limits_of limits.now)) }
 {
     let UnmapFields {
@@ -229,20 +236,18 @@ fn unmap(alloc: Global, limits: &Limits, fields: &[&[u8]]) -> Result<Call, CallE
 }
 
 /// Returns the call that fields mean, or the refusal that they and the limits decide.
-fn request(alloc: Global, limits: &Limits, fields: &[&[u8]]) -> Result<Call, CallError>
+fn request(alloc: Global, limits: &Limits, fields: &mut Fields<'_>) -> Result<Call, CallError>
     requires { IsSpaceBits limits.now.bits }
-    ensures request { Asks (request (limits_of limits.now) (shown fields.now)) result }
+    ensures request { Asks (request (limits_of limits.now) fields.old) result }
     ensures within { IfOk result (IsWithinLimits (limits_of limits.now)) }
 {
-    let [name, rest @ ..] = fields else {
-        return Err(CallError::Refused(Refusal::BadRecord));
-    };
-    if *name == b"send".as_slice() {
-        send(alloc, limits, rest)
-    } else if *name == b"access".as_slice() {
-        Ok(access(limits, rest)?)
-    } else if *name == b"unmap".as_slice() {
-        unmap(alloc, limits, rest)
+    let name = fields.take().ok_or(Refusal::BadRecord)?;
+    if name == b"send".as_slice() {
+        send(alloc, limits, fields)
+    } else if name == b"access".as_slice() {
+        Ok(access(limits, fields)?)
+    } else if name == b"unmap".as_slice() {
+        unmap(alloc, limits, fields)
     } else {
         Err(CallError::Refused(Refusal::BadRecord))
     }
@@ -260,8 +265,7 @@ impl Record {
         ensures request { IfOk result (λ asked. request_of asked ≡ request (limits_of limits.now) self.now) }
         ensures within { IfOk result (λ asked. IfOk asked (IsWithinLimits (limits_of limits.now))) }
     {
-        let fields = self.fields(alloc)?;
-        match request(alloc, limits, &fields) {
+        match request(alloc, limits, &mut self.fields()) {
             Ok(call) => Ok(Ok(call)),
             Err(CallError::Refused(refusal)) => Ok(Err(refusal)),
             Err(CallError::NoMemory) => Err(NoMemory),

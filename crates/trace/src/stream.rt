@@ -22,7 +22,7 @@ pub trait Source {
     /// Whether a read has failed.
     ghost failed: { Self → Bool };
 
-    /// Reads some bytes into the buffer, and answers how many; none only at the end, or with no room.
+    /// Reads some bytes into the buffer and returns how many; 0 only at the end, or if the buffer has no room.
     fn read(&mut self, buf: &mut [u8]) -> Result<usize, Failed>
         ensures bound { ReadsAtMost result buf.new }
         ensures bytes { ReadConsumes (remaining self.old) (remaining self.new) result buf.new }
@@ -67,7 +67,7 @@ pub struct Std<T> {
 impl<T> Std<T> {
     ghost use Rattle.trace.specs.Std.{inner_of, is_failed};
 
-    /// A reader or a writer that has not failed.
+    /// Wraps a reader or a writer, which has not failed.
     pub fn new(inner: T) -> Self
         ensures inner { inner_of result ≡ inner }
         ensures works { is_failed result ≡ false }
@@ -78,7 +78,7 @@ impl<T> Std<T> {
         }
     }
 
-    /// Gives the reader or the writer back.
+    /// Returns the reader or the writer.
     pub fn into_inner(self) -> T
         ensures { result ≡ inner_of self }
     {
@@ -92,7 +92,7 @@ impl<R: Read> Source for Std<R> {
 
     ghost failed = { λ s. s.failed };
 
-    /// A read that was interrupted is made again.
+    /// A read that was interrupted is tried again.
     fn read(&mut self, buf: &mut [u8]) -> Result<usize, Failed> {
         for _ in 0..u64::MAX {
             match self.inner.read(buf) {
