@@ -33,7 +33,7 @@ pub fn plan_item(alloc: Global, held: &Holdings, pages: &ItemPages) -> Result<Pl
 {
     let outcomes = held.outcomes(alloc, pages)?;
     let mut decided = SendReply::none();
-    let mut transfers = Vec::new(alloc);
+    let mut transfers = Vec::with_capacity(alloc, outcomes.len())?;
     for i in 0..pages.count {
         let outcome = outcomes[i as usize];
         decided = decided.plus(SendReply::of_decided(outcome));
@@ -84,7 +84,7 @@ pub enum End {
 pub fn ends(alloc: Global, transfers: &[Transfer], end: End) -> Result<Vec<Place>, AllocError>
     ensures { IfOk result (λ places. (p : Place) → any_of places.items p ≡ ends_of end transfers.now p) }
 {
-    let mut places = Vec::new(alloc);
+    let mut places = Vec::with_capacity(alloc, transfers.len())?;
     for transfer in transfers {
         if !transfer.extends {
             places.push(place_at(transfer, end))?;

@@ -79,7 +79,7 @@ fn named_places(alloc: Global, space: u16, fpage: &Fpage) -> Result<Vec<Place>, 
     ensures { IfOk result (λ places. places.items ≡ pages_from space fpage.now.first fpage.now.count) }
 {
     let named = fpage.pages();
-    let mut places = Vec::new(alloc);
+    let mut places = Vec::with_capacity(alloc, (named.end - named.start) as usize)?;
     for page in named.start..named.end {
         places.push(Place { space, page })?;
     }

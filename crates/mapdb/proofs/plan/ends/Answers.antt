@@ -5,7 +5,7 @@ use Rattle.mapdb.proofs.plan.ends.Goals.{then-not-transfer+in_ok-push, else-not-
 use Rattle.mapdb.proofs.plan.ends.Goals as goal
 
 pub loop-transfer-init : goal.loop-transfer-init
-loop-transfer-init c = subst (AreEnds c.args.end (take 0 c.args.transfers.now)) (sym c.new-places.ensures.items) (λ p. refl)
+loop-transfer-init c = subst (AreEnds c.args.end (take 0 c.args.transfers.now)) (sym c.in_ok-places.ensures.items) (λ p. refl)
 
 pub loop-transfer-preserved : goal.loop-transfer-preserved
 loop-transfer-preserved c =

@@ -15,8 +15,8 @@ pub loop-i-init : goal.loop-i-init
 loop-i-init c =
     let h = c.args.held.now.holdings in
     let p = c.args.pages.now in
-    subst (λ counts. AreDecided h (job_of_pages p) p.count 0 p.source p.target counts c.new-transfers.result.items) (sym c.none-decided.ensures)
-    (subst (AreDecided h (job_of_pages p) p.count 0 p.source p.target no_counts) (sym c.new-transfers.ensures.items) (none_decided h (job_of_pages p) p.count p.source p.target))
+    subst (λ counts. AreDecided h (job_of_pages p) p.count 0 p.source p.target counts c.in_ok-transfers.transfers.items) (sym c.none-decided.ensures)
+    (subst (AreDecided h (job_of_pages p) p.count 0 p.source p.target no_counts) (sym c.in_ok-transfers.ensures.items) (none_decided h (job_of_pages p) p.count p.source p.target))
 
 pub plus-decided-requires : goal.plus-decided-requires
 plus-decided-requires c =
