@@ -419,7 +419,7 @@ fn touch(
     Ok(())
 }
 
-/// Looks at a database that wanted memory: it is halted, and says so to every call.
+/// Looks at a database that ran out of memory: it is halted, and says so to every call.
 fn halted(rt: &impl Abort, database: &Database, error: DbError) -> Fail
     requires { database.now.limits ≡ record { spaces = 3; bits = 18; frames = 16 } }
 {
