@@ -62,31 +62,14 @@ fn map_page(shards: &mut Shards, transfer: Transfer, rights: Rights) -> Worked
     };
     let rights = source.rights.meet(rights);
     if transfer.extends {
-        extend(shards, transfer.target, rights);
+        shards.extend(transfer.target, rights);
         return Worked::extended();
     }
     link(shards, transfer.target, Entry { rights, ..source });
     Worked::linked()
 }
 
-ghost use Rattle.std.specs.Prelude.{option_map};
 ghost use Rattle.space.specs.Shards.{IsSetAt, IsLaidOutAs};
-ghost use Rattle.space.specs.Entries.{extended};
-
-/// Adds rights to what a page holds.
-fn extend(shards: &mut Shards, place: Place, rights: Rights)
-    requires place { IsPlace shards.old place }
-    requires present { IsFalse (is_taken shards.old) }
-    ensures set { IsSetAt shards.old shards.new place (option_map (extended rights) (entry_at shards.old place)) }
-    ensures present { IsFalse (is_taken shards.new) }
-    ensures layout { IsLaidOutAs shards.old shards.new }
-{
-    let Some(entry) = shards.get(place) else {
-        return;
-    };
-    shards.set(place, Some(entry.extended(rights)));
-}
-
 ghost use Rattle.std.specs.Prelude.{◌<◌, ◌^◌};
 ghost use Rattle.fpage.specs.Rights.{no_rights};
 

@@ -14,7 +14,6 @@ ghost use Rattle.space.specs.Entries.{narrowed, status_of};
 ghost use Rattle.holdings.specs.Stripping.{limits_in, holdings_in, any_of, AreSound, AreLoose};
 
 use crate::prune::prune;
-use crate::strip::{add_status, narrow};
 use fpage::Rights;
 use maptree::{Node, Tree};
 use space::{NoMemory, Place, Shards};
@@ -117,7 +116,7 @@ fn visit(
         status = status.join(take(shards, page.place, first, revoked, flush));
     }
     if let Some(origin) = tree.origin_of(run.start) {
-        add_status(shards, tree.node(origin).place, status);
+        shards.add_status(tree.node(origin).place, status);
     }
     Ok(status)
 }
@@ -144,5 +143,5 @@ fn take(shards: &mut Shards, place: Place, first: Place, revoked: Rights, flush:
     ensures present { IsFalse (is_taken shards.new) }
     ensures layout { IsLaidOutAs shards.old shards.new }
 {
-    narrow(shards, place, revoked, flush || place != first)
+    shards.narrow(place, revoked, flush || place != first)
 }

@@ -43,39 +43,14 @@ pub fn strip_frame(
     ensures limits { limits_in shards.new trees.new ≡ limits_in shards.old trees.old }
 {
     let runs = trees[frame].outer_runs(alloc, places)?;
-    let status = strip_runs(alloc, shards, trees, frame, &runs, revoked, flush)?;
-    prune(alloc, shards, &mut trees[frame], &runs)?;
-    Ok(status)
-}
-
-/// Strips the first places of runs of one tree.
-///
-/// Refused, where memory is: `NoMemory`.
-fn strip_runs(
-    alloc: Global,
-    shards: &mut Shards,
-    trees: &[Tree],
-    frame: usize,
-    runs: &[Range<usize>],
-    revoked: Rights,
-    flush: bool,
-) -> Result<Rights, NoMemory>
-    requires loose { AreLoose shards.old trees.now }
-    requires frame { frame < length trees.now }
-    requires rising { AreRising 0 runs.now (length (links_in trees.now frame)) }
-    requires runs { All (IsRun (links_in trees.now frame)) runs.now }
-    ensures status { IfOk result (λ status. status ≡ strip_word (holdings_in shards.old trees.now) (any_of (firsts (links_in trees.now frame) runs.now))) }
-    ensures left { OnOk result (holdings_in shards.new trees.now ≡ strip (holdings_in shards.old trees.now) (any_of (firsts (links_in trees.now frame) runs.now)) revoked flush) }
-    ensures loose { OnOk result (AreLoose shards.new trees.now) }
-    ensures layout { IsLaidOutAs shards.old shards.new }
-{
-    let origins = run_origins(alloc, &trees[frame], runs)?;
+    let origins = run_origins(alloc, &trees[frame], &runs)?;
     let mut status = Rights::none();
     for i in 0..runs.len() {
         let run = &runs[i];
         let origin = origins[i];
         status = status.join(strip_run(shards, trees, frame, run, origin, revoked, flush));
     }
+    prune(alloc, shards, &mut trees[frame], &runs)?;
     Ok(status)
 }
 
@@ -105,48 +80,12 @@ fn strip_run(
     ensures layout { IsLaidOutAs shards.old shards.new }
 {
     let tree = &trees[frame];
-    let mut status = narrow(shards, tree.node(run.start).place, revoked, flush);
+    let mut status = shards.narrow(tree.node(run.start).place, revoked, flush);
     for i in run.start + 1..run.end {
-        status = status.join(narrow(shards, tree.node(i).place, revoked, true));
+        status = status.join(shards.narrow(tree.node(i).place, revoked, true));
     }
     if let Some(origin) = origin {
-        add_status(shards, origin, status);
+        shards.add_status(origin, status);
     }
     status
-}
-
-ghost use Rattle.std.specs.Prelude.{IsFalse, option_map};
-ghost use Rattle.std.specs.Option.{option_and_then};
-ghost use Rattle.space.specs.Shards.{IsPlace, IsSetAt, entry_at, is_taken};
-ghost use Rattle.space.specs.Entries.{narrowed, status_of, with_status};
-
-/// Withholds rights from what a page holds, if `flush` says so, and clears its status and returns it. With no rights left the
-/// page goes.
-pub fn narrow(shards: &mut Shards, place: Place, revoked: Rights, flush: bool) -> Rights
-    requires place { IsPlace shards.old place }
-    requires present { IsFalse (is_taken shards.old) }
-    ensures status { result ≡ status_of (entry_at shards.old place) }
-    ensures set { IsSetAt shards.old shards.new place (option_and_then (narrowed flush revoked) (entry_at shards.old place)) }
-    ensures present { IsFalse (is_taken shards.new) }
-    ensures layout { IsLaidOutAs shards.old shards.new }
-{
-    let Some(entry) = shards.get(place) else {
-        return Rights::none();
-    };
-    shards.set(place, entry.narrowed(revoked, flush));
-    entry.status
-}
-
-/// Adds status to what a page holds.
-pub fn add_status(shards: &mut Shards, place: Place, status: Rights)
-    requires place { IsPlace shards.old place }
-    requires present { IsFalse (is_taken shards.old) }
-    ensures set { IsSetAt shards.old shards.new place (option_map (with_status status) (entry_at shards.old place)) }
-    ensures present { IsFalse (is_taken shards.new) }
-    ensures layout { IsLaidOutAs shards.old shards.new }
-{
-    let Some(entry) = shards.get(place) else {
-        return;
-    };
-    shards.set(place, Some(entry.with_status(status)));
 }

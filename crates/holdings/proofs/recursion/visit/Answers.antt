@@ -111,7 +111,7 @@ visited c d =
           (λ e. ap (λ os. place_at os w.in-Some-origin_of.origin e) links ∙ sym (w.node-in-Some-origin_of.ensures.place e))) in
           subst (λ s. IsStripped c.args.shards.now c.args.trees.now p c.args.revoked c.args.flush s c.loop-page-2.status) (sym w.shards-is)
           (run_with_origin c.args.shards.now c.args.trees.now c.requires.loose c.args.frame c.args.run.now c.requires.run c.requires.some c.requires.within p first c.args.revoked c.args.flush c.loop-page-2.shards c.loop-page-2.status taken
-          w.node-in-Some-origin_of.result.place w.add_status.new.shards origin place w.add_status.ensures.set w.add_status.ensures.present w.add_status.ensures.layout)
+          w.node-in-Some-origin_of.result.place w.add_status.new.self origin place w.add_status.ensures.set w.add_status.ensures.present w.add_status.ensures.layout)
       | in_default-origin_of w ↦
           let origin : origin_in (links_in c.args.trees.now c.args.frame) p ≡ None =
           ap (λ os. origin_in os (place_at os c.args.run.now.start d)) links ∙ c.origin_of.ensures.origin d ∙ ap (option_map (λ r. place_at c.index-trees-frame.result.links r d)) w.in_default-origin_of.is in

@@ -22,7 +22,7 @@ loop-i-init c = λ p first.
     let links = links_read c.args.trees.now c.args.frame c.index-trees-frame.result c.requires.frame c.index-trees-frame.is in
     let within : c.args.run.now.start < length (links_in c.args.trees.now c.args.frame) = omega (arith, c.requires.some, c.requires.within) in
     let here : c.node.result.place ≡ p = c.node.ensures.place p ∙ ap (λ os. place_at os c.args.run.now.start p) (sym links) ∙ first p in
-    walk_goes c.args.shards.now c.args.trees.now c.requires.loose c.args.frame c.args.run.now.start p c.args.revoked c.args.flush c.args.run.now.start c.args.shards.now c.narrow-status.new.shards no_rights c.narrow-status.result
+    walk_goes c.args.shards.now c.args.trees.now c.requires.loose c.args.frame c.args.run.now.start p c.args.revoked c.args.flush c.args.run.now.start c.args.shards.now c.narrow-status.new.self no_rights c.narrow-status.result
     c.node.result.place c.args.flush (walk_begins c.args.shards.now c.args.trees.now c.requires.loose c.args.frame c.args.run.now.start p c.args.revoked c.args.flush) (omega arith) within
     (λ d. ap (λ os. place_at os c.args.run.now.start d) links ∙ sym (c.node.ensures.place d))
     (λ j d within_j is. c.node.ensures.only j d (subst (λ os. j < length os) links within_j) (ap (λ os. place_at os j d) (sym links) ∙ is))
@@ -63,8 +63,8 @@ loop-i-preserved c = λ p first.
     let other : same_place c.node-in-loop-i.result.place p ≡ false = false_from_ne_true _ (λ same.
     let at_start = only_there c.args.run.now.start p within_first (first p ∙ sym (same_is c.node-in-loop-i.result.place p same)) in
     absurd (omega (arith, at_start, c.loop-i.auto.i))) in
-    subst (IsWalked c.args.shards.now c.args.trees.now c.args.frame c.args.run.now.start p c.args.revoked c.args.flush (c.loop-i.i + 1) c.narrow.new.shards) (sym c.join-status.ensures)
-    (walk_goes c.args.shards.now c.args.trees.now c.requires.loose c.args.frame c.args.run.now.start p c.args.revoked c.args.flush c.loop-i.i c.loop-i.shards c.narrow.new.shards c.loop-i.status c.narrow.result
+    subst (IsWalked c.args.shards.now c.args.trees.now c.args.frame c.args.run.now.start p c.args.revoked c.args.flush (c.loop-i.i + 1) c.narrow.new.self) (sym c.join-status.ensures)
+    (walk_goes c.args.shards.now c.args.trees.now c.requires.loose c.args.frame c.args.run.now.start p c.args.revoked c.args.flush c.loop-i.i c.loop-i.shards c.narrow.new.self c.loop-i.status c.narrow.result
     c.node-in-loop-i.result.place true (c.loop-i.invariant p first) (omega (arith, c.loop-i.auto.i)) within
     (λ d. ap (λ os. place_at os c.loop-i.i d) links ∙ sym (c.node-in-loop-i.ensures.place d)) only_there
     (rw other (of_other c.args.flush)) c.narrow.ensures.status c.narrow.ensures.set c.narrow.ensures.present c.narrow.ensures.layout)
@@ -86,7 +86,7 @@ add_status-requires-clause-present c =
     (c.loop-i.invariant (place_at (links_in c.args.trees.now c.args.frame) c.args.run.now.start d) (λ e. place_any (links_in c.args.trees.now c.args.frame) c.args.run.now.start e d within)).present
 
 -- with an origin
-passed : (c : goal.After-add_status) (d : Place) → IsStripped c.args.shards.now c.args.trees.now (place_at (links_in c.args.trees.now c.args.frame) c.args.run.now.start d) c.args.revoked c.args.flush c.add_status.new.shards c.loop-i.status
+passed : (c : goal.After-add_status) (d : Place) → IsStripped c.args.shards.now c.args.trees.now (place_at (links_in c.args.trees.now c.args.frame) c.args.run.now.start d) c.args.revoked c.args.flush c.add_status.new.self c.loop-i.status
 passed c d =
     let within : c.args.run.now.start < length (links_in c.args.trees.now c.args.frame) = omega (arith, c.requires.some, c.requires.within) in
     let p = place_at (links_in c.args.trees.now c.args.frame) c.args.run.now.start d in
@@ -97,7 +97,7 @@ passed c d =
     let origin : origin_in (links_in c.args.trees.now c.args.frame) p ≡ Some c.in-Some.origin = c.requires.origin.is d ∙ c.in-Some.is in
     let place = place_kept c.args.shards.now c.loop-i.shards walked.layout c.in-Some.origin (standing_place c.args.shards.now c.args.trees.now c.args.frame c.requires.loose c.in-Some.origin (c.requires.origin.stands c.in-Some.origin c.in-Some.is)) in
     run_with_origin c.args.shards.now c.args.trees.now c.requires.loose c.args.frame c.args.run.now c.requires.run c.requires.some c.requires.within p first c.args.revoked c.args.flush c.loop-i.shards c.loop-i.status walked
-    c.in-Some.origin c.add_status.new.shards origin place c.add_status.ensures.set c.add_status.ensures.present c.add_status.ensures.layout
+    c.in-Some.origin c.add_status.new.self origin place c.add_status.ensures.set c.add_status.ensures.present c.add_status.ensures.layout
 
 pub returns-in-Some-clause-status : goal.returns-in-Some-clause-status
 returns-in-Some-clause-status c = λ d. (passed c d).word

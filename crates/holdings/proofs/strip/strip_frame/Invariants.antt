@@ -3,7 +3,7 @@ use Rattle.std.proofs.Common.{take}
 use Rattle.holdings.specs.Held.{links_in}
 use Rattle.holdings.specs.Stripping.{firsts}
 use Rattle.holdings.proofs.Sequences.{AreStripped}
-use Rattle.holdings.proofs.strip.strip_runs.Given as goal
+use Rattle.holdings.proofs.strip.strip_frame.Given as goal
 
 abbrev pub invariant-loop-i : goal.invariant-loop-i
-invariant-loop-i l = AreStripped l.fn.shards l.trees (firsts (links_in l.trees l.frame) (take l.i l.runs)) l.revoked l.flush l.shards l.status
+invariant-loop-i l = AreStripped l.fn.shards l.trees (firsts (links_in l.trees l.frame) (take l.i l.runs.items)) l.revoked l.flush l.shards l.status
