@@ -4,9 +4,10 @@ use crate::map::map_pages;
 use crate::mapping::{Mapping, mappings};
 use crate::moves::move_pages;
 use crate::outcome::{Outcome, outcomes};
-use crate::pages::{held_pages, strip_held};
+use crate::pages::{held_pages, places_of, same_frame};
 use crate::recursion::visit_places;
 use crate::start::{root_trees, root_words};
+use crate::strip::strip_frame;
 use crate::transfer::Transfer;
 use crate::tree;
 use crate::worked::Worked;
@@ -142,8 +143,26 @@ impl Holdings {
             mut shards,
             mut trees,
         } = self;
-        let pages = held_pages(alloc, &shards, places)?;
-        let status = strip_held(alloc, &mut shards, &mut trees, pages, revoked, flush)?;
+        let mut pages = held_pages(alloc, &shards, places)?;
+        pages.sort_unstable_by_key(|page| page.frame);
+        let mut status = Rights::none();
+        let mut from = 0;
+        while from < pages.len() {
+            let frame = pages[from].frame;
+            let end = from + 1 + same_frame(&pages[from + 1..], frame);
+            let named = places_of(alloc, &pages[from..end])?;
+            let word = strip_frame(
+                alloc,
+                &mut shards,
+                &mut trees,
+                frame as usize,
+                &named,
+                revoked,
+                flush,
+            )?;
+            status = status.join(word);
+            from = end;
+        }
         Ok((Holdings { shards, trees }, status))
     }
 
