@@ -108,7 +108,6 @@ fn first_section(lines: &[Line]) -> usize
 }
 
 ghost use Rattle.std.specs.List.{AllZip};
-ghost use Rattle.std.specs.Prelude.{string_bytes};
 ghost use Rattle.audit.specs.Sections.{IsTextOf};
 
 /// The text of each section, side by side.

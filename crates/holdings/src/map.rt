@@ -1,12 +1,6 @@
 //! The pages of a MapItem, after the flush: each is linked to its source, or extended.
 
-ghost use Rattle.std.specs.Prelude.{◌≡◌, [], None, Some, IfOk, OnOk};
-ghost use Rattle.std.specs.List.{All};
-ghost use Rattle.fpage.specs.declared.item.ItemKind.TheVariants.{Map};
-ghost use Rattle.holdings.specs.Meaning.{counts_of};
-ghost use Rattle.holdings.specs.Stripping.{limits_in, holdings_in, AreSound};
-ghost use Rattle.holdings.specs.Sending.{ArePlanned, AreReady, map_transfers, worked};
-
+use crate::holdings::Holdings;
 use crate::link::{insert_links, new_links};
 use crate::transfer::Transfer;
 use crate::worked::Worked;
@@ -15,35 +9,42 @@ use maptree::Tree;
 use space::{Entry, NoMemory, Place, Shards};
 use std::alloc::Global;
 
-/// Works the pages of a MapItem that go or extend, as their sources and targets stand after the flush.
-///
-/// Refused, where memory is: `NoMemory`.
-pub fn map_pages(
-    alloc: Global,
-    shards: &mut Shards,
-    trees: &mut [Tree],
-    transfers: &[Transfer],
-    rights: Rights,
-) -> Result<Worked, NoMemory>
-    requires sound { AreSound shards.old trees.old }
-    requires planned { ArePlanned (limits_in shards.old trees.old) transfers.now }
-    requires ready { AreReady (holdings_in shards.old trees.old) rights transfers.now }
-    ensures counts { IfOk result (λ done. counts_of done ≡ worked (holdings_in shards.old trees.old) transfers.now) }
-    ensures left { OnOk result (holdings_in shards.new trees.new
-        ≡ map_transfers (holdings_in shards.old trees.old) (record { kind = Map; rights = rights; pairs = [] }) transfers.now (holdings_in shards.old trees.old)) }
-    ensures sound { OnOk result (AreSound shards.new trees.new) }
-    ensures limits { OnOk result (limits_in shards.new trees.new ≡ limits_in shards.old trees.old) }
-{
-    let links = new_links(alloc, shards, transfers)?;
-    insert_links(alloc, trees, links)?;
-    let mut worked = Worked::none();
-    for transfer in transfers {
-        let one = map_page(shards, *transfer, rights);
-        worked = worked.plus(one);
+impl Holdings {
+    ghost use Rattle.std.specs.Prelude.{IfOk};
+    ghost use Rattle.holdings.specs.Contents.{AreMapped};
+    ghost use Rattle.holdings.specs.Sending.{ArePlanned, AreReady};
+
+    /// Maps pages on: the target of each transfer becomes a new mapping of what its source holds, with these rights as far as
+    /// the source has them; or the mapping there gains them. A transfer whose source is not held is lost.
+    ///
+    /// Refused, where memory is: `NoMemory`.
+    pub fn map(
+        self,
+        alloc: Global,
+        transfers: &[Transfer],
+        rights: Rights,
+    ) -> Result<(Self, Worked), NoMemory>
+        requires planned { ArePlanned self.limits transfers.now }
+        requires ready { AreReady self.holdings rights transfers.now }
+        ensures { IfOk result (AreMapped self transfers.now rights) }
+    {
+        let Holdings {
+            mut shards,
+            mut trees,
+        } = self;
+        let links = new_links(alloc, &shards, transfers)?;
+        insert_links(alloc, &mut trees, links)?;
+        let mut worked = Worked::none();
+        for transfer in transfers {
+            let one = map_page(&mut shards, *transfer, rights);
+            worked = worked.plus(one);
+        }
+        Ok((Holdings { shards, trees }, worked))
     }
-    Ok(worked)
 }
 
+ghost use Rattle.std.specs.Prelude.{◌≡◌, None, Some};
+ghost use Rattle.holdings.specs.Meaning.{counts_of};
 ghost use Rattle.std.specs.Prelude.{IsFalse};
 ghost use Rattle.space.specs.declared.place.Entry.{Entry};
 ghost use Rattle.space.specs.Shards.{IsPlace, entry_at, is_taken};

@@ -2,8 +2,8 @@
 
 ghost use Rattle.std.specs.Prelude.{◌≡◌, IfOk, map};
 ghost use Rattle.holdings.specs.Mappings.{mapped_of};
-ghost use Rattle.holdings.specs.Stripping.{holdings_in, AreSound};
 
+use crate::holdings::Holdings;
 use fpage::Rights;
 use maptree::Tree;
 use space::{NoMemory, Place, Shards};
@@ -21,16 +21,22 @@ pub struct Mapping {
     pub origin: Option<Place>,
 }
 
-/// Every mapping, by rising place. Only what is held is visited, each tree in one pass.
-pub fn mappings(alloc: Global, shards: &Shards, trees: &[Tree]) -> Result<Vec<Mapping>, NoMemory>
-    requires sound { AreSound shards.now trees.now }
-    ensures { IfOk result (λ mappings. map mapped_of mappings.items ≡ holdings_in shards.now trees.now) }
-{
-    let mut links = all_links(alloc, trees)?;
-    // By place, since no place comes twice.
-    links.sort_unstable();
-    let mappings = entered(alloc, shards, &links)?;
-    Ok(mappings)
+impl Holdings {
+    ghost use Rattle.std.specs.Prelude.{◌≡◌, IfOk, map};
+    ghost use Rattle.holdings.specs.Mappings.{mapped_of};
+
+    /// Every mapping, by rising place. It takes time by what is held, and not by how many pages there are.
+    ///
+    /// Refused, where memory is: `NoMemory`.
+    pub fn mappings(&self, alloc: Global) -> Result<Vec<Mapping>, NoMemory>
+        ensures { IfOk result (λ mappings. map mapped_of mappings.items ≡ self.now.holdings) }
+    {
+        let mut links = all_links(alloc, &self.trees)?;
+        // By place, since no place comes twice.
+        links.sort_unstable();
+        let mappings = entered(alloc, &self.shards, &links)?;
+        Ok(mappings)
+    }
 }
 
 ghost use Rattle.std.specs.Prelude.{OnOk, true};

@@ -1,11 +1,6 @@
 //! Pages that move to other places, with all that derives from them.
 
-ghost use Rattle.std.specs.Prelude.{◌≡◌, None, Some, IfOk, OnOk};
-ghost use Rattle.model.specs.Grant.{renamed};
-ghost use Rattle.holdings.specs.Meaning.{counts_of};
-ghost use Rattle.holdings.specs.Stripping.{limits_in, holdings_in, AreSound};
-ghost use Rattle.holdings.specs.Sending.{ArePlanned, AllGo, AreFree, moving_of, worked};
-
+use crate::holdings::Holdings;
 use crate::link::new_links;
 use crate::renaming::rename_links;
 use crate::transfer::Transfer;
@@ -15,34 +10,38 @@ use maptree::Tree;
 use space::{Entry, NoMemory, Place, Shards};
 use std::alloc::Global;
 
-/// Moves pages that are held to their targets, which hold nothing. The others are lost.
-///
-/// Refused, where memory is: `NoMemory`.
-pub fn move_pages(
-    alloc: Global,
-    shards: &mut Shards,
-    trees: &mut [Tree],
-    transfers: &[Transfer],
-) -> Result<Worked, NoMemory>
-    requires sound { AreSound shards.old trees.old }
-    requires planned { ArePlanned (limits_in shards.old trees.old) transfers.now }
-    requires all_go { AllGo transfers.now }
-    requires free { AreFree (holdings_in shards.old trees.old) transfers.now }
-    ensures counts { IfOk result (λ done. counts_of done ≡ worked (holdings_in shards.old trees.old) transfers.now) }
-    ensures left { OnOk result (holdings_in shards.new trees.new ≡ renamed (moving_of (holdings_in shards.old trees.old) transfers.now) (holdings_in shards.old trees.old)) }
-    ensures sound { OnOk result (AreSound shards.new trees.new) }
-    ensures limits { OnOk result (limits_in shards.new trees.new ≡ limits_in shards.old trees.old) }
-{
-    let links = new_links(alloc, shards, transfers)?;
-    rename_links(alloc, trees, links)?;
-    let mut worked = Worked::none();
-    for transfer in transfers {
-        let one = move_page(shards, transfer.source, transfer.target);
-        worked = worked.plus(one);
+impl Holdings {
+    ghost use Rattle.std.specs.Prelude.{IfOk};
+    ghost use Rattle.holdings.specs.Contents.{AreMoved};
+    ghost use Rattle.holdings.specs.Sending.{ArePlanned, AllGo, AreFree};
+
+    /// Moves pages: what the source of each transfer holds stands at its target instead, without status, and what derives
+    /// from the source derives from the target. A transfer whose source is not held is lost.
+    ///
+    /// Refused, where memory is: `NoMemory`.
+    pub fn rename(self, alloc: Global, transfers: &[Transfer]) -> Result<(Self, Worked), NoMemory>
+        requires planned { ArePlanned self.limits transfers.now }
+        requires all_go { AllGo transfers.now }
+        requires free { AreFree self.holdings transfers.now }
+        ensures { IfOk result (AreMoved self transfers.now) }
+    {
+        let Holdings {
+            mut shards,
+            mut trees,
+        } = self;
+        let links = new_links(alloc, &shards, transfers)?;
+        rename_links(alloc, &mut trees, links)?;
+        let mut worked = Worked::none();
+        for transfer in transfers {
+            let one = move_page(&mut shards, transfer.source, transfer.target);
+            worked = worked.plus(one);
+        }
+        Ok((Holdings { shards, trees }, worked))
     }
-    Ok(worked)
 }
 
+ghost use Rattle.std.specs.Prelude.{◌≡◌, None, Some};
+ghost use Rattle.holdings.specs.Meaning.{counts_of};
 ghost use Rattle.std.specs.Prelude.{false, IsFalse};
 ghost use Rattle.space.specs.declared.place.Entry.{Entry};
 ghost use Rattle.space.specs.Place.{same_place};

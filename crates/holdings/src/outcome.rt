@@ -9,6 +9,7 @@ ghost use Rattle.std.specs.Prelude.{false};
 ghost use Rattle.space.specs.Place.{same_place};
 ghost use Rattle.holdings.specs.Spots.{ArePairSpots};
 
+use crate::holdings::Holdings;
 use crate::item_pages::ItemPages;
 use crate::spots::{PairSpots, Spot, spots_of};
 use crate::tree;
@@ -32,40 +33,51 @@ pub enum Outcome {
     Goes,
 }
 
-/// What becomes of each page of an item, in order.
-pub fn outcomes(
-    alloc: Global,
-    shards: &Shards,
-    trees: &[Tree],
-    pages: &ItemPages,
-) -> Result<Vec<Outcome>, AllocError>
-    requires sound { AreSound shards.now trees.now }
-    requires pages { AreItemPages (limits_in shards.now trees.now) pages.now }
-    ensures { IfOk result (λ outcomes. AreOutcomes (holdings_in shards.now trees.now) pages.now outcomes.items) }
-{
-    let spots = spots_of(alloc, shards, trees, pages)?;
-    let mut outcomes = Vec::with_capacity(alloc, pages.count as usize)?;
-    let ItemPages {
-        kind,
-        rights,
-        source: first,
-        target: window,
-        count,
-    } = *pages;
-    for i in 0..count {
-        let source = Place {
-            page: first.page + i,
-            ..first
-        };
-        let target = Place {
-            page: window.page + i,
-            ..window
-        };
-        let noted = spots.of_pair(i as usize);
-        let outcome = outcome_of(shards, trees, kind, rights, source, target, noted);
-        outcomes.push(outcome)?;
+impl Holdings {
+    ghost use Rattle.std.specs.Prelude.{IfOk};
+    ghost use Rattle.holdings.specs.Contents.{IsConsistent};
+    ghost use Rattle.holdings.specs.Sending.{AreItemPages, AreOutcomes};
+
+    /// What becomes of each page of an item, as things stand (profile).
+    ///
+    /// Fails where memory is refused.
+    pub fn outcomes(&self, alloc: Global, pages: &ItemPages) -> Result<Vec<Outcome>, AllocError>
+        requires { AreItemPages self.now.limits pages.now }
+        ensures outcomes { IfOk result (λ outcomes. AreOutcomes self.now.holdings pages.now outcomes.items) }
+        ensures consistent { IsConsistent self.now }
+    {
+        let spots = spots_of(alloc, &self.shards, &self.trees, pages)?;
+        let mut outcomes = Vec::with_capacity(alloc, pages.count as usize)?;
+        let ItemPages {
+            kind,
+            rights,
+            source: first,
+            target: window,
+            count,
+        } = *pages;
+        for i in 0..count {
+            let source = Place {
+                page: first.page + i,
+                ..first
+            };
+            let target = Place {
+                page: window.page + i,
+                ..window
+            };
+            let noted = spots.of_pair(i as usize);
+            let outcome = outcome_of(
+                &self.shards,
+                &self.trees,
+                kind,
+                rights,
+                source,
+                target,
+                noted,
+            );
+            outcomes.push(outcome)?;
+        }
+        Ok(outcomes)
     }
-    Ok(outcomes)
 }
 
 /// The outcome of one page: the first that fits.

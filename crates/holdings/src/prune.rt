@@ -1,8 +1,7 @@
 //! A tree loses the places that hold nothing any more.
 
-ghost use Rattle.std.specs.Prelude.{◌≡◌, ◌≤◌, ◌++◌, true, not, length, map, filter, Some, IfOk, OnOk, IsFalse};
+ghost use Rattle.std.specs.Prelude.{◌≡◌, ◌≤◌, true, length, filter, IfOk, OnOk, IsFalse};
 ghost use Rattle.std.specs.List.{All, list_all, slice_range};
-ghost use Rattle.space.specs.declared.place.Place.{Place};
 ghost use Rattle.space.specs.Shards.{IsPlace, is_taken};
 ghost use Rattle.maptree.specs.Origins.{IsRun, AreRising};
 ghost use Rattle.maptree.specs.Cuts.{outside, nodes_of, kept_of};

@@ -1,5 +1,59 @@
 //! Unmap as a recursion, page by page.
 
+use crate::holdings::Holdings;
+use crate::prune::prune;
+use fpage::Rights;
+use maptree::{Node, Tree};
+use space::{NoMemory, Place, Shards};
+use std::alloc::{AllocError, Global};
+use std::ops::Range;
+
+impl Holdings {
+    ghost use Rattle.std.specs.Prelude.{IfOk};
+    ghost use Rattle.std.specs.List.{All};
+    ghost use Rattle.holdings.specs.Contents.{IsStripped};
+    ghost use Rattle.holdings.specs.Held.{IsWithin};
+    ghost use Rattle.holdings.specs.Stripping.{any_of};
+
+    /// The same as `strip`, by recursion: page by page of those that are still held, first what derives from the page, and
+    /// then the page itself. It takes longer.
+    ///
+    /// Refused, where memory is: `NoMemory`.
+    pub fn strip_by_recursion(
+        self,
+        alloc: Global,
+        places: &[Place],
+        revoked: Rights,
+        flush: bool,
+    ) -> Result<(Self, Rights), NoMemory>
+        requires { All (IsWithin self.limits) places.now }
+        ensures { IfOk result (IsStripped self (any_of places.now) revoked flush) }
+    {
+        let Holdings {
+            mut shards,
+            mut trees,
+        } = self;
+        let mut status = Rights::none();
+        for place in places {
+            let Some(entry) = shards.get(*place) else {
+                continue;
+            };
+            let frame = entry.frame as usize;
+            let gained = visit_place(
+                alloc,
+                &mut shards,
+                &mut trees,
+                frame,
+                *place,
+                revoked,
+                flush,
+            )?;
+            status = status.join(gained);
+        }
+        Ok((Holdings { shards, trees }, status))
+    }
+}
+
 ghost use Rattle.std.specs.Prelude.{◌≡◌, ◌<◌, ◌≤◌, true, ◌||◌, not, [], ◌∷◌, ◌++◌, length, IfOk, OnOk, IfSome, IfNone, IsFalse};
 ghost use Rattle.std.specs.List.{All};
 ghost use Rattle.std.specs.Option.{option_and_then};
@@ -12,43 +66,6 @@ ghost use Rattle.model.specs.Strip.{strip, strip_word};
 ghost use Rattle.holdings.specs.Held.{IsWithin, is_listed, links_in};
 ghost use Rattle.space.specs.Entries.{narrowed, status_of};
 ghost use Rattle.holdings.specs.Stripping.{limits_in, holdings_in, any_of, AreSound, AreLoose};
-
-use crate::prune::prune;
-use fpage::Rights;
-use maptree::{Node, Tree};
-use space::{NoMemory, Place, Shards};
-use std::alloc::{AllocError, Global};
-use std::ops::Range;
-
-/// Visits places one after another, each that is still held by then.
-///
-/// Refused, where memory is: `NoMemory`.
-pub fn visit_places(
-    alloc: Global,
-    shards: &mut Shards,
-    trees: &mut [Tree],
-    places: &[Place],
-    revoked: Rights,
-    flush: bool,
-) -> Result<Rights, NoMemory>
-    requires sound { AreSound shards.old trees.old }
-    requires places { All (IsWithin (limits_in shards.old trees.old)) places.now }
-    ensures status { IfOk result (λ status. status ≡ strip_word (holdings_in shards.old trees.old) (any_of places.now)) }
-    ensures left { OnOk result (holdings_in shards.new trees.new ≡ strip (holdings_in shards.old trees.old) (any_of places.now) revoked flush) }
-    ensures sound { OnOk result (AreSound shards.new trees.new) }
-    ensures limits { OnOk result (limits_in shards.new trees.new ≡ limits_in shards.old trees.old) }
-{
-    let mut status = Rights::none();
-    for place in places {
-        let Some(entry) = shards.get(*place) else {
-            continue;
-        };
-        let frame = entry.frame as usize;
-        let gained = visit_place(alloc, shards, trees, frame, *place, revoked, flush)?;
-        status = status.join(gained);
-    }
-    Ok(status)
-}
 
 /// Visits a place, takes out of its tree what is gone then, and gives back the status that was gathered.
 fn visit_place(

@@ -1,6 +1,6 @@
 //! Pages that move, in the trees: those of one frame in one pass.
 
-ghost use Rattle.std.specs.Prelude.{◌≡◌, None, OnOk};
+ghost use Rattle.std.specs.Prelude.{None, OnOk};
 ghost use Rattle.holdings.specs.Links.{last_target, AreMovable, AreRenamed};
 
 use crate::link::{Link, targets_of};

@@ -1,5 +1,67 @@
 //! Rights revoked from pages and from all that derives from them.
 
+use crate::holdings::Holdings;
+use crate::pages::{held_pages, places_of, same_frame};
+use crate::prune::prune;
+use crate::tree::run_origins;
+use fpage::Rights;
+use maptree::Tree;
+use space::{NoMemory, Place, Shards};
+use std::alloc::Global;
+use std::ops::Range;
+
+impl Holdings {
+    ghost use Rattle.std.specs.Prelude.{IfOk};
+    ghost use Rattle.std.specs.List.{All};
+    ghost use Rattle.holdings.specs.Contents.{IsStripped};
+    ghost use Rattle.holdings.specs.Held.{IsWithin};
+    ghost use Rattle.holdings.specs.Stripping.{any_of};
+
+    /// Takes rights from all that derives from some pages, and with `flush` from these pages too. The status of all of
+    /// them is cleared and returned, and what it was is added to that of the page from which they come. A page that has no
+    /// rights left is no longer held (L4 X.2, Unmap).
+    ///
+    /// Each tree is passed over by the outermost runs of the pages that it has, once each.
+    ///
+    /// Refused, where memory is: `NoMemory`.
+    pub fn strip(
+        self,
+        alloc: Global,
+        places: &[Place],
+        revoked: Rights,
+        flush: bool,
+    ) -> Result<(Self, Rights), NoMemory>
+        requires { All (IsWithin self.limits) places.now }
+        ensures { IfOk result (IsStripped self (any_of places.now) revoked flush) }
+    {
+        let Holdings {
+            mut shards,
+            mut trees,
+        } = self;
+        let mut pages = held_pages(alloc, &shards, places)?;
+        pages.sort_unstable_by_key(|page| page.frame);
+        let mut status = Rights::none();
+        let mut from = 0;
+        while from < pages.len() {
+            let frame = pages[from].frame;
+            let end = from + 1 + same_frame(&pages[from + 1..], frame);
+            let named = places_of(alloc, &pages[from..end])?;
+            let word = strip_frame(
+                alloc,
+                &mut shards,
+                &mut trees,
+                frame as usize,
+                &named,
+                revoked,
+                flush,
+            )?;
+            status = status.join(word);
+            from = end;
+        }
+        Ok((Holdings { shards, trees }, status))
+    }
+}
+
 ghost use Rattle.std.specs.Prelude.{◌≡◌, ◌<◌, ◌≤◌, length};
 ghost use Rattle.space.specs.declared.place.Place.{Place};
 ghost use Rattle.space.specs.Shards.{IsLaidOutAs};
@@ -10,16 +72,7 @@ ghost use Rattle.holdings.specs.Held.{links_in};
 ghost use Rattle.holdings.specs.Stripping.{holdings_in, AreLoose};
 ghost use Rattle.std.specs.Prelude.{IfOk, OnOk};
 ghost use Rattle.std.specs.List.{All};
-ghost use Rattle.maptree.specs.Origins.{AreRising};
-ghost use Rattle.holdings.specs.Stripping.{limits_in, any_of, firsts, AreSound, AreOfFrame, IsOriginAt};
-
-use crate::prune::prune;
-use crate::tree::run_origins;
-use fpage::Rights;
-use maptree::Tree;
-use space::{NoMemory, Place, Shards};
-use std::alloc::Global;
-use std::ops::Range;
+ghost use Rattle.holdings.specs.Stripping.{limits_in, any_of, AreSound, AreOfFrame, IsOriginAt};
 
 /// Strips places that hold pages of one frame: what derives from them loses the rights, and they lose them too if that
 /// is asked. The status of all of these is cleared and given back, and each run's is added to that of its origin.

@@ -1,4 +1,1 @@
-mod Unmaps
 mod Streams
-mod Replays
-mod Runs

@@ -1,10 +1,8 @@
 -- The exit status and the line of an error.
-use Rattle.std.specs.Prelude.{◌≡◌, ℕ, List, ◌++◌, codes}
+use Rattle.std.specs.Prelude.{ℕ, List, ◌++◌, codes}
 use Rattle.std.specs.Fmt.{decimal}
-use Rattle.trace.specs.declared.read.TraceError.{TraceError}
-use Rattle.trace.specs.declared.read.TraceError.TheVariants as trace
-use Rattle.l4map.specs.declared.error.RunError.{RunError}
-use Rattle.l4map.specs.declared.error.RunError.TheVariants.{BadHeader, BadLimits, NoMemory, NoWorker, Unreadable, WriteFailed}
+use Rattle.replay.specs.declared.error.RunError.{RunError}
+use Rattle.replay.specs.declared.error.RunError.TheVariants.{BadHeader, BadLimits, NoMemory, NoWorker, Unreadable, WriteFailed}
 
 -- 2 for the header, 3 for memory and threads, 4 for the streams
 abbrev pub status_of : RunError → ℕ
@@ -26,9 +24,3 @@ error_line (NoMemory n) = record_line n (codes ": NoMemory\n")
 error_line (NoWorker n) = record_line n (codes ": NoWorker\n")
 error_line Unreadable = codes "l4map: Unreadable\n"
 error_line WriteFailed = codes "l4map: WriteFailed\n"
-
--- what ends a run where no trace was read; no record was come to
-abbrev pub IsOfTrace : TraceError → RunError → Type 0
-IsOfTrace trace.Unreadable e = e ≡ Unreadable
-IsOfTrace trace.BadHeader e = e ≡ BadHeader
-IsOfTrace trace.NoMemory e = e ≡ NoMemory 0

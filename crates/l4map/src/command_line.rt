@@ -1,12 +1,11 @@
 //! The command line.
 
 ghost use Rattle.std.specs.Prelude.{IfOk, IfSome};
-ghost use Rattle.l4map.specs.Options.{AreServed};
+ghost use Rattle.replay.specs.Options.{AreServed};
 
-use crate::cli;
-use crate::cli::OptionsError;
 use clap::error::ErrorKind;
 use clap::{Arg, ArgAction, ArgMatches, Command, Error, value_parser};
+use replay::Options;
 use std::alloc::{AllocError, Global};
 use std::fmt::Write;
 
@@ -28,6 +27,23 @@ Exit status: 0 done; 1 command line refused; 2 bad header or limits; 3 out of me
 
 /// What is said below the refusal of a word that is no option.
 const TIP: &str = "  tip: a trace is read from standard input, as in 'l4map < trace.csv'";
+
+/// Why a command line gives no options.
+#[derive(Debug, Drop)]
+pub enum OptionsError {
+    /// Help, or the version, was asked for: its text.
+    Help(String),
+    /// The command line was refused: why.
+    Refused(String),
+    /// Out of memory.
+    NoMemory,
+}
+
+impl From<AllocError> for OptionsError {
+    fn from(_: AllocError) -> Self {
+        OptionsError::NoMemory
+    }
+}
 
 /// The command line of the program.
 fn command<'a>(alloc: Global) -> Result<Command<'a>, AllocError> {
@@ -57,12 +73,12 @@ fn command<'a>(alloc: Global) -> Result<Command<'a>, AllocError> {
 }
 
 /// Reads a command line, the program's name first.
-pub fn options<'a>(alloc: Global, words: &'a [&'a str]) -> Result<cli::Options, OptionsError>
+pub fn parse<'a>(alloc: Global, words: &'a [&'a str]) -> Result<Options, OptionsError>
     ensures { IfOk result AreServed }
 {
     let parsed = command(alloc)?.try_get_matches_from(words);
     match parsed {
-        Ok(matches) => match read(&matches) {
+        Ok(matches) => match options_of(&matches) {
             Some(options) => Ok(options),
             None => Err(OptionsError::Refused(String::from_str(
                 alloc,
@@ -74,7 +90,7 @@ pub fn options<'a>(alloc: Global, words: &'a [&'a str]) -> Result<cli::Options, 
 }
 
 /// The options of a command line that was parsed; none where a number is out of its range.
-fn read(matches: &ArgMatches) -> Option<cli::Options>
+fn options_of(matches: &ArgMatches) -> Option<Options>
     ensures { IfSome result AreServed }
 {
     let workers = matches.get_one::<u32>("workers")?;
@@ -83,7 +99,7 @@ fn read(matches: &ArgMatches) -> Option<cli::Options>
     if workers < 1 || workers > 64 || piece_length < 1 || piece_length > 65536 {
         return None;
     }
-    Some(cli::Options {
+    Some(Options {
         workers,
         piece_length,
         plain,

@@ -1,17 +1,14 @@
 //! l4map: replays a trace of calls on a mapping database, and prints the replies and an audit.
 #![tactic(auto)]
 
-mod answer;
-mod cli;
 mod command_line;
 mod error;
-mod run;
 #[cfg(test)]
 mod tests;
 
-use cli::OptionsError;
-use error::RunError;
-use run::{Summary, run};
+use command_line::{OptionsError, parse};
+use error::{status, tell};
+use replay::{Options, RunError, run};
 use std::alloc::AllocError;
 use std::env::Env;
 use std::io::{BufWriter, ErrorKind};
@@ -24,7 +21,7 @@ use trace::{Sink, Std};
 const OUTPUT_BUFFER: usize = 65536;
 
 /// Reads the program's command line.
-fn read_command_line(rt: &(impl AllocGlobal + Env)) -> Result<cli::Options, OptionsError> {
+fn read_command_line(rt: &(impl AllocGlobal + Env)) -> Result<Options, OptionsError> {
     let alloc = rt.alloc();
     let arguments = match env::args(rt) {
         Ok(arguments) => arguments,
@@ -41,28 +38,25 @@ fn read_command_line(rt: &(impl AllocGlobal + Env)) -> Result<cli::Options, Opti
     for word in &words {
         texts.push(word.as_str()).map_err(AllocError::from)?;
     }
-    command_line::options(alloc, &texts)
+    parse(alloc, &texts)
 }
 
 /// Replays the trace on standard input to standard output.
-fn replay(
+fn replay_input(
     rt: &(impl AllocGlobal + Input + Print + Threads + Sync),
-    options: &cli::Options,
-) -> Result<Summary, RunError> {
+    options: &Options,
+) -> Result<(), RunError> {
     let Ok(output) = BufWriter::with_capacity(rt.alloc(), OUTPUT_BUFFER, io::writer(rt)) else {
         return Err(RunError::NoMemory(0));
     };
-    run(
-        rt,
-        &mut Std::new(rt.reader()),
-        &mut Std::new(output),
-        options,
-    )
+    let mut reader = Std::new(rt.reader());
+    run(rt, &mut reader, &mut Std::new(output), options)?;
+    Ok(())
 }
 
 fn main(rt: HostRuntime) -> ExitCode {
     let outcome = match read_command_line(&rt) {
-        Ok(options) => replay(&rt, &options).map(|_| ()),
+        Ok(options) => replay_input(&rt, &options),
         Err(OptionsError::NoMemory) => Err(RunError::NoMemory(0)),
         Err(OptionsError::Help(text)) => Std::new(io::writer(&rt))
             .write_all(text.as_bytes())
@@ -76,8 +70,8 @@ fn main(rt: HostRuntime) -> ExitCode {
     match outcome {
         Ok(()) => ExitCode::SUCCESS,
         Err(error) => {
-            let _ = error.tell(&mut Std::new(rt.stderr()));
-            ExitCode::from(error.status())
+            let _ = tell(error, &mut Std::new(rt.stderr()));
+            ExitCode::from(status(error))
         }
     }
 }

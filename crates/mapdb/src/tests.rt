@@ -1,6 +1,6 @@
 //! Databases at the smallest limits, with answers that are worked out by hand.
 
-ghost use Rattle.std.specs.Prelude.{◌≡◌, ◌<◌, OnOk};
+ghost use Rattle.std.specs.Prelude.{◌≡◌, ◌<◌};
 ghost use Rattle.space.specs.Directory.{pages_of};
 ghost use Rattle.fpage.specs.Fpage.{IsSpaceBits};
 

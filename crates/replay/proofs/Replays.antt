@@ -11,7 +11,7 @@ use Rattle.model.specs.Answers.{answer}
 use Rattle.model.specs.Replay.{Told}
 use Rattle.model.specs.Records.{Fields, request}
 use Rattle.model.specs.Text.{reply_line, reply_lines, is_refused, refused_count, audit_lines, end_line}
-use Rattle.l4map.specs.Run.{Answers, told_of, WritesReplies, StopsBefore, WritesText}
+use Rattle.replay.specs.Run.{Answers, told_of, WritesReplies, StopsBefore, WritesText}
 
 -- the first i of all replies are written, and the rest are those to the records that are left
 pub record SoFar (t : Told) (limits : Limits) (rest : List Fields) (h : Holdings) (i : ℕ) (old now : Option (List ℕ)) (refused : ℕ) : Type 0 where

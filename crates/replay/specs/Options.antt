@@ -1,6 +1,6 @@
 -- The options that the program takes.
 use Rattle.std.specs.Prelude.{◌≤◌}
-use Rattle.l4map.specs.declared.cli.Options.{Options}
+use Rattle.replay.specs.declared.options.Options.{Options}
 
 -- 1 to 64 workers, and pieces of 1 to 65536
 pub record AreServed (o : Options) : Type 0 where

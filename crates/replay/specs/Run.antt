@@ -8,9 +8,9 @@ use Rattle.model.specs.Replay.{Told, replay}
 use Rattle.model.specs.Records.{Fields, Trace, are_limits, bad_header, bad_limits, request, trace_of}
 use Rattle.model.specs.Text.{text, told, reply_line, reply_lines, is_refused, refused_count}
 use Rattle.mapdb.specs.State.{State, new_state}
-use Rattle.l4map.specs.declared.run.Summary.{Summary}
-use Rattle.l4map.specs.declared.error.RunError.{RunError}
-use Rattle.l4map.specs.declared.error.RunError.TheVariants.{BadHeader, BadLimits, NoMemory, NoWorker, Unreadable, WriteFailed}
+use Rattle.replay.specs.declared.run.Summary.{Summary}
+use Rattle.replay.specs.declared.error.RunError.{RunError}
+use Rattle.replay.specs.declared.error.RunError.TheVariants.{BadHeader, BadLimits, NoMemory, NoWorker, Unreadable, WriteFailed}
 
 -- one record is answered: its reply line, whether it was refused, and what is held after it
 pub record Answers (limits : Limits) (old : Holdings) (fields : Fields) (number : ℕ) (new : Holdings) (line : List ℕ) (refused : Bool) : Type 0 where

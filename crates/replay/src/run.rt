@@ -4,11 +4,11 @@ ghost use Rattle.std.specs.Prelude.{◌≡◌, ◌++◌, false, IfOk, IfErr, IfS
 ghost use Rattle.model.specs.Text.{audit_lines, end_line};
 ghost use Rattle.holdings.specs.Meaning.{limits_of};
 ghost use Rattle.mapdb.specs.State.{left_with};
-ghost use Rattle.l4map.specs.Run.{Answers, told_of, WritesReplies, WritesText, StopsAt, StopsEarly, IsStarted, StartsNot};
-ghost use Rattle.l4map.specs.Run.{WritesReplay, EndsEarly, WritesNothing, TellsStreams};
+ghost use Rattle.replay.specs.Run.{Answers, told_of, WritesReplies, WritesText, StopsAt, StopsEarly, IsStarted, StartsNot};
+ghost use Rattle.replay.specs.Run.{WritesReplay, EndsEarly, WritesNothing, TellsStreams};
 
 use crate::answer::answer;
-use crate::cli::Options;
+use crate::options::Options;
 use crate::error::RunError;
 use audit::report;
 use mapdb::{Database, DbError, Limits};

@@ -5,10 +5,9 @@ ghost use Rattle.std.specs.Prelude.{◌≡◌, false, true, OnOk, OnErr};
 mod worked;
 
 use crate::answer::answer;
-use crate::cli::OptionsError;
 use crate::error::RunError;
+use crate::options::Options;
 use crate::run::{Summary, run};
-use crate::{cli, command_line};
 use audit::{Line, check, lines};
 use mapdb::Database;
 use std::alloc::Global;
@@ -21,13 +20,13 @@ use worked::TRACES;
 const ROOTS: &str =
     "0,0,0,rwx,---,-\n0,1,1,rwx,---,-\n0,2,2,rwx,---,-\n0,3,3,rwx,---,-\n0,4,4,rwx,---,-\n0,5,5,rwx,---,-\n0,6,6,rwx,---,-\n0,7,7,rwx,---,-\n0,8,8,rwx,---,-\n0,9,9,rwx,---,-\n0,10,10,rwx,---,-\n0,11,11,rwx,---,-\n0,12,12,rwx,---,-\n0,13,13,rwx,---,-\n0,14,14,rwx,---,-\n0,15,15,rwx,---,-\n";
 
-const OPTIONS: cli::Options = cli::Options {
+const OPTIONS: Options = Options {
     workers: 4,
     piece_length: 256,
     plain: false,
 };
 
-const PLAIN: cli::Options = cli::Options {
+const PLAIN: Options = Options {
     workers: 4,
     piece_length: 256,
     plain: true,
@@ -37,7 +36,7 @@ const PLAIN: cli::Options = cli::Options {
 fn outcome_of(
     rt: &(impl AllocGlobal + Threads + Sync),
     input: &str,
-    options: &cli::Options,
+    options: &Options,
 ) -> (Result<Summary, RunError>, Vec<u8>) {
     let mut output = Std::new(Vec::new(rt.alloc()));
     let outcome = run(rt, &mut Std::new(input.as_bytes()), &mut output, options);
@@ -170,32 +169,6 @@ fn answers_a_bad_header_before_it_writes(rt: HostRuntime) {
     }
 }
 
-#[test]
-fn tells_each_error_by_its_line_and_status(rt: HostRuntime) -> Result<(), Fail> {
-    let cases = [
-        (RunError::BadHeader, "l4map: BadHeader\n", 2),
-        (RunError::BadLimits, "l4map: BadLimits\n", 2),
-        (RunError::NoMemory(0), "l4map: record 0: NoMemory\n", 3),
-        (
-            RunError::NoWorker(1907),
-            "l4map: record 1907: NoWorker\n",
-            3,
-        ),
-        (RunError::Unreadable, "l4map: Unreadable\n", 4),
-        (RunError::WriteFailed, "l4map: WriteFailed\n", 4),
-    ];
-    for (error, line, status) in cases {
-        let mut output = Std::new(Vec::new(rt.alloc()));
-        error
-            .tell(&mut output)
-            .ok()
-            .ok_or("a write to memory failed")?;
-        assert_eq!(rt; output.into_inner().as_slice(), line.as_bytes());
-        assert_eq!(rt; error.status(), status);
-    }
-    Ok(())
-}
-
 /// A sink that counts its calls, keeps what was written, and fails at one of its calls.
 #[derive(Drop)]
 struct FailingSink {
@@ -276,90 +249,6 @@ fn a_sink_that_fails_at_any_call_is_write_failed(rt: HostRuntime) {
         assert!(rt;
             SHORT_OUTPUT.as_bytes().starts_with(output.kept.as_slice()),
             "{fails_at}"
-        );
-    }
-}
-
-#[test]
-fn reads_the_command_line(rt: HostRuntime) -> Result<(), Fail> {
-    let alloc = rt.alloc();
-    assert_eq!(rt;
-        command_line::options(alloc, &["l4map"]).ok(),
-        Some(OPTIONS)
-    );
-    assert_eq!(rt;
-        command_line::options(alloc, &["l4map", "--plain"]).ok(),
-        Some(PLAIN)
-    );
-    let most = cli::Options {
-        workers: 64,
-        piece_length: 65536,
-        plain: false,
-    };
-    let words = ["l4map", "--workers", "64", "--piece=65536"];
-    assert_eq!(rt; command_line::options(alloc, &words).ok(), Some(most));
-    let least = cli::Options {
-        workers: 1,
-        piece_length: 1,
-        plain: false,
-    };
-    let words = ["l4map", "--workers=1", "--piece", "1"];
-    assert_eq!(rt; command_line::options(alloc, &words).ok(), Some(least));
-    Ok(())
-}
-
-#[test]
-fn refuses_what_is_no_option(rt: HostRuntime) {
-    let lines = [
-        ["l4map", "--workers=0"],
-        ["l4map", "--workers=65"],
-        ["l4map", "--workers=four"],
-        ["l4map", "--workers="],
-        ["l4map", "--piece=0"],
-        ["l4map", "--piece=65537"],
-        ["l4map", "--workers"],
-        ["l4map", "--plain=yes"],
-        ["l4map", "--fast"],
-        ["l4map", "trace.csv"],
-    ];
-    for words in lines {
-        let refused = command_line::options(rt.alloc(), &words);
-        assert!(rt;
-            matches!(&refused, Err(OptionsError::Refused(text)) if !text.is_empty()),
-            "{words:?}"
-        );
-    }
-}
-
-#[test]
-fn refuses_a_file_with_a_tip(rt: HostRuntime) {
-    let tip = "  tip: a trace is read from standard input, as in 'l4map < trace.csv'\n";
-    for (word, is_tipped) in [
-        ("trace.csv", true),
-        ("-", true),
-        ("--fast", false),
-        ("-w", false),
-    ] {
-        let refused = command_line::options(rt.alloc(), &["l4map", word]);
-        assert!(rt;
-            matches!(&refused, Err(OptionsError::Refused(text)) if text.starts_with("error: unexpected argument '") && text.contains(tip) == is_tipped),
-            "{word}"
-        );
-    }
-}
-
-#[test]
-fn tells_help_and_version(rt: HostRuntime) {
-    for words in [
-        ["l4map", "--help"],
-        ["l4map", "-h"],
-        ["l4map", "--version"],
-        ["l4map", "-V"],
-    ] {
-        let asked = command_line::options(rt.alloc(), &words);
-        assert!(rt;
-            matches!(&asked, Err(OptionsError::Help(text)) if text.starts_with("l4map") || text.contains("Usage: l4map")),
-            "{words:?}"
         );
     }
 }

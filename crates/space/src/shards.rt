@@ -6,6 +6,7 @@ ghost use Rattle.space.specs.Directory.{AreLimits, IsDirectory, AreWords};
 use crate::error::NoMemory;
 use crate::place::{Entry, Place};
 use crate::word::{pack, unpack};
+use fpage::Rights;
 use std::alloc::{AllocError, Global};
 
 /// The bytes of the pages of one shard, as a power of two.
@@ -31,11 +32,13 @@ pub struct Shards {
 }
 
 impl Shards {
-    ghost use Rattle.std.specs.Prelude.{◌≡◌, ◌<◌, ◌≤◌, ◌≢◌, IsTrue, IsFalse, IfOk, None, length, slice_index};
+    ghost use Rattle.std.specs.Prelude.{◌≡◌, ◌<◌, IsTrue, IsFalse, IfOk, None, length, option_map, slice_index};
     ghost use Rattle.std.specs.List.{AllPass};
+    ghost use Rattle.std.specs.Option.{option_and_then};
     ghost use Rattle.space.specs.declared.place.Place.{Place};
     ghost use Rattle.space.specs.Word.{word_of, entry_of, is_pack, FrameFits};
     ghost use Rattle.space.specs.Directory.{AreLimits, shard_of};
+    ghost use Rattle.space.specs.Entries.{narrowed, status_of, with_status, extended};
     ghost use Rattle.space.specs.Shards.{shard_count, spaces_of, bits_of, IsPlace, word_count, index_of, is_taken, entry_at, IsLaidOutAs, IsSetAt};
 
     /// Spaces of `2^bits` bytes in which every page is absent.
@@ -116,6 +119,51 @@ impl Shards {
         let index = self.index(place);
         let words = self.words.as_mut().unwrap();
         words[index] = pack(entry);
+    }
+
+    /// Withholds rights from what a page holds, if `flush` says so, and clears its status and returns it. With no right left
+    /// the page goes.
+    pub fn narrow(&mut self, place: Place, revoked: Rights, flush: bool) -> Rights
+        requires place { IsPlace self.old place }
+        requires present { IsFalse (is_taken self.old) }
+        ensures status { result ≡ status_of (entry_at self.old place) }
+        ensures set { IsSetAt self.old self.new place (option_and_then (narrowed flush revoked) (entry_at self.old place)) }
+        ensures present { IsFalse (is_taken self.new) }
+        ensures layout { IsLaidOutAs self.old self.new }
+    {
+        let Some(entry) = self.get(place) else {
+            return Rights::none();
+        };
+        self.set(place, entry.narrowed(revoked, flush));
+        entry.status
+    }
+
+    /// Adds status to what a page holds.
+    pub fn add_status(&mut self, place: Place, status: Rights)
+        requires place { IsPlace self.old place }
+        requires present { IsFalse (is_taken self.old) }
+        ensures set { IsSetAt self.old self.new place (option_map (with_status status) (entry_at self.old place)) }
+        ensures present { IsFalse (is_taken self.new) }
+        ensures layout { IsLaidOutAs self.old self.new }
+    {
+        let Some(entry) = self.get(place) else {
+            return;
+        };
+        self.set(place, Some(entry.with_status(status)));
+    }
+
+    /// Adds rights to what a page holds.
+    pub fn extend(&mut self, place: Place, rights: Rights)
+        requires place { IsPlace self.old place }
+        requires present { IsFalse (is_taken self.old) }
+        ensures set { IsSetAt self.old self.new place (option_map (extended rights) (entry_at self.old place)) }
+        ensures present { IsFalse (is_taken self.new) }
+        ensures layout { IsLaidOutAs self.old self.new }
+    {
+        let Some(entry) = self.get(place) else {
+            return;
+        };
+        self.set(place, Some(entry.extended(rights)));
     }
 
     /// Gives the words away, that of each place at its index.

@@ -88,9 +88,10 @@ all c =
     let t = c.args.trees.now in
     let os = links_in t c.args.frame in
     let first = tree_is t c.args.frame c.index-trees-frame.result c.requires.frame c.index-trees-frame.is in
-    let whole = take_all c.loop-i.i c.in_ok-runs.runs.items (omega (arith, c.loop-i-test.false, c.len-i-end.ensures, c.in_ok-runs.runs.ok.0)) in
-    (subst (AreOuterRuns os c.args.places.now) (sym c.deref-2.ensures.value) (outer _ _ c.args.places.now c.in_ok-runs.runs.items first c.in_ok-runs.ensures),
-        subst (λ rs. AreStripped s t (firsts os rs) c.args.revoked c.args.flush c.loop-i.shards c.loop-i.status) (whole ∙ sym c.deref-2.ensures.value) c.loop-i.invariant)
+    let whole = take_all c.loop-i.i c.in_ok-runs.runs.items (omega (arith, c.loop-i-test.false, c.len-i-end.ensures, c.in_ok-runs.runs.ok.0)) in (
+      subst (AreOuterRuns os c.args.places.now) (sym c.deref-2.ensures.value) (outer _ _ c.args.places.now c.in_ok-runs.runs.items first c.in_ok-runs.ensures),
+      subst (λ rs. AreStripped s t (firsts os rs) c.args.revoked c.args.flush c.loop-i.shards c.loop-i.status) (whole ∙ sym c.deref-2.ensures.value) c.loop-i.invariant,
+    )
 
 pub prune-requires-clause-places : goal.prune-requires-clause-places
 prune-requires-clause-places c =
@@ -125,10 +126,11 @@ at_end c =
     let os = links_in t c.args.frame in
     let first = tree_is t c.args.frame c.index-trees-frame.result c.requires.frame c.index-trees-frame.is in
     let last = tree_is t c.args.frame c.index-trees-frame-3.result c.requires.frame c.index-trees-frame-3.is in
-    let whole = take_all c.loop-i.i c.in_ok-runs.runs.items (omega (arith, c.loop-i-test.false, c.len-i-end.ensures, c.in_ok-runs.runs.ok.0)) in
-    (subst (AreOuterRuns os c.args.places.now) (sym c.deref-2.ensures.value) (outer _ _ c.args.places.now c.in_ok-runs.runs.items first c.in_ok-runs.ensures),
-        subst (λ rs. AreStripped s t (firsts os rs) c.args.revoked c.args.flush c.loop-i.shards c.loop-i.status) (whole ∙ sym c.deref-2.ensures.value) c.loop-i.invariant,
-        subst (IsTreeSet t (slice_set t c.args.frame c.prune.new.tree) c.args.frame) (c.in_ok-prune.ensures ∙ ap (pruned c.loop-i.shards) (sym last)) (tree_set t c.args.frame c.prune.new.tree c.requires.frame))
+    let whole = take_all c.loop-i.i c.in_ok-runs.runs.items (omega (arith, c.loop-i-test.false, c.len-i-end.ensures, c.in_ok-runs.runs.ok.0)) in (
+      subst (AreOuterRuns os c.args.places.now) (sym c.deref-2.ensures.value) (outer _ _ c.args.places.now c.in_ok-runs.runs.items first c.in_ok-runs.ensures),
+      subst (λ rs. AreStripped s t (firsts os rs) c.args.revoked c.args.flush c.loop-i.shards c.loop-i.status) (whole ∙ sym c.deref-2.ensures.value) c.loop-i.invariant,
+      subst (IsTreeSet t (slice_set t c.args.frame c.prune.new.tree) c.args.frame) (c.in_ok-prune.ensures ∙ ap (pruned c.loop-i.shards) (sym last)) (tree_set t c.args.frame c.prune.new.tree c.requires.frame),
+    )
 
 pub returns-clause-status : goal.returns-clause-status
 returns-clause-status c =

@@ -4,8 +4,8 @@ use Rattle.std.specs.Result.{is_ok}
 use Rattle.std.specs.Slice.Iter.{iter_rest}
 use Rattle.std.specs.Iterator.Adapters.{zip_first, zip_second}
 use Rattle.std.proofs.lemmas.Slice.Zip.{Zip-more, either_empty_from_Zip}
-use Rattle.l4map.proofs.Unmaps.{told, told_more, told_end}
-use Rattle.l4map.proofs.answer.reply_words.Goals as goal
+use Rattle.replay.proofs.Unmaps.{told, told_more, told_end}
+use Rattle.replay.proofs.answer.reply_words.Goals as goal
 
 pub loop-word-preserved : goal.loop-word-preserved
 loop-word-preserved c =

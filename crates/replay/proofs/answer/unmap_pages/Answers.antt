@@ -1,8 +1,8 @@
 -- Either way to unmap gives and leaves the same, and each word comes back with its status.
 use Rattle.std.proofs.Common.{sym, ap, ◌∙◌}
-use Rattle.l4map.proofs.Unmaps.{IsUnmapped, told, unmapped_by, unmap_answered}
-use Rattle.l4map.proofs.answer.unmap_pages.Goals as goal
-use Rattle.l4map.proofs.answer.unmap_pages.Goals.{then-plain, else-plain}
+use Rattle.replay.proofs.Unmaps.{IsUnmapped, told, unmapped_by, unmap_answered}
+use Rattle.replay.proofs.answer.unmap_pages.Goals as goal
+use Rattle.replay.proofs.answer.unmap_pages.Goals.{then-plain, else-plain}
 
 pub returns-in_ok-reply_words-in-Ok-clause-ok : goal.returns-in_ok-reply_words-in-Ok-clause-ok
 returns-in_ok-reply_words-in-Ok-clause-ok c =

@@ -1,10 +1,10 @@
 -- The replies, and then the audit and the end line.
 use Rattle.std.proofs.Common.{sym, ◌∙◌, length}
 use Rattle.std.proofs.KnownBytes.{Appends-kept}
-use Rattle.l4map.proofs.Streams.{not_err}
-use Rattle.l4map.proofs.Replays.{replies_count, before_audit, whole}
-use Rattle.l4map.proofs.Runs.{stopped}
-use Rattle.l4map.proofs.run.replay.Goals as goal
+use Rattle.replay.proofs.Streams.{not_err}
+use Rattle.replay.proofs.Replays.{replies_count, before_audit, whole}
+use Rattle.replay.proofs.Runs.{stopped}
+use Rattle.replay.proofs.run.replay.Goals as goal
 
 pub returns-in_default-clause-err : goal.returns-in_default-clause-err
 returns-in_default-clause-err g c =

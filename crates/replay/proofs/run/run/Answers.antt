@@ -1,6 +1,6 @@
 -- The trace that was read is that of the input, and its limits are served.
-use Rattle.l4map.proofs.Runs.{replayed, ended}
-use Rattle.l4map.proofs.run.run.Goals as goal
+use Rattle.replay.proofs.Runs.{replayed, ended}
+use Rattle.replay.proofs.run.run.Goals as goal
 
 pub returns-clause-replayed : goal.returns-clause-replayed
 returns-clause-replayed g c =

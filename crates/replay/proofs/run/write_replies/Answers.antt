@@ -2,10 +2,10 @@
 use Rattle.std.proofs.Common.{◌+◌, string_bytes, arith, sym, ap, subst, ◌∙◌}
 use Rattle.model.specs.Calls.{Limits}
 use Rattle.mapdb.specs.State.{State, left_with}
-use Rattle.l4map.specs.Run.{Answers}
-use Rattle.l4map.proofs.Streams.{not_err}
-use Rattle.l4map.proofs.Replays.{so_far-more, so_far-end, drop_all, drop_next, one_more, at_most_one}
-use Rattle.l4map.proofs.run.write_replies.Goals as goal
+use Rattle.replay.specs.Run.{Answers}
+use Rattle.replay.proofs.Streams.{not_err}
+use Rattle.replay.proofs.Replays.{so_far-more, so_far-end, drop_all, drop_next, one_more, at_most_one}
+use Rattle.replay.proofs.run.write_replies.Goals as goal
 
 pub loop-i-preserved : goal.loop-i-preserved
 loop-i-preserved g c =

@@ -1,9 +1,9 @@
 -- the replies so far are written, and those to the records that are left follow
 use Rattle.std.proofs.Common.{◌≡◌, ◌≤◌, drop}
 use Rattle.mapdb.specs.State.{left_with}
-use Rattle.l4map.specs.Run.{told_of}
-use Rattle.l4map.proofs.Replays.{SoFar}
-use Rattle.l4map.proofs.run.write_replies.Given as goal
+use Rattle.replay.specs.Run.{told_of}
+use Rattle.replay.proofs.Replays.{SoFar}
+use Rattle.replay.proofs.run.write_replies.Given as goal
 
 abbrev pub invariant-loop-i : goal.invariant-loop-i
 invariant-loop-i g l = record {

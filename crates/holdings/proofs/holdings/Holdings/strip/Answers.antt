@@ -71,10 +71,11 @@ loop-from-preserved c =
     (c.in_ok-word.ensures.status ∙ ap (λ h. strip_word h (any_of c.deref-in-loop-from-2.result.now)) before_it ∙ ap (λ ps. strip_word (holdings_in c.loop-from.shards c.loop-from.trees.items) (any_of ps)) places)
     (c.in_ok-word.ensures.left ∙ ap (λ h. strip h (any_of c.deref-in-loop-from-2.result.now) c.args.revoked c.args.flush) before_it ∙ ap (λ ps. strip (holdings_in c.loop-from.shards c.loop-from.trees.items) (any_of ps) c.args.revoked c.args.flush) places)
     c.in_ok-word.ensures.sound (c.in_ok-word.ensures.limits ∙ ap (limits_in c.loop-from.shards) c.deref_mut.ensures.value) in
-    let count : length c.strip_frame.new.trees ≡ c.loop-from.trees.len = omega (arith, c.strip_frame.auto.trees, ap length c.deref_mut.ensures.value, c.loop-from.trees.ok.0) in
-    (c.loop-from.invariant.0,
-        subst (λ ts. AreStrippedUpTo s t pages (c.loop-from.from + 1 + c.same_frame.result) c.args.revoked c.args.flush c.strip_frame.new.shards ts c.join-status.result) (sym (with_items_is c.loop-from.trees c.strip_frame.new.trees count))
-        (subst (AreStrippedUpTo s t pages (c.loop-from.from + 1 + c.same_frame.result) c.args.revoked c.args.flush c.strip_frame.new.shards c.strip_frame.new.trees) (sym c.join-status.ensures) next))
+    let count : length c.strip_frame.new.trees ≡ c.loop-from.trees.len = omega (arith, c.strip_frame.auto.trees, ap length c.deref_mut.ensures.value, c.loop-from.trees.ok.0) in (
+      c.loop-from.invariant.0,
+      subst (λ ts. AreStrippedUpTo s t pages (c.loop-from.from + 1 + c.same_frame.result) c.args.revoked c.args.flush c.strip_frame.new.shards ts c.join-status.result) (sym (with_items_is c.loop-from.trees c.strip_frame.new.trees count))
+          (subst (AreStrippedUpTo s t pages (c.loop-from.from + 1 + c.same_frame.result) c.args.revoked c.args.flush c.strip_frame.new.shards c.strip_frame.new.trees) (sym c.join-status.ensures) next),
+    )
 
 pub returns : goal.returns
 returns c =

@@ -1,0 +1,79 @@
+-- One place more.
+use Rattle.std.proofs.Common.{◌≡◌, ◌<◌, true, ℕ, ◌+◌, List, length, get_or, sym, ap, ◌∙◌, subst, arith}
+use Rattle.std.specs.List.{All}
+use Rattle.std.proofs.lemmas.List.{with_items_is}
+use Rattle.space.specs.declared.place.Place.{Place}
+use Rattle.maptree.specs.Origins.{Shape}
+use Rattle.model.specs.Calls.{Limits}
+use Rattle.model.specs.Holdings.{only}
+use Rattle.model.specs.Strip.{strip, strip_word}
+use Rattle.holdings.specs.Contents.{Contents, contents_of, IsStripped}
+use Rattle.holdings.specs.Held.{IsWithin, is_listed}
+use Rattle.holdings.specs.Stripping.{AreSound, limits_in, holdings_in, any_of}
+use Rattle.holdings.proofs.PlaceByPlace.{AreVisitedUpTo, none_visited, one_visited, none_there, all_visited}
+use Rattle.holdings.proofs.holdings.Holdings.strip_by_recursion.Goals as goal
+
+-- the place that is visited next
+abbrev here : List Place → ℕ → Place
+here places i = get_or places i (record { space = 0; page = 0 })
+
+pub loop-place-init : goal.loop-place-init
+loop-place-init c =
+    subst (AreVisitedUpTo c.self.inside.shards c.self.inside.trees.items c.args.places.now 0 c.args.revoked c.args.flush c.self.inside.shards c.self.inside.trees.items) (sym c.none-status.ensures)
+    (none_visited c.self.inside.shards c.self.inside.trees.items c.self.invariant c.args.places.now c.args.revoked c.args.flush)
+
+pub get-requires-clause-place : goal.get-requires-clause-place
+get-requires-clause-place c =
+    let named = subst (λ (h : Contents). All (IsWithin h.limits) c.args.places.now) (sym c.self.view_is) c.requires in
+    let within = subst (λ (l : Limits). IsWithin l (here c.args.places.now c.loop-place.place-index)) (sym c.loop-place.invariant.limits) (named c.loop-place.place-index (record { space = 0; page = 0 }) c.loop-place-test.true) in
+    record { space = within.space; page = within.page }
+
+pub get-requires-clause-present : goal.get-requires-clause-present
+get-requires-clause-present c = c.loop-place.invariant.sound.kept.fits.present
+
+pub loop-place-preserved-in_default : goal.loop-place-preserved-in_default
+loop-place-preserved-in_default c =
+    let named = subst (λ (h : Contents). All (IsWithin h.limits) c.args.places.now) (sym c.self.view_is) c.requires in
+    let within = subst (λ (l : Limits). IsWithin l (here c.args.places.now c.loop-place.place-index)) (sym c.loop-place.invariant.limits) (named c.loop-place.place-index (record { space = 0; page = 0 }) c.loop-place-test.true) in
+    none_there c.self.inside.shards c.self.inside.trees.items c.self.invariant c.args.places.now c.args.revoked c.args.flush c.loop-place.place-index (record { space = 0; page = 0 }) c.loop-place-test.true
+    c.loop-place.shards c.loop-place.trees.items c.loop-place.status c.loop-place.invariant within (sym c.get.ensures ∙ c.in_default.is)
+
+pub visit_place-requires-clause-sound : goal.visit_place-requires-clause-sound
+visit_place-requires-clause-sound c = subst (AreSound c.loop-place.shards) (sym c.deref_mut.ensures.value) c.loop-place.invariant.sound
+
+pub visit_place-requires-clause-frame : goal.visit_place-requires-clause-frame
+visit_place-requires-clause-frame c =
+    let named = subst (λ (h : Contents). All (IsWithin h.limits) c.args.places.now) (sym c.self.view_is) c.requires in
+    let within = subst (λ (l : Limits). IsWithin l (here c.args.places.now c.loop-place.place-index)) (sym c.loop-place.invariant.limits) (named c.loop-place.place-index (record { space = 0; page = 0 }) c.loop-place-test.true) in
+    subst (λ (ts : List Shape). c.in-Some.entry.frame < length ts) (sym c.deref_mut.ensures.value)
+    (c.loop-place.invariant.sound.kept.fits.frame (here c.args.places.now c.loop-place.place-index) c.in-Some.entry within (sym c.get.ensures ∙ c.in-Some.is))
+
+pub visit_place-requires-clause-listed : goal.visit_place-requires-clause-listed
+visit_place-requires-clause-listed c =
+    let named = subst (λ (h : Contents). All (IsWithin h.limits) c.args.places.now) (sym c.self.view_is) c.requires in
+    let within = subst (λ (l : Limits). IsWithin l (here c.args.places.now c.loop-place.place-index)) (sym c.loop-place.invariant.limits) (named c.loop-place.place-index (record { space = 0; page = 0 }) c.loop-place-test.true) in
+    subst (λ (ts : List Shape). is_listed ts c.in-Some.entry.frame (here c.args.places.now c.loop-place.place-index) ≡ true) (sym c.deref_mut.ensures.value)
+    (c.loop-place.invariant.sound.kept.fits.listed (here c.args.places.now c.loop-place.place-index) c.in-Some.entry within (sym c.get.ensures ∙ c.in-Some.is))
+
+pub loop-place-preserved : goal.loop-place-preserved
+loop-place-preserved c =
+    let s = c.self.inside.shards in
+    let t = c.self.inside.trees.items in
+    let p = here c.args.places.now c.loop-place.place-index in
+    let was = ap (holdings_in c.loop-place.shards) c.deref_mut.ensures.value in
+    let count : length c.visit_place.new.trees ≡ c.loop-place.trees.len = omega (arith, c.visit_place.auto.trees, ap length c.deref_mut.ensures.value, c.loop-place.trees.ok.0) in
+    let next = one_visited s t c.self.invariant c.args.places.now c.args.revoked c.args.flush c.loop-place.place-index (record { space = 0; page = 0 }) c.loop-place-test.true
+    c.loop-place.shards c.loop-place.trees.items c.loop-place.status c.loop-place.invariant c.visit_place.new.shards c.visit_place.new.trees c.in_ok-gained.gained
+    (c.in_ok-gained.ensures.status ∙ ap (λ h. strip_word h (only p)) was) (c.in_ok-gained.ensures.left ∙ ap (λ h. strip h (only p) c.args.revoked c.args.flush) was)
+    c.in_ok-gained.ensures.sound (c.in_ok-gained.ensures.limits ∙ ap (limits_in c.loop-place.shards) c.deref_mut.ensures.value) in
+    subst (λ ts. AreVisitedUpTo s t c.args.places.now (c.loop-place.place-index + 1) c.args.revoked c.args.flush c.visit_place.new.shards ts c.join-status.result) (sym (with_items_is c.loop-place.trees c.visit_place.new.trees count))
+    (subst (AreVisitedUpTo s t c.args.places.now (c.loop-place.place-index + 1) c.args.revoked c.args.flush c.visit_place.new.shards c.visit_place.new.trees) (sym c.join-status.ensures) next)
+
+pub invariant_of-result : goal.invariant_of-result
+invariant_of-result c = c.loop-place.invariant.sound
+
+pub returns : goal.returns
+returns c =
+    let all = all_visited c.self.inside.shards c.self.inside.trees.items c.self.invariant c.args.places.now c.args.revoked c.args.flush c.loop-place.place-index c.loop-place.shards c.loop-place.trees.items c.loop-place.status c.loop-place-test.false c.loop-place.invariant in
+    subst (λ (old : Contents). IsStripped old (any_of c.args.places.now) c.args.revoked c.args.flush (contents_of c.loop-place.shards c.loop-place.trees.items, c.loop-place.status)) c.self.view_is
+    (record { left = λ i. record { limits = c.loop-place.invariant.limits i; holdings = all.1 i }; status = all.0 })

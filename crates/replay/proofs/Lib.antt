@@ -1,0 +1,4 @@
+mod Unmaps
+mod Streams
+mod Replays
+mod Runs

@@ -1,0 +1,14 @@
+//! The replay of a trace: from its bytes to the text of the replies and of the audit.
+#![tactic(auto)]
+
+mod answer;
+mod error;
+mod options;
+mod run;
+#[cfg(test)]
+mod tests;
+
+pub use answer::answer;
+pub use error::RunError;
+pub use options::Options;
+pub use run::{Summary, run};
