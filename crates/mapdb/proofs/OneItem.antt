@@ -1,6 +1,8 @@
 -- The phases of one item, one after another, are those of the definition.
 use Rattle.std.proofs.Common.{◌≡◌, ℕ, ◌+◌, ◌^◌, ◌<◌, true, List, sym, ap, ◌∙◌, subst, arith}
 use Rattle.fpage.specs.Rights.{all_rights}
+use Rattle.fpage.specs.declared.rights.Rights.{Rights}
+use Rattle.space.specs.declared.place.Place.{Place}
 use Rattle.model.specs.Calls.{Limits}
 use Rattle.model.specs.Holdings.{Holdings}
 use Rattle.model.specs.Lawful.{is_lawful}
@@ -13,8 +15,9 @@ use Rattle.model.proofs.StripAt.{lawful_strip}
 use Rattle.holdings.specs.declared.item_pages.ItemPages.{ItemPages}
 use Rattle.holdings.specs.declared.transfer.Transfer.{Transfer}
 use Rattle.holdings.specs.declared.worked.Worked.{Worked}
-use Rattle.holdings.specs.Contents.{Contents, left_with, IsConsistent}
+use Rattle.holdings.specs.Contents.{Contents, left_with, IsConsistent, IsStripped}
 use Rattle.holdings.specs.Meaning as phase
+use Rattle.holdings.specs.Stripping.{any_of}
 use Rattle.holdings.specs.Sending.{job_of_pages, AreItemPages, ArePlanned, AreReady, worked}
 use Rattle.holdings.proofs.CountSums.{total_sum}
 use Rattle.mapdb.specs.declared.plan.End.TheVariants.{Target}
@@ -75,3 +78,11 @@ module _ (old : Contents) (p : ItemPages) (consistent : IsConsistent old) (pages
         where
           by : (a b n : ℕ) → n ≡ a + b → n < 2 ^ 32 → a + b < 2 ^ 128
           by a b n same less = omega (arith, same, less)
+
+-- ---- the flush
+
+-- the places that lost all their rights are the targets of the transfers that go
+pub flush_left : (old : Contents) (us ts : List Transfer) (places : List Place) (a : Rights) (r : Contents × Rights) → IsStripped old (any_of places) a true r → a ≡ all_rights
+    → ((p : Place) → any_of places p ≡ ends_of Target us p) → us ≡ ts → r.0 ≡ left_with old (strip old.holdings (ends_of Target ts) all_rights true)
+flush_left old us ts places a r is all targets same =
+    is.left ∙ (λ i. left_with old (strip old.holdings (λ p. targets p i) (all i) true)) ∙ ap (λ (vs : List Transfer). left_with old (strip old.holdings (ends_of Target vs) all_rights true)) same

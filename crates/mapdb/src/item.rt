@@ -64,31 +64,13 @@ fn work_item(
     ensures few { IfOk result (λ r. total (counts_of r.1) < 2 ^ 32) }
 {
     let plan = plan_item(alloc, &held, pages)?;
-    let held = flush(alloc, held, &plan.transfers)?;
+    let replaced = ends(alloc, &plan.transfers, End::Target)?;
+    let (held, _) = held.strip(alloc, &replaced, Rights::all(), true)?;
     let (held, worked) = map_or_grant(alloc, held, pages, &plan.transfers)?;
     Ok((held, plan.decided.plus(SendReply::of_worked(worked))))
 }
 
 ghost use Rattle.std.specs.Prelude.{true};
-ghost use Rattle.fpage.specs.Rights.{all_rights};
-ghost use Rattle.model.specs.Strip.{strip};
-ghost use Rattle.holdings.specs.Contents.{left_with};
-ghost use Rattle.holdings.specs.Sending.{IsTransferWithin};
-ghost use Rattle.mapdb.specs.declared.plan.End.TheVariants.{Target};
-ghost use Rattle.mapdb.specs.Sending.{ends_of};
-
-/// The pages that are to be replaced are revoked, with all that derives from them.
-///
-/// Refused, where memory is: `NoMemory`.
-fn flush(alloc: Global, held: Holdings, transfers: &[Transfer]) -> Result<Holdings, NoMemory>
-    requires { All (IsTransferWithin held.limits) transfers.now }
-    ensures { IfOk result (λ r. r ≡ left_with held (strip held.holdings (ends_of Target transfers.now) all_rights true)) }
-{
-    let replaced = ends(alloc, transfers, End::Target)?;
-    let (held, _) = held.strip(alloc, &replaced, Rights::all(), true)?;
-    Ok(held)
-}
-
 ghost use Rattle.fpage.specs.declared.item.ItemKind.TheVariants.{Grant};
 ghost use Rattle.model.specs.Lawful.{is_lawful};
 ghost use Rattle.holdings.specs.Sending.{ArePlanned, AreReady, AllGo};

@@ -6,7 +6,7 @@ use Rattle.model.specs.Replay.{Told, start}
 use Rattle.holdings.specs.Meaning.{limits_of}
 use Rattle.trace.specs.declared.read.Trace.{Trace as TheTrace}
 use Rattle.trace.specs.Trace.{IsTraceOf}
-use Rattle.replay.specs.declared.run.Summary.{Summary}
+use Rattle.replay.specs.declared.replay.Summary.{Summary}
 use Rattle.replay.specs.declared.error.RunError.{RunError}
 use Rattle.replay.specs.declared.error.RunError.TheVariants.{BadHeader, BadLimits, NoMemory, NoWorker, Unreadable, WriteFailed}
 use Rattle.replay.specs.Run.{told_of, WritesText, WritesReplay, StopsBefore, StopsAt, StopsEarly, EndsEarly}

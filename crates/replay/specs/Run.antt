@@ -8,7 +8,7 @@ use Rattle.model.specs.Replay.{Told, replay}
 use Rattle.model.specs.Records.{Fields, Trace, are_limits, bad_header, bad_limits, request, trace_of}
 use Rattle.model.specs.Text.{text, told, reply_line, reply_lines, is_refused, refused_count}
 use Rattle.mapdb.specs.State.{State, new_state}
-use Rattle.replay.specs.declared.run.Summary.{Summary}
+use Rattle.replay.specs.declared.replay.Summary.{Summary}
 use Rattle.replay.specs.declared.error.RunError.{RunError}
 use Rattle.replay.specs.declared.error.RunError.TheVariants.{BadHeader, BadLimits, NoMemory, NoWorker, Unreadable, WriteFailed}
 

@@ -4,11 +4,10 @@
 mod answer;
 mod error;
 mod options;
-mod run;
+mod replay;
 #[cfg(test)]
 mod tests;
 
-pub use answer::answer;
 pub use error::RunError;
 pub use options::Options;
-pub use run::{Summary, run};
+pub use replay::{Summary, run};

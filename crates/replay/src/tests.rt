@@ -7,7 +7,7 @@ mod worked;
 use crate::answer::answer;
 use crate::error::RunError;
 use crate::options::Options;
-use crate::run::{Summary, run};
+use crate::replay::{Summary, run};
 use audit::{Line, check, lines};
 use mapdb::Database;
 use std::alloc::Global;

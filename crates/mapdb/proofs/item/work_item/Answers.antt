@@ -7,24 +7,33 @@ use Rattle.model.specs.SendLaws.{total}
 use Rattle.model.specs.Strip.{strip}
 use Rattle.holdings.specs.declared.transfer.Transfer.{Transfer}
 use Rattle.holdings.specs.Contents.{left_with}
+use Rattle.holdings.specs.Held.{IsWithin}
 use Rattle.holdings.specs.Meaning as phase
+use Rattle.holdings.specs.Stripping.{any_of}
 use Rattle.holdings.specs.Sending.{job_of_pages, IsTransferWithin, ArePlanned, AllGo, AreReady}
 use Rattle.mapdb.specs.declared.plan.End.TheVariants.{Target}
 use Rattle.mapdb.specs.Meaning.{counts_of}
 use Rattle.mapdb.specs.Sending.{ends_of, transfers_of, AreWorkedBy}
-use Rattle.mapdb.proofs.Phases.{grant_goes}
-use Rattle.mapdb.proofs.OneItem.{planned, lawful_then, planned_then, ready_then, left_then, counts_then, total_then, fits_then}
+use Rattle.mapdb.proofs.Ends.{all_within}
+use Rattle.mapdb.proofs.Phases.{ends_within, grant_goes}
+use Rattle.mapdb.proofs.OneItem.{flush_left, planned, lawful_then, planned_then, ready_then, left_then, counts_then, total_then, fits_then}
 use Rattle.mapdb.proofs.item.work_item.Goals as goal
 
-pub flush-requires : goal.flush-requires
-flush-requires c = subst (All (IsTransferWithin c.args.held.limits)) (sym (c.deref.ensures.value ∙ c.in_ok-plan.ensures.transfers)) (planned c.args.held c.args.pages.now c.in_ok-plan.ensures.consistent c.requires).within
+pub strip-requires : goal.strip-requires
+strip-requires c =
+    let limits = c.args.held.limits in
+    let transfers = subst (All (IsTransferWithin limits)) (sym (c.deref.ensures.value ∙ c.in_ok-plan.ensures.transfers)) (planned c.args.held c.args.pages.now c.in_ok-plan.ensures.consistent c.requires).within in
+    subst (All (IsWithin limits)) (sym c.deref-2.ensures.value)
+    (all_within limits c.in_ok-replaced.replaced.items (λ p named. ends_within limits Target c.deref.result.now transfers p (sym (c.in_ok-replaced.ensures p) ∙ named)))
 
-module _ (c : goal.After-deref-2) where
+module _ (c : goal.After-deref-3) where
   flushed : c.in_ok-held.held ≡ left_with c.args.held (strip c.args.held.holdings (ends_of Target (transfers_of c.args.held.holdings (job_of_pages c.args.pages.now) (job_of_pages c.args.pages.now).pairs)) all_rights true)
-  flushed = c.in_ok-held.ensures ∙ ap (λ (ts : List Transfer). left_with c.args.held (strip c.args.held.holdings (ends_of Target ts) all_rights true)) (c.deref.ensures.value ∙ c.in_ok-plan.ensures.transfers)
+  flushed =
+      flush_left c.args.held c.deref.result.now _ c.deref-2.result.now c.all.result (c.in_ok-held.held, c.in_ok-held.field-0-1) c.in_ok-held.ensures c.all.ensures
+      (λ p. ap (λ ps. any_of ps p) c.deref-2.ensures.value ∙ c.in_ok-replaced.ensures p) (c.deref.ensures.value ∙ c.in_ok-plan.ensures.transfers)
 
-  shown : c.deref-2.result.now ≡ transfers_of c.args.held.holdings (job_of_pages c.args.pages.now) (job_of_pages c.args.pages.now).pairs
-  shown = c.deref-2.ensures.value ∙ c.in_ok-plan.ensures.transfers
+  shown : c.deref-3.result.now ≡ transfers_of c.args.held.holdings (job_of_pages c.args.pages.now) (job_of_pages c.args.pages.now).pairs
+  shown = c.deref-3.ensures.value ∙ c.in_ok-plan.ensures.transfers
 
 pub map_or_grant-requires-clause-lawful : goal.map_or_grant-requires-clause-lawful
 map_or_grant-requires-clause-lawful c = lawful_then c.args.held c.args.pages.now c.in_ok-plan.ensures.consistent c.requires c.in_ok-held.held (flushed c)
@@ -40,11 +49,13 @@ map_or_grant-requires-clause-ready c = subst (AreReady c.in_ok-held.held.holding
 
 module _ (c : goal.After-of_worked) where
   flushed_before : c.in_ok-held.held ≡ left_with c.args.held (strip c.args.held.holdings (ends_of Target (transfers_of c.args.held.holdings (job_of_pages c.args.pages.now) (job_of_pages c.args.pages.now).pairs)) all_rights true)
-  flushed_before = c.in_ok-held.ensures ∙ ap (λ (ts : List Transfer). left_with c.args.held (strip c.args.held.holdings (ends_of Target ts) all_rights true)) (c.deref.ensures.value ∙ c.in_ok-plan.ensures.transfers)
+  flushed_before =
+      flush_left c.args.held c.deref.result.now _ c.deref-2.result.now c.all.result (c.in_ok-held.held, c.in_ok-held.field-0-1) c.in_ok-held.ensures c.all.ensures
+      (λ p. ap (λ ps. any_of ps p) c.deref-2.ensures.value ∙ c.in_ok-replaced.ensures p) (c.deref.ensures.value ∙ c.in_ok-plan.ensures.transfers)
 
   phased : AreWorkedBy c.in_ok-held.held c.args.pages.now.kind c.args.pages.now.rights (transfers_of c.args.held.holdings (job_of_pages c.args.pages.now) (job_of_pages c.args.pages.now).pairs) (c.in_ok-held-2.held, c.in_ok-held-2.worked)
   phased =
-      subst (λ (ts : List Transfer). AreWorkedBy c.in_ok-held.held c.args.pages.now.kind c.args.pages.now.rights ts (c.in_ok-held-2.held, c.in_ok-held-2.worked)) (c.deref-2.ensures.value ∙ c.in_ok-plan.ensures.transfers) c.in_ok-held-2.ensures
+      subst (λ (ts : List Transfer). AreWorkedBy c.in_ok-held.held c.args.pages.now.kind c.args.pages.now.rights ts (c.in_ok-held-2.held, c.in_ok-held-2.worked)) (c.deref-3.ensures.value ∙ c.in_ok-plan.ensures.transfers) c.in_ok-held-2.ensures
 
 pub plus-requires : goal.plus-requires
 plus-requires c =
@@ -53,11 +64,13 @@ plus-requires c =
 
 module _ (c : goal.After-drop-plan-2) where
   flushed_last : c.in_ok-held.held ≡ left_with c.args.held (strip c.args.held.holdings (ends_of Target (transfers_of c.args.held.holdings (job_of_pages c.args.pages.now) (job_of_pages c.args.pages.now).pairs)) all_rights true)
-  flushed_last = c.in_ok-held.ensures ∙ ap (λ (ts : List Transfer). left_with c.args.held (strip c.args.held.holdings (ends_of Target ts) all_rights true)) (c.deref.ensures.value ∙ c.in_ok-plan.ensures.transfers)
+  flushed_last =
+      flush_left c.args.held c.deref.result.now _ c.deref-2.result.now c.all.result (c.in_ok-held.held, c.in_ok-held.field-0-1) c.in_ok-held.ensures c.all.ensures
+      (λ p. ap (λ ps. any_of ps p) c.deref-2.ensures.value ∙ c.in_ok-replaced.ensures p) (c.deref.ensures.value ∙ c.in_ok-plan.ensures.transfers)
 
   phased_last : AreWorkedBy c.in_ok-held.held c.args.pages.now.kind c.args.pages.now.rights (transfers_of c.args.held.holdings (job_of_pages c.args.pages.now) (job_of_pages c.args.pages.now).pairs) (c.in_ok-held-2.held, c.in_ok-held-2.worked)
   phased_last =
-      subst (λ (ts : List Transfer). AreWorkedBy c.in_ok-held.held c.args.pages.now.kind c.args.pages.now.rights ts (c.in_ok-held-2.held, c.in_ok-held-2.worked)) (c.deref-2.ensures.value ∙ c.in_ok-plan.ensures.transfers) c.in_ok-held-2.ensures
+      subst (λ (ts : List Transfer). AreWorkedBy c.in_ok-held.held c.args.pages.now.kind c.args.pages.now.rights ts (c.in_ok-held-2.held, c.in_ok-held-2.worked)) (c.deref-3.ensures.value ∙ c.in_ok-plan.ensures.transfers) c.in_ok-held-2.ensures
 
   counted : counts_of c.plus.result ≡ add_counts (counts_of c.in_ok-plan.plan.decided) (phase.counts_of c.in_ok-held-2.worked)
   counted = c.plus.ensures ∙ ap (add_counts (counts_of c.in_ok-plan.plan.decided)) c.of_worked.ensures

@@ -8,8 +8,8 @@ ghost use Rattle.replay.specs.Run.{Answers, told_of, WritesReplies, WritesText, 
 ghost use Rattle.replay.specs.Run.{WritesReplay, EndsEarly, WritesNothing, TellsStreams};
 
 use crate::answer::answer;
-use crate::options::Options;
 use crate::error::RunError;
+use crate::options::Options;
 use audit::report;
 use mapdb::{Database, DbError, Limits};
 use space::NoMemory;
@@ -46,38 +46,6 @@ fn reply_line(
     line.clear();
     push_reply(line, number, &reply)?;
     Ok(matches!(reply, Reply::Refused(_)))
-}
-
-/// Answers the records in order, writes their reply lines, and counts those that were refused. Where memory runs out at
-/// a record, the reply lines before it are flushed.
-fn write_replies<W: Sink>(
-    alloc: Global,
-    database: &mut Database,
-    records: &[Record],
-    plain: bool,
-    writer: &mut W,
-) -> Result<u64, RunError>
-    requires { database.old.is_halted ≡ false }
-    ensures ok { IfOk result (λ refused. WritesReplies (told_of database.old.limits records.now database.old.holdings)
-        (W.contents writer.old) (W.contents writer.new) database.new.holdings refused) }
-    ensures keeps { OnOk result (database.new ≡ left_with database.old database.new.holdings) }
-    ensures works { OnOk result (W.failed writer.new ≡ W.failed writer.old) }
-    ensures err { IfErr result (StopsEarly (told_of database.old.limits records.now database.old.holdings)
-        (W.contents writer.old) (W.contents writer.new) (W.failed writer.old) (W.failed writer.new)) }
-{
-    let mut line = String::new(alloc);
-    let mut refused = 0;
-    for (i, asked) in records.iter().enumerate() {
-        let number = i as u64 + 1;
-        let Ok(is_refused) = reply_line(alloc, database, asked, plain, number, &mut line) else {
-            return Err(stop_at(writer, number));
-        };
-        if writer.write_all(line.as_bytes()).is_err() {
-            return Err(RunError::WriteFailed);
-        }
-        refused += u64::from(is_refused);
-    }
-    Ok(refused)
 }
 
 /// The audit lines and the end line.
@@ -124,7 +92,7 @@ pub fn run<T: AllocGlobal + Threads + Sync, R: Source, W: Sink>(
     let alloc = rt.alloc();
     let trace = read_all(alloc, reader)?;
     let mut database = start(alloc, &trace.limits)?;
-    replay(rt, &mut database, &trace.records, options.plain, writer)
+    replay_records(rt, &mut database, &trace.records, options.plain, writer)
 }
 
 /// A database at the start.
@@ -139,9 +107,9 @@ fn start(alloc: Global, limits: &Limits) -> Result<Database, RunError>
     }
 }
 
-/// Replays records: writes the reply lines, the audit lines and the end line, and flushes them. Where memory runs out at
-/// a record, the reply lines before it are flushed.
-fn replay<W: Sink>(
+/// Replays records: answers them in order, writes their reply lines, the audit lines and the end line, and flushes them.
+/// Where memory runs out at a record, the reply lines before it are flushed.
+fn replay_records<W: Sink>(
     rt: &(impl AllocGlobal + Threads + Sync),
     database: &mut Database,
     records: &[Record],
@@ -155,7 +123,19 @@ fn replay<W: Sink>(
     ensures err { IfErr result (StopsEarly (told_of database.old.limits records.now database.old.holdings)
         (W.contents writer.old) (W.contents writer.new) (W.failed writer.old) (W.failed writer.new)) }
 {
-    let refused = write_replies(rt.alloc(), database, records, plain, writer)?;
+    let alloc = rt.alloc();
+    let mut line = String::new(alloc);
+    let mut refused = 0;
+    for (i, asked) in records.iter().enumerate() {
+        let number = i as u64 + 1;
+        let Ok(is_refused) = reply_line(alloc, database, asked, plain, number, &mut line) else {
+            return Err(stop_at(writer, number));
+        };
+        if writer.write_all(line.as_bytes()).is_err() {
+            return Err(RunError::WriteFailed);
+        }
+        refused += u64::from(is_refused);
+    }
     let count = records.len() as u64;
     let Ok(text) = closing_text(rt, database, count, refused) else {
         return Err(stop_at(writer, count + 1));

@@ -3,7 +3,7 @@ use Rattle.std.proofs.Common.{◌≡◌, ◌≤◌, drop}
 use Rattle.mapdb.specs.State.{left_with}
 use Rattle.replay.specs.Run.{told_of}
 use Rattle.replay.proofs.Replays.{SoFar}
-use Rattle.replay.proofs.run.write_replies.Given as goal
+use Rattle.replay.proofs.replay.replay_records.Given as goal
 
 abbrev pub invariant-loop-i : goal.invariant-loop-i
 invariant-loop-i g l = record {
