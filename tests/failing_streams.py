@@ -1,5 +1,5 @@
 #!/usr/bin/env python3
-"""Standard streams that fail, close or give their bytes piece by piece.
+"""Standard streams that fail, close, are interrupted or give their bytes piece by piece.
 
     tests/failing_streams.py [PROGRAM]
 
@@ -40,6 +40,9 @@ OUTPUTS = [
 
 # Writes of a long output that are made to fail in turn, if it has so many.
 MOST_WRITES = 20
+
+# Reads of its input, and writes of its output, that are interrupted in turn, if it has so many.
+MOST_INTERRUPTED = 5
 
 UNREADABLE = Ended(4, b"", b"l4map: Unreadable\n")
 WRITE_FAILED = Ended(4, b"", b"l4map: WriteFailed\n")
@@ -146,6 +149,30 @@ def check_each_write(cases, program, room):
         cases.check(f"some write of {name} failed", "" if fail_at > 1 else "the library has no effect")
 
 
+def run_interrupted(program, given, library, kind, at):
+    """Runs the program with one of its reads or writes interrupted, and tells whether it was."""
+    note, end = os.pipe()
+    environment = preloaded(library, INTERRUPT=kind, INTERRUPT_AT=at, NOTE=end)
+    got = run(program, given, env=environment, pass_fds=[end])
+    os.close(end)
+    was_interrupted = os.read(note, 1) == b"!"
+    os.close(note)
+    return got, was_interrupted
+
+
+def check_interruptions(cases, program, room):
+    """A read or a write that a signal interrupts is made again: by the preloaded library of support/interrupt.c."""
+    library = build_library("interrupt.c", room)
+    for name, given, answer in OUTPUTS:
+        for kind in ("read", "write"):
+            at, was_interrupted = 0, True
+            while was_interrupted and at < MOST_INTERRUPTED:
+                at += 1
+                got, was_interrupted = run_interrupted(program, given, library, kind, at)
+                cases.compare(f"{kind} {at} of {name} is interrupted", Ended(0, answer, b""), got)
+            cases.check(f"some {kind} of {name} was interrupted", "" if at > 1 else "the library has no effect")
+
+
 def check_silent_errors(cases, program):
     """The exit status stands also where standard error takes nothing."""
     with open("/dev/full", "wb") as full:
@@ -162,6 +189,7 @@ def main():
         check_pieces(cases, program)
         check_writing(cases, program, room)
         check_each_write(cases, program, room)
+        check_interruptions(cases, program, room)
         check_silent_errors(cases, program)
     cases.end()
 

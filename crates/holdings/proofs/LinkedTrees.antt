@@ -16,7 +16,7 @@ use Rattle.space.proofs.Places.{same_self, same_is, same_or_apart, apart_back}
 use Rattle.maptree.specs.Origins.{Origins, origin_in}
 use Rattle.maptree.specs.Growing.{with_new, with_below, AreApart}
 use Rattle.holdings.specs.declared.link.Link.{Link}
-use Rattle.holdings.proofs.Trees.{none_found}
+use Rattle.maptree.proofs.Found.{none_found}
 use Rattle.holdings.specs.Derivation.{stands_in, IsDerived}
 use Rattle.holdings.specs.Links.{is_new_in, AreLinkedIn, AreOnce, last_target, AreTargets}
 use Rattle.holdings.specs.declared.transfer.Transfer.{Transfer}

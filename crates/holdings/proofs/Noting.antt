@@ -13,7 +13,7 @@ use Rattle.maptree.specs.Origins.{Origins, Shape, are_once, origin_in, IsRun, Ar
 use Rattle.holdings.specs.Held.{links_in, has_frame}
 use Rattle.holdings.specs.Stripping.{AreSound}
 use Rattle.holdings.specs.declared.spots.Spot.{Spot}
-use Rattle.holdings.proofs.Trees.{found_at}
+use Rattle.maptree.proofs.Found.{found_at}
 use Rattle.holdings.specs.Spots.{IsSpotIn, IsSpot, AreSpots, IsSpotOf, AreSpotsOf, IsHeldSomewhere}
 use Rattle.holdings.specs.Sending.{page_on}
 

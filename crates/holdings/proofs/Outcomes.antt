@@ -25,7 +25,7 @@ use Rattle.holdings.specs.declared.spots.Spot.{Spot}
 use Rattle.holdings.specs.Spots.{IsSpotIn}
 use Rattle.holdings.specs.declared.outcome.Outcome.{Outcome}
 use Rattle.holdings.specs.declared.outcome.Outcome.TheVariants as outcome
-use Rattle.holdings.proofs.Trees.{found_at}
+use Rattle.maptree.proofs.Found.{found_at}
 use Rattle.holdings.proofs.Holders.{absent_within, present_within, origin_within}
 use Rattle.holdings.proofs.Chains.{chains_agree}
 use Rattle.holdings.proofs.Frames.{loose_from}

@@ -46,14 +46,8 @@ fn tells_each_error_by_its_line_and_status(rt: HostRuntime) -> Result<(), Fail> 
 #[test]
 fn reads_the_command_line(rt: HostRuntime) -> Result<(), Fail> {
     let alloc = rt.alloc();
-    assert_eq!(rt;
-        parse(alloc, &["l4map"]).ok(),
-        Some(DEFAULTS)
-    );
-    assert_eq!(rt;
-        parse(alloc, &["l4map", "--plain"]).ok(),
-        Some(PLAIN)
-    );
+    assert_eq!(rt; parse(alloc, &["l4map"]).ok(), Some(DEFAULTS));
+    assert_eq!(rt; parse(alloc, &["l4map", "--plain"]).ok(), Some(PLAIN));
     let most = Options {
         workers: 64,
         piece_length: 65536,

@@ -15,3 +15,5 @@ pub mod Linking
 pub mod RunEnds
 pub mod Growth
 pub mod OnePlace
+pub mod Found
+pub mod OneRun

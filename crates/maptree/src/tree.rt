@@ -156,8 +156,22 @@ impl Tree {
     pub fn outer_runs(&self, alloc: Global, places: &[Place]) -> Result<Vec<Range<usize>>, NoMemory>
         ensures { IfOk result (λ runs. AreOuterRuns self.now.links places.now runs.items) }
     {
+        if let [place] = places {
+            return self.run_of_place(alloc, *place);
+        }
         let named = set_of(alloc, places)?;
         let runs = outermost(&self.nodes, alloc, &named)?;
+        Ok(runs)
+    }
+
+    /// The same for one place: a search for it is faster than a pass that asks of each node whether it is named.
+    fn run_of_place(&self, alloc: Global, place: Place) -> Result<Vec<Range<usize>>, NoMemory>
+        ensures { IfOk result (λ runs. AreOuterRuns self.now.links (place ∷ []) runs.items) }
+    {
+        let mut runs = Vec::new(alloc);
+        if let Some(i) = placed(&self.nodes, place) {
+            runs.push(self.run_of(i)).map_err(AllocError::from)?;
+        }
         Ok(runs)
     }
 

@@ -13,10 +13,11 @@ use Rattle.model.proofs.LawfulParts.{lawful_parts}
 use Rattle.holdings.proofs.Holders.{links_read}
 use Rattle.holdings.specs.Sending.{IsTreeSet}
 use Rattle.holdings.proofs.NewMappings.{tree_set}
-use Rattle.holdings.proofs.Trees.{some_found}
+use Rattle.maptree.proofs.Found.{some_found}
 use Rattle.holdings.proofs.Sequences.{AreStripped}
 use Rattle.holdings.proofs.Frames.{loose_from, tree_places, outside_held, origins_stay, frame_left, frame_status, frame_sound}
-use Rattle.holdings.proofs.OnePlace.{IsRunOf, run_found, one_run, one_of_frame, one_word, one_strip, one_first}
+use Rattle.maptree.proofs.OneRun.{IsRunOf, run_found, one_run}
+use Rattle.holdings.proofs.OnePlace.{one_of_frame, one_word, one_strip, one_first}
 use Rattle.holdings.proofs.recursion.visit_place.Goals as goal
 
 -- the tree as it is read
