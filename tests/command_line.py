@@ -5,6 +5,7 @@
 """
 
 import os
+import resource
 
 from support.program import Cases, Ended, program_path, run
 
@@ -63,6 +64,9 @@ REFUSED = [
     ["--plain", b"--workers=\xff"],
 ]
 
+# How many mappings derive from one another in a long chain, beside the first.
+CHAIN = 4000
+
 # Each word that help must name.
 HELP = [b"Usage: l4map", b"--workers", b"--piece", b"--plain", b"--help", b"--version", b"standard input", b"l4map,1,2,18,1"]
 
@@ -70,6 +74,37 @@ HELP = [b"Usage: l4map", b"--workers", b"--piece", b"--plain", b"--help", b"--ve
 def check_taken(cases, program):
     for words in TAKEN:
         cases.compare(f"taken: {' '.join(words)}", Ended(0, ANSWER, b""), run([program, *words], TRACE))
+
+
+def long_chain():
+    """A trace of a chain that goes to and fro between two spaces, and unmaps of all pages of one of them."""
+    lines = ["l4map,1,3,24,1", "send,0,1,10,8,c7"]
+    for page in range(CHAIN // 2):
+        lines.append(f"send,1,2,10,{page:x}008,{page:x}0c7")
+        lines.append(f"send,2,1,10,{page + 1:x}008,{page:x}0c7")
+    return "\n".join([*lines, *["unmap,1,0,10"] * 4, ""]).encode()
+
+
+def processor_time(words, given):
+    """The least processor time of a few runs, in seconds."""
+    times = []
+    for _ in range(3):
+        before = resource.getrusage(resource.RUSAGE_CHILDREN)
+        run(words, given)
+        after = resource.getrusage(resource.RUSAGE_CHILDREN)
+        times.append(after.ru_utime + after.ru_stime - before.ru_utime - before.ru_stime)
+    return min(times)
+
+
+def check_plain(cases, program):
+    """With --plain an unmap is worked page by page: what is written is the same, and a chain takes many times as long."""
+    trace = long_chain()
+    usual, plain = run([program], trace), run([program, "--plain"], trace)
+    cases.compare("a long chain with --plain", usual, plain)
+    cases.check("a long chain is answered", "" if usual.stdout.endswith(b"\nend %d 0\n" % (CHAIN + 5)) else f"it ended with {usual}")
+    quick, slow = processor_time([program], trace), processor_time([program, "--plain"], trace)
+    wrong = "" if slow > 3 * quick else f"{slow:.3f} s with it, {quick:.3f} s without"
+    cases.check("a long chain takes longer with --plain", wrong)
 
 
 def check_refused(cases, program):
@@ -110,6 +145,7 @@ def check_closed_standard_error(cases, program):
 def main():
     program, cases = program_path(), Cases()
     check_taken(cases, program)
+    check_plain(cases, program)
     check_refused(cases, program)
     check_help_and_version(cases, program)
     check_closed_standard_error(cases, program)

@@ -55,6 +55,13 @@ fn reads_the_command_line(rt: HostRuntime) -> Result<(), Fail> {
     };
     let words = ["l4map", "--workers", "64", "--piece=65536"];
     assert_eq!(rt; parse(alloc, &words).ok(), Some(most));
+    let others = Options {
+        workers: 3,
+        piece_length: 5,
+        plain: true,
+    };
+    let words = ["l4map", "--piece", "5", "--plain", "--workers", "3"];
+    assert_eq!(rt; parse(alloc, &words).ok(), Some(others));
     let least = Options {
         workers: 1,
         piece_length: 1,

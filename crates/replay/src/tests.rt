@@ -169,10 +169,11 @@ fn answers_a_bad_header_before_it_writes(rt: HostRuntime) {
     }
 }
 
-/// A sink that counts its calls, keeps what was written, and fails at one of its calls.
+/// A sink that counts its calls, keeps what was written and how much of it was flushed, and fails at one of its calls.
 #[derive(Drop)]
 struct FailingSink {
     kept: Vec<u8>,
+    flushed: usize,
     calls: u64,
     fails_at: u64,
     failed: bool,
@@ -200,7 +201,9 @@ impl Sink for FailingSink {
     }
 
     fn flush(&mut self) -> Result<(), Failed> {
-        self.call(&[])
+        self.call(&[])?;
+        self.flushed = self.kept.len();
+        Ok(())
     }
 
     fn has_failed(&self) -> bool {
@@ -218,6 +221,7 @@ fn sink(rt: &impl AllocGlobal, fails_at: u64) -> FailingSink
 {
     FailingSink {
         kept: Vec::new(rt.alloc()),
+        flushed: 0,
         calls: 0,
         fails_at,
         failed: false,
@@ -241,6 +245,9 @@ fn a_sink_that_fails_at_any_call_is_write_failed(rt: HostRuntime) {
         Ok(summary)
     );
     assert_eq!(rt; undisturbed.kept.as_slice(), SHORT_OUTPUT.as_bytes());
+    assert_eq!(rt; undisturbed.flushed, SHORT_OUTPUT.len());
+    // A reply line for each of two records, the audit with the end line, and the flush.
+    assert_eq!(rt; undisturbed.calls, 4);
     for fails_at in 1..undisturbed.calls.saturating_add(1) {
         let mut output = sink(&rt, fails_at);
         let outcome = run(&rt, &mut Std::new(SHORT.as_bytes()), &mut output, &OPTIONS);
