@@ -1,0 +1,192 @@
+-- Worked rows of records: the forms of fields, and which refusal comes first.
+use Rattle.std.specs.Prelude.{◌≡◌, [], ◌∷◌, ◌++◌, codes}
+use Rattle.model.specs.Rows.{times, shows, row}
+
+-- each refusal by its cause
+abbrev pub RefusalsByName : Type 0
+RefusalsByName =
+    row
+    (codes "send,1,1,c0,8,c7"
+    ∷ codes "send,0,3,c0,8,c7"
+    ∷ codes "send,0,1,0,8,c7"
+    ∷ codes "send,0,1,c0,6,c7"
+    ∷ codes "send,0,1,c0,8,a7"
+    ∷ codes "send,0,1,c0,8,10d7"
+    ∷ codes "send,0,1,c0,8,400c7"
+    ∷ codes "send,0,1,c0,8"
+    ∷ codes "unmap,0,80,c0"
+    ∷ codes "map,0,1" ∷ [])
+    ≡ shows
+    (codes "1 refused SameSpace"
+    ∷ codes "2 refused NoSuchSpace"
+    ∷ codes "3 refused NoWindow"
+    ∷ codes "4 refused NotAnItem"
+    ∷ codes "5 refused BadSize"
+    ∷ codes "6 refused Misaligned"
+    ∷ codes "7 refused OutOfSpace"
+    ∷ codes "8 refused BadRecord"
+    ∷ codes "9 refused BadControl"
+    ∷ codes "10 refused BadRecord" ∷ [])
+    []
+    []
+
+-- digits and their number, kinds, and the order of refusals
+abbrev pub AccessFields : Type 0
+AccessFields =
+    row
+    (codes "access,3,40000,r"
+    ∷ codes "access,0,40000,r"
+    ∷ codes "access,0,3ffff,r"
+    ∷ codes "access,0,ffff,x"
+    ∷ codes "access,0,10000,x"
+    ∷ codes "access,00000,0000aBcD,r"
+    ∷ codes "access,65535,0,r"
+    ∷ codes "access,65536,0,r"
+    ∷ codes "access,000000,0,r"
+    ∷ codes "access,0,000000000,r"
+    ∷ codes "access,a,0,r"
+    ∷ codes "access,0,g,r"
+    ∷ codes "access,+0,0,r"
+    ∷ codes "access, 0,0,r"
+    ∷ codes "access,0,0x0,r"
+    ∷ codes "access,0,-1,r"
+    ∷ codes "access,0,,r"
+    ∷ codes "access,0,0,R"
+    ∷ codes "access,0,0,rw"
+    ∷ codes "access,0,0,"
+    ∷ codes "access,0,0"
+    ∷ codes "access,0,0,r,"
+    ∷ codes "Access,0,0,r" ∷ [])
+    ≡ shows
+    (codes "1 refused NoSuchSpace"
+    ∷ codes "2 refused OutOfSpace"
+    ∷ codes "3 access fault"
+    ∷ codes "4 access ok"
+    ∷ codes "5 access fault"
+    ∷ codes "6 access ok"
+    ∷ codes "7 refused NoSuchSpace"
+    ∷ codes "8 refused BadRecord"
+    ∷ codes "9 refused BadRecord"
+    ∷ codes "10 refused BadRecord"
+    ∷ codes "11 refused BadRecord"
+    ∷ codes "12 refused BadRecord"
+    ∷ codes "13 refused BadRecord"
+    ∷ codes "14 refused BadRecord"
+    ∷ codes "15 refused BadRecord"
+    ∷ codes "16 refused BadRecord"
+    ∷ codes "17 refused BadRecord"
+    ∷ codes "18 refused BadRecord"
+    ∷ codes "19 refused BadRecord"
+    ∷ codes "20 refused BadRecord"
+    ∷ codes "21 refused BadRecord"
+    ∷ codes "22 refused BadRecord"
+    ∷ codes "23 refused BadRecord" ∷ [])
+    (codes "0,10,10,rwx,R--,-"
+    ∷ codes "0,15,15,rwx,R-X,-" ∷ [])
+    []
+
+-- the window, each item in turn, the sender, the receiver, one space for both, the nilpage
+abbrev pub SendRefusalsInOrder : Type 0
+SendRefusalsInOrder =
+    row
+    (codes "send,3,3,a7,6,a7"
+    ∷ codes "send,3,3,0,6,a7"
+    ∷ codes "send,3,3,0,8,10d7,6,a7"
+    ∷ codes "send,3,3,0,8,c7,6,a7"
+    ∷ codes "send,3,0,0,8,c7"
+    ∷ codes "send,1,1,0,8,c7"
+    ∷ codes "send,0,1,f,8,c7"
+    ∷ codes "send,0,1,7,8,0"
+    ∷ codes "send,65535,1,c0,8,c7"
+    ∷ codes "send,65536,1,a7,8,a7"
+    ∷ codes "send,3,3,c0,8,c7"
+    ∷ codes "send,0,3,c0,8,c7" ∷ [])
+    ≡ shows
+    (codes "1 refused BadSize"
+    ∷ codes "2 refused NotAnItem"
+    ∷ codes "3 refused Misaligned"
+    ∷ codes "4 refused NotAnItem"
+    ∷ codes "5 refused NoSuchSpace"
+    ∷ codes "6 refused SameSpace"
+    ∷ codes "7 refused NoWindow"
+    ∷ codes "8 refused NoWindow"
+    ∷ codes "9 refused NoSuchSpace"
+    ∷ codes "10 refused BadRecord"
+    ∷ codes "11 refused NoSuchSpace"
+    ∷ codes "12 refused NoSuchSpace" ∷ [])
+    []
+    []
+
+-- the form, the control word, each word in turn, the space; no words, and one more than 64
+abbrev pub UnmapRefusalsInOrder : Type 0
+UnmapRefusalsInOrder =
+    row
+    (codes "unmap,0"
+    ∷ codes "unmap,65536,80,c7"
+    ∷ codes "unmap,0,0,123456789"
+    ∷ codes "unmap,3,80,a7"
+    ∷ codes "unmap,0,80000000,c7"
+    ∷ codes "unmap,0,0"
+    ∷ codes "unmap,0,1,c7"
+    ∷ (codes "unmap,0,3f" ++ times 65 (codes ",0"))
+    ∷ (codes "unmap,0,0" ++ times 65 (codes ",0"))
+    ∷ codes "unmap,3,0,a7"
+    ∷ codes "unmap,3,1,400c7,a7"
+    ∷ codes "unmap,3,0,c7"
+    ∷ codes "unmap,65535,0,c7" ∷ [])
+    ≡ shows
+    (codes "1 refused BadRecord"
+    ∷ codes "2 refused BadRecord"
+    ∷ codes "3 refused BadRecord"
+    ∷ codes "4 refused BadControl"
+    ∷ codes "5 refused BadControl"
+    ∷ codes "6 refused BadControl"
+    ∷ codes "7 refused BadControl"
+    ∷ codes "8 refused BadControl"
+    ∷ codes "9 refused BadControl"
+    ∷ codes "10 refused BadSize"
+    ∷ codes "11 refused OutOfSpace"
+    ∷ codes "12 refused NoSuchSpace"
+    ∷ codes "13 refused NoSuchSpace" ∷ [])
+    []
+    []
+
+-- 31 items are a send and 32 are none, nor is an odd word or no item; 64 words are an unmap
+abbrev pub NumbersOfWords : Type 0
+NumbersOfWords =
+    row
+    ((codes "send,0,1,10" ++ times 31 (codes ",8,0"))
+    ∷ (codes "send,0,1,10" ++ times 32 (codes ",8,0"))
+    ∷ codes "send,0,1,10,8,c7,8"
+    ∷ codes "send,0,1,10"
+    ∷ (codes "unmap,0,3f" ++ times 64 (codes ",0")) ∷ [])
+    ≡ shows
+    (codes "1 send absent=0 norights=0 origin=0 lost=0 extended=0 linked=0"
+    ∷ codes "2 refused BadRecord"
+    ∷ codes "3 refused BadRecord"
+    ∷ codes "4 refused BadRecord"
+    ∷ (codes "5 unmap" ++ times 64 (codes " 00000000")) ∷ [])
+    []
+    []
+
+-- a field counts by its value, and an empty line is no record
+abbrev pub QuotedFields : Type 0
+QuotedFields =
+    row
+    (codes "\"access\",\"0\",\"0\",\"r\""
+    ∷ codes ""
+    ∷ codes "\"\""
+    ∷ codes "\"acc\"\"ess\",0,0,r"
+    ∷ codes "\"send\",0,1,\"c0\",8,c7"
+    ∷ codes "acc\"ess\",0,0,r"
+    ∷ codes "\"access\"x,0,0,r" ∷ [])
+    ≡ shows
+    (codes "1 access ok"
+    ∷ codes "2 refused BadRecord"
+    ∷ codes "3 refused BadRecord"
+    ∷ codes "4 send absent=0 norights=0 origin=0 lost=0 extended=0 linked=1"
+    ∷ codes "5 refused BadRecord"
+    ∷ codes "6 refused BadRecord" ∷ [])
+    (codes "0,0,0,rwx,R--,-"
+    ∷ codes "1,0,0,rwx,---,0:0" ∷ [])
+    []
