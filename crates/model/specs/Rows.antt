@@ -1,5 +1,5 @@
 -- How worked rows are written: what a short trace writes, evaluated on the definitions.
-use Rattle.std.specs.Prelude.{ℕ, zero, suc, ◌+◌, Bool, false, not, if◌then◌else◌, List, [], ◌∷◌, ◌++◌, filter, replicate, codes, Option, Some, Result, Ok, Err}
+use Rattle.std.specs.Prelude.{ℕ, zero, suc, ◌+◌, Bool, false, not, if◌then◌else◌, List, [], ◌∷◌, ◌++◌, map, filter, replicate, codes, Option, Some, Result, Ok, Err}
 use Rattle.std.specs.List.{flat_map, list_all}
 use Rattle.std.specs.Str.{bytes_eq}
 use Rattle.std.specs.Fmt.{decimal}
@@ -156,3 +156,22 @@ row_from header records = row_of_trace (trace_of (lines (header ∷ records)))
 abbrev pub numbered : ℕ → ℕ → List ℕ → List ℕ
 numbered n zero t = []
 numbered n (suc count) t = decimal n ++ codes " " ++ t ++ line_feed ++ numbered (n + 1) count t
+
+-- an fpage as it is read: its first page, how many pages it has, and rights as a number
+abbrev pub fpage : ℕ → ℕ → ℕ → Result Flexpage FpageError
+fpage first count rights = Ok (record { first = first; count = count; rights = of_bits rights })
+
+-- the pairs of the relation among the first 16 pages on either side, by rising source
+abbrev pub related_pairs : Result Flexpage FpageError → Result Item FpageError → List (ℕ × ℕ)
+related_pairs (Err e) item = []
+related_pairs (Ok window) (Err e) = []
+related_pairs (Ok window) (Ok item) =
+    flat_map (λ p. map (λ q. (p, q)) (filter (λ q. is_pair item window p q) (numbers_from 0 16))) (numbers_from 0 16)
+
+-- the same of a window's word and an item's two words
+abbrev pub pairs_of_words : ℕ → ℕ → ℕ → List (ℕ × ℕ)
+pairs_of_words window first second = related_pairs (read_fpage 18 window) (read_item 18 first second)
+
+-- a place itself
+abbrev pub at_page : ℕ → ℕ → Place
+at_page space page = record { space = space; page = page }

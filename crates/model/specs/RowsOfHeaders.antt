@@ -51,3 +51,51 @@ LimitsPassed =
     ∷ codes "l4map,1,0,0,0"
     ∷ codes "l4map,1,9999999,9999999,9999999" ∷ [])
     ≡ replicate 9 (Err bad_limits)
+
+-- the most frames of spaces of each size
+abbrev pub BitsOfHeaders : Type 0
+BitsOfHeaders =
+    map header
+    (codes "l4map,1,3,18,64"
+    ∷ codes "l4map,1,10,19,128"
+    ∷ codes "l4map,1,100,20,256"
+    ∷ codes "l4map,1,511,21,512"
+    ∷ codes "l4map,1,2,22,1024"
+    ∷ codes "l4map,1,2,23,2048"
+    ∷ codes "l4map,1,2,24,4096" ∷ [])
+    ≡ limits 3 18 64 ∷ limits 10 19 128 ∷ limits 100 20 256 ∷ limits 511 21 512 ∷ limits 2 22 1024 ∷ limits 2 23 2048 ∷ limits 2 24 4096 ∷ []
+
+-- one frame more than a space of each size has pages
+abbrev pub FramesPastSpaces : Type 0
+FramesPastSpaces =
+    map header
+    (codes "l4map,1,3,18,65"
+    ∷ codes "l4map,1,3,19,129"
+    ∷ codes "l4map,1,3,20,257"
+    ∷ codes "l4map,1,3,21,513"
+    ∷ codes "l4map,1,3,22,1025"
+    ∷ codes "l4map,1,3,23,2049"
+    ∷ codes "l4map,1,3,24,4097" ∷ [])
+    ≡ replicate 7 (Err bad_limits)
+
+-- each field of another form: too many digits, none, a byte that is no digit, another name or version, a field more
+abbrev pub FieldsOfHeaders : Type 0
+FieldsOfHeaders =
+    map header
+    (codes "l4map,1,2,00000018,1"
+    ∷ codes "l4map,1,2,18,00000001"
+    ∷ codes "l4map,1,2,,1"
+    ∷ codes "l4map,1,2,18,"
+    ∷ codes "l4map,1,:,18,1"
+    ∷ codes "l4map,1,2,1:,1"
+    ∷ codes "l4map,1,2,18,/"
+    ∷ codes "l4map,1,2,18,a"
+    ∷ codes "l4map,,2,18,1"
+    ∷ codes "l4map,11,2,18,1"
+    ∷ codes "l4map,0,2,18,1"
+    ∷ codes ",1,2,18,1"
+    ∷ codes "l4maps,1,2,18,1"
+    ∷ codes "l4ma,1,2,18,1"
+    ∷ codes "l4map,1,2,18,1,1"
+    ∷ codes "l4map,1" ∷ [])
+    ≡ replicate 16 (Err bad_header)

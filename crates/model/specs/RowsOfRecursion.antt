@@ -117,3 +117,37 @@ FlushOfNestedHigherPage =
     ≡ takes 5
     (codes "0,5,5,rwx,R-X,-" ∷ [])
     []
+
+-- two branches, one with a branch of its own, each with a status
+abbrev pub BranchesByRecursion : Type 0
+BranchesByRecursion =
+    revocation
+    (codes "send,0,1,c0,8,50c7"
+    ∷ codes "send,0,2,c0,8,50c7"
+    ∷ codes "send,1,2,10c0,8,c7"
+    ∷ codes "access,1,0,r"
+    ∷ codes "access,2,0,x"
+    ∷ codes "access,2,1000,w" ∷ [])
+    0 2 false
+    ≡ takes 7
+    (codes "1,0,5,r-x,---,0:5"
+    ∷ codes "2,0,5,r-x,---,0:5"
+    ∷ codes "2,1,5,r-x,---,1:0" ∷ [])
+    []
+
+-- a chain of five through the space that revokes, with the status of its end
+abbrev pub DeepChainByRecursion : Type 0
+DeepChainByRecursion =
+    revocation
+    (codes "send,0,1,c0,8,50c7"
+    ∷ codes "send,1,2,c0,8,c7"
+    ∷ codes "send,2,1,10c0,8,c7"
+    ∷ codes "send,1,2,10c0,8,10c7"
+    ∷ codes "access,2,1000,x" ∷ [])
+    2 4 false
+    ≡ takes 5
+    (codes "1,0,5,rwx,R-X,0:5"
+    ∷ codes "1,1,5,-wx,---,2:0"
+    ∷ codes "2,0,5,rwx,---,1:0"
+    ∷ codes "2,1,5,-wx,---,1:1" ∷ [])
+    []

@@ -223,3 +223,144 @@ UnmapOfNothingHeld =
     (codes "1,0,5,rwx,---,0:5"
     ∷ codes "2,0,5,rwx,R-X,1:0" ∷ [])
     []
+
+-- status goes to the origin of the page that is named, and no further
+abbrev pub StatusGoesOneOriginUp : Type 0
+StatusGoesOneOriginUp =
+    row
+    (codes "send,0,1,c0,8,50c7"
+    ∷ codes "send,1,2,c0,8,c7"
+    ∷ codes "access,2,0,w"
+    ∷ codes "unmap,2,0,c0" ∷ [])
+    ≡ shows
+    (codes "1 send absent=0 norights=0 origin=0 lost=0 extended=0 linked=1"
+    ∷ codes "2 send absent=0 norights=0 origin=0 lost=0 extended=0 linked=1"
+    ∷ codes "3 access ok"
+    ∷ codes "4 unmap 000000c6" ∷ [])
+    (codes "1,0,5,rwx,RW-,0:5"
+    ∷ codes "2,0,5,rwx,---,1:0" ∷ [])
+    []
+
+-- two pages by one word, without flush and with; the pages beside them stay, with their status
+abbrev pub WordsOfSeveralPages : Type 0
+WordsOfSeveralPages =
+    row
+    (codes "access,0,4000,w"
+    ∷ codes "access,0,6000,x"
+    ∷ codes "send,0,1,40e0,8,40e7"
+    ∷ codes "access,1,5000,w"
+    ∷ codes "unmap,0,0,40d1"
+    ∷ codes "unmap,1,40,60d4" ∷ [])
+    ≡ shows
+    (codes "1 access ok"
+    ∷ codes "2 access ok"
+    ∷ codes "3 send absent=0 norights=0 origin=0 lost=0 extended=0 linked=4"
+    ∷ codes "4 access ok"
+    ∷ codes "5 unmap 000040d6"
+    ∷ codes "6 unmap 000060d0" ∷ [])
+    (codes "0,6,6,rwx,R-X,-"
+    ∷ codes "1,4,4,rw-,---,0:4"
+    ∷ codes "1,5,5,rw-,---,0:5"
+    ∷ codes "1,6,6,-wx,---,0:6"
+    ∷ codes "1,7,7,-wx,---,0:7" ∷ [])
+    []
+
+-- each right revoked alone, and two of three
+abbrev pub EachRightRevoked : Type 0
+EachRightRevoked =
+    row
+    (codes "send,0,1,40e0,8,40e7"
+    ∷ codes "unmap,0,3,40c4,50c2,60c1,70c5" ∷ [])
+    ≡ shows
+    (codes "1 send absent=0 norights=0 origin=0 lost=0 extended=0 linked=4"
+    ∷ codes "2 unmap 000040c0 000050c0 000060c0 000070c0" ∷ [])
+    (codes "1,4,4,-wx,---,0:4"
+    ∷ codes "1,5,5,r-x,---,0:5"
+    ∷ codes "1,6,6,rw-,---,0:6"
+    ∷ codes "1,7,7,-w-,---,0:7" ∷ [])
+    []
+
+-- a mapping goes where it loses its last right; one that has another right stays, and one that has not the right keeps all
+abbrev pub MappingsLeftWithoutRights : Type 0
+MappingsLeftWithoutRights =
+    row
+    (codes "send,0,1,c0,8,50c4"
+    ∷ codes "send,0,1,10c0,8,50c6"
+    ∷ codes "send,0,1,20c0,8,50c3"
+    ∷ codes "unmap,0,0,50c4" ∷ [])
+    ≡ shows
+    (codes "1 send absent=0 norights=0 origin=0 lost=0 extended=0 linked=1"
+    ∷ codes "2 send absent=0 norights=0 origin=0 lost=0 extended=0 linked=1"
+    ∷ codes "3 send absent=0 norights=0 origin=0 lost=0 extended=0 linked=1"
+    ∷ codes "4 unmap 000050c0" ∷ [])
+    (codes "1,1,5,-w-,---,0:5"
+    ∷ codes "1,2,5,-wx,---,0:5" ∷ [])
+    []
+
+-- what derives from the named page goes; the page itself, and a branch beside it, stay
+abbrev pub BranchBesideStays : Type 0
+BranchBesideStays =
+    row
+    (codes "send,0,1,c0,8,50c7"
+    ∷ codes "send,1,2,c0,8,c7"
+    ∷ codes "send,0,1,10c0,8,50c7"
+    ∷ codes "send,1,2,10c0,8,10c7"
+    ∷ codes "access,2,1000,x"
+    ∷ codes "unmap,1,0,c7" ∷ [])
+    ≡ shows
+    (codes "1 send absent=0 norights=0 origin=0 lost=0 extended=0 linked=1"
+    ∷ codes "2 send absent=0 norights=0 origin=0 lost=0 extended=0 linked=1"
+    ∷ codes "3 send absent=0 norights=0 origin=0 lost=0 extended=0 linked=1"
+    ∷ codes "4 send absent=0 norights=0 origin=0 lost=0 extended=0 linked=1"
+    ∷ codes "5 access ok"
+    ∷ codes "6 unmap 000000c0" ∷ [])
+    (codes "1,0,5,rwx,---,0:5"
+    ∷ codes "1,1,5,rwx,---,0:5"
+    ∷ codes "2,1,5,rwx,R-X,1:1" ∷ [])
+    []
+
+-- five mappings deep, in two spaces: rights are lost at each, and status comes from the last
+abbrev pub DeepChainIsNarrowed : Type 0
+DeepChainIsNarrowed =
+    row
+    (codes "send,0,1,c0,8,50c7"
+    ∷ codes "send,1,2,c0,8,c7"
+    ∷ codes "send,2,1,10c0,8,c7"
+    ∷ codes "send,1,2,10c0,8,10c7"
+    ∷ codes "send,2,1,20c0,8,10c7"
+    ∷ codes "access,1,2000,x"
+    ∷ codes "unmap,0,0,50c2" ∷ [])
+    ≡ shows
+    (codes "1 send absent=0 norights=0 origin=0 lost=0 extended=0 linked=1"
+    ∷ codes "2 send absent=0 norights=0 origin=0 lost=0 extended=0 linked=1"
+    ∷ codes "3 send absent=0 norights=0 origin=0 lost=0 extended=0 linked=1"
+    ∷ codes "4 send absent=0 norights=0 origin=0 lost=0 extended=0 linked=1"
+    ∷ codes "5 send absent=0 norights=0 origin=0 lost=0 extended=0 linked=1"
+    ∷ codes "6 access ok"
+    ∷ codes "7 unmap 000050c5" ∷ [])
+    (codes "1,0,5,r-x,---,0:5"
+    ∷ codes "1,1,5,r-x,---,2:0"
+    ∷ codes "1,2,5,r-x,---,2:1"
+    ∷ codes "2,0,5,r-x,---,1:0"
+    ∷ codes "2,1,5,r-x,---,1:1" ∷ [])
+    []
+
+-- a flush of all rights removes two pages of one origin, which gains what both had seen
+abbrev pub RemovedPagesPassStatusOn : Type 0
+RemovedPagesPassStatusOn =
+    row
+    (codes "send,0,1,c0,8,50c7"
+    ∷ codes "send,0,1,10c0,8,50c7"
+    ∷ codes "send,1,2,c0,8,c7"
+    ∷ codes "access,1,1000,x"
+    ∷ codes "access,2,0,w"
+    ∷ codes "unmap,1,40,17" ∷ [])
+    ≡ shows
+    (codes "1 send absent=0 norights=0 origin=0 lost=0 extended=0 linked=1"
+    ∷ codes "2 send absent=0 norights=0 origin=0 lost=0 extended=0 linked=1"
+    ∷ codes "3 send absent=0 norights=0 origin=0 lost=0 extended=0 linked=1"
+    ∷ codes "4 access ok"
+    ∷ codes "5 access ok"
+    ∷ codes "6 unmap 00000017" ∷ [])
+    (codes "0,5,5,rwx,RWX,-" ∷ [])
+    []

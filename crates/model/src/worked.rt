@@ -1,17 +1,17 @@
 //! The worked rows: what short traces write, and what the definitions of words and holdings give, each worked out by
 //! hand. Each function does nothing: its contract is a table of rows.
 
-ghost use Rattle.model.specs.RowsOfWords.{SmallestFpageIntoCompleteWindow, SendBasePicksPageOfWindow, WindowCutsLargerFpage, HalfOfPagesHeld, CompleteSpaceSent, NilpageSent, SizesOfWords, IgnoredBits, FirstWordsOfItems, BlocksOfLargerSide, PairsByRuns};
-ghost use Rattle.model.specs.RowsOfRecords.{RefusalsByName, AccessFields, SendRefusalsInOrder, UnmapRefusalsInOrder, NumbersOfWords, QuotedFields};
-ghost use Rattle.model.specs.RowsOfHeaders.{HeadersOfRightForm, HeadersOfWrongForm, LimitsPassed};
-ghost use Rattle.model.specs.RowsOfText.{WholeRun, RunOfHeaderAlone, RunCutOff};
-ghost use Rattle.model.specs.RowsOfAccess.{AccessAnswers, AccessesAddUp};
-ghost use Rattle.model.specs.RowsOfUnmaps.{UnmapNarrowsDerivedAlone, StatusGoesToOutsideOrigin, NestedMappingInOwnSpace, BranchesAddToOneOrigin, UnmapOfNilpage, CompleteUnmapRemovesAll, FlushByTwoWords, TwoWordsInOrder, StatusOfRootEnds, StatusAlone, SiblingKeepsItsStatus, FlushNarrowsCaller, UnmapOfNothingHeld};
-ghost use Rattle.model.specs.RowsOfOutcomes.{EachOutcome, WithheldRightsAreNoRights, NoRightsComesFirst, OriginIsNotReplaced, DistantOriginIsNotReplaced, DistantDerivedIsReplaced, FlushedSourceIsLost, ExtendingPairIsLost, TargetOfLostPairIsGone, TwoItemsInOrder, SecondItemSeesFirst};
-ghost use Rattle.model.specs.RowsOfMaps.{SecondMapExtends, ReplacedTargetTakesItsDerived, ExtendKeepsStatusAndDerived, FlushPassesStatusOn};
-ghost use Rattle.model.specs.RowsOfGrants.{GrantMovesAndNarrows, GrantRenamesAllAtOnce, RootIsGranted, GrantReplacesTarget, GrantOntoOwnDerived, GrantOfFlushedSourceIsLost, GrantRemovesWhatIsWithheld, GrantPassesStatusOn};
-ghost use Rattle.model.specs.RowsOfHoldings.{LawfulHoldings, UnlawfulHoldings};
-ghost use Rattle.model.specs.RowsOfRecursion.{NestedMappingByRecursion, NestedMappingOfHigherPage, StatusByRecursion, NestedStatusOfLowerPage, NestedStatusOfHigherPage, FlushByRecursion, FlushOfNestedByRecursion, FlushOfNestedHigherPage};
+ghost use Rattle.model.specs.RowsOfWords.{SmallestFpageIntoCompleteWindow, SendBasePicksPageOfWindow, WindowCutsLargerFpage, HalfOfPagesHeld, CompleteSpaceSent, NilpageSent, SizesOfWords, IgnoredBits, FirstWordsOfItems, BlocksOfLargerSide, PairsByRuns, SpaceOfOddBits, EachBitOfSendBase, SendBasePicksSources, SizeSpellsNoOtherPages, SizesBelowAPage, BasesWithoutSize, SizesFromAPage, SizesPastTheSpace, BasesPastTheSpace, BasesBetweenPages, LastPagesOfSpaces, PagesPastSpaces, CompleteSpaces, Nilpages, PagesOfWords, PagesOfFpages, SetsByNumber, BitsOfRights, SetsMet, SetsJoined, SetsWithout, SetsWithin, ItemsOfWords, LastDigitsOfItems, ControlWordsTaken, NumbersOfControlWords, BitsOfControlWords, ControlWordsTold, StatusInPlaceOfRights, PairsOfBlocks};
+ghost use Rattle.model.specs.RowsOfRecords.{RefusalsByName, AccessFields, SendRefusalsInOrder, UnmapRefusalsInOrder, NumbersOfWords, QuotedFields, DigitsOfAddresses, BytesThatAreNoDigits, KindsOfAccess, NamesOfRecords, SpacesOfRecords, LengthsOfWords, FieldsMissing, RefusalsOfOneRecord};
+ghost use Rattle.model.specs.RowsOfHeaders.{HeadersOfRightForm, HeadersOfWrongForm, LimitsPassed, BitsOfHeaders, FramesPastSpaces, FieldsOfHeaders};
+ghost use Rattle.model.specs.RowsOfText.{WholeRun, RunOfHeaderAlone, RunCutOff, RefusalsAreCounted, NumbersOfTwelveSpaces, LongRun, HexadecimalDigits, EachSetOfRights, FrameOfThreeDigits, CountsOfManyPairs, SixteenPairsAreLost, StatusAsItIsWritten};
+ghost use Rattle.model.specs.RowsOfAccess.{AccessAnswers, AccessesAddUp, EachRightAlone, EachTwoKinds, OnePageAlone};
+ghost use Rattle.model.specs.RowsOfUnmaps.{UnmapNarrowsDerivedAlone, StatusGoesToOutsideOrigin, NestedMappingInOwnSpace, BranchesAddToOneOrigin, UnmapOfNilpage, CompleteUnmapRemovesAll, FlushByTwoWords, TwoWordsInOrder, StatusOfRootEnds, StatusAlone, SiblingKeepsItsStatus, FlushNarrowsCaller, UnmapOfNothingHeld, StatusGoesOneOriginUp, WordsOfSeveralPages, EachRightRevoked, MappingsLeftWithoutRights, BranchBesideStays, DeepChainIsNarrowed, RemovedPagesPassStatusOn};
+ghost use Rattle.model.specs.RowsOfOutcomes.{EachOutcome, WithheldRightsAreNoRights, NoRightsComesFirst, OriginIsNotReplaced, DistantOriginIsNotReplaced, DistantDerivedIsReplaced, FlushedSourceIsLost, ExtendingPairIsLost, TargetOfLostPairIsGone, TwoItemsInOrder, SecondItemSeesFirst, AbsentComesFirst, OriginAtEachDistance, OriginOfEightMappings, NoRightsOfFlushedSource, OriginOfFlushedSource, SecondItemTellsOrigin, CountsOfItemsAddUp};
+ghost use Rattle.model.specs.RowsOfMaps.{SecondMapExtends, ReplacedTargetTakesItsDerived, ExtendKeepsStatusAndDerived, FlushPassesStatusOn, ExtensionBesideFlush, ReplacedTargetPassesAllStatus, SourceGainsByFlush, ExtensionGainsWhatSourceHas, ExtensionGainsWhatFpageNames, ReplacedTargetLeavesNoRight, SourceKeepsStatus};
+ghost use Rattle.model.specs.RowsOfGrants.{GrantMovesAndNarrows, GrantRenamesAllAtOnce, RootIsGranted, GrantReplacesTarget, GrantOntoOwnDerived, GrantOfFlushedSourceIsLost, GrantRemovesWhatIsWithheld, GrantPassesStatusOn, SendBasesOfGrants, GrantPassesStatusOfTarget, GrantOntoOwnDerivedPassesStatus, GrantLeavesOtherStatus, GrantRenamesEachOrigin, GrantOfSeveralPages};
+ghost use Rattle.model.specs.RowsOfHoldings.{LawfulHoldings, UnlawfulHoldings, PlacesUnderSets, LongestLawfulChain, UnlawfulAmongOthers, OrderOfPlaces, SamePlaces};
+ghost use Rattle.model.specs.RowsOfRecursion.{NestedMappingByRecursion, NestedMappingOfHigherPage, StatusByRecursion, NestedStatusOfLowerPage, NestedStatusOfHigherPage, FlushByRecursion, FlushOfNestedByRecursion, FlushOfNestedHigherPage, BranchesByRecursion, DeepChainByRecursion};
 
 /// Words: which pages fpages and items name, and what is refused of them.
 pub fn rows_of_words()
@@ -26,6 +26,36 @@ pub fn rows_of_words()
     ensures first_words_of_items { FirstWordsOfItems }
     ensures blocks_of_larger_side { BlocksOfLargerSide }
     ensures pairs_by_runs { PairsByRuns }
+    ensures space_of_odd_bits { SpaceOfOddBits }
+    ensures each_bit_of_send_base { EachBitOfSendBase }
+    ensures send_base_picks_sources { SendBasePicksSources }
+    ensures size_spells_no_other_pages { SizeSpellsNoOtherPages }
+    ensures sizes_below_a_page { SizesBelowAPage }
+    ensures bases_without_size { BasesWithoutSize }
+    ensures sizes_from_a_page { SizesFromAPage }
+    ensures sizes_past_the_space { SizesPastTheSpace }
+    ensures bases_past_the_space { BasesPastTheSpace }
+    ensures bases_between_pages { BasesBetweenPages }
+    ensures last_pages_of_spaces { LastPagesOfSpaces }
+    ensures pages_past_spaces { PagesPastSpaces }
+    ensures complete_spaces { CompleteSpaces }
+    ensures nilpages { Nilpages }
+    ensures pages_of_words { PagesOfWords }
+    ensures pages_of_fpages { PagesOfFpages }
+    ensures sets_by_number { SetsByNumber }
+    ensures bits_of_rights { BitsOfRights }
+    ensures sets_met { SetsMet }
+    ensures sets_joined { SetsJoined }
+    ensures sets_without { SetsWithout }
+    ensures sets_within { SetsWithin }
+    ensures items_of_words { ItemsOfWords }
+    ensures last_digits_of_items { LastDigitsOfItems }
+    ensures control_words_taken { ControlWordsTaken }
+    ensures numbers_of_control_words { NumbersOfControlWords }
+    ensures bits_of_control_words { BitsOfControlWords }
+    ensures control_words_told { ControlWordsTold }
+    ensures status_in_place_of_rights { StatusInPlaceOfRights }
+    ensures pairs_of_blocks { PairsOfBlocks }
 {}
 
 /// Records: the forms of fields, and which refusal comes first.
@@ -36,6 +66,14 @@ pub fn rows_of_records()
     ensures unmap_refusals_in_order { UnmapRefusalsInOrder }
     ensures numbers_of_words { NumbersOfWords }
     ensures quoted_fields { QuotedFields }
+    ensures digits_of_addresses { DigitsOfAddresses }
+    ensures bytes_that_are_no_digits { BytesThatAreNoDigits }
+    ensures kinds_of_access { KindsOfAccess }
+    ensures names_of_records { NamesOfRecords }
+    ensures spaces_of_records { SpacesOfRecords }
+    ensures lengths_of_words { LengthsOfWords }
+    ensures fields_missing { FieldsMissing }
+    ensures refusals_of_one_record { RefusalsOfOneRecord }
 {}
 
 /// Headers: their form and their limits.
@@ -43,6 +81,9 @@ pub fn rows_of_headers()
     ensures headers_of_right_form { HeadersOfRightForm }
     ensures headers_of_wrong_form { HeadersOfWrongForm }
     ensures limits_passed { LimitsPassed }
+    ensures bits_of_headers { BitsOfHeaders }
+    ensures frames_past_spaces { FramesPastSpaces }
+    ensures fields_of_headers { FieldsOfHeaders }
 {}
 
 /// Whole runs: all that is written.
@@ -50,12 +91,24 @@ pub fn rows_of_text()
     ensures whole_run { WholeRun }
     ensures run_of_header_alone { RunOfHeaderAlone }
     ensures run_cut_off { RunCutOff }
+    ensures refusals_are_counted { RefusalsAreCounted }
+    ensures numbers_of_twelve_spaces { NumbersOfTwelveSpaces }
+    ensures long_run { LongRun }
+    ensures hexadecimal_digits { HexadecimalDigits }
+    ensures each_set_of_rights { EachSetOfRights }
+    ensures frame_of_three_digits { FrameOfThreeDigits }
+    ensures counts_of_many_pairs { CountsOfManyPairs }
+    ensures sixteen_pairs_are_lost { SixteenPairsAreLost }
+    ensures status_as_it_is_written { StatusAsItIsWritten }
 {}
 
 /// Accesses: which right each needs, and which status it leaves.
 pub fn rows_of_access()
     ensures access_answers { AccessAnswers }
     ensures accesses_add_up { AccessesAddUp }
+    ensures each_right_alone { EachRightAlone }
+    ensures each_two_kinds { EachTwoKinds }
+    ensures one_page_alone { OnePageAlone }
 {}
 
 /// Unmaps: which rights are lost, and where status goes.
@@ -73,6 +126,13 @@ pub fn rows_of_unmaps()
     ensures sibling_keeps_its_status { SiblingKeepsItsStatus }
     ensures flush_narrows_caller { FlushNarrowsCaller }
     ensures unmap_of_nothing_held { UnmapOfNothingHeld }
+    ensures status_goes_one_origin_up { StatusGoesOneOriginUp }
+    ensures words_of_several_pages { WordsOfSeveralPages }
+    ensures each_right_revoked { EachRightRevoked }
+    ensures mappings_left_without_rights { MappingsLeftWithoutRights }
+    ensures branch_beside_stays { BranchBesideStays }
+    ensures deep_chain_is_narrowed { DeepChainIsNarrowed }
+    ensures removed_pages_pass_status_on { RemovedPagesPassStatusOn }
 {}
 
 /// Sends: what becomes of each pair, and how it is counted.
@@ -88,6 +148,13 @@ pub fn rows_of_outcomes()
     ensures target_of_lost_pair_is_gone { TargetOfLostPairIsGone }
     ensures two_items_in_order { TwoItemsInOrder }
     ensures second_item_sees_first { SecondItemSeesFirst }
+    ensures absent_comes_first { AbsentComesFirst }
+    ensures origin_at_each_distance { OriginAtEachDistance }
+    ensures origin_of_eight_mappings { OriginOfEightMappings }
+    ensures no_rights_of_flushed_source { NoRightsOfFlushedSource }
+    ensures origin_of_flushed_source { OriginOfFlushedSource }
+    ensures second_item_tells_origin { SecondItemTellsOrigin }
+    ensures counts_of_items_add_up { CountsOfItemsAddUp }
 {}
 
 /// MapItems: what the receiver holds afterwards.
@@ -96,6 +163,13 @@ pub fn rows_of_maps()
     ensures replaced_target_takes_its_derived { ReplacedTargetTakesItsDerived }
     ensures extend_keeps_status_and_derived { ExtendKeepsStatusAndDerived }
     ensures flush_passes_status_on { FlushPassesStatusOn }
+    ensures extension_beside_flush { ExtensionBesideFlush }
+    ensures replaced_target_passes_all_status { ReplacedTargetPassesAllStatus }
+    ensures source_gains_by_flush { SourceGainsByFlush }
+    ensures extension_gains_what_source_has { ExtensionGainsWhatSourceHas }
+    ensures extension_gains_what_fpage_names { ExtensionGainsWhatFpageNames }
+    ensures replaced_target_leaves_no_right { ReplacedTargetLeavesNoRight }
+    ensures source_keeps_status { SourceKeepsStatus }
 {}
 
 /// GrantItems: what moves, and what is lost by it.
@@ -108,12 +182,23 @@ pub fn rows_of_grants()
     ensures grant_of_flushed_source_is_lost { GrantOfFlushedSourceIsLost }
     ensures grant_removes_what_is_withheld { GrantRemovesWhatIsWithheld }
     ensures grant_passes_status_on { GrantPassesStatusOn }
+    ensures send_bases_of_grants { SendBasesOfGrants }
+    ensures grant_passes_status_of_target { GrantPassesStatusOfTarget }
+    ensures grant_onto_own_derived_passes_status { GrantOntoOwnDerivedPassesStatus }
+    ensures grant_leaves_other_status { GrantLeavesOtherStatus }
+    ensures grant_renames_each_origin { GrantRenamesEachOrigin }
+    ensures grant_of_several_pages { GrantOfSeveralPages }
 {}
 
 /// Holdings: which are lawful, and what derives from what.
 pub fn rows_of_holdings()
     ensures lawful_holdings { LawfulHoldings }
     ensures unlawful_holdings { UnlawfulHoldings }
+    ensures places_under_sets { PlacesUnderSets }
+    ensures longest_lawful_chain { LongestLawfulChain }
+    ensures unlawful_among_others { UnlawfulAmongOthers }
+    ensures order_of_places { OrderOfPlaces }
+    ensures same_places { SamePlaces }
 {}
 
 /// The recursion, each row by strip as well.
@@ -126,4 +211,6 @@ pub fn rows_of_recursion()
     ensures flush_by_recursion { FlushByRecursion }
     ensures flush_of_nested_by_recursion { FlushOfNestedByRecursion }
     ensures flush_of_nested_higher_page { FlushOfNestedHigherPage }
+    ensures branches_by_recursion { BranchesByRecursion }
+    ensures deep_chain_by_recursion { DeepChainByRecursion }
 {}

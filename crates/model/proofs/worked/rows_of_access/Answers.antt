@@ -12,3 +12,15 @@ returns-clause-access_answers c = refl
 pub returns-clause-accesses_add_up : goal.returns-clause-accesses_add_up
 unfolding digits next_record strip_bom records_from
 returns-clause-accesses_add_up c = refl
+
+pub returns-clause-each_right_alone : goal.returns-clause-each_right_alone
+unfolding digits next_record strip_bom records_from
+returns-clause-each_right_alone c = refl
+
+pub returns-clause-each_two_kinds : goal.returns-clause-each_two_kinds
+unfolding digits next_record strip_bom records_from
+returns-clause-each_two_kinds c = refl
+
+pub returns-clause-one_page_alone : goal.returns-clause-one_page_alone
+unfolding digits next_record strip_bom records_from
+returns-clause-one_page_alone c = refl

@@ -36,3 +36,27 @@ returns-clause-grant_removes_what_is_withheld c = refl
 pub returns-clause-grant_passes_status_on : goal.returns-clause-grant_passes_status_on
 unfolding digits next_record strip_bom records_from
 returns-clause-grant_passes_status_on c = refl
+
+pub returns-clause-send_bases_of_grants : goal.returns-clause-send_bases_of_grants
+unfolding digits next_record strip_bom records_from
+returns-clause-send_bases_of_grants c = refl
+
+pub returns-clause-grant_passes_status_of_target : goal.returns-clause-grant_passes_status_of_target
+unfolding digits next_record strip_bom records_from
+returns-clause-grant_passes_status_of_target c = refl
+
+pub returns-clause-grant_onto_own_derived_passes_status : goal.returns-clause-grant_onto_own_derived_passes_status
+unfolding digits next_record strip_bom records_from
+returns-clause-grant_onto_own_derived_passes_status c = refl
+
+pub returns-clause-grant_leaves_other_status : goal.returns-clause-grant_leaves_other_status
+unfolding digits next_record strip_bom records_from
+returns-clause-grant_leaves_other_status c = refl
+
+pub returns-clause-grant_renames_each_origin : goal.returns-clause-grant_renames_each_origin
+unfolding digits next_record strip_bom records_from
+returns-clause-grant_renames_each_origin c = refl
+
+pub returns-clause-grant_of_several_pages : goal.returns-clause-grant_of_several_pages
+unfolding digits next_record strip_bom records_from
+returns-clause-grant_of_several_pages c = refl

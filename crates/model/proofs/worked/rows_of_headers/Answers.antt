@@ -16,3 +16,15 @@ returns-clause-headers_of_wrong_form c = refl
 pub returns-clause-limits_passed : goal.returns-clause-limits_passed
 unfolding digits next_record strip_bom records_from
 returns-clause-limits_passed c = refl
+
+pub returns-clause-bits_of_headers : goal.returns-clause-bits_of_headers
+unfolding digits next_record strip_bom records_from
+returns-clause-bits_of_headers c = refl
+
+pub returns-clause-frames_past_spaces : goal.returns-clause-frames_past_spaces
+unfolding digits next_record strip_bom records_from
+returns-clause-frames_past_spaces c = refl
+
+pub returns-clause-fields_of_headers : goal.returns-clause-fields_of_headers
+unfolding digits next_record strip_bom records_from
+returns-clause-fields_of_headers c = refl

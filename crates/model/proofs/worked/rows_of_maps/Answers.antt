@@ -20,3 +20,31 @@ returns-clause-extend_keeps_status_and_derived c = refl
 pub returns-clause-flush_passes_status_on : goal.returns-clause-flush_passes_status_on
 unfolding digits next_record strip_bom records_from
 returns-clause-flush_passes_status_on c = refl
+
+pub returns-clause-extension_beside_flush : goal.returns-clause-extension_beside_flush
+unfolding digits next_record strip_bom records_from
+returns-clause-extension_beside_flush c = refl
+
+pub returns-clause-replaced_target_passes_all_status : goal.returns-clause-replaced_target_passes_all_status
+unfolding digits next_record strip_bom records_from
+returns-clause-replaced_target_passes_all_status c = refl
+
+pub returns-clause-source_gains_by_flush : goal.returns-clause-source_gains_by_flush
+unfolding digits next_record strip_bom records_from
+returns-clause-source_gains_by_flush c = refl
+
+pub returns-clause-extension_gains_what_source_has : goal.returns-clause-extension_gains_what_source_has
+unfolding digits next_record strip_bom records_from
+returns-clause-extension_gains_what_source_has c = refl
+
+pub returns-clause-extension_gains_what_fpage_names : goal.returns-clause-extension_gains_what_fpage_names
+unfolding digits next_record strip_bom records_from
+returns-clause-extension_gains_what_fpage_names c = refl
+
+pub returns-clause-replaced_target_leaves_no_right : goal.returns-clause-replaced_target_leaves_no_right
+unfolding digits next_record strip_bom records_from
+returns-clause-replaced_target_leaves_no_right c = refl
+
+pub returns-clause-source_keeps_status : goal.returns-clause-source_keeps_status
+unfolding digits next_record strip_bom records_from
+returns-clause-source_keeps_status c = refl

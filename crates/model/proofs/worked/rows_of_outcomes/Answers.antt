@@ -48,3 +48,31 @@ returns-clause-two_items_in_order c = refl
 pub returns-clause-second_item_sees_first : goal.returns-clause-second_item_sees_first
 unfolding digits next_record strip_bom records_from
 returns-clause-second_item_sees_first c = refl
+
+pub returns-clause-absent_comes_first : goal.returns-clause-absent_comes_first
+unfolding digits next_record strip_bom records_from
+returns-clause-absent_comes_first c = refl
+
+pub returns-clause-origin_at_each_distance : goal.returns-clause-origin_at_each_distance
+unfolding digits next_record strip_bom records_from
+returns-clause-origin_at_each_distance c = refl
+
+pub returns-clause-origin_of_eight_mappings : goal.returns-clause-origin_of_eight_mappings
+unfolding digits next_record strip_bom records_from
+returns-clause-origin_of_eight_mappings c = refl
+
+pub returns-clause-no_rights_of_flushed_source : goal.returns-clause-no_rights_of_flushed_source
+unfolding digits next_record strip_bom records_from
+returns-clause-no_rights_of_flushed_source c = refl
+
+pub returns-clause-origin_of_flushed_source : goal.returns-clause-origin_of_flushed_source
+unfolding digits next_record strip_bom records_from
+returns-clause-origin_of_flushed_source c = refl
+
+pub returns-clause-second_item_tells_origin : goal.returns-clause-second_item_tells_origin
+unfolding digits next_record strip_bom records_from
+returns-clause-second_item_tells_origin c = refl
+
+pub returns-clause-counts_of_items_add_up : goal.returns-clause-counts_of_items_add_up
+unfolding digits next_record strip_bom records_from
+returns-clause-counts_of_items_add_up c = refl

@@ -36,3 +36,11 @@ returns-clause-flush_of_nested_by_recursion c = refl
 pub returns-clause-flush_of_nested_higher_page : goal.returns-clause-flush_of_nested_higher_page
 unfolding digits next_record strip_bom records_from
 returns-clause-flush_of_nested_higher_page c = refl
+
+pub returns-clause-branches_by_recursion : goal.returns-clause-branches_by_recursion
+unfolding digits next_record strip_bom records_from
+returns-clause-branches_by_recursion c = refl
+
+pub returns-clause-deep_chain_by_recursion : goal.returns-clause-deep_chain_by_recursion
+unfolding digits next_record strip_bom records_from
+returns-clause-deep_chain_by_recursion c = refl

@@ -56,3 +56,31 @@ returns-clause-flush_narrows_caller c = refl
 pub returns-clause-unmap_of_nothing_held : goal.returns-clause-unmap_of_nothing_held
 unfolding digits next_record strip_bom records_from
 returns-clause-unmap_of_nothing_held c = refl
+
+pub returns-clause-status_goes_one_origin_up : goal.returns-clause-status_goes_one_origin_up
+unfolding digits next_record strip_bom records_from
+returns-clause-status_goes_one_origin_up c = refl
+
+pub returns-clause-words_of_several_pages : goal.returns-clause-words_of_several_pages
+unfolding digits next_record strip_bom records_from
+returns-clause-words_of_several_pages c = refl
+
+pub returns-clause-each_right_revoked : goal.returns-clause-each_right_revoked
+unfolding digits next_record strip_bom records_from
+returns-clause-each_right_revoked c = refl
+
+pub returns-clause-mappings_left_without_rights : goal.returns-clause-mappings_left_without_rights
+unfolding digits next_record strip_bom records_from
+returns-clause-mappings_left_without_rights c = refl
+
+pub returns-clause-branch_beside_stays : goal.returns-clause-branch_beside_stays
+unfolding digits next_record strip_bom records_from
+returns-clause-branch_beside_stays c = refl
+
+pub returns-clause-deep_chain_is_narrowed : goal.returns-clause-deep_chain_is_narrowed
+unfolding digits next_record strip_bom records_from
+returns-clause-deep_chain_is_narrowed c = refl
+
+pub returns-clause-removed_pages_pass_status_on : goal.returns-clause-removed_pages_pass_status_on
+unfolding digits next_record strip_bom records_from
+returns-clause-removed_pages_pass_status_on c = refl
