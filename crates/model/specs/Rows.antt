@@ -15,9 +15,9 @@ use Rattle.model.specs.Strip.{strip, strip_word}
 use Rattle.model.specs.Recursion.{recur}
 use Rattle.model.specs.Calls.{Limits}
 use Rattle.model.specs.Answers.{pages_in}
-use Rattle.model.specs.Replay.{Told, root}
+use Rattle.model.specs.Replay.{Told}
 use Rattle.model.specs.Records.{Trace, HeaderFault, trace_of}
-use Rattle.model.specs.Text.{line_feed, reply_lines, audit_line, audit_lines, told}
+use Rattle.model.specs.Text.{reply_lines, audit_line, audit_lines, told}
 
 -- what a row says of a trace: the reply lines; the audit lines of mappings that are not as at the start; and the
 -- pages of space 0 that are no longer held
@@ -26,8 +26,9 @@ pub record Row : Type 0 where
   pub changed : List ℕ
   pub gone : List ℕ
 
+-- each text with a line feed behind it
 abbrev pub lines : List (List ℕ) → List ℕ
-lines ls = flat_map (λ l. l ++ line_feed) ls
+lines ls = flat_map (λ l. l ++ 10 ∷ []) ls
 
 -- so many copies of a text, one after the other
 abbrev pub times : ℕ → List ℕ → List ℕ
@@ -36,8 +37,12 @@ times n t = flat_map (λ s. s) (replicate n t)
 abbrev pub shows : List (List ℕ) → List (List ℕ) → List ℕ → Result Row HeaderFault
 shows replies changed gone = Ok (record { replies = lines replies; changed = lines changed; gone = gone })
 
+-- the audit line of a page of space 0 at the start
+abbrev pub start_line : ℕ → List ℕ
+start_line page = lines ((codes "0," ++ decimal page ++ codes "," ++ decimal page ++ codes ",rwx,---,-") ∷ [])
+
 abbrev pub is_as_at_start : Place × Held → Bool
-is_as_at_start e = bytes_eq (audit_line e) (audit_line (root e.0.page))
+is_as_at_start e = bytes_eq (audit_line e) (start_line e.0.page)
 
 -- the audit lines of the mappings that are not as at the start
 abbrev pub changed_lines : Holdings → List ℕ
@@ -155,7 +160,7 @@ row_from header records = row_of_trace (trace_of (lines (header ∷ records)))
 -- so many reply lines with the same text, numbered from n on
 abbrev pub numbered : ℕ → ℕ → List ℕ → List ℕ
 numbered n zero t = []
-numbered n (suc count) t = decimal n ++ codes " " ++ t ++ line_feed ++ numbered (n + 1) count t
+numbered n (suc count) t = decimal n ++ codes " " ++ t ++ 10 ∷ numbered (n + 1) count t
 
 -- an fpage as it is read: its first page, how many pages it has, and rights as a number
 abbrev pub fpage : ℕ → ℕ → ℕ → Result Flexpage FpageError

@@ -178,3 +178,20 @@ SourceKeepsStatus =
     ∷ codes "1,0,5,r--,R--,0:5"
     ∷ codes "2,0,5,r--,---,1:0" ∷ [])
     []
+
+-- a root is replaced as any other mapping: its status goes to nobody, and its frame is held by nobody
+abbrev pub RootIsReplaced : Type 0
+RootIsReplaced =
+    row
+    (codes "send,0,1,c0,8,50c7"
+    ∷ codes "access,0,6000,w"
+    ∷ codes "send,1,0,60c0,8,c7"
+    ∷ codes "send,1,0,70c0,a,c7" ∷ [])
+    ≡ shows
+    (codes "1 send absent=0 norights=0 origin=0 lost=0 extended=0 linked=1"
+    ∷ codes "2 access ok"
+    ∷ codes "3 send absent=0 norights=0 origin=0 lost=0 extended=0 linked=1"
+    ∷ codes "4 send absent=0 norights=0 origin=0 lost=0 extended=0 linked=1" ∷ [])
+    (codes "0,6,5,rwx,---,0:7"
+    ∷ codes "0,7,5,rwx,---,0:5" ∷ [])
+    []

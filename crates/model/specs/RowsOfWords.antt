@@ -417,8 +417,8 @@ SetsJoined =
 abbrev pub SetsWithout : Type 0
 SetsWithout =
     map (λ (sets : ℕ × ℕ). number (without (of_bits sets.0) (of_bits sets.1)))
-    ((7, 2) ∷ (5, 6) ∷ (6, 4) ∷ (3, 1) ∷ (7, 7) ∷ (4, 3) ∷ (0, 7) ∷ (7, 4) ∷ (7, 1) ∷ [])
-    ≡ 5 ∷ 1 ∷ 2 ∷ 2 ∷ 0 ∷ 4 ∷ 0 ∷ 3 ∷ 6 ∷ []
+    ((7, 2) ∷ (5, 6) ∷ (6, 4) ∷ (3, 1) ∷ (7, 7) ∷ (4, 3) ∷ (0, 7) ∷ (7, 4) ∷ (7, 1) ∷ (5, 1) ∷ [])
+    ≡ 5 ∷ 1 ∷ 2 ∷ 2 ∷ 0 ∷ 4 ∷ 0 ∷ 3 ∷ 6 ∷ 4 ∷ []
 
 -- whether a set is empty, and whether it is within another
 abbrev pub SetsWithin : Type 0

@@ -8,7 +8,7 @@ ghost use Rattle.model.specs.RowsOfText.{WholeRun, RunOfHeaderAlone, RunCutOff, 
 ghost use Rattle.model.specs.RowsOfAccess.{AccessAnswers, AccessesAddUp, EachRightAlone, EachTwoKinds, OnePageAlone};
 ghost use Rattle.model.specs.RowsOfUnmaps.{UnmapNarrowsDerivedAlone, StatusGoesToOutsideOrigin, NestedMappingInOwnSpace, BranchesAddToOneOrigin, UnmapOfNilpage, CompleteUnmapRemovesAll, FlushByTwoWords, TwoWordsInOrder, StatusOfRootEnds, StatusAlone, SiblingKeepsItsStatus, FlushNarrowsCaller, UnmapOfNothingHeld, StatusGoesOneOriginUp, WordsOfSeveralPages, EachRightRevoked, MappingsLeftWithoutRights, BranchBesideStays, DeepChainIsNarrowed, RemovedPagesPassStatusOn};
 ghost use Rattle.model.specs.RowsOfOutcomes.{EachOutcome, WithheldRightsAreNoRights, NoRightsComesFirst, OriginIsNotReplaced, DistantOriginIsNotReplaced, DistantDerivedIsReplaced, FlushedSourceIsLost, ExtendingPairIsLost, TargetOfLostPairIsGone, TwoItemsInOrder, SecondItemSeesFirst, AbsentComesFirst, OriginAtEachDistance, OriginOfEightMappings, NoRightsOfFlushedSource, OriginOfFlushedSource, SecondItemTellsOrigin, CountsOfItemsAddUp};
-ghost use Rattle.model.specs.RowsOfMaps.{SecondMapExtends, ReplacedTargetTakesItsDerived, ExtendKeepsStatusAndDerived, FlushPassesStatusOn, ExtensionBesideFlush, ReplacedTargetPassesAllStatus, SourceGainsByFlush, ExtensionGainsWhatSourceHas, ExtensionGainsWhatFpageNames, ReplacedTargetLeavesNoRight, SourceKeepsStatus};
+ghost use Rattle.model.specs.RowsOfMaps.{SecondMapExtends, ReplacedTargetTakesItsDerived, ExtendKeepsStatusAndDerived, FlushPassesStatusOn, ExtensionBesideFlush, ReplacedTargetPassesAllStatus, SourceGainsByFlush, ExtensionGainsWhatSourceHas, ExtensionGainsWhatFpageNames, ReplacedTargetLeavesNoRight, SourceKeepsStatus, RootIsReplaced};
 ghost use Rattle.model.specs.RowsOfGrants.{GrantMovesAndNarrows, GrantRenamesAllAtOnce, RootIsGranted, GrantReplacesTarget, GrantOntoOwnDerived, GrantOfFlushedSourceIsLost, GrantRemovesWhatIsWithheld, GrantPassesStatusOn, SendBasesOfGrants, GrantPassesStatusOfTarget, GrantOntoOwnDerivedPassesStatus, GrantLeavesOtherStatus, GrantRenamesEachOrigin, GrantOfSeveralPages};
 ghost use Rattle.model.specs.RowsOfHoldings.{LawfulHoldings, UnlawfulHoldings, PlacesUnderSets, LongestLawfulChain, UnlawfulAmongOthers, OrderOfPlaces, SamePlaces};
 ghost use Rattle.model.specs.RowsOfRecursion.{NestedMappingByRecursion, NestedMappingOfHigherPage, StatusByRecursion, NestedStatusOfLowerPage, NestedStatusOfHigherPage, FlushByRecursion, FlushOfNestedByRecursion, FlushOfNestedHigherPage, BranchesByRecursion, DeepChainByRecursion};
@@ -170,6 +170,7 @@ pub fn rows_of_maps()
     ensures extension_gains_what_fpage_names { ExtensionGainsWhatFpageNames }
     ensures replaced_target_leaves_no_right { ReplacedTargetLeavesNoRight }
     ensures source_keeps_status { SourceKeepsStatus }
+    ensures root_is_replaced { RootIsReplaced }
 {}
 
 /// GrantItems: what moves, and what is lost by it.

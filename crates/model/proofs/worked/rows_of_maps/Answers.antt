@@ -48,3 +48,7 @@ returns-clause-replaced_target_leaves_no_right c = refl
 pub returns-clause-source_keeps_status : goal.returns-clause-source_keeps_status
 unfolding digits next_record strip_bom records_from
 returns-clause-source_keeps_status c = refl
+
+pub returns-clause-root_is_replaced : goal.returns-clause-root_is_replaced
+unfolding digits next_record strip_bom records_from
+returns-clause-root_is_replaced c = refl
