@@ -151,3 +151,16 @@ DeepChainByRecursion =
     ∷ codes "2,0,5,rwx,---,1:0"
     ∷ codes "2,1,5,-wx,---,1:1" ∷ [])
     []
+
+-- an origin that has a status of its own
+abbrev pub OriginGainsByRecursion : Type 0
+OriginGainsByRecursion =
+    revocation
+    (codes "access,0,5000,w"
+    ∷ codes "send,0,1,c0,8,50c7"
+    ∷ codes "access,1,0,x" ∷ [])
+    1 0 false
+    ≡ takes 5
+    (codes "0,5,5,rwx,RWX,-"
+    ∷ codes "1,0,5,rwx,---,0:5" ∷ [])
+    []

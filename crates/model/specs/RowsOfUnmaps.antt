@@ -364,3 +364,24 @@ RemovedPagesPassStatusOn =
     ∷ codes "6 unmap 00000017" ∷ [])
     (codes "0,5,5,rwx,RWX,-" ∷ [])
     []
+
+-- two pages that derive from two: each origin gains what its own had seen
+abbrev pub UnmapOfTwoOrigins : Type 0
+UnmapOfTwoOrigins =
+    row
+    (codes "send,0,1,c0,8,50c7"
+    ∷ codes "send,0,1,10c0,8,60c7"
+    ∷ codes "access,1,0,r"
+    ∷ codes "access,1,1000,x"
+    ∷ codes "unmap,1,0,10" ∷ [])
+    ≡ shows
+    (codes "1 send absent=0 norights=0 origin=0 lost=0 extended=0 linked=1"
+    ∷ codes "2 send absent=0 norights=0 origin=0 lost=0 extended=0 linked=1"
+    ∷ codes "3 access ok"
+    ∷ codes "4 access ok"
+    ∷ codes "5 unmap 00000015" ∷ [])
+    (codes "0,5,5,rwx,R--,-"
+    ∷ codes "0,6,6,rwx,R-X,-"
+    ∷ codes "1,0,5,rwx,---,0:5"
+    ∷ codes "1,1,6,rwx,---,0:6" ∷ [])
+    []

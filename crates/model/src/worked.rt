@@ -6,12 +6,12 @@ ghost use Rattle.model.specs.RowsOfRecords.{RefusalsByName, AccessFields, SendRe
 ghost use Rattle.model.specs.RowsOfHeaders.{HeadersOfRightForm, HeadersOfWrongForm, LimitsPassed, BitsOfHeaders, FramesPastSpaces, FieldsOfHeaders};
 ghost use Rattle.model.specs.RowsOfText.{WholeRun, RunOfHeaderAlone, RunCutOff, RefusalsAreCounted, NumbersOfTwelveSpaces, LongRun, HexadecimalDigits, EachSetOfRights, FrameOfThreeDigits, CountsOfManyPairs, SixteenPairsAreLost, StatusAsItIsWritten};
 ghost use Rattle.model.specs.RowsOfAccess.{AccessAnswers, AccessesAddUp, EachRightAlone, EachTwoKinds, OnePageAlone};
-ghost use Rattle.model.specs.RowsOfUnmaps.{UnmapNarrowsDerivedAlone, StatusGoesToOutsideOrigin, NestedMappingInOwnSpace, BranchesAddToOneOrigin, UnmapOfNilpage, CompleteUnmapRemovesAll, FlushByTwoWords, TwoWordsInOrder, StatusOfRootEnds, StatusAlone, SiblingKeepsItsStatus, FlushNarrowsCaller, UnmapOfNothingHeld, StatusGoesOneOriginUp, WordsOfSeveralPages, EachRightRevoked, MappingsLeftWithoutRights, BranchBesideStays, DeepChainIsNarrowed, RemovedPagesPassStatusOn};
+ghost use Rattle.model.specs.RowsOfUnmaps.{UnmapNarrowsDerivedAlone, StatusGoesToOutsideOrigin, NestedMappingInOwnSpace, BranchesAddToOneOrigin, UnmapOfNilpage, CompleteUnmapRemovesAll, FlushByTwoWords, TwoWordsInOrder, StatusOfRootEnds, StatusAlone, SiblingKeepsItsStatus, FlushNarrowsCaller, UnmapOfNothingHeld, StatusGoesOneOriginUp, WordsOfSeveralPages, EachRightRevoked, MappingsLeftWithoutRights, BranchBesideStays, DeepChainIsNarrowed, RemovedPagesPassStatusOn, UnmapOfTwoOrigins};
 ghost use Rattle.model.specs.RowsOfOutcomes.{EachOutcome, WithheldRightsAreNoRights, NoRightsComesFirst, OriginIsNotReplaced, DistantOriginIsNotReplaced, DistantDerivedIsReplaced, FlushedSourceIsLost, ExtendingPairIsLost, TargetOfLostPairIsGone, TwoItemsInOrder, SecondItemSeesFirst, AbsentComesFirst, OriginAtEachDistance, OriginOfEightMappings, NoRightsOfFlushedSource, OriginOfFlushedSource, SecondItemTellsOrigin, CountsOfItemsAddUp};
 ghost use Rattle.model.specs.RowsOfMaps.{SecondMapExtends, ReplacedTargetTakesItsDerived, ExtendKeepsStatusAndDerived, FlushPassesStatusOn, ExtensionBesideFlush, ReplacedTargetPassesAllStatus, SourceGainsByFlush, ExtensionGainsWhatSourceHas, ExtensionGainsWhatFpageNames, ReplacedTargetLeavesNoRight, SourceKeepsStatus, RootIsReplaced};
 ghost use Rattle.model.specs.RowsOfGrants.{GrantMovesAndNarrows, GrantRenamesAllAtOnce, RootIsGranted, GrantReplacesTarget, GrantOntoOwnDerived, GrantOfFlushedSourceIsLost, GrantRemovesWhatIsWithheld, GrantPassesStatusOn, SendBasesOfGrants, GrantPassesStatusOfTarget, GrantOntoOwnDerivedPassesStatus, GrantLeavesOtherStatus, GrantRenamesEachOrigin, GrantOfSeveralPages};
 ghost use Rattle.model.specs.RowsOfHoldings.{LawfulHoldings, UnlawfulHoldings, PlacesUnderSets, LongestLawfulChain, UnlawfulAmongOthers, OrderOfPlaces, SamePlaces};
-ghost use Rattle.model.specs.RowsOfRecursion.{NestedMappingByRecursion, NestedMappingOfHigherPage, StatusByRecursion, NestedStatusOfLowerPage, NestedStatusOfHigherPage, FlushByRecursion, FlushOfNestedByRecursion, FlushOfNestedHigherPage, BranchesByRecursion, DeepChainByRecursion};
+ghost use Rattle.model.specs.RowsOfRecursion.{NestedMappingByRecursion, NestedMappingOfHigherPage, StatusByRecursion, NestedStatusOfLowerPage, NestedStatusOfHigherPage, FlushByRecursion, FlushOfNestedByRecursion, FlushOfNestedHigherPage, BranchesByRecursion, DeepChainByRecursion, OriginGainsByRecursion};
 
 /// Words: which pages fpages and items name, and what is refused of them.
 pub fn rows_of_words()
@@ -133,6 +133,7 @@ pub fn rows_of_unmaps()
     ensures branch_beside_stays { BranchBesideStays }
     ensures deep_chain_is_narrowed { DeepChainIsNarrowed }
     ensures removed_pages_pass_status_on { RemovedPagesPassStatusOn }
+    ensures unmap_of_two_origins { UnmapOfTwoOrigins }
 {}
 
 /// Sends: what becomes of each pair, and how it is counted.
@@ -214,4 +215,5 @@ pub fn rows_of_recursion()
     ensures flush_of_nested_higher_page { FlushOfNestedHigherPage }
     ensures branches_by_recursion { BranchesByRecursion }
     ensures deep_chain_by_recursion { DeepChainByRecursion }
+    ensures origin_gains_by_recursion { OriginGainsByRecursion }
 {}

@@ -44,3 +44,7 @@ returns-clause-branches_by_recursion c = refl
 pub returns-clause-deep_chain_by_recursion : goal.returns-clause-deep_chain_by_recursion
 unfolding digits next_record strip_bom records_from
 returns-clause-deep_chain_by_recursion c = refl
+
+pub returns-clause-origin_gains_by_recursion : goal.returns-clause-origin_gains_by_recursion
+unfolding digits next_record strip_bom records_from
+returns-clause-origin_gains_by_recursion c = refl

@@ -84,3 +84,7 @@ returns-clause-deep_chain_is_narrowed c = refl
 pub returns-clause-removed_pages_pass_status_on : goal.returns-clause-removed_pages_pass_status_on
 unfolding digits next_record strip_bom records_from
 returns-clause-removed_pages_pass_status_on c = refl
+
+pub returns-clause-unmap_of_two_origins : goal.returns-clause-unmap_of_two_origins
+unfolding digits next_record strip_bom records_from
+returns-clause-unmap_of_two_origins c = refl
