@@ -5,10 +5,10 @@
     tests/definitions/try_wrong_definitions.py --table
 
 A wrong definition is a change of the text of one file of specs/ in `fpage`, `space` or `model`. It is put into a copy of the
-definitions in a temporary folder, which has no code, so that no contract can refuse it. The rows that the list names for it are
-computed there: each must be false of the wrong definition, and hold of the right one. Where none is false, all other rows are
-tried, and then the laws with their proofs. A wrong definition that does not type-check, a text that does not stand in its file
-exactly once, and a row or a law that is named and does not refuse count as surviving.
+definitions in a temporary folder, which has no code, so that no contract can refuse it. The rows that the list names for it
+are computed there: each must be false of the wrong definition, and hold of the right one. Where none is false, all other rows
+are tried, and then the laws with their proofs. A wrong definition that does not type-check, a text that does not stand in its
+file exactly once, and a row or a law that is named and does not refuse count as surviving.
 
 Prints what survives, and then 'N refused, M survive'; the exit status is 0 exactly where nothing survives. The table of
 docs/MODEL.md must be the one that --table prints. With --only the entries with this word in their name or file are tried; with
@@ -18,6 +18,7 @@ docs/MODEL.md must be the one that --table prints. With --only the entries with 
 import argparse
 import glob
 import os
+import queue
 import re
 import shutil
 import subprocess
@@ -41,11 +42,15 @@ use Rattle.csv.specs.Reading.{strip_bom, records_from}
 """
 # How a field's type of Rust is seen in definitions.
 FIELD_TYPES = {"bool": "Bool", "u16": "ℕ", "u32": "ℕ", "Fpage": "Flexpage"}
+# Where a definition imports a type of Rust: the crate, and the module there.
+DECLARED = r"Rattle\.(fpage|space)\.specs\.declared\.(\w+)"
+# What the checker says of a row that does not compute to what it states.
+FALSE_ROW = re.compile(r"`shows_(\w+)`: (?:(?:as printed|computed as far as they go), the two types |expected type )")
 KEYS = ("wrong", "file", "use", "old", "new", "refused by")
 
 
 class Wrong(NamedTuple):
-    """A wrong definition: its name, its file as crate/specs/file, its edits in order, imports that they need, what refuses it."""
+    """A wrong definition: its name, its file as crate/specs/file, its edits in order, imports for them, what refuses it."""
 
     name: str
     file: str
@@ -85,7 +90,7 @@ def write(path, text):
 
 
 def read_list(path):
-    """The entries of one list: lines 'key: text', a blank line between entries, '#' before a comment."""
+    """The entries of one list: lines 'key: text', a blank line between entries, '#' before a comment, \\n for a line end."""
     entries = []
     for block in re.split(r"\n\s*\n", read(path)):
         lines = [line for line in block.split("\n") if line.strip() and not line.startswith("#")]
@@ -100,7 +105,7 @@ def read_list(path):
 
 def entry_of(pairs):
     def texts(key):
-        return [text for name, text in pairs if name == key]
+        return [text.replace("\\n", "\n") for name, text in pairs if name == key]
 
     edits = list(zip(texts("old"), texts("new"), strict=True))
     refused_by = [name for text in texts("refused by") for name in text.split(", ")]
@@ -118,11 +123,13 @@ def read_lists():
 
 
 def table(entries):
-    """The table of docs/MODEL.md."""
-    lines = ["| Definition | Wrong definition | Refused by |", "|---|---|---|"]
+    """The table of docs/MODEL.md: for each file, and for what refuses them, the wrong definitions."""
+    names = {}
     for entry in entries:
-        refused_by = ", ".join(f"`{name}`" for name in entry.refused_by)
-        lines.append(f"| `{entry.module}` | {entry.name} | {refused_by} |")
+        names.setdefault((entry.module, tuple(entry.refused_by)), []).append(entry.name)
+    lines = ["| Definitions | Refused by | Wrong definitions |", "|---|---|---|"]
+    for (module, refused_by), wrong in names.items():
+        lines.append(f"| {module} | {', '.join(f'`{name}`' for name in refused_by)} | {'; '.join(wrong)} |")
     return "\n".join(lines) + "\n"
 
 
@@ -146,7 +153,7 @@ def is_row_module(module):
 
 def one_crate(text):
     """A text of specs/ or proofs/ as it stands where all definitions are one crate, and Rust's types are modules of it."""
-    text = re.sub(r"Rattle\.(?:fpage|space)\.specs\.declared\.\w+\.(\w+)(?:\.TheVariants)?", r"Rattle.model.specs.Declared\1", text)
+    text = re.sub(rf"{DECLARED}\.(\w+)(?:\.TheVariants)?", r"Rattle.model.specs.Declared\3", text)
     return re.sub(r"Rattle\.(?:fpage|space)\.(specs|proofs)\.", r"Rattle.model.\1.", text)
 
 
@@ -161,18 +168,24 @@ def declared(crate, rust_module, name):
     if kind == "enum":
         variants = re.findall(r"^    (\w+),$", body, re.MULTILINE)
         return f"pub data {name} : Type 0 where\n" + "".join(f"  {variant} : {name}\n" for variant in variants)
-    fields = [(field, FIELD_TYPES.get(kind, kind)) for field, kind in re.findall(r"^    pub (\w+): (\w+),$", body, re.MULTILINE)]
-    kinds = {kind for _, kind in fields}
-    head = [f"use Rattle.std.specs.Prelude.{{{', '.join(sorted(kinds & {'Bool', 'ℕ'}))}}}\n"] if kinds & {"Bool", "ℕ"} else []
-    head += ["use Rattle.model.specs.Fpage.{Flexpage}\n"] if "Flexpage" in kinds else []
-    head += [f"use Rattle.model.specs.Declared{kind}.{{{kind}}}\n" for kind in sorted(kinds - {"Bool", "ℕ", "Flexpage"})]
-    return "".join(head) + f"pub record {name} : Type 0 where\n" + "".join(f"  pub {field} : {kind}\n" for field, kind in fields)
+    found = re.findall(r"^    pub (\w+): (\w+),$", body, re.MULTILINE)
+    fields = [(field, FIELD_TYPES.get(field_type, field_type)) for field, field_type in found]
+    uses = sorted({import_of(field_type) for _, field_type in fields})
+    lines = "".join(f"  pub {field} : {field_type}\n" for field, field_type in fields)
+    return "".join(uses) + f"pub record {name} : Type 0 where\n{lines}"
+
+
+def import_of(field_type):
+    if field_type in ("Bool", "ℕ"):
+        return f"use Rattle.std.specs.Prelude.{{{field_type}}}\n"
+    module = "Fpage" if field_type == "Flexpage" else f"Declared{field_type}"
+    return f"use Rattle.model.specs.{module}.{{{field_type}}}\n"
 
 
 def declared_modules(texts):
     wanted = set()
     for text in texts:
-        wanted |= set(re.findall(r"Rattle\.(fpage|space)\.specs\.declared\.(\w+)\.(\w+)", text))
+        wanted |= set(re.findall(rf"{DECLARED}\.(\w+)", text))
     return {f"Declared{name}": declared(crate, module, name) for crate, module, name in sorted(wanted)}
 
 
@@ -186,7 +199,8 @@ class Definitions:
                 if not module.endswith("Laws"):
                     self.files[module] = spec_path(crate, module)
         originals = {module: read(path) for module, path in self.files.items()}
-        self.texts = {**declared_modules(originals.values()), **{module: one_crate(text) for module, text in originals.items()}}
+        self.texts = declared_modules(originals.values())
+        self.texts.update((module, one_crate(text)) for module, text in originals.items())
         self.rows = {}
         for module in filter(is_row_module, self.texts):
             for name in re.findall(r"^abbrev pub (\w+) : Type 0$", self.texts[module], re.MULTILINE):
@@ -282,7 +296,7 @@ class Copy:
             place = re.fullmatch(r"Wrong(\d+)(\w+)", module)
             if not place:
                 give_up(f"the definitions as they are do not pass: {folder}/{module}: {why}")
-            row = re.match(r"`shows_(\w+)`: as printed, the two types ", why)
+            row = FALSE_ROW.match(why)
             if row and folder == "proofs":
                 refused[int(place[1])].append(row[1])
             else:
@@ -297,19 +311,38 @@ def rt_check(crate):
     return ran.stdout + ran.stderr
 
 
-def try_rows(definitions, tasks, jobs):
-    """Tries entries, given as (number, entry, names of rows), in so many copies at once."""
-    batches = [tasks[start : start + BATCH] for start in range(0, len(tasks), BATCH)]
-    found = {}
+def side_by_side(work, tasks, jobs):
+    """Gives tasks to so many workers; each calls `work` with a folder of its own and the tasks that it takes."""
+    waiting = queue.SimpleQueue()
+    for task in tasks:
+        waiting.put(task)
 
-    def work(share):
+    def taken():
+        while True:
+            try:
+                yield waiting.get_nowait()
+            except queue.Empty:
+                return
+
+    def one_worker(_):
         with tempfile.TemporaryDirectory() as room:
-            copy = Copy(definitions, room)
-            for batch in share:
-                found.update(copy.try_batch(batch))
+            work(room, taken())
 
     with ThreadPoolExecutor(jobs) as pool:
-        list(pool.map(work, [batches[start::jobs] for start in range(jobs)]))
+        list(pool.map(one_worker, range(min(jobs, len(tasks)))))
+
+
+def try_rows(definitions, tasks, jobs):
+    """Tries entries, given as (number, entry, names of rows), in so many copies at once."""
+    found = {}
+
+    def work(room, batches):
+        copy = Copy(definitions, room)
+        for batch in batches:
+            found.update(copy.try_batch(batch))
+            print(f"tried {len(found)} of {len(tasks)} by rows", flush=True)
+
+    side_by_side(work, [tasks[start : start + BATCH] for start in range(0, len(tasks), BATCH)], jobs)
     return found
 
 
@@ -379,18 +412,15 @@ def try_laws(tasks, jobs):
     """Tries entries, given as (number, entry), by the laws."""
     found = {}
 
-    def work(share):
-        if not share:
-            return
-        with tempfile.TemporaryDirectory() as room:
-            crate = law_crate(room)
-            if "logic=proved" not in rt_check(crate):
-                give_up("the laws of the definitions as they are do not pass")
-            for number, wrong in share:
-                found[number] = try_law(crate, wrong)
+    def work(room, tasks_of_one):
+        crate = law_crate(room)
+        if "logic=proved" not in rt_check(crate):
+            give_up("the laws of the definitions as they are do not pass")
+        for number, wrong in tasks_of_one:
+            found[number] = try_law(crate, wrong)
+            print(f"tried {len(found)} of {len(tasks)} by laws", flush=True)
 
-    with ThreadPoolExecutor(jobs) as pool:
-        list(pool.map(work, [tasks[start::jobs] for start in range(jobs)]))
+    side_by_side(work, tasks, jobs)
     return found
 
 
@@ -422,29 +452,50 @@ def names_to_try(definitions, wrong, with_all):
 
 
 def judged_by_rows(definitions, entries, options):
-    """What the rows say: first those that are named, then all, of those that none of these refuses."""
+    """What the rows say: first those that are named, and then all, where none of these refuses."""
     tasks = [(number, wrong, names_to_try(definitions, wrong, options.all_rows)) for number, wrong in enumerate(entries)]
     found = try_rows(definitions, tasks, options.jobs)
-    open_tasks = [(number, wrong, list(definitions.rows)) for number, wrong, names in tasks if not found[number].fault and not found[number].refused_by]
-    if open_tasks and not options.all_rows:
-        found.update(try_rows(definitions, open_tasks, options.jobs))
+    left = [(number, wrong) for number, wrong, _ in tasks if found[number] == Found([], "")]
+    if left and not options.all_rows:
+        found.update(try_rows(definitions, [(*task, list(definitions.rows)) for task in left], options.jobs))
     return found
 
 
-def report(entries, found, by_law, options):
-    """Prints what survives, and with --all-rows what refuses each, and the closing line. Answers whether nothing survives."""
+def judged_by_laws(entries, by_rows, options):
+    """What the laws say, where no row refuses or the list names a law."""
+    known = laws()
+    tasks = []
+    for number, wrong in enumerate(entries):
+        rows = by_rows[number]
+        if rows == Found([], "") or (not rows.fault and not known.keys().isdisjoint(wrong.refused_by)):
+            tasks.append((number, wrong))
+    return try_laws(tasks, options.jobs)
+
+
+def why_it_survives(wrong, refused_by, fault):
+    """Why an entry counts as surviving, or an empty text."""
+    if fault:
+        return fault
+    if not refused_by:
+        return "nothing refuses it"
+    idle = [name for name in wrong.refused_by if name not in refused_by]
+    if idle or not wrong.refused_by:
+        return f"the list names {', '.join(idle) or 'nothing'}; what refuses it is {', '.join(refused_by)}"
+    return ""
+
+
+def report(entries, by_rows, by_laws, options):
+    """Prints what survives, with --all-rows what refuses each, and the closing line. Answers whether nothing survives."""
     survivors = 0
     for number, wrong in enumerate(entries):
-        rows, law = found[number], by_law.get(number, Found([], ""))
+        rows, law = by_rows[number], by_laws.get(number, Found([], ""))
         refused_by = rows.refused_by + law.refused_by
-        idle = [name for name in wrong.refused_by if name not in refused_by]
-        why = rows.fault or ("nothing refuses it" if not refused_by else "") or (f"{', '.join(idle)} does not refuse it" if idle else "")
         if options.all_rows:
-            print(f"{wrong.file}: {wrong.name}: {', '.join(refused_by) or 'nothing'}", flush=True)
-        if why or not wrong.refused_by:
+            print(f"{wrong.file}: {wrong.name}: refused by {', '.join(refused_by) or 'nothing'}")
+        why = why_it_survives(wrong, refused_by, rows.fault or ("" if law.refused_by else law.fault))
+        if why:
             survivors += 1
-            refusing = f"; refused by {', '.join(refused_by)}" if refused_by else ""
-            print(f"survives: {wrong.file}: {wrong.name}: {why or 'the list names nothing'}{refusing} {law.fault}".rstrip(), flush=True)
+            print(f"survives: {wrong.file}: {wrong.name}: {why}{'; ' + law.fault if law.refused_by else ''}")
     print(f"{len(entries) - survivors} refused, {survivors} survive")
     return survivors == 0
 
@@ -461,20 +512,18 @@ def main():
         print(table(entries), end="")
         return 0
     definitions = Definitions()
-    known = laws()
+    known = {*definitions.rows, *laws()}
     for wrong in entries:
         for name in wrong.refused_by:
-            if name not in definitions.rows and name not in known:
+            if name not in known:
                 give_up(f"{wrong.name}: {name} is neither a row nor a law")
     same_table = table(entries) in read(MODEL_PAGE)
     if not same_table:
         print("docs/MODEL.md has another table than --table prints")
     entries = [wrong for wrong in entries if options.only in f"{wrong.file}: {wrong.name}"]
-    found = judged_by_rows(definitions, entries, options)
-    by_rows_alone = [(number, wrong) for number, wrong in enumerate(entries) if not found[number].fault and not found[number].refused_by]
-    by_law_named = [(number, wrong) for number, wrong in enumerate(entries) if set(wrong.refused_by) & set(known)]
-    by_law = try_laws(sorted(set(map(lambda task: task[0], by_rows_alone + by_law_named)) and {n: (n, entries[n]) for n, _ in by_rows_alone + by_law_named}.values(), key=lambda task: task[0]), options.jobs)
-    return 0 if report(entries, found, by_law, options) and same_table else 1
+    by_rows = judged_by_rows(definitions, entries, options)
+    by_laws = judged_by_laws(entries, by_rows, options)
+    return 0 if report(entries, by_rows, by_laws, options) and same_table else 1
 
 
 if __name__ == "__main__":

@@ -205,12 +205,12 @@ DigitsOfAddresses =
     ∷ codes "access,0,7000,r"
     ∷ codes "access,0,8000,r"
     ∷ codes "access,0,9000,r"
-    ∷ codes "access,0,a000,r"
-    ∷ codes "access,0,b000,r"
-    ∷ codes "access,0,c000,r"
-    ∷ codes "access,0,d000,r"
-    ∷ codes "access,0,e000,r"
-    ∷ codes "access,0,f000,r"
+    ∷ codes "access,0,a000,w"
+    ∷ codes "access,0,b000,w"
+    ∷ codes "access,0,c000,w"
+    ∷ codes "access,0,d000,w"
+    ∷ codes "access,0,e000,w"
+    ∷ codes "access,0,f000,w"
     ∷ codes "access,0,A000,x"
     ∷ codes "access,0,B000,x"
     ∷ codes "access,0,C000,x"
@@ -250,12 +250,12 @@ DigitsOfAddresses =
     ∷ codes "0,7,7,rwx,R--,-"
     ∷ codes "0,8,8,rwx,R--,-"
     ∷ codes "0,9,9,rwx,R--,-"
-    ∷ codes "0,10,10,rwx,R-X,-"
-    ∷ codes "0,11,11,rwx,R-X,-"
-    ∷ codes "0,12,12,rwx,R-X,-"
-    ∷ codes "0,13,13,rwx,R-X,-"
-    ∷ codes "0,14,14,rwx,R-X,-"
-    ∷ codes "0,15,15,rwx,R-X,-" ∷ [])
+    ∷ codes "0,10,10,rwx,RWX,-"
+    ∷ codes "0,11,11,rwx,RWX,-"
+    ∷ codes "0,12,12,rwx,RWX,-"
+    ∷ codes "0,13,13,rwx,RWX,-"
+    ∷ codes "0,14,14,rwx,RWX,-"
+    ∷ codes "0,15,15,rwx,RWX,-" ∷ [])
     []
 
 -- the bytes before and behind the digits, in each field
