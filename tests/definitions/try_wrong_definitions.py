@@ -10,6 +10,9 @@ are computed there: each must be false of the wrong definition, and hold of the 
 are tried, and then the laws with their proofs. A wrong definition that does not type-check, a text that does not stand in its
 file exactly once, and a row or a law that is named and does not refuse count as surviving.
 
+A row refuses where it computes to something else than it states. A law refuses where a proof of its function fails; that may
+be a proof that no longer fits and a law that still holds, so what rests on laws alone has to be looked at.
+
 Prints what survives, and then 'N refused, M survive'; the exit status is 0 exactly where nothing survives. The table of
 docs/MODEL.md must be the one that --table prints. With --only the entries with this word in their name or file are tried; with
 --all-rows each entry is tried with all rows, and all that refuse it are printed.
@@ -190,17 +193,17 @@ def declared_modules(texts):
 
 
 class Definitions:
-    """All definitions and rows as the modules of one crate, without the laws."""
+    """All definitions and rows as the modules of one crate, without the laws and what rests on them."""
 
     def __init__(self):
-        self.files = {}
-        for crate, names in (("fpage", None), ("space", ["Place"]), ("model", None)):
-            for module in names or modules_of(crate):
-                if not module.endswith("Laws"):
-                    self.files[module] = spec_path(crate, module)
-        originals = {module: read(path) for module, path in self.files.items()}
+        originals = {}
+        for crate, names in (("fpage", modules_of("fpage")), ("space", ["Place"]), ("model", modules_of("model"))):
+            originals.update((module, read(spec_path(crate, module))) for module in names)
         self.texts = declared_modules(originals.values())
         self.texts.update((module, one_crate(text)) for module, text in originals.items())
+        for law_module in [module for module in self.texts if module.endswith("Laws")]:
+            for module in self.resting_on(law_module):
+                self.texts.pop(module, None)
         self.rows = {}
         for module in filter(is_row_module, self.texts):
             for name in re.findall(r"^abbrev pub (\w+) : Type 0$", self.texts[module], re.MULTILINE):
