@@ -20,3 +20,14 @@ pub mod SendLaws
 pub mod RecursionLaws
 pub mod ReplayLaws
 pub mod Rows
+pub mod RowsOfWords
+pub mod RowsOfRecords
+pub mod RowsOfHeaders
+pub mod RowsOfText
+pub mod RowsOfAccess
+pub mod RowsOfUnmaps
+pub mod RowsOfOutcomes
+pub mod RowsOfMaps
+pub mod RowsOfGrants
+pub mod RowsOfHoldings
+pub mod RowsOfRecursion
