@@ -33,3 +33,4 @@ pub mod GrantOutcomes
 pub mod Requests
 pub mod Joins
 pub mod Moves
+pub mod AccessOutcomes

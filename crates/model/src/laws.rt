@@ -1,6 +1,7 @@
 //! The laws of the definitions. Each function does nothing: its contract is a law, proved of all lawful holdings.
 
 ghost use Rattle.model.specs.DerivationLaws.{BelowIsAChain, UnderIsAChain, ChainsEnd, ChainsAreHeld, BelowBothSets, NoneFromItself, NestOrApart};
+ghost use Rattle.model.specs.TouchLaws.{AccessSays};
 ghost use Rattle.model.specs.IsolationLaws.{StripIsolates, DerivedGoesToo};
 ghost use Rattle.model.specs.StatusLaws.{WordIsTheUnion, StatusIsCleared, OutsideGains, NoBitIsLost};
 ghost use Rattle.model.specs.RecursionLaws.{RecursionIsStrip, StripsJoin};
@@ -17,6 +18,11 @@ pub fn derivation()
     ensures below_both_sets { BelowBothSets }
     ensures none_from_itself { NoneFromItself }
     ensures nest_or_apart { NestOrApart }
+{}
+
+/// What an access does to each page.
+pub fn accesses()
+    ensures access_says { AccessSays }
 {}
 
 /// What strip does to each page.
