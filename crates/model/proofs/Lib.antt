@@ -33,4 +33,5 @@ pub mod GrantOutcomes
 pub mod Requests
 pub mod Joins
 pub mod Moves
+pub mod TextReadings
 pub mod AccessOutcomes

@@ -16,6 +16,7 @@ pub mod DerivationLaws
 pub mod IsolationLaws
 pub mod StatusLaws
 pub mod LawfulLaws
+pub mod TextLaws
 pub mod TouchLaws
 pub mod SendLaws
 pub mod RecursionLaws

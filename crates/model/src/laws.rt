@@ -7,6 +7,7 @@ ghost use Rattle.model.specs.StatusLaws.{WordIsTheUnion, StatusIsCleared, Outsid
 ghost use Rattle.model.specs.RecursionLaws.{RecursionIsStrip, StripsJoin};
 ghost use Rattle.model.specs.LawfulLaws.{LawfulMeans, DerivedHoldsNoMore, TouchKeepsLawful, StripKeepsLawful, MapKeepsLawful, GrantKeepsLawful, RequestKeepsLawful, StartIsLawful, ReplayIsLawful};
 ghost use Rattle.model.specs.SendLaws.{PairsOfAnItem, MapSays, GrantSays, GrantMovesAll, CountsAddUp};
+ghost use Rattle.model.specs.TextLaws.{DecimalReadsBack, HexReadsBack, LineIsOfOneMapping, AuditIsOfOneHoldings};
 ghost use Rattle.model.specs.ReplayLaws.{RefusedChangesNothing, FaultChangesNothing, NoPageNamed, NilpageSends, NothingAsked, ReplaysJoin};
 
 /// What derived means.
@@ -75,4 +76,12 @@ pub fn replays()
     ensures nilpage_sends { NilpageSends }
     ensures nothing_asked { NothingAsked }
     ensures replays_join { ReplaysJoin }
+{}
+
+/// What is written reads back.
+pub fn texts()
+    ensures decimal_reads_back { DecimalReadsBack }
+    ensures hex_reads_back { HexReadsBack }
+    ensures line_is_of_one_mapping { LineIsOfOneMapping }
+    ensures audit_is_of_one_holdings { AuditIsOfOneHoldings }
 {}

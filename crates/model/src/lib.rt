@@ -8,5 +8,5 @@
 mod laws;
 mod worked;
 
-pub use laws::{accesses, derivation, isolation, lawful, recursion, replays, sends, status};
+pub use laws::{accesses, derivation, isolation, lawful, recursion, replays, sends, status, texts};
 pub use worked::worked_rows;
