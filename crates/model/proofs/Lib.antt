@@ -34,4 +34,5 @@ pub mod Requests
 pub mod Joins
 pub mod Moves
 pub mod TextReadings
+pub mod ReplyReadings
 pub mod AccessOutcomes

@@ -51,7 +51,7 @@ hex_reads_back word small = (hex_length 8 word, hex_reads word small (hex_reads_
 -- ---- digits, and what follows them
 
 -- no decimal digit
-abbrev NoDigit : ℕ → Type 0
+abbrev pub NoDigit : ℕ → Type 0
 NoDigit c = 10 ≤ digit_value c
 
 digits_then : (a b : List ℕ) (c d : ℕ) (s t : List ℕ) → AllDigits 10 a → AllDigits 10 b → NoDigit c → NoDigit d → a ++ (c ∷ s) ≡ b ++ (d ∷ t) → (a ≡ b) × (c ∷ s ≡ d ∷ t)
@@ -65,7 +65,7 @@ digits_then (x ∷ a) (y ∷ b) c d s t all_a all_b no_c no_d is =
     (λ i. same i ∷ r.0 i, r.1)
 
 -- the digits of a number end where no digit follows
-decimal_then : (m n : ℕ) → HasDigits m → HasDigits n → (c d : ℕ) → NoDigit c → NoDigit d → (s t : List ℕ) → decimal m ++ (c ∷ s) ≡ decimal n ++ (d ∷ t) → (m ≡ n) × (c ∷ s ≡ d ∷ t)
+pub decimal_then : (m n : ℕ) → HasDigits m → HasDigits n → (c d : ℕ) → NoDigit c → NoDigit d → (s t : List ℕ) → decimal m ++ (c ∷ s) ≡ decimal n ++ (d ∷ t) → (m ≡ n) × (c ∷ s ≡ d ∷ t)
 decimal_then m n small_m small_n c d no_c no_d s t is =
     let read_m = decimal_is_IsNumeral_wide m small_m in
     let read_n = decimal_is_IsNumeral_wide n small_n in
@@ -73,7 +73,7 @@ decimal_then m n small_m small_n c d no_c no_d s t is =
     (sym read_m.1 ∙ ap (digits_value 10) r.0 ∙ read_n.1, r.1)
 
 -- there is one digit or more
-no_decimal : (n : ℕ) → HasDigits n → (c d : ℕ) → NoDigit c → NoDigit d → (s t : List ℕ) → c ∷ s ≡ decimal n ++ (d ∷ t) → ⊥
+pub no_decimal : (n : ℕ) → HasDigits n → (c d : ℕ) → NoDigit c → NoDigit d → (s t : List ℕ) → c ∷ s ≡ decimal n ++ (d ∷ t) → ⊥
 no_decimal n small c d no_c no_d s t is =
     let read_n = decimal_is_IsNumeral_wide n small in
     let r = digits_then [] (decimal n) c d s t tt read_n.0.1 no_c no_d is in
@@ -104,7 +104,7 @@ place_then p q small_p small_q s t is =
     (λ i. record { space = space.0 i; page = page.0 i }, cc (page.1))
 
 -- an origin as it is written, and the end of the line
-origin_onto : Option Place → List ℕ → List ℕ
+abbrev pub origin_onto : Option Place → List ℕ → List ℕ
 origin_onto None s = 45 ∷ 10 ∷ s
 origin_onto (Some o) s = decimal o.space ++ (58 ∷ (decimal o.page ++ (10 ∷ s)))
 
@@ -112,7 +112,6 @@ abbrev OriginHasDigits : Option Place → Type 0
 OriginHasDigits from = (o : Place) → from ≡ Some o → PlaceHasDigits o
 
 origin_then : (a b : Option Place) → OriginHasDigits a → OriginHasDigits b → (s t : List ℕ) → origin_onto a s ≡ origin_onto b t → (a ≡ b) × (s ≡ t)
-unfolding origin_onto
 origin_then None None small_a small_b s t is = (refl, cc is)
 origin_then None (Some q) small_a small_b s t is = absurd (no_decimal q.space (small_b q refl).space 45 58 (omega arith) (omega arith) _ _ is)
 origin_then (Some p) None small_a small_b s t is = absurd (no_decimal p.space (small_a p refl).space 45 58 (omega arith) (omega arith) _ _ (sym is))
@@ -121,22 +120,20 @@ origin_then (Some p) (Some q) small_a small_b s t is = let r = place_then p q (s
 -- ---- lines
 
 -- a line, and what follows it
-line_onto : Place × Held → List ℕ → List ℕ
+abbrev pub line_onto : Place × Held → List ℕ → List ℕ
 line_onto e s =
     decimal e.0.space ++ (44 ∷ (decimal e.0.page ++ (44 ∷ (decimal e.1.frame ++ (44 ∷
     letter e.1.rights.read 114 ∷ letter e.1.rights.write 119 ∷ letter e.1.rights.execute 120 ∷ 44 ∷
     letter e.1.status.read 82 ∷ letter e.1.status.write 87 ∷ letter e.1.status.execute 88 ∷ 44 ∷ origin_onto e.1.origin s)))))
 
-line_is : (e : Place × Held) (s : List ℕ) → audit_line e ++ s ≡ line_onto e s
-unfolding origin_onto line_onto
+pub line_is : (e : Place × Held) (s : List ℕ) → audit_line e ++ s ≡ line_onto e s
 line_is e s = by e.1.origin refl
   where
     by : (o : Option Place) → e.1.origin ≡ o → audit_line e ++ s ≡ line_onto e s
     by None is = rw is (simp append_assoc)
     by (Some o) is = rw is (simp append_assoc)
 
-line_then : (d e : Place × Held) → MappingHasDigits d → MappingHasDigits e → (s t : List ℕ) → line_onto d s ≡ line_onto e t → (d ≡ e) × (s ≡ t)
-unfolding line_onto
+pub line_then : (d e : Place × Held) → MappingHasDigits d → MappingHasDigits e → (s t : List ℕ) → line_onto d s ≡ line_onto e t → (d ≡ e) × (s ≡ t)
 line_then d e small_d small_e s t is =
     let space = decimal_then d.0.space e.0.space small_d.place.space small_e.place.space 44 44 (omega arith) (omega arith) _ _ is in
     let page = decimal_then d.0.page e.0.page small_d.place.page small_e.place.page 44 44 (omega arith) (omega arith) _ _ (ap (drop 1) space.1) in
@@ -151,7 +148,6 @@ line_is_of_one_mapping d e small_d small_e is =
     (line_then d e small_d small_e [] [] (sym (line_is d []) ∙ ap (λ x. x ++ []) is ∙ line_is e [])).0
 
 no_line : (e : Place × Held) → MappingHasDigits e → (s : List ℕ) → [] ≡ line_onto e s → ⊥
-unfolding line_onto
 no_line e small s is = by (decimal e.0.space) _ is
   where
     by : (ds s : List ℕ) → [] ≡ ds ++ (44 ∷ s) → ⊥

@@ -7,7 +7,7 @@ ghost use Rattle.model.specs.StatusLaws.{WordIsTheUnion, StatusIsCleared, Outsid
 ghost use Rattle.model.specs.RecursionLaws.{RecursionIsStrip, StripsJoin};
 ghost use Rattle.model.specs.LawfulLaws.{LawfulMeans, DerivedHoldsNoMore, TouchKeepsLawful, StripKeepsLawful, MapKeepsLawful, GrantKeepsLawful, RequestKeepsLawful, StartIsLawful, ReplayIsLawful};
 ghost use Rattle.model.specs.SendLaws.{PairsOfAnItem, MapSays, GrantSays, GrantMovesAll, CountsAddUp};
-ghost use Rattle.model.specs.TextLaws.{DecimalReadsBack, HexReadsBack, LineIsOfOneMapping, AuditIsOfOneHoldings};
+ghost use Rattle.model.specs.TextLaws.{DecimalReadsBack, HexReadsBack, LineIsOfOneMapping, AuditIsOfOneHoldings, LineIsOfOneReply, EndIsOfTwoNumbers, RefusalsAreCounted, TextIsOfOneResult};
 ghost use Rattle.model.specs.ReplayLaws.{RefusedChangesNothing, FaultChangesNothing, NoPageNamed, NilpageSends, NothingAsked, ReplaysJoin};
 
 /// What derived means.
@@ -84,4 +84,8 @@ pub fn texts()
     ensures hex_reads_back { HexReadsBack }
     ensures line_is_of_one_mapping { LineIsOfOneMapping }
     ensures audit_is_of_one_holdings { AuditIsOfOneHoldings }
+    ensures line_is_of_one_reply { LineIsOfOneReply }
+    ensures end_is_of_two_numbers { EndIsOfTwoNumbers }
+    ensures refusals_are_counted { RefusalsAreCounted }
+    ensures text_is_of_one_result { TextIsOfOneResult }
 {}
