@@ -19,6 +19,7 @@ pub mod LawfulLaws
 pub mod TextLaws
 pub mod TouchLaws
 pub mod SendLaws
+pub mod FateLaws
 pub mod RecursionLaws
 pub mod ReplayLaws
 pub mod Rows

@@ -8,6 +8,7 @@ ghost use Rattle.model.specs.RecursionLaws.{RecursionIsStrip, StripsJoin};
 ghost use Rattle.model.specs.LawfulLaws.{LawfulMeans, DerivedHoldsNoMore, TouchKeepsLawful, StripKeepsLawful, MapKeepsLawful, GrantKeepsLawful, RequestKeepsLawful, StartIsLawful, ReplayIsLawful};
 ghost use Rattle.model.specs.SendLaws.{PairsOfAnItem, MapSays, GrantSays, GrantMovesAll, CountsAddUp};
 ghost use Rattle.model.specs.TextLaws.{DecimalReadsBack, HexReadsBack, LineIsOfOneMapping, AuditIsOfOneHoldings, LineIsOfOneReply, EndIsOfTwoNumbers, RefusalsAreCounted, TextIsOfOneResult};
+ghost use Rattle.model.specs.FateLaws.{FateSays, CountsSay, SendsJoin, RepliesAddUp};
 ghost use Rattle.model.specs.ReplayLaws.{RefusedChangesNothing, FaultChangesNothing, NoPageNamed, NilpageSends, NothingAsked, ReplaysJoin};
 
 /// What derived means.
@@ -57,6 +58,14 @@ pub fn lawful()
     ensures request_keeps_lawful { RequestKeepsLawful }
     ensures start_is_lawful { StartIsLawful }
     ensures replay_is_lawful { ReplayIsLawful }
+{}
+
+/// What becomes of each pair of an item, and where it is counted.
+pub fn outcomes()
+    ensures fate_says { FateSays }
+    ensures counts_say { CountsSay }
+    ensures sends_join { SendsJoin }
+    ensures replies_add_up { RepliesAddUp }
 {}
 
 /// What becomes of each page by an item of a send.

@@ -8,5 +8,7 @@
 mod laws;
 mod worked;
 
-pub use laws::{accesses, derivation, isolation, lawful, recursion, replays, sends, status, texts};
+pub use laws::{
+    accesses, derivation, isolation, lawful, outcomes, recursion, replays, sends, status, texts,
+};
 pub use worked::worked_rows;
