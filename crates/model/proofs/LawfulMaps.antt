@@ -157,7 +157,7 @@ module _ (h : Holdings) (job : Job) (l : IsLawful h) (j : IsJob job) where
   mapped_new p k (widened w) gone = absurd (cc (gone, w.at_target, ap (at (flushed_for h job)) w.place))
   mapped_new p k (new n) gone = (n.pair.0, ap (λ x. x.origin) n.is, n.source, n.at_source)
 
-  mapped_grown : IsGrown (flushed_for h job) (mapped h job)
+  pub mapped_grown : IsGrown (flushed_for h job) (mapped h job)
   unfolding HasStill
   mapped_grown = record {
     sorted = mapped_sorted h job lawful_flushed.sorted;

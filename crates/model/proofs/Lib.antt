@@ -33,6 +33,7 @@ pub mod GrantOutcomes
 pub mod Requests
 pub mod Joins
 pub mod Moves
+pub mod KeptBits
 pub mod SendStatuses
 pub mod FateOutcomes
 pub mod TextReadings

@@ -78,7 +78,7 @@ same_status job e extends (Some source) t k none is = ap (λ x. option_map_or (�
 same_status job e goes source t k none is = absurd (none refl)
 
 module _ (h : Holdings) (job : Job) (l : IsLawful h) (j : IsJob job) where
-  mapped_status : (p : Place) (m k : Held) → at h p ≡ Some m → (IsReplaced h job p → ⊥) → at (mapped h job) p ≡ Some k → k.status ≡ (flushed_as h (going h job) p m).status
+  pub mapped_status : (p : Place) (m k : Held) → at h p ≡ Some m → (IsReplaced h job p → ⊥) → at (mapped h job) p ≡ Some k → k.status ≡ (flushed_as h (going h job) p m).status
   mapped_status p m k held stays is = by (target_or_none job.pairs p)
     where
       left : at (flushed_for h job) p ≡ Some (flushed_as h (going h job) p m)

@@ -20,6 +20,7 @@ pub mod TextLaws
 pub mod TouchLaws
 pub mod SendLaws
 pub mod FateLaws
+pub mod KeptStatusLaws
 pub mod RecursionLaws
 pub mod ReplayLaws
 pub mod Rows

@@ -9,6 +9,7 @@ ghost use Rattle.model.specs.LawfulLaws.{LawfulMeans, DerivedHoldsNoMore, TouchK
 ghost use Rattle.model.specs.SendLaws.{PairsOfAnItem, MapSays, GrantSays, MapPassesStatus, GrantPassesStatus, GrantMovesAll, CountsAddUp};
 ghost use Rattle.model.specs.TextLaws.{DecimalReadsBack, HexReadsBack, LineIsOfOneMapping, AuditIsOfOneHoldings, LineIsOfOneReply, EndIsOfTwoNumbers, RefusalsAreCounted, TextIsOfOneResult};
 ghost use Rattle.model.specs.FateLaws.{FateSays, CountsSay, SendsJoin, RepliesAddUp};
+ghost use Rattle.model.specs.KeptStatusLaws.{CallKeepsBits, ReplayKeepsBits};
 ghost use Rattle.model.specs.ReplayLaws.{RefusedChangesNothing, FaultChangesNothing, NoPageNamed, NilpageSends, NothingAsked, ReplaysJoin};
 
 /// What derived means.
@@ -77,6 +78,12 @@ pub fn sends()
     ensures grant_passes_status { GrantPassesStatus }
     ensures grant_moves_all { GrantMovesAll }
     ensures counts_add_up { CountsAddUp }
+{}
+
+/// No status bit is lost, over whole calls and whole replays.
+pub fn kept_status()
+    ensures call_keeps_bits { CallKeepsBits }
+    ensures replay_keeps_bits { ReplayKeepsBits }
 {}
 
 /// What changes nothing, and what a replay of two traces is.

@@ -9,6 +9,7 @@ mod laws;
 mod worked;
 
 pub use laws::{
-    accesses, derivation, isolation, lawful, outcomes, recursion, replays, sends, status, texts,
+    accesses, derivation, isolation, kept_status, lawful, outcomes, recursion, replays, sends,
+    status, texts,
 };
 pub use worked::worked_rows;
