@@ -12,7 +12,7 @@ use Rattle.space.specs.Place.{same_place}
 use Rattle.model.specs.Holdings.{Held, Holdings, at, each}
 use Rattle.model.specs.Touch.{can_touch, marked, touch}
 use Rattle.model.specs.Calls.{Limits, accessed}
-use Rattle.model.specs.TouchLaws.{Allows, Marks, MayAccess, IsAccessed, AccessSays}
+use Rattle.model.specs.TouchLaws.{Allows, LeavesMarks, MayAccess, IsAccessed, AccessSays}
 use Rattle.space.proofs.Places.{same_self}
 use Rattle.model.proofs.Lookups.{changed, at_each}
 use Rattle.model.proofs.LawfulParts.{IsLawful, lawful_parts}
@@ -28,7 +28,7 @@ allows_has r Read is = is
 allows_has r Write is = is
 allows_has r Execute is = is
 
-join_marks : (a : Access) (s : Rights) → Marks a s (join s (marks a))
+join_marks : (a : Access) (s : Rights) → LeavesMarks a s (join s (marks a))
 join_marks Read s = rw (or-true s.read, or-false s.write, or-false s.execute) refl
 join_marks Write s = rw (or-true s.read, or-true s.write, or-false s.execute) refl
 join_marks Execute s = rw (or-true s.read, or-false s.write, or-true s.execute) refl

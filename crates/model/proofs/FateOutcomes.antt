@@ -1,7 +1,7 @@
 -- The outcome of a pair is that of the first line that fits, and each pair enters one count.
-use Rattle.std.proofs.Common.{◌≡◌, ℕ, ◌+◌, true, false, Bool, cond, ◌&&◌, not, List, [], ◌∷◌, length, filter, zero-add, add_assoc, length-append, Decides, Option, Some, None, refl, sym, ap, ◌∙◌, subst, arith, ◌⊎◌, inl, inr, if◌then◌else◌}
+use Rattle.std.proofs.Common.{◌≡◌, ℕ, ◌+◌, ◌≤◌, ◌==◌, true, false, Bool, cond, ◌&&◌, List, [], ◌∷◌, length, filter, zero-add, add_assoc, length-append, Decides, Option, Some, None, refl, sym, ap, ◌∙◌, subst, arith, ◌⊎◌, inl, inr, if◌then◌else◌}
 use Rattle.std.specs.Option.{is_some, option_map_or, option_and_then}
-use Rattle.std.proofs.lemmas.Bool.{and_parts, and_from, false_from_ne_true}
+use Rattle.std.proofs.lemmas.Bool.{eqb-true, eqb-false, and_parts, and_from, false_from_ne_true}
 use Rattle.fpage.specs.Rights.{is_empty, meet, has}
 use Rattle.fpage.specs.Fpage.{Flexpage}
 use Rattle.fpage.specs.declared.item.Item.{Item}
@@ -146,118 +146,38 @@ length_kept : (b : Bool) (e : Pair) (es : List Pair) → length (cond b (e ∷ e
 length_kept true e es = omega arith
 length_kept false e es = omega arith
 
--- a count of those that pass a test of outcome and source
-module _ (get : Counts → ℕ) (none : get no_counts ≡ 0) (adds : (a b : Counts) → get (add_counts a b) ≡ get a + get b) (test : Fate → Bool → Bool) (one : (f : Fate) (kept : Bool) → get (counts_of f kept) ≡ cond (test f kept) 1 0) where
-  counted : (h flushed : Holdings) (job : Job) (es : List Pair) → get (counts_from h flushed job es) ≡ length (filter (λ e. test (fate h job e) (is_held flushed e.0)) es)
+-- a pair enters one count, once
+once : (f : Fate) (kept : Bool) → total (counts_of f kept) ≡ 1
+once absent kept = refl
+once norights kept = refl
+once to_origin kept = refl
+once extends true = refl
+once extends false = refl
+once goes true = refl
+once goes false = refl
+
+none_or_one : (n : ℕ) → n ≤ 1 → n ≡ cond (n == 1) 1 0
+none_or_one n small = by (n == 1) refl
+  where
+    by : (x : Bool) → (n == 1) ≡ x → n ≡ cond x 1 0
+    by true is = eqb-true n 1 is
+    by false is = omega (arith, small, eqb-false n 1 is)
+
+-- whether a pair enters a count, by its outcome and whether its source is kept
+abbrev enters : (Counts → ℕ) → Fate → Bool → Bool
+enters get f kept = get (counts_of f kept) == 1
+
+-- a count is the number of the pairs that enter it
+module _ (get : Counts → ℕ) (none : get no_counts ≡ 0) (adds : (a b : Counts) → get (add_counts a b) ≡ get a + get b) (within : (c : Counts) → get c ≤ total c) where
+  counted : (h flushed : Holdings) (job : Job) (es : List Pair) → get (counts_from h flushed job es) ≡ length (filter (λ e. enters get (fate h job e) (is_held flushed e.0)) es)
   counted h flushed job [] = none
   counted h flushed job (e ∷ es) =
       let f = fate h job e in
       let kept = is_held flushed e.0 in
+      let small : get (counts_of f kept) ≤ 1 = omega (arith, within (counts_of f kept), once f kept) in
       adds (counts_of f kept) (counts_from h flushed job es)
-      ∙ (λ i. one f kept i + counted h flushed job es i)
-      ∙ sym (length_kept (test f kept) e (filter (λ e. test (fate h job e) (is_held flushed e.0)) es))
-
-in_absent : Fate → Bool → Bool
-in_absent absent kept = true
-in_absent norights kept = false
-in_absent to_origin kept = false
-in_absent extends kept = false
-in_absent goes kept = false
-
-in_norights : Fate → Bool → Bool
-in_norights absent kept = false
-in_norights norights kept = true
-in_norights to_origin kept = false
-in_norights extends kept = false
-in_norights goes kept = false
-
-in_origin : Fate → Bool → Bool
-in_origin absent kept = false
-in_origin norights kept = false
-in_origin to_origin kept = true
-in_origin extends kept = false
-in_origin goes kept = false
-
-in_lost : Fate → Bool → Bool
-in_lost absent kept = false
-in_lost norights kept = false
-in_lost to_origin kept = false
-in_lost extends kept = not kept
-in_lost goes kept = not kept
-
-in_extended : Fate → Bool → Bool
-in_extended absent kept = false
-in_extended norights kept = false
-in_extended to_origin kept = false
-in_extended extends kept = kept
-in_extended goes kept = false
-
-in_linked : Fate → Bool → Bool
-in_linked absent kept = false
-in_linked norights kept = false
-in_linked to_origin kept = false
-in_linked extends kept = false
-in_linked goes kept = kept
-
-one_absent : (f : Fate) (kept : Bool) → (counts_of f kept).absent ≡ cond (in_absent f kept) 1 0
-unfolding in_absent
-one_absent absent kept = refl
-one_absent norights kept = refl
-one_absent to_origin kept = refl
-one_absent extends true = refl
-one_absent extends false = refl
-one_absent goes true = refl
-one_absent goes false = refl
-
-one_norights : (f : Fate) (kept : Bool) → (counts_of f kept).norights ≡ cond (in_norights f kept) 1 0
-unfolding in_norights
-one_norights absent kept = refl
-one_norights norights kept = refl
-one_norights to_origin kept = refl
-one_norights extends true = refl
-one_norights extends false = refl
-one_norights goes true = refl
-one_norights goes false = refl
-
-one_origin : (f : Fate) (kept : Bool) → (counts_of f kept).origin ≡ cond (in_origin f kept) 1 0
-unfolding in_origin
-one_origin absent kept = refl
-one_origin norights kept = refl
-one_origin to_origin kept = refl
-one_origin extends true = refl
-one_origin extends false = refl
-one_origin goes true = refl
-one_origin goes false = refl
-
-one_lost : (f : Fate) (kept : Bool) → (counts_of f kept).lost ≡ cond (in_lost f kept) 1 0
-unfolding in_lost
-one_lost absent kept = refl
-one_lost norights kept = refl
-one_lost to_origin kept = refl
-one_lost extends true = refl
-one_lost extends false = refl
-one_lost goes true = refl
-one_lost goes false = refl
-
-one_extended : (f : Fate) (kept : Bool) → (counts_of f kept).extended ≡ cond (in_extended f kept) 1 0
-unfolding in_extended
-one_extended absent kept = refl
-one_extended norights kept = refl
-one_extended to_origin kept = refl
-one_extended extends true = refl
-one_extended extends false = refl
-one_extended goes true = refl
-one_extended goes false = refl
-
-one_linked : (f : Fate) (kept : Bool) → (counts_of f kept).linked ≡ cond (in_linked f kept) 1 0
-unfolding in_linked
-one_linked absent kept = refl
-one_linked norights kept = refl
-one_linked to_origin kept = refl
-one_linked extends true = refl
-one_linked extends false = refl
-one_linked goes true = refl
-one_linked goes false = refl
+      ∙ (λ i. none_or_one (get (counts_of f kept)) small i + counted h flushed job es i)
+      ∙ sym (length_kept (enters get f kept) e (filter (λ e. enters get (fate h job e) (is_held flushed e.0)) es))
 
 -- ---- which pairs they are
 
@@ -291,69 +211,67 @@ module _ (h : Holdings) (l : IsLawful h) (job : Job) (e : Pair) where
   kept_stays : (kept : Bool) → is_held (flush h (going h job)) e.0 ≡ kept → kept ≡ true → IsReplaced h job e.0 → ⊥
   kept_stays kept is stays replaced = cc (is, stays, replaced_flushed replaced)
 
-  stays_kept : (kept : Bool) → is_held (flush h (going h job)) e.0 ≡ kept → (m : Held) → at h e.0 ≡ Some m → (IsReplaced h job e.0 → ⊥) → kept ≡ true
-  stays_kept true is m held stays = refl
-  stays_kept false is m held stays = absurd (stays (flushed_replaced m held is))
-
-  test_absent : (f : Fate) (kept : Bool) → Decides (in_absent f kept) (f ≡ absent)
-  unfolding in_absent
+  test_absent : (f : Fate) (kept : Bool) → Decides (enters (λ c. c.absent) f kept) (f ≡ absent)
   test_absent absent kept = (λ _. refl, λ _. refl)
   test_absent norights kept = (λ is. absurd (cc is), λ is. absurd (cc is))
   test_absent to_origin kept = (λ is. absurd (cc is), λ is. absurd (cc is))
-  test_absent extends kept = (λ is. absurd (cc is), λ is. absurd (cc is))
-  test_absent goes kept = (λ is. absurd (cc is), λ is. absurd (cc is))
+  test_absent extends true = (λ is. absurd (cc is), λ is. absurd (cc is))
+  test_absent extends false = (λ is. absurd (cc is), λ is. absurd (cc is))
+  test_absent goes true = (λ is. absurd (cc is), λ is. absurd (cc is))
+  test_absent goes false = (λ is. absurd (cc is), λ is. absurd (cc is))
 
-  test_norights : (f : Fate) (kept : Bool) → Decides (in_norights f kept) (f ≡ norights)
-  unfolding in_norights
+  test_norights : (f : Fate) (kept : Bool) → Decides (enters (λ c. c.norights) f kept) (f ≡ norights)
   test_norights absent kept = (λ is. absurd (cc is), λ is. absurd (cc is))
   test_norights norights kept = (λ _. refl, λ _. refl)
   test_norights to_origin kept = (λ is. absurd (cc is), λ is. absurd (cc is))
-  test_norights extends kept = (λ is. absurd (cc is), λ is. absurd (cc is))
-  test_norights goes kept = (λ is. absurd (cc is), λ is. absurd (cc is))
+  test_norights extends true = (λ is. absurd (cc is), λ is. absurd (cc is))
+  test_norights extends false = (λ is. absurd (cc is), λ is. absurd (cc is))
+  test_norights goes true = (λ is. absurd (cc is), λ is. absurd (cc is))
+  test_norights goes false = (λ is. absurd (cc is), λ is. absurd (cc is))
 
-  test_origin : (f : Fate) (kept : Bool) → Decides (in_origin f kept) (f ≡ to_origin)
-  unfolding in_origin
+  test_origin : (f : Fate) (kept : Bool) → Decides (enters (λ c. c.origin) f kept) (f ≡ to_origin)
   test_origin absent kept = (λ is. absurd (cc is), λ is. absurd (cc is))
   test_origin norights kept = (λ is. absurd (cc is), λ is. absurd (cc is))
   test_origin to_origin kept = (λ _. refl, λ _. refl)
-  test_origin extends kept = (λ is. absurd (cc is), λ is. absurd (cc is))
-  test_origin goes kept = (λ is. absurd (cc is), λ is. absurd (cc is))
+  test_origin extends true = (λ is. absurd (cc is), λ is. absurd (cc is))
+  test_origin extends false = (λ is. absurd (cc is), λ is. absurd (cc is))
+  test_origin goes true = (λ is. absurd (cc is), λ is. absurd (cc is))
+  test_origin goes false = (λ is. absurd (cc is), λ is. absurd (cc is))
 
   neither : (f : Fate) → (f ≡ goes → ⊥) → (f ≡ extends → ⊥) → (f ≡ goes) ⊎ (f ≡ extends) → ⊥
   neither f not_goes not_extends (inl is) = not_goes is
   neither f not_goes not_extends (inr is) = not_extends is
 
-  lost_by : (f : Fate) (kept : Bool) → fate h job e ≡ f → is_held (flush h (going h job)) e.0 ≡ kept → (f ≡ goes) ⊎ (f ≡ extends)
-      → Decides (not kept) (((f ≡ goes) ⊎ (f ≡ extends)) × IsReplaced h job e.0)
-  lost_by f true is kept there = (λ no. absurd (cc no), λ x. absurd (cc (kept, replaced_flushed x.1)))
-  lost_by f false is kept there = (λ _. (there, let m = held_source f is there in flushed_replaced m.0 m.1 kept), λ _. refl)
+  -- a source that is not kept is replaced
+  gone_one : (f : Fate) → fate h job e ≡ f → (f ≡ goes) ⊎ (f ≡ extends) → is_held (flush h (going h job)) e.0 ≡ false → IsReplaced h job e.0
+  gone_one f is there gone = let m = held_source f is there in flushed_replaced m.0 m.1 gone
 
-  test_lost : (f : Fate) (kept : Bool) → fate h job e ≡ f → is_held (flush h (going h job)) e.0 ≡ kept → Decides (in_lost f kept) (((f ≡ goes) ⊎ (f ≡ extends)) × IsReplaced h job e.0)
-  unfolding in_lost
+  test_lost : (f : Fate) (kept : Bool) → fate h job e ≡ f → is_held (flush h (going h job)) e.0 ≡ kept → Decides (enters (λ c. c.lost) f kept) (((f ≡ goes) ⊎ (f ≡ extends)) × IsReplaced h job e.0)
   test_lost absent kept is is_kept = (λ no. absurd (cc no), λ x. absurd (neither absent (λ y. cc y) (λ y. cc y) x.0))
   test_lost norights kept is is_kept = (λ no. absurd (cc no), λ x. absurd (neither norights (λ y. cc y) (λ y. cc y) x.0))
   test_lost to_origin kept is is_kept = (λ no. absurd (cc no), λ x. absurd (neither to_origin (λ y. cc y) (λ y. cc y) x.0))
-  test_lost extends kept is is_kept = lost_by extends kept is is_kept (inr refl)
-  test_lost goes kept is is_kept = lost_by goes kept is is_kept (inl refl)
+  test_lost extends true is is_kept = (λ no. absurd (cc no), λ x. absurd (kept_stays true is_kept refl x.1))
+  test_lost extends false is is_kept = (λ _. (inr refl, gone_one extends is (inr refl) is_kept), λ _. refl)
+  test_lost goes true is is_kept = (λ no. absurd (cc no), λ x. absurd (kept_stays true is_kept refl x.1))
+  test_lost goes false is is_kept = (λ _. (inl refl, gone_one goes is (inl refl) is_kept), λ _. refl)
 
-  kept_by : (f : Fate) (kept : Bool) → fate h job e ≡ f → is_held (flush h (going h job)) e.0 ≡ kept → (f ≡ goes) ⊎ (f ≡ extends) → Decides kept (IsReplaced h job e.0 → ⊥)
-  kept_by f kept is is_kept there = (λ stays. kept_stays kept is_kept stays, λ stays. let m = held_source f is there in stays_kept kept is_kept m.0 m.1 stays)
-
-  test_extended : (f : Fate) (kept : Bool) → fate h job e ≡ f → is_held (flush h (going h job)) e.0 ≡ kept → Decides (in_extended f kept) ((f ≡ extends) × (IsReplaced h job e.0 → ⊥))
-  unfolding in_extended
+  test_extended : (f : Fate) (kept : Bool) → fate h job e ≡ f → is_held (flush h (going h job)) e.0 ≡ kept → Decides (enters (λ c. c.extended) f kept) ((f ≡ extends) × (IsReplaced h job e.0 → ⊥))
   test_extended absent kept is is_kept = (λ no. absurd (cc no), λ x. absurd (cc (x.0)))
   test_extended norights kept is is_kept = (λ no. absurd (cc no), λ x. absurd (cc (x.0)))
   test_extended to_origin kept is is_kept = (λ no. absurd (cc no), λ x. absurd (cc (x.0)))
-  test_extended extends kept is is_kept = let k = kept_by extends kept is is_kept (inr refl) in (λ stays. (refl, k.0 stays), λ x. k.1 x.1)
-  test_extended goes kept is is_kept = (λ no. absurd (cc no), λ x. absurd (cc (x.0)))
+  test_extended extends true is is_kept = (λ _. (refl, kept_stays true is_kept refl), λ _. refl)
+  test_extended extends false is is_kept = (λ no. absurd (cc no), λ x. absurd (x.1 (gone_one extends is (inr refl) is_kept)))
+  test_extended goes true is is_kept = (λ no. absurd (cc no), λ x. absurd (cc (x.0)))
+  test_extended goes false is is_kept = (λ no. absurd (cc no), λ x. absurd (cc (x.0)))
 
-  test_linked : (f : Fate) (kept : Bool) → fate h job e ≡ f → is_held (flush h (going h job)) e.0 ≡ kept → Decides (in_linked f kept) ((f ≡ goes) × (IsReplaced h job e.0 → ⊥))
-  unfolding in_linked
+  test_linked : (f : Fate) (kept : Bool) → fate h job e ≡ f → is_held (flush h (going h job)) e.0 ≡ kept → Decides (enters (λ c. c.linked) f kept) ((f ≡ goes) × (IsReplaced h job e.0 → ⊥))
   test_linked absent kept is is_kept = (λ no. absurd (cc no), λ x. absurd (cc (x.0)))
   test_linked norights kept is is_kept = (λ no. absurd (cc no), λ x. absurd (cc (x.0)))
   test_linked to_origin kept is is_kept = (λ no. absurd (cc no), λ x. absurd (cc (x.0)))
-  test_linked extends kept is is_kept = (λ no. absurd (cc no), λ x. absurd (cc (x.0)))
-  test_linked goes kept is is_kept = let k = kept_by goes kept is is_kept (inl refl) in (λ stays. (refl, k.0 stays), λ x. k.1 x.1)
+  test_linked extends true is is_kept = (λ no. absurd (cc no), λ x. absurd (cc (x.0)))
+  test_linked extends false is is_kept = (λ no. absurd (cc no), λ x. absurd (cc (x.0)))
+  test_linked goes true is is_kept = (λ _. (refl, kept_stays true is_kept refl), λ _. refl)
+  test_linked goes false is is_kept = (λ no. absurd (cc no), λ x. absurd (x.1 (gone_one goes is (inl refl) is_kept)))
 
 pub counts_say : CountsSay
 counts_say h lawful job =
@@ -361,34 +279,34 @@ counts_say h lawful job =
     let flushed = flush h (going h job) in
     record {
       absent = record {
-        test = λ e. in_absent (fate h job e) (is_held flushed e.0);
+        test = λ e. enters (λ c. c.absent) (fate h job e) (is_held flushed e.0);
         decides = λ e k. test_absent h l job e (fate h job e) (is_held flushed e.0);
-        count = counted (λ c. c.absent) refl (λ a b. refl) in_absent one_absent h flushed job job.pairs;
+        count = counted (λ c. c.absent) refl (λ a b. refl) (λ c. omega arith) h flushed job job.pairs;
       };
       norights = record {
-        test = λ e. in_norights (fate h job e) (is_held flushed e.0);
+        test = λ e. enters (λ c. c.norights) (fate h job e) (is_held flushed e.0);
         decides = λ e k. test_norights h l job e (fate h job e) (is_held flushed e.0);
-        count = counted (λ c. c.norights) refl (λ a b. refl) in_norights one_norights h flushed job job.pairs;
+        count = counted (λ c. c.norights) refl (λ a b. refl) (λ c. omega arith) h flushed job job.pairs;
       };
       origin = record {
-        test = λ e. in_origin (fate h job e) (is_held flushed e.0);
+        test = λ e. enters (λ c. c.origin) (fate h job e) (is_held flushed e.0);
         decides = λ e k. test_origin h l job e (fate h job e) (is_held flushed e.0);
-        count = counted (λ c. c.origin) refl (λ a b. refl) in_origin one_origin h flushed job job.pairs;
+        count = counted (λ c. c.origin) refl (λ a b. refl) (λ c. omega arith) h flushed job job.pairs;
       };
       lost = record {
-        test = λ e. in_lost (fate h job e) (is_held flushed e.0);
+        test = λ e. enters (λ c. c.lost) (fate h job e) (is_held flushed e.0);
         decides = λ e k. test_lost h l job e (fate h job e) (is_held flushed e.0) refl refl;
-        count = counted (λ c. c.lost) refl (λ a b. refl) in_lost one_lost h flushed job job.pairs;
+        count = counted (λ c. c.lost) refl (λ a b. refl) (λ c. omega arith) h flushed job job.pairs;
       };
       extended = record {
-        test = λ e. in_extended (fate h job e) (is_held flushed e.0);
+        test = λ e. enters (λ c. c.extended) (fate h job e) (is_held flushed e.0);
         decides = λ e k. test_extended h l job e (fate h job e) (is_held flushed e.0) refl refl;
-        count = counted (λ c. c.extended) refl (λ a b. refl) in_extended one_extended h flushed job job.pairs;
+        count = counted (λ c. c.extended) refl (λ a b. refl) (λ c. omega arith) h flushed job job.pairs;
       };
       linked = record {
-        test = λ e. in_linked (fate h job e) (is_held flushed e.0);
+        test = λ e. enters (λ c. c.linked) (fate h job e) (is_held flushed e.0);
         decides = λ e k. test_linked h l job e (fate h job e) (is_held flushed e.0) refl refl;
-        count = counted (λ c. c.linked) refl (λ a b. refl) in_linked one_linked h flushed job job.pairs;
+        count = counted (λ c. c.linked) refl (λ a b. refl) (λ c. omega arith) h flushed job job.pairs;
       };
     }
 

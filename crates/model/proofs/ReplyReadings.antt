@@ -11,7 +11,7 @@ use Rattle.model.specs.Items.{Counts}
 use Rattle.model.specs.Calls.{Refusal, bad_size, misaligned, out_of_space, not_an_item, bad_control, no_such_space, same_space, no_window, bad_record, Reply, sent, accessed, unmapped, refused}
 use Rattle.model.specs.Replay.{Told}
 use Rattle.model.specs.Text.{refusal_name, counts_text, hex_digits, words_text, reply_text, reply_line, reply_lines, audit_line, audit_lines, is_refused, refused_count, end_line, text}
-use Rattle.model.specs.TextLaws.{HasDigits, MappingHasDigits, CountsHaveDigits, ReplyHasDigits, LineIsOfOneReply, TextIsOfOneResult, EndIsOfTwoNumbers, IsRefusal, RefusalsAreCounted}
+use Rattle.model.specs.TextLaws.{HasDigits, MappingHasDigits, CountsHaveDigits, ReplyHasDigits, LineIsOfOneReply, TextIsOfOneResult, EndIsOfTwoNumbers, IsRefusal, RefusalsAreTold, EndCountsReplies}
 use Rattle.model.proofs.TextReadings.{decimal_then, no_decimal, hex_reads_back, line_onto, line_is, line_then}
 
 -- ---- counts
@@ -161,8 +161,14 @@ refusal_from (accessed ok) is = absurd (cc is)
 refusal_from (unmapped words) is = absurd (cc is)
 refusal_from (refused r) is = record { why = r; is = refl }
 
-pub refusals_are_counted : RefusalsAreCounted
-refusals_are_counted = (λ r. (refusal_from r, λ x. ap is_refused x.is), λ rs. sym (length-filter is_refused rs))
+pub refusals_are_told : RefusalsAreTold
+refusals_are_told r = (refusal_from r, λ x. ap is_refused x.is)
+
+pub end_counts_replies : EndCountsReplies
+end_counts_replies t = record {
+  before = reply_lines 1 t.replies ++ audit_lines t.last;
+  is = ap (λ n. reply_lines 1 t.replies ++ audit_lines t.last ++ end_line (length t.replies) n) (sym (length-filter is_refused t.replies));
+}
 
 -- ---- the whole
 

@@ -1,5 +1,5 @@
 -- What is written reads back: no two results are written alike.
-use Rattle.std.specs.Prelude.{◌≡◌, ℕ, ◌^◌, ◌<◌, List, length, filter, Decides, Some}
+use Rattle.std.specs.Prelude.{◌≡◌, ℕ, ◌^◌, ◌<◌, List, ◌++◌, length, filter, Decides, Some}
 use Rattle.std.specs.List.{All}
 use Rattle.std.specs.Fmt.{decimal}
 use Rattle.std.specs.Str.Parse.{IsNumeral, digits_value}
@@ -8,7 +8,7 @@ use Rattle.model.specs.Holdings.{Held, Holdings}
 use Rattle.model.specs.Items.{Counts}
 use Rattle.model.specs.Calls.{Refusal, Reply, sent, accessed, unmapped, refused}
 use Rattle.model.specs.Replay.{Told}
-use Rattle.model.specs.Text.{hex_digits, reply_line, audit_line, audit_lines, is_refused, refused_count, end_line, text}
+use Rattle.model.specs.Text.{hex_digits, reply_line, audit_line, audit_lines, is_refused, end_line, text}
 
 -- ---- numbers
 
@@ -89,6 +89,15 @@ pub record IsRefusal (r : Reply) : Type 0 where
   pub why : Refusal
   pub is : r ≡ refused why
 
--- the second number of the end line counts the replies that are refusals: each of them, and no other
-abbrev pub RefusalsAreCounted : Type 0
-RefusalsAreCounted = ((r : Reply) → Decides (is_refused r) (IsRefusal r)) × ((rs : List Reply) → refused_count rs ≡ length (filter is_refused rs))
+-- the refusals are told from the other replies
+abbrev pub RefusalsAreTold : Type 0
+RefusalsAreTold = (r : Reply) → Decides (is_refused r) (IsRefusal r)
+
+-- a text that ends with a line
+pub record EndsWith (bytes line : List ℕ) : Type 0 where
+  pub before : List ℕ
+  pub is : bytes ≡ before ++ line
+
+-- what is written ends with the number of replies, and the number of those that are refusals
+abbrev pub EndCountsReplies : Type 0
+EndCountsReplies = (t : Told) → EndsWith (text t) (end_line (length t.replies) (length (filter is_refused t.replies)))

@@ -16,10 +16,10 @@ Allows rights Write = IsTrue rights.write
 Allows rights Execute = IsTrue rights.execute
 
 -- the marks that an access leaves: a read sets R, a write R and W, an execute R and X, and what was set stays
-abbrev pub Marks : Access → Rights → Rights → Type 0
-Marks Read before after = after ≡ record before { read = true }
-Marks Write before after = after ≡ record before { read = true; write = true }
-Marks Execute before after = after ≡ record before { read = true; execute = true }
+abbrev pub LeavesMarks : Access → Rights → Rights → Type 0
+LeavesMarks Read before after = after ≡ record before { read = true }
+LeavesMarks Write before after = after ≡ record before { read = true; write = true }
+LeavesMarks Execute before after = after ≡ record before { read = true; execute = true }
 
 -- the page is held with the right that the access needs
 pub record MayAccess (h : Holdings) (p : Place) (a : Access) : Type 0 where
@@ -34,7 +34,7 @@ pub record HoldsMarked (left : Holdings) (p : Place) (a : Access) (before : Held
   pub frame : held.frame ≡ before.frame
   pub rights : held.rights ≡ before.rights
   pub origin : held.origin ≡ before.origin
-  pub marks : Marks a before.status held.status
+  pub marks : LeavesMarks a before.status held.status
 
 -- what an access of a page is answered, and what it leaves
 pub record IsAccessed (h : Holdings) (p : Place) (a : Access) (given : Answer) : Type 0 where

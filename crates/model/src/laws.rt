@@ -7,7 +7,7 @@ ghost use Rattle.model.specs.StatusLaws.{WordIsTheUnion, StatusIsCleared, Outsid
 ghost use Rattle.model.specs.RecursionLaws.{RecursionIsStrip, StripsJoin};
 ghost use Rattle.model.specs.LawfulLaws.{LawfulMeans, DerivedHoldsNoMore, TouchKeepsLawful, StripKeepsLawful, MapKeepsLawful, GrantKeepsLawful, RequestKeepsLawful, StartIsLawful, ReplayIsLawful};
 ghost use Rattle.model.specs.SendLaws.{PairsOfAnItem, MapSays, GrantSays, MapPassesStatus, GrantPassesStatus, GrantMovesAll, CountsAddUp};
-ghost use Rattle.model.specs.TextLaws.{DecimalReadsBack, HexReadsBack, LineIsOfOneMapping, AuditIsOfOneHoldings, LineIsOfOneReply, EndIsOfTwoNumbers, RefusalsAreCounted, TextIsOfOneResult};
+ghost use Rattle.model.specs.TextLaws.{DecimalReadsBack, HexReadsBack, LineIsOfOneMapping, AuditIsOfOneHoldings, LineIsOfOneReply, EndIsOfTwoNumbers, RefusalsAreTold, EndCountsReplies, TextIsOfOneResult};
 ghost use Rattle.model.specs.FateLaws.{FateSays, CountsSay, SendsJoin, RepliesAddUp};
 ghost use Rattle.model.specs.KeptStatusLaws.{CallKeepsBits, ReplayKeepsBits};
 ghost use Rattle.model.specs.ReplayLaws.{RefusedChangesNothing, FaultChangesNothing, NoPageNamed, NilpageSends, NothingAsked, ReplaysJoin};
@@ -104,6 +104,7 @@ pub fn texts()
     ensures audit_is_of_one_holdings { AuditIsOfOneHoldings }
     ensures line_is_of_one_reply { LineIsOfOneReply }
     ensures end_is_of_two_numbers { EndIsOfTwoNumbers }
-    ensures refusals_are_counted { RefusalsAreCounted }
+    ensures refusals_are_told { RefusalsAreTold }
+    ensures end_counts_replies { EndCountsReplies }
     ensures text_is_of_one_result { TextIsOfOneResult }
 {}
