@@ -91,8 +91,8 @@ high_bits a c small =
     let execute : (a * 8 + c) % 2 ≡ c % 2 = omega arith in
     λ i. record { read = read i == 1; write = write i == 1; execute = execute i == 1 }
 
-status_read : (word : ℕ) (s : Rights) → of_bits (with_status word s) ≡ s
-status_read word s = high_bits (word / 8) (number s) (small s.read s.write s.execute) ∙ by s.read s.write s.execute
+pub number_small : (s : Rights) → number s < 8
+number_small s = small s.read s.write s.execute
   where
     small : (r w x : Bool) → number (record { read = r; write = w; execute = x }) < 8
     small true true true = omega arith
@@ -104,6 +104,9 @@ status_read word s = high_bits (word / 8) (number s) (small s.read s.write s.exe
     small false false true = omega arith
     small false false false = omega arith
 
+pub status_read : (word : ℕ) (s : Rights) → of_bits (with_status word s) ≡ s
+status_read word s = high_bits (word / 8) (number s) (number_small s) ∙ by s.read s.write s.execute
+  where
     by : (r w x : Bool) → of_bits (number (record { read = r; write = w; execute = x })) ≡ record { read = r; write = w; execute = x }
     by true true true = refl
     by true true false = refl

@@ -34,6 +34,7 @@ pub mod Requests
 pub mod Joins
 pub mod Moves
 pub mod KeptBits
+pub mod UnmapOutcomes
 pub mod SendStatuses
 pub mod FateOutcomes
 pub mod TextReadings

@@ -20,6 +20,7 @@ pub mod TextLaws
 pub mod TouchLaws
 pub mod SendLaws
 pub mod FateLaws
+pub mod UnmapLaws
 pub mod KeptStatusLaws
 pub mod RecursionLaws
 pub mod ReplayLaws

@@ -9,8 +9,9 @@ ghost use Rattle.model.specs.LawfulLaws.{LawfulMeans, DerivedHoldsNoMore, TouchK
 ghost use Rattle.model.specs.SendLaws.{PairsOfAnItem, MapSays, GrantSays, MapPassesStatus, GrantPassesStatus, GrantMovesAll, CountsAddUp};
 ghost use Rattle.model.specs.TextLaws.{DecimalReadsBack, HexReadsBack, LineIsOfOneMapping, AuditIsOfOneHoldings, LineIsOfOneReply, EndIsOfTwoNumbers, RefusalsAreTold, EndCountsReplies, TextIsOfOneResult};
 ghost use Rattle.model.specs.FateLaws.{FateSays, CountsSay, SendsJoin, RepliesAddUp};
+ghost use Rattle.model.specs.UnmapLaws.{UnmapNamesItsOwn, UnmapSays, UnmapsJoin};
 ghost use Rattle.model.specs.KeptStatusLaws.{CallKeepsBits, ReplayKeepsBits};
-ghost use Rattle.model.specs.ReplayLaws.{RefusedChangesNothing, FaultChangesNothing, NoPageNamed, NilpageSends, NothingAsked, ReplaysJoin};
+ghost use Rattle.model.specs.ReplayLaws.{RefusedChangesNothing, FaultChangesNothing, NoPageNamed, NilpageSends, NothingAsked, StartSays, ReplaysJoin};
 
 /// What derived means.
 pub fn derivation()
@@ -80,6 +81,13 @@ pub fn sends()
     ensures counts_add_up { CountsAddUp }
 {}
 
+/// What an unmap takes and answers.
+pub fn unmaps()
+    ensures unmap_names_its_own { UnmapNamesItsOwn }
+    ensures unmap_says { UnmapSays }
+    ensures unmaps_join { UnmapsJoin }
+{}
+
 /// No status bit is lost, over whole calls and whole replays.
 pub fn kept_status()
     ensures call_keeps_bits { CallKeepsBits }
@@ -93,6 +101,7 @@ pub fn replays()
     ensures no_page_named { NoPageNamed }
     ensures nilpage_sends { NilpageSends }
     ensures nothing_asked { NothingAsked }
+    ensures start_says { StartSays }
     ensures replays_join { ReplaysJoin }
 {}
 

@@ -10,6 +10,6 @@ mod worked;
 
 pub use laws::{
     accesses, derivation, isolation, kept_status, lawful, outcomes, recursion, replays, sends,
-    status, texts,
+    status, texts, unmaps,
 };
 pub use worked::worked_rows;
