@@ -35,6 +35,7 @@ pub mod Joins
 pub mod Moves
 pub mod KeptBits
 pub mod UnmapOutcomes
+pub mod RefusalOutcomes
 pub mod SendStatuses
 pub mod FateOutcomes
 pub mod TextReadings

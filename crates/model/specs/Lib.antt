@@ -21,6 +21,7 @@ pub mod TouchLaws
 pub mod SendLaws
 pub mod FateLaws
 pub mod UnmapLaws
+pub mod RefusalLaws
 pub mod KeptStatusLaws
 pub mod RecursionLaws
 pub mod ReplayLaws

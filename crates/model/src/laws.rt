@@ -10,6 +10,7 @@ ghost use Rattle.model.specs.SendLaws.{PairsOfAnItem, MapSays, GrantSays, MapPas
 ghost use Rattle.model.specs.TextLaws.{DecimalReadsBack, HexReadsBack, LineIsOfOneMapping, AuditIsOfOneHoldings, LineIsOfOneReply, EndIsOfTwoNumbers, RefusalsAreTold, EndCountsReplies, TextIsOfOneResult};
 ghost use Rattle.model.specs.FateLaws.{FateSays, CountsSay, SendsJoin, RepliesAddUp};
 ghost use Rattle.model.specs.UnmapLaws.{UnmapNamesItsOwn, UnmapSays, UnmapsJoin};
+ghost use Rattle.model.specs.RefusalLaws.{SendRefusals, UnmapRefusals, AccessRefusals};
 ghost use Rattle.model.specs.KeptStatusLaws.{CallKeepsBits, ReplayKeepsBits};
 ghost use Rattle.model.specs.ReplayLaws.{RefusedChangesNothing, FaultChangesNothing, NoPageNamed, NilpageSends, NothingAsked, StartSays, ReplaysJoin};
 
@@ -92,6 +93,13 @@ pub fn unmaps()
 pub fn kept_status()
     ensures call_keeps_bits { CallKeepsBits }
     ensures replay_keeps_bits { ReplayKeepsBits }
+{}
+
+/// Why a call is refused.
+pub fn refusals()
+    ensures send_refusals { SendRefusals }
+    ensures unmap_refusals { UnmapRefusals }
+    ensures access_refusals { AccessRefusals }
 {}
 
 /// What changes nothing, and what a replay of two traces is.

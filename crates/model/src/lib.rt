@@ -9,7 +9,7 @@ mod laws;
 mod worked;
 
 pub use laws::{
-    accesses, derivation, isolation, kept_status, lawful, outcomes, recursion, replays, sends,
-    status, texts, unmaps,
+    accesses, derivation, isolation, kept_status, lawful, outcomes, recursion, refusals, replays,
+    sends, status, texts, unmaps,
 };
 pub use worked::worked_rows;
