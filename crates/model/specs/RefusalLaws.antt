@@ -16,7 +16,7 @@ pub record AreSpaces (limits : Limits) (from to : ℕ) : Type 0 where
   pub receiver : to < limits.spaces
 
 -- the reply of a send that is worked
-pub record IsSent (r : Reply) : Type 0 where
+pub record HasCounts (r : Reply) : Type 0 where
   pub counts : Counts
   pub is : r ≡ sent counts
 
@@ -26,7 +26,7 @@ pub record IsSendReply (limits : Limits) (from to : ℕ) (window : Flexpage) (r 
   pub no_space : (r ≡ refused no_such_space) ↔ (AreSpaces limits from to → ⊥)
   pub one_space : (r ≡ refused same_space) ↔ (AreSpaces limits from to × (from ≡ to))
   pub no_pages : (r ≡ refused no_window) ↔ (AreSpaces limits from to × (from ≡ to → ⊥) × (window.count ≡ 0))
-  pub worked : IsSent r ↔ (AreSpaces limits from to × (from ≡ to → ⊥) × (window.count ≡ 0 → ⊥))
+  pub worked : HasCounts r ↔ (AreSpaces limits from to × (from ≡ to → ⊥) × (window.count ≡ 0 → ⊥))
 
 -- whatever its items and what is held
 abbrev pub SendRefusals : Type 0
