@@ -34,7 +34,7 @@ join_marks Write s = rw (or-true s.read, or-true s.write, or-false s.execute) re
 join_marks Execute s = rw (or-true s.read, or-false s.write, or-true s.execute) refl
 
 module _ (h : Holdings) (p : Place) (a : Access) where
-  may_from : can_touch h p a ≡ true → MayAccess h p a
+  pub may_from : can_touch h p a ≡ true → MayAccess h p a
   may_from can = by (at h p) refl can
     where
       by : (m : Option Held) → at h p ≡ m → option_map_or (λ m. has m.rights a) m false ≡ true → MayAccess h p a

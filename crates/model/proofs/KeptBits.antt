@@ -49,7 +49,7 @@ use Rattle.model.proofs.SendStatuses.{mapped_status}
 use Rattle.model.proofs.Requests.{lawful_after, spaces_differ, lawful_answer}
 
 -- a bit is set at a page, or at one that derives from it
-abbrev IsSet : Holdings → Place → Access → Type 0
+abbrev pub IsSet : Holdings → Place → Access → Type 0
 IsSet h q b = has (strip_word h (only q)) b ≡ true
 
 -- that page is held

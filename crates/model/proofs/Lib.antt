@@ -34,6 +34,7 @@ pub mod Requests
 pub mod Joins
 pub mod Moves
 pub mod KeptBits
+pub mod NewBits
 pub mod UnmapOutcomes
 pub mod RefusalOutcomes
 pub mod SendStatuses

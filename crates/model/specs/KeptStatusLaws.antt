@@ -1,6 +1,6 @@
 -- No status bit is lost, over whole calls and whole replays.
 use Rattle.std.specs.Prelude.{◌≡◌, ℕ, Bool, ◌⊎◌, List, [], ◌∷◌, IsTrue, Some, Ok}
-use Rattle.fpage.specs.Rights.{of_bits, has}
+use Rattle.fpage.specs.Rights.{of_bits, has, marks}
 use Rattle.fpage.specs.Fpage.{Flexpage}
 use Rattle.fpage.specs.declared.rights.Access.{Access}
 use Rattle.fpage.specs.declared.item.Item.{Item}
@@ -10,12 +10,13 @@ use Rattle.model.specs.Holdings.{Held, Holdings, only, at}
 use Rattle.model.specs.Lawful.{is_lawful}
 use Rattle.model.specs.Strip.{strip}
 use Rattle.model.specs.Items.{Job, job_of, going, sources_of}
-use Rattle.model.specs.Calls.{Limits, send, unmap, Named, Reply, sent, unmapped, Request}
+use Rattle.model.specs.Calls.{Limits, send, access, unmap, Named, Reply, sent, unmapped, Request}
 use Rattle.model.specs.Answers.{item_answer, pages_in, answer}
 use Rattle.model.specs.Replay.{replay}
 use Rattle.model.specs.DerivationLaws.{LeadsInto}
 use Rattle.model.specs.StatusLaws.{HasBit}
 use Rattle.model.specs.SendLaws.{IsReplaced}
+use Rattle.model.specs.TouchLaws.{MayAccess}
 
 -- an item takes a page: it replaces the page, or it grants the page or one from which the page derives. The status of
 -- that page and of what derives from it is cleared then, and what it was passes to the origin, if there is one
@@ -67,3 +68,22 @@ abbrev pub ReplayKeepsBits : Type 0
 ReplayKeepsBits =
     (limits : Limits) (h : Holdings) → IsTrue (is_lawful h) → (rs : List Request) (p : Place) (m : Held) (b : Access) → at h p ≡ Some m → IsTrue (has m.status b)
     → (q : Place) → LeadsInto h 0 (only q) p → IsToldOrTakenSince limits h rs q b ⊎ HasBit (replay (answer limits) h rs).last (only q) b
+
+-- ---- where bits come from
+
+-- a request is an access of the page, or of one that derives from it, which is ok and leaves the bit
+abbrev pub MarksBit : Holdings → Request → Place → Access → Type 0
+MarksBit h (Ok (access p a)) q b = MayAccess h p a × LeadsInto h 0 (only q) p × IsTrue (has (marks a) b)
+MarksBit h request q b = ⊥
+
+-- one of the requests of a trace is such an access
+abbrev pub IsMarkedSince : Limits → Holdings → List Request → Place → Access → Type 0
+IsMarkedSince limits h [] q b = ⊥
+IsMarkedSince limits h (r ∷ rs) q b = MarksBit h r q b ⊎ IsMarkedSince limits (answer limits h r).left rs q b
+
+-- a status bit comes from an access alone: one that stands at a page, or at one that derives from it, stood there at the
+-- start, or an access has left it since
+abbrev pub BitsComeFromAccesses : Type 0
+BitsComeFromAccesses =
+    (limits : Limits) (h : Holdings) → IsTrue (is_lawful h) → (rs : List Request) (q : Place) (b : Access)
+    → HasBit (replay (answer limits) h rs).last (only q) b → HasBit h (only q) b ⊎ IsMarkedSince limits h rs q b

@@ -11,7 +11,7 @@ ghost use Rattle.model.specs.TextLaws.{DecimalReadsBack, HexReadsBack, LineIsOfO
 ghost use Rattle.model.specs.FateLaws.{FateSays, CountsSay, SendsJoin, RepliesAddUp};
 ghost use Rattle.model.specs.UnmapLaws.{UnmapNamesItsOwn, UnmapSays, UnmapsJoin};
 ghost use Rattle.model.specs.RefusalLaws.{SendRefusals, UnmapRefusals, AccessRefusals};
-ghost use Rattle.model.specs.KeptStatusLaws.{CallKeepsBits, ReplayKeepsBits};
+ghost use Rattle.model.specs.KeptStatusLaws.{CallKeepsBits, ReplayKeepsBits, BitsComeFromAccesses};
 ghost use Rattle.model.specs.ReplayLaws.{RefusedChangesNothing, FaultChangesNothing, NoPageNamed, NilpageSends, NothingAsked, StartSays, ReplaysJoin};
 
 /// What derived means.
@@ -93,6 +93,7 @@ pub fn unmaps()
 pub fn kept_status()
     ensures call_keeps_bits { CallKeepsBits }
     ensures replay_keeps_bits { ReplayKeepsBits }
+    ensures bits_come_from_accesses { BitsComeFromAccesses }
 {}
 
 /// Why a call is refused.
