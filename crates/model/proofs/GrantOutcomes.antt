@@ -29,7 +29,7 @@ use Rattle.model.proofs.Grants.{without_withheld, moving_for, withheld_for, in_m
 use Rattle.model.proofs.MapOutcomes.{stays_flushed, replaced_gone, absent_flushed, flushed_stays, target_replaced}
 
 -- the source of a pair that goes is held
-goes_held : (h : Holdings) (job : Job) (e : Pair) → fate h job e ≡ goes → (m : Held) × (at h e.0 ≡ Some m)
+pub goes_held : (h : Holdings) (job : Job) (e : Pair) → fate h job e ≡ goes → (m : Held) × (at h e.0 ≡ Some m)
 goes_held h job e is = by (at h e.0) refl
   where
     by : (m : Option Held) → at h e.0 ≡ m → (m : Held) × (at h e.0 ≡ Some m)
@@ -38,25 +38,25 @@ goes_held h job e is = by (at h e.0) refl
 
 module _ (h : Holdings) (job : Job) (l : IsLawful h) where
   -- the pairs that move are those that are worked
-  worked_moves : (e : Pair) → IsWorked h job e → In e (moving_for h job)
+  pub worked_moves : (e : Pair) → IsWorked h job e → In e (moving_for h job)
   worked_moves e worked =
       let m = goes_held h job e worked.goes.fate in
       moving_in h job e _ worked.goes.is worked.goes.fate (stays_flushed h job l e.0 m.0 m.1 worked.stays)
 
-  moves_worked : (e : Pair) → In e (moving_for h job) → IsWorked h job e
+  pub moves_worked : (e : Pair) → In e (moving_for h job) → IsWorked h job e
   moves_worked e k =
       let r = in_moving h job e k in
       record { goes = record { is = r.0; fate = r.1 }; stays = λ replaced. absurd (cc (r.2, ap is_some (replaced_gone h job l e.0 replaced))) }
 
   -- the sources of the pairs that move are sources of pairs that go
-  moving_goes : (p : Place) → sources_of (going h job) p ≡ false → sources_of (moving_for h job) p ≡ false
+  pub moving_goes : (p : Place) → sources_of (going h job) p ≡ false → sources_of (moving_for h job) p ≡ false
   moving_goes p none = false_from_ne_true _ (λ is.
       let e = source_in (moving_for h job) p is in
       let r = in_moving h job e.0 e.1 in
       cc (none, subst (λ q. sources_of (going h job) q ≡ true) e.2 (in_sources (going h job) e.0 (going_in h job e.0 r.0 r.1))))
 
   -- a chain from a page that is not replaced leads into the one where it leads into the other
-  leads_moving : (p : Place) (least : ℕ) (m : Held) → at h p ≡ Some m → (IsReplaced h job p → ⊥) → LeadsInto h least (sources_of (going h job)) p → LeadsInto h least (sources_of (moving_for h job)) p
+  pub leads_moving : (p : Place) (least : ℕ) (m : Held) → at h p ≡ Some m → (IsReplaced h job p → ⊥) → LeadsInto h least (sources_of (going h job)) p → LeadsInto h least (sources_of (moving_for h job)) p
   leads_moving p least m held stays chain =
       let e = source_in (going h job) chain.into chain.within in
       let g = in_going h job e.0 e.1 in
@@ -67,16 +67,16 @@ module _ (h : Holdings) (job : Job) (l : IsLawful h) where
       let moves = worked_moves e.0 (record { goes = record { is = g.0; fate = g.1 }; stays = source_stays }) in
       record { origins = chain.origins; enough = chain.enough; into = chain.into; leads = chain.leads; within = subst (λ q. sources_of (moving_for h job) q ≡ true) e.2 (in_sources (moving_for h job) e.0 moves) }
 
-  leads_going : (p : Place) (least : ℕ) → LeadsInto h least (sources_of (moving_for h job)) p → LeadsInto h least (sources_of (going h job)) p
+  pub leads_going : (p : Place) (least : ℕ) → LeadsInto h least (sources_of (moving_for h job)) p → LeadsInto h least (sources_of (going h job)) p
   leads_going p least chain =
       let e = source_in (moving_for h job) chain.into chain.within in
       let r = in_moving h job e.0 e.1 in
       record { origins = chain.origins; enough = chain.enough; into = chain.into; leads = chain.leads; within = subst (λ q. sources_of (going h job) q ≡ true) e.2 (in_sources (going h job) e.0 (going_in h job e.0 r.0 r.1)) }
 
-  lawful_flushed : IsLawful (flushed_for h job)
+  pub lawful_flushed : IsLawful (flushed_for h job)
   lawful_flushed = lawful_flush h (going h job) l
 
-  absent_withheld : (p : Place) → at (flushed_for h job) p ≡ None → at (withheld_for h job) p ≡ None
+  pub absent_withheld : (p : Place) → at (flushed_for h job) p ≡ None → at (withheld_for h job) p ≡ None
   absent_withheld p none = strip_absent (flushed_for h job) lawful_flushed (sources_of (moving_for h job)) (without all_rights job.rights) true p none
 
   module _ (j : IsJob job) where
@@ -97,7 +97,7 @@ module _ (h : Holdings) (job : Job) (l : IsLawful h) where
             by (inr (no_source, same)) = ap Some same
 
     -- what is held neither before the move nor as a target is not held after it
-    absent_granted : (p : Place) → at (withheld_for h job) p ≡ None → ((e : Pair) → IsWorked h job e → e.1 ≡ p → ⊥) → at (granted h job) p ≡ None
+    pub absent_granted : (p : Place) → at (withheld_for h job) p ≡ None → ((e : Pair) → IsWorked h job e → e.1 ≡ p → ⊥) → at (granted h job) p ≡ None
     absent_granted p none no_target = by (at (granted h job) p) refl
       where
         nowhere : (w : Place) (m : Held) → at (withheld_for h job) w ≡ Some m → moved_to (moving_for h job) w ≡ p
@@ -110,24 +110,24 @@ module _ (h : Holdings) (job : Job) (l : IsLawful h) where
         by (Some k) is = let w = granted_was h job l j p k is in absurd (nowhere w.place w.before w.held w.to (moved_cases (moving_for h job) w.place))
 
     -- a page that is not replaced is the target of no pair that goes
-    stays_no_target : (p : Place) → (IsReplaced h job p → ⊥) → (e : Pair) → IsWorked h job e → e.1 ≡ p → ⊥
+    pub stays_no_target : (p : Place) → (IsReplaced h job p → ⊥) → (e : Pair) → IsWorked h job e → e.1 ≡ p → ⊥
     stays_no_target p stays e worked same = stays (subst (IsReplaced h job) same (target_replaced h job l e worked.goes.is worked.goes.fate))
 
     -- a page that is not replaced
     module _ (p : Place) (m : Held) (held : at h p ≡ Some m) (stays : IsReplaced h job p → ⊥) where
-      at_flushed : at (flushed_for h job) p ≡ Some (flushed_as h (going h job) p m)
+      pub at_flushed : at (flushed_for h job) p ≡ Some (flushed_as h (going h job) p m)
       at_flushed = stays_flushed h job l p m held stays
 
       -- what the strip of the sources leaves of it
-      abbrev withheld : Held
+      abbrev pub withheld : Held
       withheld = stripped (flushed_for h job) (sources_of (moving_for h job)) (without all_rights job.rights) true p (flushed_as h (going h job) p m)
 
-      still_withheld : (is_narrowed (flushed_for h job) (sources_of (moving_for h job)) true p && is_empty withheld.rights) ≡ false → at (withheld_for h job) p ≡ Some withheld
+      pub still_withheld : (is_narrowed (flushed_for h job) (sources_of (moving_for h job)) true p && is_empty withheld.rights) ≡ false → at (withheld_for h job) p ≡ Some withheld
       still_withheld some = is_stripped (flushed_for h job) (sources_of (moving_for h job)) (without all_rights job.rights) true lawful_flushed p (flushed_as h (going h job) p m) at_flushed some
 
       -- a page that derives from a source
       module _ (chain : LeadsInto h 1 (sources_of (going h job)) p) where
-        narrowed : is_narrowed (flushed_for h job) (sources_of (moving_for h job)) true p ≡ true
+        pub narrowed : is_narrowed (flushed_for h job) (sources_of (moving_for h job)) true p ≡ true
         narrowed =
             or_left _ _ (strip_under h (held_targets h (going h job)) all_rights true l (sources_of (moving_for h job)) p (ap is_some at_flushed)
             ∙ leads_under h l (sources_of (moving_for h job)) p (leads_moving p 1 m held stays chain))
@@ -158,10 +158,10 @@ module _ (h : Holdings) (job : Job) (l : IsLawful h) where
 
       -- a page that is no source, nor derives from one
       module _ (none : LeadsInto h 0 (sources_of (going h job)) p → ⊥) where
-        not_below : is_below h (sources_of (moving_for h job)) p ≡ false
+        pub not_below : is_below h (sources_of (moving_for h job)) p ≡ false
         not_below = false_from_ne_true _ (λ below. none (leads_going p 0 (below_leads h l (sources_of (moving_for h job)) p below)))
 
-        not_lost : is_narrowed (flushed_for h job) (sources_of (moving_for h job)) true p ≡ false
+        pub not_lost : is_narrowed (flushed_for h job) (sources_of (moving_for h job)) true p ≡ false
         not_lost =
             not_narrowed (flushed_for h job) (sources_of (moving_for h job)) true p
             (strip_below h (held_targets h (going h job)) all_rights true l (sources_of (moving_for h job)) p (ap is_some at_flushed) ∙ not_below)
@@ -182,7 +182,7 @@ module _ (h : Holdings) (job : Job) (l : IsLawful h) where
         }
 
     -- the source of a pair that goes is not held
-    source_absent : (e : Pair) → HasFate h job goes e → at (granted h job) e.0 ≡ None
+    pub source_absent : (e : Pair) → HasFate h job goes e → at (granted h job) e.0 ≡ None
     source_absent e is = by (at (flushed_for h job) e.0) refl
       where
         by : (k : Option Held) → at (flushed_for h job) e.0 ≡ k → at (granted h job) e.0 ≡ None

@@ -42,29 +42,29 @@ module _ (h : Holdings) (job : Job) (l : IsLawful h) (j : IsJob job) where
           cc (outside, subst (λ p. is_below h (held_targets h (going h job)) p ≡ true) one below)
 
   -- what an extending pair holds at its target after map
-  record IsWidened (p : Place) (k : Held) : Type 0 where
-    pair : Pair
-    source : Held
-    target : Held
-    is_in : In pair job.pairs
-    place : pair.1 ≡ p
-    at_source : at (flushed_for h job) pair.0 ≡ Some source
-    at_target : at (flushed_for h job) pair.1 ≡ Some target
-    origin : target.origin ≡ Some pair.0
-    is : k ≡ extended job source target
+  pub record IsWidened (p : Place) (k : Held) : Type 0 where
+    pub pair : Pair
+    pub source : Held
+    pub target : Held
+    pub is_in : In pair job.pairs
+    pub place : pair.1 ≡ p
+    pub at_source : at (flushed_for h job) pair.0 ≡ Some source
+    pub at_target : at (flushed_for h job) pair.1 ≡ Some target
+    pub origin : target.origin ≡ Some pair.0
+    pub is : k ≡ extended job source target
 
   -- what a pair that goes holds at its target after map
-  record IsLinked (p : Place) (k : Held) : Type 0 where
-    pair : Pair
-    source : Held
-    is_in : In pair job.pairs
-    place : pair.1 ≡ p
-    goes_there : fate h job pair ≡ goes
-    at_source : at (flushed_for h job) pair.0 ≡ Some source
-    is : k ≡ linked job pair.0 source
+  pub record IsLinked (p : Place) (k : Held) : Type 0 where
+    pub pair : Pair
+    pub source : Held
+    pub is_in : In pair job.pairs
+    pub place : pair.1 ≡ p
+    pub goes_there : fate h job pair ≡ goes
+    pub at_source : at (flushed_for h job) pair.0 ≡ Some source
+    pub is : k ≡ linked job pair.0 source
 
   -- how a place came to hold what it holds after map
-  data Came (p : Place) (k : Held) : Type 0 where
+  pub data Came (p : Place) (k : Held) : Type 0 where
     old : at (flushed_for h job) p ≡ Some k → Came p k
     widened : IsWidened p k → Came p k
     new : IsLinked p k → Came p k
@@ -80,7 +80,7 @@ module _ (h : Holdings) (job : Job) (l : IsLawful h) (j : IsJob job) where
   came_by e k is_in goes fate_is None held is = old is
   came_by e k is_in goes fate_is (Some m) held is = new (record { pair = e; source = m; is_in = is_in; place = refl; goes_there = fate_is; at_source = held; is = cc is })
 
-  came : (p : Place) (k : Held) → at (mapped h job) p ≡ Some k → Came p k
+  pub came : (p : Place) (k : Held) → at (mapped h job) p ≡ Some k → Came p k
   came p k is = by (target_or_none job.pairs p)
     where
       by : ((e : Pair) × In e job.pairs × (e.1 ≡ p)) ⊎ IsNoTarget job.pairs p → Came p k
@@ -157,7 +157,7 @@ module _ (h : Holdings) (job : Job) (l : IsLawful h) (j : IsJob job) where
   mapped_new p k (widened w) gone = absurd (cc (gone, w.at_target, ap (at (flushed_for h job)) w.place))
   mapped_new p k (new n) gone = (n.pair.0, ap (λ x. x.origin) n.is, n.source, n.at_source)
 
-  mapped_grown : IsGrown (flushed_for h job) (mapped h job)
+  pub mapped_grown : IsGrown (flushed_for h job) (mapped h job)
   unfolding HasStill
   mapped_grown = record {
     sorted = mapped_sorted h job lawful_flushed.sorted;

@@ -33,3 +33,12 @@ pub mod GrantOutcomes
 pub mod Requests
 pub mod Joins
 pub mod Moves
+pub mod KeptBits
+pub mod NewBits
+pub mod UnmapOutcomes
+pub mod RefusalOutcomes
+pub mod SendStatuses
+pub mod FateOutcomes
+pub mod TextReadings
+pub mod ReplyReadings
+pub mod AccessOutcomes

@@ -22,7 +22,7 @@ use Rattle.model.proofs.LawfulMaps.{extending_target}
 
 module _ (h : Holdings) (job : Job) (l : IsLawful h) where
   -- a held page is below the targets where it is below those that are held
-  below_held : (p : Place) → is_held h p ≡ true → is_below h (held_targets h (going h job)) p ≡ is_below h (targets_of (going h job)) p
+  pub below_held : (p : Place) → is_held h p ≡ true → is_below h (held_targets h (going h job)) p ≡ is_below h (targets_of (going h job)) p
   below_held p held = below_same h l (held_targets h (going h job)) (targets_of (going h job)) (λ q is. ap (λ b. targets_of (going h job) q && b) is ∙ and_true (targets_of (going h job) q)) p held
     where
       and_true : (b : Bool) → (b && true) ≡ b

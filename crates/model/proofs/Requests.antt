@@ -20,7 +20,7 @@ use Rattle.model.proofs.Jobs.{IsJob, job_is}
 use Rattle.model.proofs.LawfulMaps.{lawful_mapped}
 use Rattle.model.proofs.Grants.{lawful_granted}
 
-lawful_after : (k : ItemKind) (h : Holdings) → IsLawful h → (job : Job) → IsJob job → IsLawful (after_job k h job)
+pub lawful_after : (k : ItemKind) (h : Holdings) → IsLawful h → (job : Job) → IsJob job → IsLawful (after_job k h job)
 lawful_after kind.Map h l job is = lawful_mapped h job l is
 lawful_after kind.Grant h l job is = lawful_granted h job l is
 
@@ -34,7 +34,7 @@ lawful_unmapped space f [] h l = l
 lawful_unmapped space f (w ∷ ws) h l = lawful_unmapped space f ws (strip h (pages_in space w.1) w.1.rights f) (lawful_strip h (pages_in space w.1) w.1.rights f l)
 
 -- a send that is not refused is between two spaces
-spaces_differ : (limits : Limits) (from to : ℕ) (window : Flexpage) (items : List Item) → call_refusal limits (send from to window items) ≡ None → from ≡ to → ⊥
+pub spaces_differ : (limits : Limits) (from to : ℕ) (window : Flexpage) (items : List Item) → call_refusal limits (send from to window items) ≡ None → from ≡ to → ⊥
 spaces_differ limits from to window items accepted same = by (nat_lt from limits.spaces && nat_lt to limits.spaces) (from == to) accepted (eq-eqb from to same)
   where
     by : (x y : Bool) → (if not x then Some no_such_space else if y then Some same_space else if window.count == 0 then Some no_window else None) ≡ None → y ≡ true → ⊥

@@ -1,5 +1,5 @@
 -- The holdings at the start are lawful.
-use Rattle.std.proofs.Common.{◌≡◌, ℕ, zero, suc, ◌+◌, ◌<◌, true, length, Some, None, refl, sym, ap, ◌∙◌, arith, ◌⊎◌, inl, inr}
+use Rattle.std.proofs.Common.{◌≡◌, ℕ, zero, suc, ◌+◌, ◌≤◌, ◌<◌, true, eq-or-lt_of_le, subst, length, Some, None, refl, sym, ap, ◌∙◌, arith, ◌⊎◌, inl, inr}
 use Rattle.std.specs.FinMap.Entries.{below_all}
 use Rattle.std.specs.Ordering.{is_lt}
 use Rattle.std.proofs.lemmas.Bool.{and_from}
@@ -11,7 +11,8 @@ use Rattle.model.specs.Holdings.{Held, at}
 use Rattle.model.specs.Lawful.{ends}
 use Rattle.model.specs.Replay.{root, roots_from, start}
 use Rattle.model.specs.LawfulLaws.{StartIsLawful}
-use Rattle.model.proofs.Lookups.{Sorted, held_cases}
+use Rattle.model.specs.ReplayLaws.{StartSays}
+use Rattle.model.proofs.Lookups.{Sorted, later, first_held, held_cases}
 use Rattle.model.proofs.LawfulParts.{IsLawful, lawful_from}
 
 less_page : (i j : ℕ) → i < j → is_lt (place_cmp (record { space = 0; page = i }) (record { space = 0; page = j })) ≡ true
@@ -61,3 +62,30 @@ lawful_roots i n = record {
 
 pub start_is_lawful : StartIsLawful
 start_is_lawful limits = lawful_from (start limits) (lawful_roots 0 limits.frames)
+
+-- ---- what is held at the start
+
+held_root : (n i j : ℕ) → i ≤ j → j < i + n → at (roots_from i n) (root j).0 ≡ Some (root j).1
+held_root zero i j low high = absurd (none low high)
+  where
+    none : i ≤ j → j < i + 0 → ⊥
+    none low high = omega arith
+held_root (suc n) i j low high = by (eq-or-lt_of_le low) (λ more. held_root n (i + 1) j more (omega arith))
+  where
+    by : (i ≡ j) ⊎ (i < j) → (i + 1 ≤ j → at (roots_from (i + 1) n) (root j).0 ≡ Some (root j).1) → at (roots_from i (suc n)) (root j).0 ≡ Some (root j).1
+    by (inl same) rest = subst (λ k. at (roots_from i (suc n)) (root k).0 ≡ Some (root k).1) same (first_held (root i) (roots_from (i + 1) n))
+    by (inr more) rest = later (root i) (roots_from (i + 1) n) (root j).0 (root j).1 (sorted_roots i (suc n)) (rest (omega arith))
+
+root_within : (n i : ℕ) (p : Place) (m : Held) → at (roots_from i n) p ≡ Some m → p.page < i + n
+root_within zero i p m held = absurd (cc held)
+root_within (suc n) i p m held = by (held_cases (root i) (roots_from (i + 1) n) p m held) (λ k. root_within n (i + 1) p m k)
+  where
+    by : ((p ≡ (root i).0) × (m ≡ (root i).1)) ⊎ (at (roots_from (i + 1) n) p ≡ Some m) → (at (roots_from (i + 1) n) p ≡ Some m → p.page < i + 1 + n) → p.page < i + suc n
+    by (inl (same, is)) rest = let page : p.page ≡ i = ap (λ (x : Place). x.page) same in omega (arith, page)
+    by (inr k) rest = let below = rest k in omega (arith, below)
+
+pub start_says : StartSays
+start_says limits = record {
+  roots = λ i below. held_root limits.frames 0 i (omega arith) (omega arith);
+  others = λ p m held. let within = root_within limits.frames 0 p m held in ((root_at 0 limits.frames p m held).space, omega (arith, within));
+}

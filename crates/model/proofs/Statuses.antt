@@ -11,32 +11,32 @@ use Rattle.model.specs.Derived.{is_under, is_below}
 use Rattle.model.specs.Strip.{rights_left, stripped, strip, strip_word, passed_to}
 use Rattle.model.specs.StatusLaws.{HasBit, PassesBit, WordIsTheUnion, StatusIsCleared, OutsideGains, Removal, after_removal, after_removals, IsAnswered, NoBitIsLost}
 use Rattle.space.proofs.Places.{same_is, same_self}
-use Rattle.fpage.proofs.RightSets.{has-join}
+use Rattle.fpage.proofs.RightSets.{has-join, has-none}
 use Rattle.model.proofs.LawfulParts.{IsLawful, lawful_parts}
-use Rattle.model.proofs.Chains.{along, below_cases, below_from, held_with_origin, below_within}
+use Rattle.model.proofs.Chains.{along, below_cases, below_from, held_with_origin, below_within, below_trans}
 use Rattle.model.proofs.StatusSums.{over_has, over_from, passed_has, passed_from}
 use Rattle.model.proofs.StripAt.{lawful_strip, strip_below, was_stripped, is_stripped}
 use Rattle.model.proofs.Derivations.{below_leads, leads_below}
 
 module _ (h : Holdings) (l : IsLawful h) where
-  word_has : (set : PlaceSet) (b : Access) → HasBit h set b → has (strip_word h set) b ≡ true
+  pub word_has : (set : PlaceSet) (b : Access) → HasBit h set b → has (strip_word h set) b ≡ true
   word_has set b s = over_has (is_below h set) b h s.place s.held s.is (leads_below h l set s.place s.leads) s.bit
 
-  word_from : (set : PlaceSet) (b : Access) → has (strip_word h set) b ≡ true → HasBit h set b
+  pub word_from : (set : PlaceSet) (b : Access) → has (strip_word h set) b ≡ true → HasBit h set b
   word_from set b bit =
       let s = over_from (is_below h set) b h l.sorted bit in
       record { place = s.place; held = s.held; is = s.is; leads = below_leads h l set s.place s.within; bit = s.bit }
 
-  passes_from : (set : PlaceSet) (o : Place) (b : Access) → has (passed_to h set o) b ≡ true → PassesBit h set o b
+  pub passes_from : (set : PlaceSet) (o : Place) (b : Access) → has (passed_to h set o) b ≡ true → PassesBit h set o b
   passes_from set o b bit =
       let s = passed_from h set o b l.sorted bit in
       record { child = s.place; held = s.held; is = s.is; origin = s.origin; leads = below_leads h l set s.place s.below; bit = word_from (only s.place) b s.bit }
 
-  passes_has : (set : PlaceSet) (o : Place) (b : Access) → PassesBit h set o b → has (passed_to h set o) b ≡ true
+  pub passes_has : (set : PlaceSet) (o : Place) (b : Access) → PassesBit h set o b → has (passed_to h set o) b ≡ true
   passes_has set o b s = passed_has h set o b s.child s.held s.is s.origin (leads_below h l set s.child s.leads) (word_has (only s.child) b s.bit)
 
   module _ (set : PlaceSet) (a : Rights) (f : Bool) where
-    cleared : (p : Place) (m : Held) → is_below h set p ≡ true → at (strip h set a f) p ≡ Some m → m.status ≡ no_rights
+    pub cleared : (p : Place) (m : Held) → is_below h set p ≡ true → at (strip h set a f) p ≡ Some m → m.status ≡ no_rights
     cleared p m below left =
         let w = was_stripped h set a f l p m left in
         ap (λ x. x.status) w.is ∙ ap (λ x. if x then no_rights else join w.before.status (passed_to h set p)) below
@@ -47,7 +47,7 @@ module _ (h : Holdings) (l : IsLawful h) where
         let same : w.before ≡ m = cc (w.held, held) in
         ap (λ x. x.status) w.is ∙ ap (λ x. if x then no_rights else join w.before.status (passed_to h set p)) outside ∙ ap (λ x. join x.status (passed_to h set p)) same
 
-    outside_gains_from : (p : Place) (m k : Held) → is_below h set p ≡ false → at h p ≡ Some m → at (strip h set a f) p ≡ Some k → (b : Access)
+    pub outside_gains_from : (p : Place) (m k : Held) → is_below h set p ≡ false → at h p ≡ Some m → at (strip h set a f) p ≡ Some k → (b : Access)
         → has k.status b ≡ (has m.status b || has (passed_to h set p) b)
     outside_gains_from p m k outside held left b = ap (λ x. has x b) (outside_status p m k outside held left) ∙ has-join m.status (passed_to h set p) b
 
@@ -60,6 +60,26 @@ module _ (h : Holdings) (l : IsLawful h) where
         none : (x : Bool) → ((x && false) && is_empty (rights_left (x && false) a m.rights)) ≡ false
         none true = refl
         none false = refl
+
+-- a strip brings no bit to a place: what a strip of q would return afterwards, it would have returned before
+module _ (h : Holdings) (l : IsLawful h) (set : PlaceSet) (a : Rights) (f : Bool) (q : Place) (b : Access) where
+  pub bit_was_there : has (strip_word (strip h set a f) (only q)) b ≡ true → has (strip_word h (only q)) b ≡ true
+  bit_was_there bit =
+      let s = over_from (is_below (strip h set a f) (only q)) b (strip h set a f) (lawful_strip h set a f l).sorted bit in
+      let w = was_stripped h set a f l s.place s.held s.is in
+      let below : is_below h (only q) s.place ≡ true = sym (strip_below h set a f l (only q) s.place (rw (s.is) refl)) ∙ s.within in
+      elim (is_below h set s.place) as (λ x. is_below h set s.place ≡ x → has (strip_word h (only q)) b ≡ true) [
+        | true ↦ λ inside. absurd (cc (s.bit, ap (λ r. has r b) (cleared h l set a f s.place s.held inside s.is), has-none b))
+        | false ↦ λ outside. by s.place w.before w.held below (or_cases (has w.before.status b) (has (passed_to h set s.place) b) (sym (outside_gains_from h l set a f s.place w.before s.held outside w.held s.is b) ∙ s.bit))
+      ] refl
+    where
+      by : (x : Place) (m : Held) → at h x ≡ Some m → is_below h (only q) x ≡ true → (has m.status b ≡ true) ⊎ (has (passed_to h set x) b ≡ true) → has (strip_word h (only q)) b ≡ true
+      by x m held below (inl own) = over_has (is_below h (only q)) b h x m held below own
+      by x m held below (inr passed) =
+          let c = passed_from h set x b l.sorted passed in
+          let from : origin_at h c.place ≡ Some x = rw (c.is) (c.origin) in
+          let z = over_from (is_below h (only c.place)) b h l.sorted c.bit in
+          over_has (is_below h (only q)) b h z.place z.held z.is (below_trans h l (only q) c.place z.place (below_from h l (only q) c.place x from below) z.within) z.bit
 
 pub word_is_the_union : WordIsTheUnion
 word_is_the_union h lawful set b = let l = lawful_parts h lawful in (word_from h l set b, word_has h l set b)
@@ -126,7 +146,7 @@ module _ (h : Holdings) (l : IsLawful h) (set : PlaceSet) (a : Rights) (f : Bool
               over_has (is_below h (only o)) b h s.place s.held s.is (below_within h l (only p) (only o) at_p s.place s.within) s.bit
 
   -- what a strip of q would return before, it would return afterwards
-  bit_is_kept : has (strip_word h (only q)) b ≡ true → has (strip_word (strip h set a f) (only q)) b ≡ true
+  pub bit_is_kept : has (strip_word h (only q)) b ≡ true → has (strip_word (strip h set a f) (only q)) b ≡ true
   bit_is_kept bit =
       let s = over_from (is_below h (only q)) b h l.sorted bit in
       elim (is_below h set s.place) as (λ x. is_below h set s.place ≡ x → has (strip_word (strip h set a f) (only q)) b ≡ true) [
@@ -135,7 +155,7 @@ module _ (h : Holdings) (l : IsLawful h) (set : PlaceSet) (a : Rights) (f : Bool
       ] refl
 
 -- a strip of pages from which q derives returns all that a strip of q would
-bit_is_answered : (h : Holdings) → IsLawful h → (set : PlaceSet) (q : Place) (b : Access) → is_below h set q ≡ true → has (strip_word h (only q)) b ≡ true → has (strip_word h set) b ≡ true
+pub bit_is_answered : (h : Holdings) → IsLawful h → (set : PlaceSet) (q : Place) (b : Access) → is_below h set q ≡ true → has (strip_word h (only q)) b ≡ true → has (strip_word h set) b ≡ true
 bit_is_answered h l set q b below bit =
     let s = over_from (is_below h (only q)) b h l.sorted bit in
     let inside = below_within h l (only q) set (λ x same. subst (λ y. is_below h set y ≡ true) (same_is q x same) below) s.place s.within in

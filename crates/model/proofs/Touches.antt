@@ -18,7 +18,7 @@ use Rattle.model.proofs.StripAt.{lawful_strip}
 use Rattle.model.proofs.Derivations.{leads_below}
 
 -- the change that touch makes
-abbrev touching : Place → Access → Place → Held → Option Held
+abbrev pub touching : Place → Access → Place → Held → Option Held
 touching p a q m = Some (if same_place p q then marked a m else m)
 
 -- but for its status a mapping stays
@@ -32,7 +32,7 @@ only_status true a m k is = let same : marked a m ≡ k = cc in record { frame =
 only_status false a m k is = let same : m ≡ k = cc in record { frame = ap (λ x. x.frame) (sym same); origin = ap (λ x. x.origin) (sym same); rights = ap (λ x. x.rights) (sym same) }
 
 module _ (h : Holdings) (l : IsLawful h) (t : Place) (a : Access) where
-  touch_even : IsEven h (touching t a)
+  pub touch_even : IsEven h (touching t a)
   touch_even = record {
     frame = λ p m k held is. (only_status (same_place t p) a m k is).frame;
     origin = λ p m k held is. (only_status (same_place t p) a m k is).origin;

@@ -1,17 +1,17 @@
 -- What changes nothing, and what a replay of two traces is.
-use Rattle.std.specs.Prelude.{◌≡◌, ℕ, Bool, false, List, [], ◌++◌, IsTrue, IsFalse}
+use Rattle.std.specs.Prelude.{◌≡◌, ℕ, ◌<◌, Bool, true, false, List, [], ◌++◌, IsTrue, IsFalse, Some, None}
 use Rattle.fpage.specs.Rights.{no_rights}
 use Rattle.fpage.specs.Fpage.{Flexpage}
 use Rattle.fpage.specs.declared.rights.Rights.{Rights}
 use Rattle.fpage.specs.declared.item.Item.{Item}
 use Rattle.space.specs.declared.place.Place.{Place}
-use Rattle.model.specs.Holdings.{Holdings, PlaceSet, is_held}
+use Rattle.model.specs.Holdings.{Held, Holdings, PlaceSet, at, is_held}
 use Rattle.model.specs.Lawful.{is_lawful}
 use Rattle.model.specs.Strip.{strip, strip_word}
 use Rattle.model.specs.Items.{job_of, no_counts}
 use Rattle.model.specs.Calls.{Limits, Refusal, Request, refused, accessed}
 use Rattle.model.specs.Answers.{Answer, answer, item_answer, send_answer, unmap_answer}
-use Rattle.model.specs.Replay.{Told, replay}
+use Rattle.model.specs.Replay.{Told, replay, start}
 
 -- a request that is refused changes nothing
 abbrev pub RefusedChangesNothing : Type 0
@@ -38,6 +38,19 @@ abbrev pub NothingAsked : Type 0
 NothingAsked =
     (h : Holdings) (from to : ℕ) (window : Flexpage) (space : ℕ) (f : Bool)
     → (send_answer from to window [] h ≡ record { counts = no_counts; left = h }) × (unmap_answer space f [] h ≡ record { words = []; left = h })
+
+-- what is held at the start
+pub record IsAtStart (limits : Limits) (h : Holdings) : Type 0 where
+  -- page i of space 0, for each frame i, as a root of that frame, with r, w and x and no status
+  pub roots : (i : ℕ) → i < limits.frames
+      → at h (record { space = 0; page = i })
+      ≡ Some (record { frame = i; rights = record { read = true; write = true; execute = true }; status = record { read = false; write = false; execute = false }; origin = None })
+  -- and nothing else
+  pub others : (p : Place) (m : Held) → at h p ≡ Some m → (p.space ≡ 0) × (p.page < limits.frames)
+
+-- with any limits
+abbrev pub StartSays : Type 0
+StartSays = (limits : Limits) → IsAtStart limits (start limits)
 
 -- the second trace from where the first ended
 abbrev pub one_after_another : Told → (Holdings → Told) → Told

@@ -1,9 +1,10 @@
 -- What becomes of each page when an item of a send is worked.
-use Rattle.std.specs.Prelude.{◌≡◌, ℕ, true, ◌+◌, ◌==◌, ◌&&◌, not, ◌⊎◌, ◌↔◌, List, [], ◌∷◌, length, filter, IsTrue, IsFalse, Option, Some, None, Ok}
-use Rattle.fpage.specs.Rights.{no_rights, all_rights, is_empty, meet, join, without}
+use Rattle.std.specs.Prelude.{◌≡◌, ℕ, true, ◌+◌, ◌==◌, ◌&&◌, not, ◌⊎◌, ◌↔◌, List, [], ◌∷◌, length, filter, IsTrue, IsFalse, Decides, Option, Some, None, Ok}
+use Rattle.fpage.specs.Rights.{no_rights, all_rights, is_empty, meet, join, without, has}
 use Rattle.fpage.specs.Fpage.{Flexpage, read_fpage}
 use Rattle.fpage.specs.Item.{read_item, is_pair}
 use Rattle.fpage.specs.declared.rights.Rights.{Rights}
+use Rattle.fpage.specs.declared.rights.Access.{Access}
 use Rattle.fpage.specs.declared.item.Item.{Item}
 use Rattle.space.specs.declared.place.Place.{Place}
 use Rattle.model.specs.Holdings.{Held, Holdings, at, is_held}
@@ -13,6 +14,7 @@ use Rattle.model.specs.Items.{Job, Pair, job_of, Fate, extends, goes, fate, goin
 use Rattle.model.specs.Map.{mapped}
 use Rattle.model.specs.Grant.{granted, moving}
 use Rattle.model.specs.DerivationLaws.{LeadsInto}
+use Rattle.model.specs.StatusLaws.{PassesBit}
 
 -- a pair is one of a list
 abbrev pub In : Pair → List Pair → Type 0
@@ -114,6 +116,40 @@ abbrev pub GrantSays : Type 0
 GrantSays =
     (h : Holdings) → IsTrue (is_lawful h) → (from to : ℕ) → (from ≡ to → ⊥) → (window : Flexpage) (item : Item)
     → IsGranted h (job_of from to window item) (granted h (job_of from to window item))
+
+-- ---- status
+
+-- the status of pages after a MapItem
+pub record IsStatusAfterMap (h : Holdings) (job : Job) (left : Holdings) : Type 0 where
+  -- a linked target has none
+  pub linked : (e : Pair) (k : Held) → IsWorked h job e → at left e.1 ≡ Some k → k.status ≡ no_rights
+  -- any other page, extended or not, keeps its status, and gains exactly that of the replaced pages that derive from it
+  -- directly, with all that derives from those
+  pub others : (p : Place) (m k : Held) → at h p ≡ Some m → (IsReplaced h job p → ⊥) → at left p ≡ Some k
+      → (b : Access) → Decides (has k.status b) (IsTrue (has m.status b) ⊎ PassesBit h (targets_of (going h job)) p b)
+
+-- of a MapItem between two spaces
+abbrev pub MapPassesStatus : Type 0
+MapPassesStatus =
+    (h : Holdings) → IsTrue (is_lawful h) → (from to : ℕ) → (from ≡ to → ⊥) → (window : Flexpage) (item : Item)
+    → IsStatusAfterMap h (job_of from to window item) (mapped h (job_of from to window item))
+
+-- the status of pages after a GrantItem
+pub record IsStatusAfterGrant (h : Holdings) (job : Job) (left : Holdings) : Type 0 where
+  -- a granted page has none at its target
+  pub granted : (e : Pair) (k : Held) → IsWorked h job e → at left e.1 ≡ Some k → k.status ≡ no_rights
+  -- nor has a page that derives from a granted one
+  pub derived : (p : Place) (m k : Held) → at h p ≡ Some m → (IsReplaced h job p → ⊥) → LeadsInto h 1 (sources_of (going h job)) p → at left p ≡ Some k → k.status ≡ no_rights
+  -- any other page keeps its status, and gains exactly that of the replaced pages and of the granted ones that derive
+  -- from it directly, with all that derives from those
+  pub others : (p : Place) (m k : Held) → at h p ≡ Some m → (IsReplaced h job p → ⊥) → (LeadsInto h 0 (sources_of (going h job)) p → ⊥) → at left p ≡ Some k
+      → (b : Access) → Decides (has k.status b) (IsTrue (has m.status b) ⊎ PassesBit h (targets_of (going h job)) p b ⊎ PassesBit h (sources_of (going h job)) p b)
+
+-- of a GrantItem between two spaces
+abbrev pub GrantPassesStatus : Type 0
+GrantPassesStatus =
+    (h : Holdings) → IsTrue (is_lawful h) → (from to : ℕ) → (from ≡ to → ⊥) → (window : Flexpage) (item : Item)
+    → IsStatusAfterGrant h (job_of from to window item) (granted h (job_of from to window item))
 
 -- ---- numbers
 

@@ -1,12 +1,18 @@
 //! The laws of the definitions. Each function does nothing: its contract is a law, proved of all lawful holdings.
 
 ghost use Rattle.model.specs.DerivationLaws.{BelowIsAChain, UnderIsAChain, ChainsEnd, ChainsAreHeld, BelowBothSets, NoneFromItself, NestOrApart};
+ghost use Rattle.model.specs.TouchLaws.{AccessSays};
 ghost use Rattle.model.specs.IsolationLaws.{StripIsolates, DerivedGoesToo};
 ghost use Rattle.model.specs.StatusLaws.{WordIsTheUnion, StatusIsCleared, OutsideGains, NoBitIsLost};
 ghost use Rattle.model.specs.RecursionLaws.{RecursionIsStrip, StripsJoin};
 ghost use Rattle.model.specs.LawfulLaws.{LawfulMeans, DerivedHoldsNoMore, TouchKeepsLawful, StripKeepsLawful, MapKeepsLawful, GrantKeepsLawful, RequestKeepsLawful, StartIsLawful, ReplayIsLawful};
-ghost use Rattle.model.specs.SendLaws.{PairsOfAnItem, MapSays, GrantSays, GrantMovesAll, CountsAddUp};
-ghost use Rattle.model.specs.ReplayLaws.{RefusedChangesNothing, FaultChangesNothing, NoPageNamed, NilpageSends, NothingAsked, ReplaysJoin};
+ghost use Rattle.model.specs.SendLaws.{PairsOfAnItem, MapSays, GrantSays, MapPassesStatus, GrantPassesStatus, GrantMovesAll, CountsAddUp};
+ghost use Rattle.model.specs.TextLaws.{DecimalReadsBack, HexReadsBack, LineIsOfOneMapping, AuditIsOfOneHoldings, LineIsOfOneReply, EndIsOfTwoNumbers, RefusalsAreTold, EndCountsReplies, TextIsOfOneResult};
+ghost use Rattle.model.specs.FateLaws.{FateSays, CountsSay, SendsJoin, RepliesAddUp};
+ghost use Rattle.model.specs.UnmapLaws.{UnmapNamesItsOwn, UnmapSays, UnmapsJoin};
+ghost use Rattle.model.specs.RefusalLaws.{SendRefusals, UnmapRefusals, AccessRefusals};
+ghost use Rattle.model.specs.KeptStatusLaws.{CallKeepsBits, ReplayKeepsBits, BitsComeFromAccesses};
+ghost use Rattle.model.specs.ReplayLaws.{RefusedChangesNothing, FaultChangesNothing, NoPageNamed, NilpageSends, NothingAsked, StartSays, ReplaysJoin};
 
 /// What derived means.
 pub fn derivation()
@@ -17,6 +23,11 @@ pub fn derivation()
     ensures below_both_sets { BelowBothSets }
     ensures none_from_itself { NoneFromItself }
     ensures nest_or_apart { NestOrApart }
+{}
+
+/// What an access does to each page.
+pub fn accesses()
+    ensures access_says { AccessSays }
 {}
 
 /// What strip does to each page.
@@ -52,13 +63,44 @@ pub fn lawful()
     ensures replay_is_lawful { ReplayIsLawful }
 {}
 
+/// What becomes of each pair of an item, and where it is counted.
+pub fn outcomes()
+    ensures fate_says { FateSays }
+    ensures counts_say { CountsSay }
+    ensures sends_join { SendsJoin }
+    ensures replies_add_up { RepliesAddUp }
+{}
+
 /// What becomes of each page by an item of a send.
 pub fn sends()
     ensures pairs_of_an_item { PairsOfAnItem }
     ensures map_says { MapSays }
     ensures grant_says { GrantSays }
+    ensures map_passes_status { MapPassesStatus }
+    ensures grant_passes_status { GrantPassesStatus }
     ensures grant_moves_all { GrantMovesAll }
     ensures counts_add_up { CountsAddUp }
+{}
+
+/// What an unmap takes and answers.
+pub fn unmaps()
+    ensures unmap_names_its_own { UnmapNamesItsOwn }
+    ensures unmap_says { UnmapSays }
+    ensures unmaps_join { UnmapsJoin }
+{}
+
+/// No status bit is lost, over whole calls and whole replays.
+pub fn kept_status()
+    ensures call_keeps_bits { CallKeepsBits }
+    ensures replay_keeps_bits { ReplayKeepsBits }
+    ensures bits_come_from_accesses { BitsComeFromAccesses }
+{}
+
+/// Why a call is refused.
+pub fn refusals()
+    ensures send_refusals { SendRefusals }
+    ensures unmap_refusals { UnmapRefusals }
+    ensures access_refusals { AccessRefusals }
 {}
 
 /// What changes nothing, and what a replay of two traces is.
@@ -68,5 +110,19 @@ pub fn replays()
     ensures no_page_named { NoPageNamed }
     ensures nilpage_sends { NilpageSends }
     ensures nothing_asked { NothingAsked }
+    ensures start_says { StartSays }
     ensures replays_join { ReplaysJoin }
+{}
+
+/// What is written reads back.
+pub fn texts()
+    ensures decimal_reads_back { DecimalReadsBack }
+    ensures hex_reads_back { HexReadsBack }
+    ensures line_is_of_one_mapping { LineIsOfOneMapping }
+    ensures audit_is_of_one_holdings { AuditIsOfOneHoldings }
+    ensures line_is_of_one_reply { LineIsOfOneReply }
+    ensures end_is_of_two_numbers { EndIsOfTwoNumbers }
+    ensures refusals_are_told { RefusalsAreTold }
+    ensures end_counts_replies { EndCountsReplies }
+    ensures text_is_of_one_result { TextIsOfOneResult }
 {}

@@ -1,5 +1,6 @@
 -- The laws of calls that change nothing, and of replays.
 use Rattle.model.proofs.Joins.{refused_changes_nothing, fault_changes_nothing, no_page_named, nilpage_sends, nothing_asked, replays_join}
+use Rattle.model.proofs.Starts.{start_says}
 use Rattle.model.proofs.laws.replays.Goals as goal
 
 pub returns-clause-refused_changes_nothing : goal.returns-clause-refused_changes_nothing
@@ -19,3 +20,6 @@ returns-clause-nothing_asked c = nothing_asked
 
 pub returns-clause-replays_join : goal.returns-clause-replays_join
 returns-clause-replays_join c = replays_join
+
+pub returns-clause-start_says : goal.returns-clause-start_says
+returns-clause-start_says c = start_says
