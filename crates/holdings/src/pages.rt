@@ -25,7 +25,7 @@ pub fn held_pages(
     requires places { All (IsPlace shards.now) places.now }
     ensures { IfOk result (λ pages. AreHeldPages shards.now (any_of places.now) pages.items) }
 {
-    let mut pages = Vec::with_capacity(alloc, places.len())?;
+    let mut pages = Vec::new(alloc);
     for place in places {
         if let Some(entry) = shards.get(*place) {
             pages.push(HeldPage {

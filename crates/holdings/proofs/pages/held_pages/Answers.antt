@@ -6,7 +6,7 @@ use Rattle.holdings.proofs.pages.held_pages.Goals.{in-Some+in_ok-push, in_defaul
 use Rattle.holdings.proofs.pages.held_pages.Goals as goal
 
 pub loop-place-init : goal.loop-place-init
-loop-place-init c = subst (AreHeldPages c.args.shards.now (any_of (take 0 c.args.places.now))) (sym c.in_ok-pages.ensures.items) (none_held c.args.shards.now c.args.places.now)
+loop-place-init c = subst (AreHeldPages c.args.shards.now (any_of (take 0 c.args.places.now))) (sym c.new-pages.ensures.items) (none_held c.args.shards.now c.args.places.now)
 
 pub loop-place-preserved : goal.loop-place-preserved
 loop-place-preserved c =
