@@ -66,23 +66,12 @@ fn map_page(shards: &mut Shards, transfer: Transfer, rights: Rights) -> Worked
         shards.extend(transfer.target, rights);
         return Worked::extended();
     }
-    link(shards, transfer.target, Entry { rights, ..source });
-    Worked::linked()
-}
-
-ghost use Rattle.space.specs.Shards.{IsSetAt, IsLaidOutAs};
-ghost use Rattle.std.specs.Prelude.{◌<◌, ◌^◌};
-ghost use Rattle.fpage.specs.Rights.{no_rights};
-
-/// Puts a new mapping at a page that holds nothing: the frame and rights of this entry, without status.
-fn link(shards: &mut Shards, target: Place, entry: Entry)
-    requires target { IsPlace shards.old target }
-    requires present { IsFalse (is_taken shards.old) }
-    requires fits { entry.frame < 2 ^ 24 }
-    ensures set { IsSetAt shards.old shards.new target (Some (record entry { status = no_rights })) }
-    ensures present { IsFalse (is_taken shards.new) }
-    ensures layout { IsLaidOutAs shards.old shards.new }
-{
     let status = Rights::none();
-    shards.set(target, Some(Entry { status, ..entry }));
+    let entry = Entry {
+        rights,
+        status,
+        ..source
+    };
+    shards.set(transfer.target, Some(entry));
+    Worked::linked()
 }

@@ -60,4 +60,3 @@ module _ (test : Place × Option Place → Bool) where
 -- a place that stands in the tree has a position
 pub some_found : (test : Place × Option Place → Bool) (os : Origins) → list_any test os ≡ true → is_some (position test os) ≡ true
 some_found test os any = ap is_some (position_is test os ∙ ap (λ b. if b then Some (prefix_len (λ o. not (test o)) os) else None) any)
-

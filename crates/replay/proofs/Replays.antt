@@ -11,7 +11,7 @@ use Rattle.model.specs.Answers.{answer}
 use Rattle.model.specs.Replay.{Told}
 use Rattle.model.specs.Records.{Fields, request}
 use Rattle.model.specs.Text.{reply_line, reply_lines, is_refused, refused_count, audit_lines, end_line}
-use Rattle.replay.specs.Run.{Answers, told_of, WritesReplies, StopsBefore, WritesText}
+use Rattle.replay.specs.Run.{Answers, told_of, StopsBefore, WritesText}
 
 -- the first i of all replies are written, and the rest are those to the records that are left
 pub record SoFar (t : Told) (limits : Limits) (rest : List Fields) (h : Holdings) (i : ℕ) (old now : Option (List ℕ)) (refused : ℕ) : Type 0 where
@@ -19,6 +19,12 @@ pub record SoFar (t : Told) (limits : Limits) (rest : List Fields) (h : Holdings
   pub written : Appends old now (reply_lines 1 (take i t.replies))
   pub refused_is : refused ≡ refused_count (take i t.replies)
   pub within : i ≤ length t.replies
+
+-- all reply lines were written
+pub record WritesReplies (t : Told) (old new : Option (List ℕ)) (last : Holdings) (refused : ℕ) : Type 0 where
+  pub left : last ≡ t.last
+  pub written : Appends old new (reply_lines 1 t.replies)
+  pub refused_is : refused ≡ refused_count t.replies
 
 -- ---- lists
 

@@ -22,12 +22,6 @@ pub record Answers (limits : Limits) (old : Holdings) (fields : Fields) (number 
 abbrev pub told_of : Limits → List Fields → Holdings → Told
 told_of limits rows h = replay (answer limits) h (map (request limits) rows)
 
--- all reply lines were written
-pub record WritesReplies (t : Told) (old new : Option (List ℕ)) (last : Holdings) (refused : ℕ) : Type 0 where
-  pub left : last ≡ t.last
-  pub written : Appends old new (reply_lines 1 t.replies)
-  pub refused_is : refused ≡ refused_count t.replies
-
 -- the reply lines of the records before number k + 1 were written, and nothing else
 pub record StopsBefore (t : Told) (old new : Option (List ℕ)) (k : ℕ) : Type 0 where
   pub within : k ≤ length t.replies

@@ -4,7 +4,7 @@ ghost use Rattle.std.specs.Prelude.{◌≡◌, ◌++◌, false, IfOk, IfErr, IfS
 ghost use Rattle.model.specs.Text.{audit_lines, end_line};
 ghost use Rattle.holdings.specs.Meaning.{limits_of};
 ghost use Rattle.mapdb.specs.State.{left_with};
-ghost use Rattle.replay.specs.Run.{Answers, told_of, WritesReplies, WritesText, StopsAt, StopsEarly, IsStarted, StartsNot};
+ghost use Rattle.replay.specs.Run.{Answers, told_of, WritesText, StopsAt, StopsEarly, IsStarted, StartsNot};
 ghost use Rattle.replay.specs.Run.{WritesReplay, EndsEarly, WritesNothing, TellsStreams};
 
 use crate::answer::answer;
