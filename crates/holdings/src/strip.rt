@@ -40,18 +40,18 @@ impl Holdings {
         } = self;
         let mut pages = held_pages(alloc, &shards, places)?;
         pages.sort_unstable_by_key(|page| page.frame);
+        let named = places_of(alloc, &pages)?;
         let mut status = Rights::none();
         let mut from = 0;
         while from < pages.len() {
             let frame = pages[from].frame;
             let end = from + 1 + same_frame(&pages[from + 1..], frame);
-            let named = places_of(alloc, &pages[from..end])?;
             let word = strip_frame(
                 alloc,
                 &mut shards,
                 &mut trees,
                 frame as usize,
-                &named,
+                &named[from..end],
                 revoked,
                 flush,
             )?;
