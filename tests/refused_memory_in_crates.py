@@ -5,8 +5,8 @@
 
 The tests that `rt ci`, or `rt test` in the crate, builds are run one by one. Each must end as the undisturbed one, or with
 the error `NoMemory`. Where a call is refused memory, the tests themselves look at what it left, and end otherwise if that is
-not what its contract says: a tree that `reserve`, `outer_runs` or `cut` changed, a database that is not halted. Allocations
-are refused by the preloaded library of support/fail_alloc.c.
+not what its contract says: a tree that `reserve`, `outer_runs` or `cut` changed, a database that is not halted; or at what no
+contract says: reply lines that are not flushed. Allocations are refused by the preloaded library of support/fail_alloc.c.
 """
 
 import os
@@ -31,6 +31,7 @@ TESTS = {
         "unmaps::revokes_what_derives",
         "unmaps::revokes_by_recursion",
     ],
+    "replay": ["flushes_what_it_has_written_where_memory_runs_out"],
 }
 OUT_OF_MEMORY = b"error: NoMemory\n"
 

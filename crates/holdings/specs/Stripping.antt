@@ -1,5 +1,5 @@
 -- Words and trees while rights are revoked: words change first, and then the trees lose the places that hold nothing.
-use Rattle.std.specs.Prelude.{◌≡◌, ◌<◌, ℕ, true, Bool, ◌&&◌, List, length, map, filter, Option, Some, is_some, get_or}
+use Rattle.std.specs.Prelude.{◌≡◌, ℕ, true, Bool, ◌&&◌, List, length, map, filter, Option, Some, is_some}
 use Rattle.holdings.specs.Derivation.{stands_in}
 use Rattle.std.specs.List.{All, list_any}
 use Rattle.std.specs.declared.ops.Range.{Range}
@@ -8,7 +8,7 @@ use Rattle.space.specs.declared.place.Entry.{Entry}
 use Rattle.space.specs.declared.shards.Shards.{Shards}
 use Rattle.space.specs.Place.{same_place}
 use Rattle.space.specs.Shards.{spaces_of, bits_of, entry_at}
-use Rattle.maptree.specs.Origins.{Origins, Shape, origin_in, place_at}
+use Rattle.maptree.specs.Origins.{Origins, Shape, are_once, OriginsStand, origin_in, place_at}
 use Rattle.model.specs.Holdings.{Holdings, PlaceSet}
 use Rattle.model.specs.Calls.{Limits}
 use Rattle.model.specs.Lawful.{is_lawful}
@@ -81,7 +81,8 @@ pub record IsOriginAt (os : Origins) (i : ℕ) (origin : Option Place) : Type 0 
   pub is : (d : Place) → origin_in os (place_at os i d) ≡ origin
   pub stands : (q : Place) → origin ≡ Some q → stands_in os q ≡ true
 
--- those of the first places of runs
-pub record AreRunOrigins (os : Origins) (runs : List (Range ℕ)) (origins : List (Option Place)) : Type 0 where
-  pub count : length origins ≡ length runs
-  pub each : (k : ℕ) (r : Range ℕ) (o : Option Place) → k < length runs → IsOriginAt os (get_or runs k r).start (get_or origins k o)
+-- the links that a tree gives
+pub record AreLinksOf (tree : Shape) (links : Origins) : Type 0 where
+  pub are : links ≡ tree.links
+  pub once : are_once tree.links ≡ true
+  pub stand : OriginsStand tree.links

@@ -3,7 +3,7 @@
 use crate::holdings::Holdings;
 use crate::pages::{held_pages, places_of, same_frame};
 use crate::prune::prune;
-use crate::tree::run_origins;
+use crate::tree::{links_for_many, origin_by};
 use fpage::Rights;
 use maptree::Tree;
 use space::{NoMemory, Place, Shards};
@@ -96,11 +96,11 @@ pub fn strip_frame(
     ensures limits { limits_in shards.new trees.new ≡ limits_in shards.old trees.old }
 {
     let runs = trees[frame].outer_runs(alloc, places)?;
-    let origins = run_origins(alloc, &trees[frame], &runs)?;
+    let links = links_for_many(alloc, &trees[frame], runs.len())?;
     let mut status = Rights::none();
     for i in 0..runs.len() {
         let run = &runs[i];
-        let origin = origins[i];
+        let origin = origin_by(&trees[frame], &links, run.start);
         status = status.join(strip_run(shards, trees, frame, run, origin, revoked, flush));
     }
     prune(alloc, shards, &mut trees[frame], &runs)?;

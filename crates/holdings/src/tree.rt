@@ -6,8 +6,7 @@ ghost use Rattle.holdings.specs.Derivation.{stands_in, IsDerived};
 
 use maptree::Tree;
 use space::{NoMemory, Place};
-use std::alloc::{AllocError, Global};
-use std::ops::Range;
+use std::alloc::Global;
 
 /// So many places of one tree are searched for one by one; where there are more, one pass over the tree serves them all.
 pub const FEW: usize = 8;
@@ -36,63 +35,41 @@ pub fn derive(tree: &mut Tree, origin: Place, place: Place) -> Result<(), NoMemo
 }
 
 ghost use Rattle.std.specs.Prelude.{◌<◌, IfOk, length};
-ghost use Rattle.std.specs.List.{All};
-ghost use Rattle.holdings.specs.Stripping.{IsOriginAt, AreRunOrigins};
+ghost use Rattle.std.specs.Option.{ForSome};
+ghost use Rattle.holdings.specs.Stripping.{IsOriginAt, AreLinksOf};
 
-/// The places from which the first places of runs derive; none for a root.
+/// The links of a tree, if the origins of so many of its nodes are asked for that one pass over the tree is faster than a
+/// search for each.
 ///
 /// Refused, where memory is: `NoMemory`.
-pub fn run_origins(
+pub fn links_for_many(
     alloc: Global,
     tree: &Tree,
-    runs: &[Range<usize>],
-) -> Result<Vec<Option<Place>>, NoMemory>
-    requires { All (λ r. r.start < length tree.now.links) runs.now }
-    ensures { IfOk result (λ origins. AreRunOrigins tree.now.links runs.now origins.items) }
+    count: usize,
+) -> Result<Option<Vec<(Place, Option<Place>)>>, NoMemory>
+    ensures { IfOk result (λ links. ForSome links (λ l. AreLinksOf tree.now l.items)) }
 {
-    if runs.len() <= FEW {
-        let origins = searched_origins(alloc, tree, runs)?;
-        return Ok(origins);
+    if count <= FEW {
+        return Ok(None);
     }
     let links = tree.links(alloc)?;
-    let origins = listed_origins(alloc, &links, runs)?;
-    Ok(origins)
+    Ok(Some(links))
 }
 
-/// The same, each searched for in the tree.
-fn searched_origins(
-    alloc: Global,
+/// The place from which the node at a position derives, by the links of the tree if they are there; none for a root.
+pub fn origin_by(
     tree: &Tree,
-    runs: &[Range<usize>],
-) -> Result<Vec<Option<Place>>, AllocError>
-    requires { All (λ r. r.start < length tree.now.links) runs.now }
-    ensures { IfOk result (λ origins. AreRunOrigins tree.now.links runs.now origins.items) }
+    links: &Option<Vec<(Place, Option<Place>)>>,
+    i: usize,
+) -> Option<Place>
+    requires within { i < length tree.now.links }
+    requires links { ForSome links.now (λ l. AreLinksOf tree.now l.items) }
+    ensures { IsOriginAt tree.now.links i result }
 {
-    let mut origins = Vec::with_capacity(alloc, runs.len())?;
-    for run in runs {
-        origins.push(origin_at(tree, run.start))?;
+    match links {
+        Some(links) => links[i].1,
+        None => origin_at(tree, i),
     }
-    Ok(origins)
-}
-
-ghost use Rattle.maptree.specs.Origins.{are_once, OriginsStand};
-
-/// The same, from the links of the whole tree.
-fn listed_origins(
-    alloc: Global,
-    links: &[(Place, Option<Place>)],
-    runs: &[Range<usize>],
-) -> Result<Vec<Option<Place>>, AllocError>
-    requires once { are_once links.now ≡ true }
-    requires origins { OriginsStand links.now }
-    requires runs { All (λ r. r.start < length links.now) runs.now }
-    ensures { IfOk result (λ origins. AreRunOrigins links.now runs.now origins.items) }
-{
-    let mut origins = Vec::with_capacity(alloc, runs.len())?;
-    for run in runs {
-        origins.push(links[run.start].1)?;
-    }
-    Ok(origins)
 }
 
 /// The place from which the node at a position derives; none for a root.

@@ -10,6 +10,7 @@ use crate::options::Options;
 use crate::replay::{Summary, run};
 use audit::{Line, check, lines};
 use mapdb::Database;
+use space::NoMemory;
 use std::alloc::Global;
 use std::test::Fail;
 use std::thread::Threads;
@@ -257,5 +258,21 @@ fn a_sink_that_fails_at_any_call_is_write_failed(rt: HostRuntime) {
             SHORT_OUTPUT.as_bytes().starts_with(output.kept.as_slice()),
             "{fails_at}"
         );
+    }
+}
+
+/// With ample memory this is a run that ends well. Where an allocation is refused it is told by its error, and what the
+/// sink was given by then is flushed.
+#[test]
+fn flushes_what_it_has_written_where_memory_runs_out(rt: HostRuntime) -> Result<(), Fail> {
+    let mut output = sink(&rt, 0);
+    let outcome = run(&rt, &mut Std::new(SHORT.as_bytes()), &mut output, &OPTIONS);
+    match outcome {
+        Ok(_) | Err(RunError::WriteFailed) => Ok(()),
+        Err(RunError::NoMemory(_)) => {
+            assert_eq!(rt; output.flushed, output.kept.len());
+            Err(NoMemory)?
+        }
+        Err(error) => Err(error)?,
     }
 }

@@ -1,7 +1,0 @@
--- The origins so far.
-use Rattle.std.proofs.Common.{take}
-use Rattle.holdings.specs.Stripping.{AreRunOrigins}
-use Rattle.holdings.proofs.tree.searched_origins.Given as goal
-
-abbrev pub invariant-loop-run : goal.invariant-loop-run
-invariant-loop-run l = AreRunOrigins l.tree.links (take l.run-index l.runs) l.origins.items
