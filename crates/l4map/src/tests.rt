@@ -32,13 +32,13 @@ fn tells_each_error_by_its_line_and_status(rt: HostRuntime) -> Result<(), Fail> 
         (RunError::Unreadable, "l4map: Unreadable\n", 4),
         (RunError::WriteFailed, "l4map: WriteFailed\n", 4),
     ];
-    for (error, line, status) in cases {
+    for (error, line, number) in cases {
         let mut output = Std::new(Vec::new(rt.alloc()));
         tell(error, &mut output)
             .ok()
             .ok_or("a write to memory failed")?;
         assert_eq!(rt; output.into_inner().as_slice(), line.as_bytes());
-        assert_eq!(rt; status(error), status);
+        assert_eq!(rt; status(error), number);
     }
     Ok(())
 }
