@@ -1,3 +1,11 @@
+pub mod Nearest
+pub mod Parts
+pub mod BlockChanges
+pub mod Standing
+pub mod InBlocks
+pub mod Searches
+pub mod LastLess
+pub mod Depths
 pub mod Paths
 pub mod Runs
 pub mod Positions

@@ -11,7 +11,6 @@ use Rattle.space.specs.Place.{same_place}
 use Rattle.space.proofs.Places.{same_self, same_or_apart}
 use Rattle.maptree.specs.declared.node.Node.{Node}
 use Rattle.maptree.specs.declared.slice.Slice.{Slice}
-use Rattle.maptree.specs.declared.cutting.Cutting.{Cutting}
 use Rattle.maptree.specs.Origins.{Origins, origin_in, after_origins, place_at, LeadsTo, HasDepth, IsRun, AreRising}
 use Rattle.maptree.specs.Nodes.{are_depths, is_new, are_distinct, is_forest, above, links, origins_of}
 use Rattle.maptree.specs.Cuts.{outside, pieces, pieces_of, nodes_of, places_of, joined, IsCutting, ArePartsOf, IsCut}
@@ -344,27 +343,27 @@ parts_depths ns left gaps parts forest same whole =
     joined_parts (HasDepth (origins_of ns)) 0 left gaps parts same (subst (AllNodes (HasDepth (origins_of ns))) (sym whole) (all_nodes (HasDepth (origins_of ns)) ns (λ i d within. forest_depth ns forest i d within)))
 
 -- what a cut of a tree leaves and gives
-pub record IsCutOut (ns : List Node) (rs : List (Range ℕ)) (most : ℕ) (c : Cutting) : Type 0 where
-  pub forest : is_forest c.left.items ≡ true
-  pub links : origins_of c.left.items ≡ outside 0 rs (origins_of ns)
-  pub parts : ArePartsOf (origins_of ns) rs most c.parts.items
-  pub cut : (room : ℕ) → IsCut (origins_of ns) (nodes_of c.parts.items) (record { links = origins_of c.left.items; room = room; gaps = c.gaps.items })
+pub record IsCutOut (ns : List Node) (rs : List (Range ℕ)) (most : ℕ) (left : List Node) (gaps : List ℕ) (taken : List Slice) : Type 0 where
+  pub forest : is_forest left ≡ true
+  pub links : origins_of left ≡ outside 0 rs (origins_of ns)
+  pub parts : ArePartsOf (origins_of ns) rs most taken
+  pub cut : (room : ℕ) → IsCut (origins_of ns) (nodes_of taken) (record { links = origins_of left; room = room; gaps = gaps })
 
-pub cut_out : (ns : List Node) (rs : List (Range ℕ)) (most : ℕ) (c : Cutting) → is_forest ns ≡ true → AreRising 0 rs (length (origins_of ns)) → All (IsRun (origins_of ns)) rs
-    → c.left.items ≡ outside 0 rs ns → nodes_of c.parts.items ≡ pieces_of most rs ns → IsCutting ns c.left.items c.gaps.items c.parts.items → IsCutOut ns rs most c
-cut_out ns rs most c forest rise runs left parts whole =
+pub cut_out : (ns : List Node) (rs : List (Range ℕ)) (most : ℕ) (left : List Node) (gaps : List ℕ) (parts : List Slice) → is_forest ns ≡ true → AreRising 0 rs (length (origins_of ns)) → All (IsRun (origins_of ns)) rs
+    → left ≡ outside 0 rs ns → nodes_of parts ≡ pieces_of most rs ns → IsCutting ns left gaps parts → IsCutOut ns rs most left gaps parts
+cut_out ns rs most left gaps parts forest rise runs left_is parts_are whole =
     let out = cut_forest ns rs forest (subst (AreRising 0 rs) (length-links [] ns) rise) runs in
-    let left_forest : is_forest c.left.items ≡ true = ap is_forest left ∙ out.0 in
+    let left_forest : is_forest left ≡ true = ap is_forest left_is ∙ out.0 in
     record {
       forest = left_forest;
-      links = ap origins_of left ∙ out.1;
-      parts = record { places = parts_places ns rs most c.parts.items parts; depths = parts_depths ns c.left.items c.gaps.items c.parts.items forest whole.each_part whole.whole };
+      links = ap origins_of left_is ∙ out.1;
+      parts = record { places = parts_places ns rs most parts parts_are; depths = parts_depths ns left gaps parts forest whole.each_part whole.whole };
       cut = λ room. record {
-        left = c.left.items;
+        left = left;
         tree_is = refl;
         forest = left_forest;
         gaps = whole.gaps_are;
-        each_part = whole.each_part ∙ sym (length-map c.parts.items (λ s. s.nodes.items));
+        each_part = whole.each_part ∙ sym (length-map parts (λ s. s.nodes.items));
         whole_is = ap origins_of (sym whole.whole);
         whole = ap is_forest whole.whole ∙ forest;
       };

@@ -4,7 +4,7 @@ use Rattle.std.specs.Prelude.{Decides, position}
 use Rattle.std.specs.List.{prefix_len}
 use Rattle.std.proofs.lemmas.Bool.{lt-ltb, le-ltb, and_parts}
 use Rattle.std.proofs.lemmas.Bool.Decides.{nat_tests}
-use Rattle.std.proofs.lemmas.List.{length-drop}
+use Rattle.std.proofs.lemmas.List.{length-drop, take_rest}
 use Rattle.std.proofs.lemmas.List.Sums.{prefix_len-le-length}
 use Rattle.space.specs.declared.place.Place.{Place}
 use Rattle.space.specs.Place.{same_place}
@@ -125,7 +125,7 @@ pub node_place : (ns : List Node) (i : ℕ) (n : Node) → i < length ns → n �
 node_place ns i n within is d = ap (λ m. m.place) is ∙ sym (place_of_read ns i d n within) ∙ sym (place_at-links [] ns i d)
 
 -- each place stands at one position
-one_position : (ns : List Node) → are_distinct ns ≡ true → (i j : ℕ) (d e : Place) → i < length ns → j < length ns → place_of ns i d ≡ place_of ns j e → i ≡ j
+pub one_position : (ns : List Node) → are_distinct ns ≡ true → (i j : ℕ) (d e : Place) → i < length ns → j < length ns → place_of ns i d ≡ place_of ns j e → i ≡ j
 one_position [] distinct i j d e within_i within_j same = absurd (omega (arith, within_i))
 one_position (n ∷ ns) distinct zero zero d e within_i within_j same = refl
 one_position (n ∷ ns) distinct zero (suc j) d e within_i within_j same =
@@ -214,3 +214,13 @@ position-links p path ns =
     front (n ∷ ns) path = ap (λ k. if not (same_place p n.place) then 1 + k else 0) (front ns (n.place ∷ above n path))
 
 pub ruleset lengths = (length-links, run_len-le)
+
+-- a node behind another derives from it exactly where the run of the other reaches it
+pub strict_upto : (ns : List Node) (a b r : ℕ) (n : Node) → is_forest ns ≡ true → a < b → b < length ns → n ≡ get_or ns a n → r ≡ run_len n.depth (drop (a + 1) ns)
+    → (d : Place) → Decides (nat_le (b - a) r) (LeadsTo (origins_of ns) 1 (place_at (origins_of ns) b d) (place_at (origins_of ns) a d))
+strict_upto ns a b r n forest less within is run d =
+    let reaches = run_is ns a r n (omega (arith, less, within)) is (run ∙ ap (run_len n.depth) (sym (take_rest ns (a + 1)))) in
+    subst (λ x. Decides x (LeadsTo (origins_of ns) 1 (place_at (origins_of ns) b d) (place_at (origins_of ns) a d))) (sym (by (run_at ns a) reaches)) (strict_at ns a b forest (omega (arith, less, within)) within d)
+  where
+    by : (k : ℕ) → r ≡ k → nat_le (b - a) r ≡ (nat_lt a b && nat_lt b (a + 1 + k))
+    by k same = grind (arith, nat_tests)

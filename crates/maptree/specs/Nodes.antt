@@ -1,6 +1,6 @@
 -- A derivation tree as a list of nodes in preorder, each with its depth: a node derives from the nearest one before it
 -- that is one less deep.
-use Rattle.std.specs.Prelude.{◌≡◌, ℕ, zero, suc, ◌+◌, ◌<◌, ◌≤◌, slice_index, ◌-◌, nat_le, nat_lt, Bool, true, ◌&&◌, not, List, [], ◌∷◌, length, drop, Option, Some, None}
+use Rattle.std.specs.Prelude.{◌≡◌, ℕ, zero, suc, ◌+◌, ◌<◌, ◌≤◌, slice_index, ◌-◌, nat_le, nat_lt, Bool, true, ◌&&◌, not, List, [], ◌∷◌, length, drop, Option, Some, None, if◌then◌else◌}
 use Rattle.std.specs.List.{list_all, prefix_len}
 use Rattle.space.specs.declared.place.Place.{Place}
 use Rattle.space.specs.Place.{same_place}
@@ -57,3 +57,13 @@ run_end (n ∷ ns) (suc i) = 1 + run_end ns i
 pub record AreEnds (from : ℕ) (ns : List Node) (ends : List ℕ) : Type 0 where
   pub count : length ends ≡ length ns
   pub each : (k : ℕ) → from ≤ k → k < length ns → slice_index ends k ≡ run_end ns k
+
+-- the last position of a list, with one node more in front
+abbrev pub one_on : Bool → Option ℕ → Option ℕ
+one_on here (Some r) = Some (suc r)
+one_on here None = if here then Some 0 else None
+
+-- the position of the last node that is less deep than this
+abbrev pub last_less : ℕ → List Node → Option ℕ
+last_less depth [] = None
+last_less depth (n ∷ ns) = one_on (nat_lt n.depth depth) (last_less depth ns)

@@ -1,13 +1,18 @@
 //! The derivation tree of a frame, as a list of nodes in preorder with their depths.
 #![tactic(auto)]
 
+mod block;
+mod blocks;
 mod cutting;
 mod ends;
 mod growing;
+mod hints;
 mod links;
 mod node;
+mod node_list;
 mod place_map;
 mod replacing;
+mod scans;
 mod slice;
 #[cfg(test)]
 mod tests;

@@ -5,13 +5,9 @@ ghost use Rattle.space.specs.declared.place.Place.{Place};
 ghost use Rattle.maptree.specs.Origins.{origin_in, place_at, AreOuterRuns};
 ghost use Rattle.maptree.specs.Nodes.{is_forest, origins_of, run_len};
 
-use crate::cutting::{Cutting, joined};
-use crate::ends::ends_of;
-use crate::growing::grown;
-use crate::links::linked;
 use crate::node::Node;
+use crate::node_list::NodeList;
 use crate::place_map::PlaceMap;
-use crate::replacing::replace_places;
 use crate::slice::Slice;
 use space::{NoMemory, Place};
 use std::alloc::{AllocError, Global};
@@ -25,21 +21,21 @@ use std::ops::Range;
 /// see the places in this order, each with its origin.
 #[derive(Drop)]
 pub struct Tree {
-    nodes: Vec<Node>,
+    nodes: NodeList,
     /// For each part of the last cut, behind how many of the nodes that were left it stood.
     gaps: Vec<usize>,
 }
 
 impl Model for Tree {
-    ghost use Rattle.std.specs.Prelude.{◌≡◌, ◌-◌, true, vec_capacity, vec_len};
+    ghost use Rattle.std.specs.Prelude.{◌≡◌, true};
     ghost use Rattle.maptree.specs.Origins.{Shape};
     ghost use Rattle.maptree.specs.Nodes.{is_forest, origins_of};
 
     ghost Value = { Shape };
 
-    ghost view = { λ t. record { links = origins_of t.nodes.items; room = vec_capacity t.nodes - vec_len t.nodes; gaps = t.gaps.items } };
+    ghost view = { λ t. record { links = origins_of t.nodes.nodes; room = t.nodes.room; gaps = t.gaps.items } };
 
-    ghost invariant = { λ t. is_forest t.nodes.items ≡ true };
+    ghost invariant = { λ t. is_forest t.nodes.nodes ≡ true };
 }
 
 #[tactic(auto, using(crate::proofs::Positions::lengths))]
@@ -61,7 +57,7 @@ impl Tree {
     pub fn root(alloc: Global, place: Place) -> Result<Tree, NoMemory>
         ensures { IfOk result (λ t. t.links ≡ (place, None) ∷ []) }
     {
-        let nodes = vec![in alloc; Node { place, depth: 0 }].map_err(AllocError::from)?;
+        let nodes = NodeList::one(alloc, Node { place, depth: 0 })?;
         let gaps = Vec::new(alloc);
         Ok(Tree { nodes, gaps })
     }
@@ -81,7 +77,7 @@ impl Tree {
     pub fn find(&self, place: Place) -> Option<usize>
         ensures { result ≡ position (λ o. same_place place o.0) self.now.links }
     {
-        placed(&self.nodes, place)
+        self.nodes.find(place)
     }
 
     /// The node at a position. No other position has its place.
@@ -91,7 +87,7 @@ impl Tree {
         ensures only { (j : ℕ) (d : Place) → j < length self.now.links → place_at self.now.links j d ≡ result.place → j ≡ i }
         ensures depth { HasDepth self.now.links result.place result.depth }
     {
-        self.nodes[i]
+        self.nodes.get(i)
     }
 
     /// The positions of a node and of all that derives from it.
@@ -103,8 +99,8 @@ impl Tree {
             → Decides (nat_le i j && nat_lt j result.end)
             (LeadsTo self.now.links 0 (place_at self.now.links j d) (place_at self.now.links i d)) }
     {
-        let depth = self.nodes[i].depth;
-        let derived = deeper(&self.nodes[i + 1..], depth);
+        let depth = self.nodes.get(i).depth;
+        let derived = self.nodes.deeper(i, depth);
         i..i + 1 + derived
     }
 
@@ -112,7 +108,7 @@ impl Tree {
     pub fn ends(&self, alloc: Global) -> Result<Vec<usize>, NoMemory>
         ensures { IfOk result (λ ends. AreRunEnds self.now.links ends.items) }
     {
-        let ends = ends_of(alloc, &self.nodes)?;
+        let ends = self.nodes.ends(alloc)?;
         Ok(ends)
     }
 
@@ -123,7 +119,8 @@ impl Tree {
         ensures origin { (d : Place) → origin_in self.now.links (place_at self.now.links i d)
             ≡ option_map (λ r. place_at self.now.links r d) result }
     {
-        nearest_above(&self.nodes, i)
+        let depth = self.nodes.get(i).depth;
+        self.nodes.last_above(i, depth)
     }
 
     /// Whether a node is an origin of another, at any distance.
@@ -133,11 +130,11 @@ impl Tree {
         ensures { (d : Place) → Decides result
             (LeadsTo self.now.links 1 (place_at self.now.links b d) (place_at self.now.links a d)) }
     {
-        let depth = self.nodes[a].depth;
+        let depth = self.nodes.get(a).depth;
         if b <= a {
             return false;
         }
-        deeper(&self.nodes[a + 1..b + 1], depth) == b - a
+        self.nodes.deeper(a, depth) >= b - a
     }
 
     /// Every place in the order of positions, with its origin.
@@ -148,7 +145,7 @@ impl Tree {
         ensures once { OnOk result (are_once self.now.links ≡ true) }
         ensures origins { OnOk result (OriginsStand self.now.links) }
     {
-        let links = linked(alloc, &self.nodes)?;
+        let links = self.nodes.links(alloc)?;
         Ok(links)
     }
 
@@ -160,7 +157,7 @@ impl Tree {
             return self.run_of_place(alloc, *place);
         }
         let named = set_of(alloc, places)?;
-        let runs = outermost(&self.nodes, alloc, &named)?;
+        let runs = self.nodes.outermost(alloc, &named)?;
         Ok(runs)
     }
 
@@ -169,7 +166,7 @@ impl Tree {
         ensures { IfOk result (λ runs. AreOuterRuns self.now.links (place ∷ []) runs.items) }
     {
         let mut runs = Vec::new(alloc);
-        if let Some(i) = placed(&self.nodes, place) {
+        if let Some(i) = self.nodes.find(place) {
             runs.push(self.run_of(i)).map_err(AllocError::from)?;
         }
         Ok(runs)
@@ -191,13 +188,12 @@ impl Tree {
         ensures links { OnOk result (self.new.links ≡ outside 0 ranges.now self.old.links) }
         ensures parts { IfOk result (λ parts. ArePartsOf self.old.links ranges.now most parts.items) }
         ensures cut { IfOk result (λ parts. IsCut self.old.links (nodes_of parts.items) self.new) }
-        ensures room { OnOk result (length self.old.links + self.old.room ≤ length self.new.links + self.new.room) }
+        ensures room { OnOk result (self.old.room ≤ self.new.room) }
         ensures err { OnErr result (self.new ≡ self.old) }
     {
-        let cutting = Cutting::of(alloc, &self.nodes, self.nodes.capacity(), ranges, most)?;
-        self.nodes = cutting.left;
-        self.gaps = cutting.gaps;
-        Ok(cutting.parts)
+        let (gaps, parts) = self.nodes.cut(alloc, ranges, most)?;
+        self.gaps = gaps;
+        Ok(parts)
     }
 
     /// Puts back what is kept of the parts of the last cut: all of them, in their order, each with any nodes left out.
@@ -208,12 +204,11 @@ impl Tree {
         requires { AreKept self.old parts.items }
         ensures links { OnOk result ((kept : AreKept self.old parts.items) →
             self.new.links ≡ filter (λ o. kept.keep o.0) kept.whole) }
-        ensures room { OnOk result (length self.old.links + self.old.room ≤ length self.new.links + self.new.room) }
+        ensures room { OnOk result (self.old.room ≤ self.new.room) }
         ensures err { OnErr result (self.new ≡ self.old) }
     {
-        let room = self.nodes.capacity();
-        let alloc = *self.nodes.allocator();
-        self.nodes = joined(alloc, &self.nodes, room, &self.gaps, &parts)?;
+        let alloc = *self.gaps.allocator();
+        self.nodes.put_back(alloc, &self.gaps, &parts)?;
         self.gaps = Vec::new(alloc);
         Ok(())
     }
@@ -226,8 +221,7 @@ impl Tree {
             self.new.links ≡ renamed (place_at self.old.links i d) place self.old.links }
         ensures room { self.new.room ≡ self.old.room }
     {
-        let node = &mut self.nodes[i];
-        node.place = place;
+        self.nodes.set_place(i, place);
     }
 
     /// Replaces each place that has one in the map by it, as a place and as an origin, all at once. Depths stay. This takes
@@ -237,7 +231,7 @@ impl Tree {
         ensures links { self.new.links ≡ all_renamed (place_for new.now) self.old.links }
         ensures room { self.new.room ≡ self.old.room }
     {
-        replace_places(&mut self.nodes, new);
+        self.nodes.rename_all(new);
     }
 
     /// Puts a new node directly behind a node, one deeper. This takes no memory.
@@ -249,9 +243,8 @@ impl Tree {
             self.new.links ≡ insert self.old.links (i + 1) (place, Some (place_at self.old.links i d)) }
         ensures room { self.new.room + 1 ≡ self.old.room }
     {
-        let depth = self.nodes[i].depth + 1;
-        let inserted = self.nodes.insert(i + 1, Node { place, depth });
-        prove!(inserted.is_ok());
+        let depth = self.nodes.get(i).depth + 1;
+        self.nodes.insert(i + 1, Node { place, depth });
     }
 
     /// Puts new places below places of the tree, each directly behind its place and one deeper, in one pass. Those whose
@@ -264,51 +257,9 @@ impl Tree {
         ensures links { OnOk result (self.new.links ≡ with_below (place_for new.now) self.old.links) }
         ensures err { OnErr result (self.new ≡ self.old) }
     {
-        let room = self.nodes.capacity();
-        self.nodes = grown(alloc, &self.nodes, room, new)?;
+        self.nodes.grow(alloc, new)?;
         Ok(())
     }
-}
-
-/// The position of the nearest node before this one that is less deep.
-fn nearest_above(nodes: &[Node], i: usize) -> Option<usize>
-    requires forest { is_forest nodes.now ≡ true }
-    requires within { i < length nodes.now }
-    ensures before { IfSome result (λ r. r < i) }
-    ensures origin { (d : Place) → origin_in (origins_of nodes.now) (place_at (origins_of nodes.now) i d)
-        ≡ option_map (λ r. place_at (origins_of nodes.now) r d) result }
-{
-    let depth = nodes[i].depth;
-    if depth == 0 {
-        return None;
-    }
-    let mut j = i;
-    while j > 0 {
-        j -= 1;
-        if nodes[j].depth < depth {
-            return Some(j);
-        }
-    }
-    None
-}
-
-/// How many nodes from the front on are deeper than this.
-fn deeper(nodes: &[Node], depth: usize) -> usize
-    ensures { result ≡ run_len depth nodes.now }
-{
-    for i in 0..nodes.len() {
-        if nodes[i].depth <= depth {
-            return i;
-        }
-    }
-    nodes.len()
-}
-
-/// The position of the node with this place.
-fn placed(nodes: &[Node], place: Place) -> Option<usize>
-    ensures { result ≡ position (λ n. same_place place n.place) nodes.now }
-{
-    nodes.iter().position(|node| place == node.place)
 }
 
 /// A set of these places.
@@ -321,28 +272,4 @@ fn set_of(alloc: Global, places: &[Place]) -> Result<BTreeSet<Place>, NoMemory>
         set.insert(*place).map_err(AllocError::from)?;
     }
     Ok(set)
-}
-
-/// The outermost runs of the nodes whose place is in the set.
-fn outermost(
-    nodes: &[Node],
-    alloc: Global,
-    named: &BTreeSet<Place>,
-) -> Result<Vec<Range<usize>>, NoMemory>
-    requires { is_forest nodes.now ≡ true }
-    ensures { IfOk result (λ runs. AreOuterRuns (origins_of nodes.now) named.now.keys runs.items) }
-{
-    let mut runs = Vec::new(alloc);
-    let mut i = 0;
-    while i < nodes.len() {
-        let node = nodes[i];
-        if named.contains(&node.place) {
-            let end = i + 1 + deeper(&nodes[i + 1..], node.depth);
-            runs.push(i..end).map_err(AllocError::from)?;
-            i = end;
-        } else {
-            i += 1;
-        }
-    }
-    Ok(runs)
 }

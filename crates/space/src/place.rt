@@ -2,7 +2,7 @@ use fpage::{Access, Rights};
 use std::fmt;
 
 /// A page of an address space. Places are ordered by space, then by page.
-#[derive(Clone, Copy, Debug, PartialEq, Eq, PartialOrd, Ord)]
+#[derive(Clone, Copy, Debug, PartialEq, Eq, PartialOrd, Ord, Hash)]
 pub struct Place {
     pub space: u16,
     pub page: u32,

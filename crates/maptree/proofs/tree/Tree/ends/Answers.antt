@@ -10,4 +10,4 @@ pub returns : goal.returns
 returns c =
     let ends = c.in_ok-ends.ends.items in
     subst (λ (s : Shape). AreRunEnds s.links ends) c.self.view_is
-    (ends_say c.self.inside.nodes.items ends c.self.invariant (subst (λ (ns : List Node). AreEnds 0 ns ends) c.deref.ensures.value c.in_ok-ends.ensures))
+    (ends_say c.self.inside.nodes.nodes ends c.self.invariant c.in_ok-ends.ensures)

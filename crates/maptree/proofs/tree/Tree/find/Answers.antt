@@ -8,5 +8,5 @@ use Rattle.maptree.proofs.tree.Tree.find.Goals as goal
 
 pub returns : goal.returns
 returns c =
-    subst (λ (s : Shape). c.placed.result ≡ position (λ o. same_place c.args.place o.0) s.links) c.self.view_is
-    (c.placed.ensures ∙ ap (λ xs. position (λ (n : Node). same_place c.args.place n.place) xs) c.deref.ensures.value ∙ sym (position-links c.args.place [] c.self.inside.nodes.items))
+    subst (λ (s : Shape). c.find.result ≡ position (λ o. same_place c.args.place o.0) s.links) c.self.view_is
+    (c.find.ensures ∙ sym (position-links c.args.place [] c.self.inside.nodes.nodes))

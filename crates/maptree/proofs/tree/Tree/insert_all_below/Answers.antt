@@ -10,16 +10,16 @@ use Rattle.maptree.specs.Growing.{with_below, nodes_below}
 use Rattle.maptree.proofs.Growth.{grown_says, grown_forest}
 use Rattle.maptree.proofs.tree.Tree.insert_all_below.Goals as goal
 
-pub invariant_of-self : goal.invariant_of-self
-invariant_of-self c =
-    let nodes = c.self.inside.nodes.items in
+pub invariant_of-self-2 : goal.invariant_of-self-2
+invariant_of-self-2 c =
+    let nodes = c.self.inside.nodes.nodes in
     let new = place_for c.args.new.now in
-    ap is_forest (c.in_ok-self-inside.ensures ∙ ap (λ (ns : List Node). nodes_below new ns) c.deref.ensures.value)
+    ap is_forest c.in_ok-grow.ensures.nodes
     ∙ grown_forest new c.requires.apart nodes c.self.invariant (λ p q is. ap (λ (s : Shape). position (λ o. same_place q o.0) s.links) c.self.view_is ∙ c.requires.absent p q is)
 
 pub returns-clause-links : goal.returns-clause-links
 returns-clause-links c =
-    let nodes = c.self.inside.nodes.items in
+    let nodes = c.self.inside.nodes.nodes in
     let new = place_for c.args.new.now in
-    ap origins_of (c.in_ok-self-inside.ensures ∙ ap (λ (ns : List Node). nodes_below new ns) c.deref.ensures.value)
+    ap origins_of c.in_ok-grow.ensures.nodes
     ∙ grown_says new nodes c.self.invariant ∙ ap (λ (s : Shape). with_below new s.links) c.self.view_is

@@ -1,5 +1,5 @@
 -- A node is put right behind another.
-use Rattle.std.proofs.Common.{◌≡◌, ◌+◌, length, [], subst, sym, ap, ◌∙◌, arith, Some, if◌then◌else◌}
+use Rattle.std.proofs.Common.{◌≡◌, ◌+◌, length, [], subst, sym, ap, ◌∙◌, arith, rules, Some}
 use Rattle.std.specs.Prelude.{position, insert}
 use Rattle.space.specs.declared.place.Place.{Place}
 use Rattle.space.specs.Place.{same_place}
@@ -11,23 +11,24 @@ use Rattle.maptree.proofs.tree.Tree.insert_below.Goals as goal
 
 pub overflow_add-depth : goal.overflow_add-depth
 overflow_add-depth c =
-    let nodes = c.self.inside.nodes.items in
+    let nodes = c.self.inside.nodes.nodes in
     let size : length c.args.self.now.links ≡ length nodes = ap (λ (s : Shape). length s.links) (sym c.self.view_is) ∙ length-links [] nodes in
-    let low = depth_fits nodes c.args.i c.index.result.now c.self.invariant (omega (arith, size, c.requires.within)) c.index.ensures in
-    let row = c.self.inside.nodes in let filled = row.ok.0 in let whole = row.ok.1 in let small = row.small in omega (arith, low, size, c.requires.within, filled, whole, small)
+    let low = depth_fits nodes c.args.i c.get-depth.result c.self.invariant (omega (arith, size, c.requires.within)) c.get-depth.ensures.node in
+    let fits = c.get-depth.ensures.fits in
+    search (rules, arith, low, size, fits)
 
 pub invariant_of-self : goal.invariant_of-self
 invariant_of-self c =
-    let nodes = c.self.inside.nodes.items in
+    let nodes = c.self.inside.nodes.nodes in
     let size : length c.args.self.now.links ≡ length nodes = ap (λ (s : Shape). length s.links) (sym c.self.view_is) ∙ length-links [] nodes in
-    let items = c.insert-inserted.ensures.items ∙ ap (λ b. if b then insert nodes (c.args.i + 1) (below_node c.args.place c.index.result.now.depth) else nodes) (sym c.is_ok.ensures.value ∙ c.if-prove.false) in
-    ap is_forest items ∙ below_forest c.args.place nodes c.args.i c.index.result.now c.self.invariant
-    (ap (λ (s : Shape). position (λ o. same_place c.args.place o.0) s.links) c.self.view_is ∙ c.requires.new) (omega (arith, size, c.requires.within)) c.index.ensures
+    let items = c.insert.ensures.nodes in
+    ap is_forest items ∙ below_forest c.args.place nodes c.args.i c.get-depth.result c.self.invariant
+    (ap (λ (s : Shape). position (λ o. same_place c.args.place o.0) s.links) c.self.view_is ∙ c.requires.new) (omega (arith, size, c.requires.within)) c.get-depth.ensures.node
 
 pub returns-clause-links : goal.returns-clause-links
 returns-clause-links c =
-    let nodes = c.self.inside.nodes.items in
+    let nodes = c.self.inside.nodes.nodes in
     let size : length c.args.self.now.links ≡ length nodes = ap (λ (s : Shape). length s.links) (sym c.self.view_is) ∙ length-links [] nodes in
-    let items = c.insert-inserted.ensures.items ∙ ap (λ b. if b then insert nodes (c.args.i + 1) (below_node c.args.place c.index.result.now.depth) else nodes) (sym c.is_ok.ensures.value ∙ c.if-prove.false) in
-    subst (λ (s : Shape). (d : Place) → origins_of c.insert-inserted.new.self.items ≡ insert s.links (c.args.i + 1) (c.args.place, Some (place_at s.links c.args.i d))) c.self.view_is
-    (λ d. ap origins_of items ∙ below_says c.args.place nodes c.args.i c.index.result.now c.self.invariant (omega (arith, size, c.requires.within)) c.index.ensures d)
+    let items = c.insert.ensures.nodes in
+    subst (λ (s : Shape). (d : Place) → origins_of c.insert.new.self.nodes ≡ insert s.links (c.args.i + 1) (c.args.place, Some (place_at s.links c.args.i d))) c.self.view_is
+    (λ d. ap origins_of items ∙ below_says c.args.place nodes c.args.i c.get-depth.result c.self.invariant (omega (arith, size, c.requires.within)) c.get-depth.ensures.node d)

@@ -6,10 +6,10 @@ use Rattle.maptree.proofs.tree.Tree.links.Goals as goal
 
 pub returns-clause-once : goal.returns-clause-once
 returns-clause-once c =
-    let once = subst (λ (s : Shape). are_once s.links ≡ true) c.self.view_is (forest_once c.self.inside.nodes.items c.self.invariant) in
+    let once = subst (λ (s : Shape). are_once s.links ≡ true) c.self.view_is (forest_once c.self.inside.nodes.nodes c.self.invariant) in
     search (rules, once)
 
 pub returns-clause-origins : goal.returns-clause-origins
 returns-clause-origins c =
-    let stand = subst (λ (s : Shape). OriginsStand s.links) c.self.view_is (origins_stand c.self.inside.nodes.items) in
+    let stand = subst (λ (s : Shape). OriginsStand s.links) c.self.view_is (origins_stand c.self.inside.nodes.nodes) in
     search (rules, stand)

@@ -7,21 +7,21 @@ use Rattle.maptree.proofs.tree.Tree.node.Goals as goal
 
 pub returns-clause-place : goal.returns-clause-place
 returns-clause-place c =
-    let nodes = c.self.inside.nodes.items in
+    let nodes = c.self.inside.nodes.nodes in
     let size : length c.args.self.now.links ≡ length nodes = ap (λ (s : Shape). length s.links) (sym c.self.view_is) ∙ length-links [] nodes in
-    subst (λ (s : Shape). (d : Place) → c.index.result.now.place ≡ place_at s.links c.args.i d) c.self.view_is
-    (node_place nodes c.args.i c.index.result.now (omega (arith, size, c.requires)) c.index.ensures)
+    subst (λ (s : Shape). (d : Place) → c.get.result.place ≡ place_at s.links c.args.i d) c.self.view_is
+    (node_place nodes c.args.i c.get.result (omega (arith, size, c.requires)) c.get.ensures.node)
 
 pub returns-clause-depth : goal.returns-clause-depth
 returns-clause-depth c =
-    let nodes = c.self.inside.nodes.items in
+    let nodes = c.self.inside.nodes.nodes in
     let size : length c.args.self.now.links ≡ length nodes = ap (λ (s : Shape). length s.links) (sym c.self.view_is) ∙ length-links [] nodes in
-    subst (λ (s : Shape). HasDepth s.links c.index.result.now.place c.index.result.now.depth) c.self.view_is
-    (node_depth nodes c.args.i c.index.result.now c.self.invariant (omega (arith, size, c.requires)) c.index.ensures)
+    subst (λ (s : Shape). HasDepth s.links c.get.result.place c.get.result.depth) c.self.view_is
+    (node_depth nodes c.args.i c.get.result c.self.invariant (omega (arith, size, c.requires)) c.get.ensures.node)
 
 pub returns-clause-only : goal.returns-clause-only
 returns-clause-only c =
-    let nodes = c.self.inside.nodes.items in
+    let nodes = c.self.inside.nodes.nodes in
     let size : length c.args.self.now.links ≡ length nodes = ap (λ (s : Shape). length s.links) (sym c.self.view_is) ∙ length-links [] nodes in
-    subst (λ (s : Shape). (j : ℕ) (d : Place) → j < length s.links → place_at s.links j d ≡ c.index.result.now.place → j ≡ c.args.i) c.self.view_is
-    (node_only nodes c.args.i c.index.result.now c.self.invariant (omega (arith, size, c.requires)) c.index.ensures)
+    subst (λ (s : Shape). (j : ℕ) (d : Place) → j < length s.links → place_at s.links j d ≡ c.get.result.place → j ≡ c.args.i) c.self.view_is
+    (node_only nodes c.args.i c.get.result c.self.invariant (omega (arith, size, c.requires)) c.get.ensures.node)

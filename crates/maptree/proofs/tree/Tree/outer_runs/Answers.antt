@@ -11,5 +11,5 @@ returns c =
     let runs = c.in_ok-runs.runs.items in
     let keys = c.in_ok-named.named.keys in
     subst (λ (s : Shape). AreOuterRuns s.links c.args.places.now runs) c.self.view_is
-    (outer_runs_same (origins_of c.self.inside.nodes.items) keys c.args.places.now c.in_ok-named.ensures runs
-    (subst (λ (ns : List Node). AreOuterRuns (origins_of ns) keys runs) c.deref.ensures.value c.in_ok-runs.ensures))
+    (outer_runs_same (origins_of c.self.inside.nodes.nodes) keys c.args.places.now c.in_ok-named.ensures runs
+    c.in_ok-runs.ensures)

@@ -6,18 +6,17 @@ use Rattle.maptree.proofs.Splicing.{IsPutBack, put_back}
 use Rattle.maptree.proofs.tree.Tree.splice.Goals as goal
 
 -- what the body has put together
-back : (c : goal.After-drop-parts-2) (k : AreKept c.args.self.now c.args.parts.items) → IsPutBack c.in_ok-self-inside.field-0.items k.keep k.whole
+back : (c : goal.After-drop-parts-2) (k : AreKept c.args.self.now c.args.parts.items) → IsPutBack c.put_back.new.self.nodes k.keep k.whole
 back c k =
     let tree = c.self.inside in
-    let items : c.in_ok-self-inside.field-0.items ≡ joined 0 tree.nodes.items c.args.self.now.gaps (nodes_of c.args.parts.items) =
-    c.in_ok-self-inside.ensures.items
-    ∙ ap (λ ns. joined 0 ns c.deref-2.result.now (nodes_of c.deref-3.result.now)) c.deref.ensures.value
-    ∙ ap (λ gaps. joined 0 tree.nodes.items gaps (nodes_of c.deref-3.result.now)) (c.deref-2.ensures.value ∙ ap (λ (s : Shape). s.gaps) c.self.view_is)
-    ∙ ap (λ parts. joined 0 tree.nodes.items c.args.self.now.gaps (nodes_of parts)) c.deref-3.ensures.value in
-    subst (λ ns. IsPutBack ns k.keep k.whole) (sym items) (put_back tree.nodes.items c.args.self.now c.args.parts.items c.self.invariant (ap (λ (s : Shape). s.links) c.self.view_is) k)
+    let items : c.put_back.new.self.nodes ≡ joined 0 tree.nodes.nodes c.args.self.now.gaps (nodes_of c.args.parts.items) =
+    c.in_ok-put_back.ensures.nodes
+    ∙ ap (λ gaps. joined 0 tree.nodes.nodes gaps (nodes_of c.deref-2.result.now)) (c.deref.ensures.value ∙ ap (λ (s : Shape). s.gaps) c.self.view_is)
+    ∙ ap (λ parts. joined 0 tree.nodes.nodes c.args.self.now.gaps (nodes_of parts)) c.deref-2.ensures.value in
+    subst (λ ns. IsPutBack ns k.keep k.whole) (sym items) (put_back tree.nodes.nodes c.args.self.now c.args.parts.items c.self.invariant (ap (λ (s : Shape). s.links) c.self.view_is) k)
 
-pub invariant_of-self : goal.invariant_of-self
-invariant_of-self c = (back c c.requires).forest
+pub invariant_of-self-2 : goal.invariant_of-self-2
+invariant_of-self-2 c = (back c c.requires).forest
 
 pub returns-clause-links : goal.returns-clause-links
 returns-clause-links c = λ k. (back c k).links

@@ -1,7 +1,7 @@
 -- The nodes so far are deeper.
 use Rattle.std.proofs.Common.{arith}
 use Rattle.maptree.proofs.Positions.{run_more, run_stops, run_all}
-use Rattle.maptree.proofs.tree.deeper.Goals as goal
+use Rattle.maptree.proofs.scans.deeper.Goals as goal
 
 pub loop-i-init : goal.loop-i-init
 loop-i-init c = omega arith

@@ -4,7 +4,7 @@ use Rattle.std.specs.Result.{is_ok}
 use Rattle.maptree.proofs.Origin.{blank}
 use Rattle.maptree.proofs.Outermost.{AreSoFar, one_passed, one_more_run, all_runs, run_within}
 use Rattle.maptree.proofs.Positions.{run_is, read_any}
-use Rattle.maptree.proofs.tree.outermost.Goals as goal
+use Rattle.maptree.proofs.scans.outermost.Goals as goal
 
 pub overflow_add-end-then-contains : goal.overflow_add-end-then-contains
 overflow_add-end-then-contains c =
@@ -19,7 +19,7 @@ pub loop-i-preserved-then-contains : goal.loop-i-preserved-then-contains
 loop-i-preserved-then-contains c =
     let nodes = c.args.nodes.now in
     let n = get_or nodes c.loop-i.i blank in
-    let filled = c.push.ensures.items ∙ ap (λ b. if b then c.loop-i.runs.items ++ record { start = c.loop-i.i; end = c.loop-i.i + 1 + c.deeper.result } ∷ [] else c.loop-i.runs.items) (sym c.map_err.ensures.variant ∙ ap is_ok c.in_ok-map_err.was) in
+    let filled = c.in_ok-push.ensures.items in
     subst (λ rs. AreSoFar nodes c.args.named.now.keys (c.loop-i.i + 1 + c.deeper.result) rs) (sym filled)
     (one_more_run nodes _ c.loop-i.i _ n _ c.loop-i.invariant c.requires c.loop-i-test.true (read_any nodes c.loop-i.i blank n c.loop-i-test.true) (sym c.contains.ensures ∙ c.if-contains.true) c.deeper.ensures)
 

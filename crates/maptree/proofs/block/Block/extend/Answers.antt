@@ -1,0 +1,20 @@
+-- No node is less deep than before, or than a new one.
+use Rattle.std.proofs.Common.{◌≡◌, ◌≤◌, ◌++◌, sym, ap, ◌∙◌, true, rules, arith, length}
+use Rattle.maptree.specs.Blocks.{is_least}
+use Rattle.maptree.proofs.Depths.{least_less, least_append}
+use Rattle.maptree.proofs.block.Block.extend.Goals as goal
+
+pub invariant_of-self : goal.invariant_of-self
+invariant_of-self c =
+    let nodes = c.self.inside.nodes.items in
+    let least = c.min-self-inside.result in
+    let low : least ≤ c.self.inside.least = search (rules, arith) in
+    let new : least ≤ c.least_of.result = search (rules, arith) in
+    let items : c.extend_from_slice-extended.new.self.items ≡ nodes ++ c.args.nodes.now = search (rules) in
+    let size : length c.extend_from_slice-extended.new.self.items ≤ 256 = search (rules, arith) in
+    let room : 256 ≤ c.extend_from_slice-extended.new.self.cap = search (rules, arith) in (
+      size,
+      room,
+      ap (is_least least) items ∙ least_append least nodes c.args.nodes.now (least_less least c.self.inside.least nodes low c.self.invariant.2)
+          (least_less least c.least_of.result c.args.nodes.now new c.least_of.ensures),
+    )

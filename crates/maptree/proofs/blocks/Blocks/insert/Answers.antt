@@ -1,0 +1,49 @@
+-- One node more in one block.
+use Rattle.std.proofs.Common.{◌≡◌, ◌<◌, ◌≤◌, ◌+◌, [], length, set, get_or, take, ap, ◌^◌, rules, arith, ◌∙◌, sym, List}
+use Rattle.std.specs.Prelude.{insert}
+use Rattle.std.proofs.lemmas.List.{length-set}
+use Rattle.std.proofs.lemmas.List.Edits.{length-insert}
+use Rattle.maptree.specs.declared.node.Node.{Node}
+use Rattle.maptree.specs.Blocks.{nodes_in}
+use Rattle.maptree.proofs.InBlocks.{read_of, as_read}
+use Rattle.maptree.proofs.BlockChanges.{insert_node, count_set}
+use Rattle.maptree.proofs.blocks.Blocks.insert.Goals as goal
+
+pub returns-clause-nodes : goal.returns-clause-nodes
+returns-clause-nodes c =
+    let items = c.self.inside.blocks.items in
+    let bs = c.seat_with_room-seat.new.self.blocks in
+    let seat = c.seat_with_room-seat.result in
+    let block = c.index_mut-block.result.now in
+    let is = c.seat_with_room-seat.ensures.seat in
+    let same : items ≡ bs = ap (λ v. v.blocks) c.self.view_is in
+    let read = as_read bs seat.block block is.within (read_of items bs seat.block block same c.index_mut-block.ensures.value) in
+    let size = ap length read in
+    let upto = is.upto in
+    ap (λ b. nodes_in (set items seat.block b)) c.insert.ensures
+    ∙ ap (λ l. nodes_in (set l seat.block (insert block seat.offset c.args.node))) same
+    ∙ insert_node bs seat.block block seat.offset c.args.node is.within read (omega (arith, size, upto))
+    ∙ ap (λ i. insert (nodes_in bs) i c.args.node) is.before
+    ∙ ap (λ l. insert l c.args.i c.args.node) c.seat_with_room-seat.ensures.nodes
+
+pub invariant_of-self : goal.invariant_of-self
+invariant_of-self c =
+    let items = c.self.inside.blocks.items in
+    let bs = c.seat_with_room-seat.new.self.blocks in
+    let seat = c.seat_with_room-seat.result in
+    let block = c.index_mut-block.result.now in
+    let new = c.insert.new.self in
+    let is = c.seat_with_room-seat.ensures.seat in
+    let same : items ≡ bs = ap (λ v. v.blocks) c.self.view_is in
+    let count = ap length same in
+    let in_bs = is.within in
+    let within : seat.block < length items = omega (arith, count, in_bs) in
+    let read = ap length (as_read items seat.block block within c.index_mut-block.ensures.value) in
+    let there = ap length (as_read bs seat.block block in_bs (read_of items bs seat.block block same c.index_mut-block.ensures.value)) in
+    let upto = is.upto in
+    let more = ap length c.insert.ensures ∙ length-insert block seat.offset c.args.node (omega (arith, there, upto)) in
+    let counted = count_set items seat.block new within in
+    let size = length-set items seat.block new in
+    let kept : c.self.inside.room ≡ c.seat_with_room-seat.new.self.room = search rules in
+    let inv = c.self.invariant in
+    (omega (arith, inv.0, counted, read, more), omega (arith, inv.1, size), inv.2, omega (arith, inv.3, size), omega (arith, c.seat_with_room-seat.ensures.fits, c.seat_with_room-seat.ensures.room, inv.0, ap (λ l. length (nodes_in l)) same, kept))

@@ -1,0 +1,42 @@
+-- One block has fewer nodes.
+use Rattle.std.proofs.Common.{◌≡◌, ◌<◌, ◌≤◌, ◌+◌, ◌-◌, ◌++◌, [], length, set, get_or, take, drop, ap, rules, arith, ◌∙◌, sym, List}
+use Rattle.std.proofs.lemmas.List.{length-set, length-append, length-take-le, length-drop}
+use Rattle.maptree.specs.declared.node.Node.{Node}
+use Rattle.maptree.specs.Blocks.{nodes_in}
+use Rattle.maptree.proofs.InBlocks.{read_of, as_read, counts}
+use Rattle.maptree.proofs.BlockChanges.{count_set}
+use Rattle.maptree.proofs.blocks.Blocks.remove_in_block.Goals as goal
+
+pub overflow_sub-self-2 : goal.overflow_sub-self-2
+overflow_sub-self-2 c =
+    let items = c.self.inside.blocks.items in
+    let bs = c.args.self.now.blocks in
+    let block = c.index_mut-removed.result.now in
+    let same : items ≡ bs = ap (λ v. v.blocks) c.self.view_is in
+    let in_bs = read_of items bs c.args.block block same c.index_mut-removed.ensures.value in
+    let read = ap length (as_read bs c.args.block block c.requires.block in_bs) in
+    let upto = (counts bs c.args.block block c.requires.block in_bs).upto in
+    let size = ap (λ l. length (nodes_in l)) same in
+    omega (arith, read, upto, size, c.self.invariant.0, c.requires.rising, c.requires.within)
+
+pub invariant_of-self : goal.invariant_of-self
+invariant_of-self c =
+    let items = c.self.inside.blocks.items in
+    let bs = c.args.self.now.blocks in
+    let block = c.index_mut-removed.result.now in
+    let new = c.remove.new.self in
+    let same : items ≡ bs = ap (λ v. v.blocks) c.self.view_is in
+    let count = ap length same in
+    let within_bs = c.requires.block in
+    let within : c.args.block < length items = omega (arith, count, within_bs) in
+    let read = ap length (as_read items c.args.block block within c.index_mut-removed.ensures.value) in
+    let there = ap (λ l. length (get_or l c.args.block [])) same in
+    let counted = count_set items c.args.block new within in
+    let fewer = ap length c.remove.ensures ∙ length-append (take c.args.from block) (drop c.args.to block) in
+    let in_block = c.requires.within in
+    let rising = c.requires.rising in
+    let front = length-take-le c.args.from block (omega (arith, read, there, in_block, rising)) in
+    let back = length-drop c.args.to block in
+    let size = length-set items c.args.block new in
+    let inv = c.self.invariant in
+    (omega (arith, inv.0, counted, read, there, fewer, front, back, in_block, rising), omega (arith, inv.1, size), inv.2, omega (arith, inv.3, size), omega (arith, inv.4))

@@ -1,0 +1,46 @@
+-- One node of one block.
+use Rattle.std.proofs.Common.{◌≡◌, ◌<◌, ◌≤◌, ◌+◌, [], length, set, get_or, take, ap, rules, arith, ◌∙◌, sym, List}
+use Rattle.std.proofs.lemmas.List.{length-set}
+use Rattle.maptree.specs.declared.node.Node.{Node}
+use Rattle.maptree.specs.Blocks.{nodes_in}
+use Rattle.maptree.proofs.InBlocks.{read_of, as_read, at_seat}
+use Rattle.maptree.proofs.BlockChanges.{set_node, count_set}
+use Rattle.maptree.proofs.Origin.{blank}
+use Rattle.maptree.proofs.blocks.Blocks.set_place.Goals as goal
+
+pub returns-clause-nodes : goal.returns-clause-nodes
+returns-clause-nodes c d =
+    let items = c.self.inside.blocks.items in
+    let bs = c.args.self.now.blocks in
+    let seat = c.seat_of-seat.result in
+    let block = c.index_mut-block.result.now in
+    let within = c.seat_of-seat.ensures.seat.within in
+    let same : items ≡ bs = ap (λ v. v.blocks) c.self.view_is in
+    let read = as_read bs seat.block block within (read_of items bs seat.block block same c.index_mut-block.ensures.value) in
+    let size = ap length read in
+    let inside = c.seat_of-seat.ensures.inside in
+    let at : get_or (nodes_in bs) (length (nodes_in (take seat.block bs)) + seat.offset) d ≡ get_or block seat.offset d =
+    at_seat bs seat.block seat.offset d within inside ∙ ap (λ b. get_or b seat.offset d) (sym read) in
+    ap (λ b. nodes_in (set items seat.block b)) (c.set_place.ensures d)
+    ∙ ap (λ l. nodes_in (set l seat.block (set block seat.offset (record { place = c.args.place; depth = (get_or block seat.offset d).depth })))) same
+    ∙ set_node bs seat.block block seat.offset (record { place = c.args.place; depth = (get_or block seat.offset d).depth }) within read (omega (arith, size, inside))
+    ∙ ap (λ (n : Node). set (nodes_in bs) (length (nodes_in (take seat.block bs)) + seat.offset) (record { place = c.args.place; depth = n.depth })) (sym at)
+    ∙ ap (λ i. set (nodes_in bs) i (record { place = c.args.place; depth = (get_or (nodes_in bs) i d).depth })) c.seat_of-seat.ensures.seat.before
+
+pub invariant_of-self : goal.invariant_of-self
+invariant_of-self c =
+    let items = c.self.inside.blocks.items in
+    let bs = c.args.self.now.blocks in
+    let seat = c.seat_of-seat.result in
+    let block = c.index_mut-block.result.now in
+    let new = c.set_place.new.self in
+    let same : items ≡ bs = ap (λ v. v.blocks) c.self.view_is in
+    let count = ap length same in
+    let in_bs = c.seat_of-seat.ensures.seat.within in
+    let within : seat.block < length items = omega (arith, count, in_bs) in
+    let read = ap length (as_read items seat.block block within c.index_mut-block.ensures.value) in
+    let kept = ap length (c.set_place.ensures blank) ∙ length-set block seat.offset (record { place = c.args.place; depth = (get_or block seat.offset blank).depth }) in
+    let counted = count_set items seat.block new within in
+    let size = length-set items seat.block new in
+    let is = c.self.invariant in
+    (omega (arith, is.0, counted, read, kept), omega (arith, is.1, size), is.2, omega (arith, is.3, size), is.4)

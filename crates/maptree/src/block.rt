@@ -1,0 +1,192 @@
+//! A block of a list of nodes.
+
+ghost use Rattle.std.specs.Prelude.{◌≡◌, true};
+ghost use Rattle.maptree.specs.Blocks.{is_least};
+
+use crate::node::Node;
+use crate::place_map::PlaceMap;
+use crate::replacing::replace_places;
+use crate::scans::{deeper, last_above, placed};
+use space::Place;
+use std::alloc::{AllocError, Global};
+use std::marker::Model;
+
+/// How many nodes a block has at most.
+pub const BLOCK_SIZE: usize = 256;
+
+/// Some nodes of a list, one after another; up to 256 find room without more memory.
+#[derive(Drop)]
+pub struct Block {
+    nodes: Vec<Node>,
+    /// None of its nodes is less deep than this.
+    least: usize,
+    /// The number by which `Hints` know it.
+    number: u32,
+}
+
+impl Model for Block {
+    ghost use Rattle.std.specs.Prelude.{◌≡◌, ◌≤◌, true, List, length, vec_capacity};
+    ghost use Rattle.maptree.specs.declared.node.Node.{Node};
+    ghost use Rattle.maptree.specs.Blocks.{block_size, is_least};
+
+    ghost Value = { List Node };
+
+    ghost view = { λ b. b.nodes.items };
+
+    ghost invariant = { λ b. (length b.nodes.items ≤ block_size) × (block_size ≤ vec_capacity b.nodes) × (is_least b.least b.nodes.items ≡ true) };
+}
+
+impl Block {
+    ghost use Rattle.std.specs.Prelude.{◌≡◌, ◌+◌, ◌<◌, ◌≤◌, [], ◌++◌, length, take, drop, get_or, set, insert, position, IfOk};
+    ghost use Rattle.space.specs.Place.{same_place};
+    ghost use Rattle.maptree.specs.declared.node.Node.{Node};
+    ghost use Rattle.maptree.specs.Blocks.{block_size};
+    ghost use Rattle.maptree.specs.Nodes.{run_len, last_less};
+    ghost use Rattle.maptree.specs.PlaceMaps.{place_for};
+    ghost use Rattle.maptree.specs.Renamings.{nodes_renamed};
+
+    /// A block of no nodes.
+    pub fn empty(alloc: Global) -> Result<Block, AllocError>
+        ensures { IfOk result (λ b. b ≡ []) }
+    {
+        let nodes = Vec::with_capacity(alloc, BLOCK_SIZE)?;
+        Ok(Block {
+            nodes,
+            least: 0,
+            number: 0,
+        })
+    }
+
+    /// How many nodes it has.
+    pub fn len(&self) -> usize
+        ensures len { result ≡ length self.now }
+        ensures most { result ≤ block_size }
+    {
+        self.nodes.len()
+    }
+
+    /// Its nodes.
+    pub fn nodes(&self) -> &[Node]
+        ensures { result.now ≡ self.now }
+    {
+        &self.nodes
+    }
+
+    /// Its number.
+    pub fn number(&self) -> u32 {
+        self.number
+    }
+
+    /// Another number for it.
+    pub fn set_number(&mut self, number: u32)
+        ensures { self.new ≡ self.old }
+    {
+        self.number = number;
+    }
+
+    /// The node at a position.
+    pub fn get(&self, i: usize) -> Node
+        requires { i < length self.now }
+        ensures { result ≡ get_or self.now i result }
+    {
+        self.nodes[i]
+    }
+
+    /// The position of a place.
+    pub fn find(&self, place: Place) -> Option<usize>
+        ensures { result ≡ position (λ n. same_place place n.place) self.now }
+    {
+        placed(&self.nodes, place)
+    }
+
+    /// How many nodes from a position on are deeper than this.
+    pub fn deeper(&self, from: usize, depth: usize) -> usize
+        requires { from ≤ length self.now }
+        ensures { result ≡ run_len depth (drop from self.now) }
+    {
+        if depth < self.least {
+            return self.nodes.len() - from;
+        }
+        deeper(&self.nodes[from..], depth)
+    }
+
+    /// The position of the last of the first `end` nodes that is less deep than this.
+    pub fn last_above(&self, end: usize, depth: usize) -> Option<usize>
+        requires { end ≤ length self.now }
+        ensures { result ≡ last_less depth (take end self.now) }
+    {
+        if depth <= self.least {
+            return None;
+        }
+        last_above(&self.nodes[..end], depth)
+    }
+
+    /// Adds nodes behind the others.
+    pub fn extend(&mut self, nodes: &[Node])
+        requires { length self.old + length nodes.now ≤ block_size }
+        ensures { self.new ≡ self.old ++ nodes.now }
+    {
+        self.least = self.least.min(least_of(nodes));
+        let extended = self.nodes.extend_from_slice(nodes);
+        prove!(extended.is_ok());
+    }
+
+    /// Puts a node at a position.
+    pub fn insert(&mut self, i: usize, node: Node)
+        requires within { i ≤ length self.old }
+        requires room { length self.old < block_size }
+        ensures { self.new ≡ insert self.old i node }
+    {
+        self.least = self.least.min(node.depth);
+        let inserted = self.nodes.insert(i, node);
+        prove!(inserted.is_ok());
+    }
+
+    /// Another place for the node at a position.
+    pub fn set_place(&mut self, i: usize, place: Place)
+        requires { i < length self.old }
+        ensures { (d : Node) → self.new ≡ set self.old i (record { place = place; depth = (get_or self.old i d).depth }) }
+    {
+        let node = &mut self.nodes[i];
+        node.place = place;
+    }
+
+    /// Each node whose place has one in the map gets that.
+    pub fn rename_all(&mut self, new: &PlaceMap)
+        ensures { self.new ≡ nodes_renamed (place_for new.now) self.old }
+    {
+        replace_places(&mut self.nodes, new);
+    }
+
+    /// Takes the nodes from a position to another out.
+    pub fn remove(&mut self, from: usize, to: usize)
+        requires rising { from ≤ to }
+        requires within { to ≤ length self.old }
+        ensures { self.new ≡ take from self.old ++ drop to self.old }
+    {
+        drop(self.nodes.drain(from..to));
+    }
+
+    /// Moves the nodes from a position on to another block.
+    pub fn split_into(&mut self, at: usize, other: &mut Block)
+        requires { at ≤ length self.old }
+        ensures front { self.new ≡ take at self.old }
+        ensures back { other.new ≡ drop at self.old }
+    {
+        other.nodes.clear();
+        other.least = self.least;
+        other.extend(&self.nodes[at..]);
+        self.nodes.truncate(at);
+    }
+}
+
+/// The least depth of some nodes.
+fn least_of(nodes: &[Node]) -> usize
+    ensures { is_least result nodes.now ≡ true }
+{
+    let mut least = usize::MAX;
+    for node in nodes {
+        least = least.min(node.depth);
+    }
+    least
+}

@@ -1,0 +1,471 @@
+//! A list of nodes in blocks, so that a change of it touches the blocks that it changes.
+
+ghost use Rattle.std.specs.Prelude.{◌≡◌, ◌≤◌, OnOk, length, map};
+ghost use Rattle.maptree.specs.PlaceMaps.{place_for};
+ghost use Rattle.maptree.specs.Renamings.{nodes_renamed};
+
+use crate::block::{BLOCK_SIZE, Block};
+use crate::hints::Hints;
+use crate::node::Node;
+use crate::place_map::PlaceMap;
+use space::Place;
+use std::alloc::{AllocError, Global};
+use std::marker::Model;
+use std::ops::Range;
+
+/// How many nodes a block is given where many are made at once.
+const FILLED: usize = 192;
+
+/// How many nodes stay in a block that is split.
+const HALF: usize = 128;
+
+/// A seat in a list of blocks: a block, and how many of its nodes stand before the seat.
+#[derive(Clone, Copy)]
+pub struct Seat {
+    pub block: usize,
+    pub offset: usize,
+}
+
+/// A list of nodes in blocks.
+#[derive(Drop)]
+pub struct Blocks {
+    blocks: Vec<Block>,
+    /// Blocks for nodes to come: at least as many as insertions were promised, each of which may split a block.
+    spare: Vec<Block>,
+    /// How many insertions will take no memory.
+    room: usize,
+    /// How many nodes there are.
+    len: usize,
+    hints: Hints,
+}
+
+impl Model for Blocks {
+    ghost use Rattle.std.specs.Prelude.{◌≡◌, ◌<◌, ◌≤◌, ◌+◌, ◌^◌, length, vec_capacity, vec_len};
+    ghost use Rattle.maptree.specs.Blocks.{Blocked, nodes_in};
+
+    ghost Value = { Blocked };
+
+    ghost view = { λ b. record { blocks = b.blocks.items; room = b.room } };
+
+    ghost invariant = { λ b. (b.len ≡ length (nodes_in b.blocks.items)) × (0 < length b.blocks.items) × (b.room ≤ length b.spare.items) × (length b.blocks.items + b.room ≤ vec_capacity b.blocks) × (b.len + b.room < 2 ^ 64) };
+}
+
+impl Blocks {
+    ghost use Rattle.std.specs.Prelude.{◌≡◌, ◌+◌, ◌<◌, ◌≤◌, ◌^◌, true, [], ◌++◌, length, take, drop, get_or, set, insert, position, IfOk, OnOk, OnErr, vec_capacity};
+    ghost use Rattle.std.specs.List.{slice_range};
+    ghost use Rattle.space.specs.Place.{same_place};
+    ghost use Rattle.maptree.specs.declared.node.Node.{Node};
+    ghost use Rattle.maptree.specs.Blocks.{block_size, nodes_in, IsSeat, split_at_half};
+    ghost use Rattle.maptree.specs.Nodes.{are_distinct, run_len, last_less};
+    ghost use Rattle.maptree.specs.Origins.{AreRising};
+    ghost use Rattle.maptree.specs.Cuts.{outside};
+    ghost use Rattle.maptree.specs.PlaceMaps.{place_for};
+    ghost use Rattle.maptree.specs.Renamings.{nodes_renamed};
+
+    /// How many nodes there are.
+    pub fn len(&self) -> usize
+        ensures { result ≡ length (nodes_in self.now.blocks) }
+    {
+        self.len
+    }
+
+    /// How many insertions will take no memory.
+    pub fn room(&self) -> usize
+        ensures { result ≡ self.now.room }
+    {
+        self.room
+    }
+
+    /// The seat behind so many nodes. It stands behind a node of its block, if there is any before it.
+    pub fn seat(&self, i: usize) -> Seat
+        requires { i ≤ length (nodes_in self.now.blocks) }
+        ensures seat { IsSeat self.now.blocks i result }
+        ensures behind { 0 < i → 0 < result.offset }
+    {
+        let mut block = 0;
+        let mut offset = i;
+        while offset > self.blocks[block].len() {
+            offset -= self.blocks[block].len();
+            block += 1;
+        }
+        Seat { block, offset }
+    }
+
+    /// The seat of the node at a position.
+    fn seat_of(&self, i: usize) -> Seat
+        requires { i < length (nodes_in self.now.blocks) }
+        ensures seat { IsSeat self.now.blocks i result }
+        ensures inside { result.offset < length (get_or self.now.blocks result.block []) }
+    {
+        let within = i < self.len;
+        prove!(within);
+        let Seat { block, offset } = self.seat(i + 1);
+        Seat {
+            block,
+            offset: offset - 1,
+        }
+    }
+
+    /// How many nodes stand before a block.
+    fn before(&self, block: usize) -> usize
+        requires { block ≤ length self.now.blocks }
+        ensures { result ≡ length (nodes_in (take block self.now.blocks)) }
+    {
+        let mut before = 0;
+        for k in 0..block {
+            before += self.blocks[k].len();
+        }
+        before
+    }
+
+    /// The node at a position.
+    pub fn get(&self, i: usize) -> Node
+        requires { i < length (nodes_in self.now.blocks) }
+        ensures node { result ≡ get_or (nodes_in self.now.blocks) i result }
+        ensures fits { length (nodes_in self.now.blocks) < 2 ^ 64 }
+    {
+        let seat = self.seat_of(i);
+        self.blocks[seat.block].get(seat.offset)
+    }
+
+    /// The position of a place.
+    pub fn find(&self, place: Place) -> Option<usize>
+        requires { are_distinct (nodes_in self.now.blocks) ≡ true }
+        ensures { result ≡ position (λ n. same_place place n.place) (nodes_in self.now.blocks) }
+    {
+        if let Some(block) = self.hints.get(place) {
+            if block < self.blocks.len() {
+                if let Some(offset) = self.blocks[block].find(place) {
+                    return Some(self.before(block) + offset);
+                }
+            }
+        }
+        self.search(place)
+    }
+
+    /// The same, in a pass over the blocks.
+    fn search(&self, place: Place) -> Option<usize>
+        ensures { result ≡ position (λ n. same_place place n.place) (nodes_in self.now.blocks) }
+    {
+        let mut before = 0;
+        for k in 0..self.blocks.len() {
+            let block = &self.blocks[k];
+            if let Some(offset) = block.find(place) {
+                return Some(before + offset);
+            }
+            before += block.len();
+        }
+        None
+    }
+
+    /// How many nodes behind a position are deeper than this, one after another.
+    pub fn deeper(&self, i: usize, depth: usize) -> usize
+        requires { i < length (nodes_in self.now.blocks) }
+        ensures { result ≡ run_len depth (drop (i + 1) (nodes_in self.now.blocks)) }
+    {
+        let seat = self.seat_of(i);
+        let first = &self.blocks[seat.block];
+        let len = first.len();
+        let deeper = first.deeper(seat.offset + 1, depth);
+        if seat.offset + 1 + deeper < len {
+            return deeper;
+        }
+        deeper + self.deeper_from(seat.block + 1, depth)
+    }
+
+    /// How many nodes from a block on are deeper than this, one after another.
+    fn deeper_from(&self, block: usize, depth: usize) -> usize
+        requires { block ≤ length self.now.blocks }
+        ensures { result ≡ run_len depth (nodes_in (drop block self.now.blocks)) }
+    {
+        let mut deeper = 0;
+        for k in block..self.blocks.len() {
+            let block = &self.blocks[k];
+            let here = block.deeper(0, depth);
+            deeper += here;
+            if here < block.len() {
+                return deeper;
+            }
+        }
+        deeper
+    }
+
+    /// The position of the last of the nodes before a position that is less deep than this.
+    pub fn last_above(&self, i: usize, depth: usize) -> Option<usize>
+        requires { i ≤ length (nodes_in self.now.blocks) }
+        ensures { result ≡ last_less depth (take i (nodes_in self.now.blocks)) }
+    {
+        let seat = self.seat(i);
+        let before = i - seat.offset;
+        if let Some(r) = self.blocks[seat.block].last_above(seat.offset, depth) {
+            return Some(before + r);
+        }
+        self.last_before(seat.block, before, depth)
+    }
+
+    /// The same of the nodes before a block, of which there are so many.
+    fn last_before(&self, block: usize, nodes: usize, depth: usize) -> Option<usize>
+        requires block { block ≤ length self.now.blocks }
+        requires nodes { nodes ≡ length (nodes_in (take block self.now.blocks)) }
+        ensures { result ≡ last_less depth (nodes_in (take block self.now.blocks)) }
+    {
+        let mut before = nodes;
+        for k in (0..block).rev() {
+            let block = &self.blocks[k];
+            let len = block.len();
+            before -= len;
+            if let Some(r) = block.last_above(len, depth) {
+                return Some(before + r);
+            }
+        }
+        None
+    }
+
+    /// Another place for the node at a position.
+    pub fn set_place(&mut self, i: usize, place: Place)
+        requires { i < length (nodes_in self.old.blocks) }
+        ensures nodes { (d : Node) → nodes_in self.new.blocks ≡ set (nodes_in self.old.blocks) i (record { place = place; depth = (get_or (nodes_in self.old.blocks) i d).depth }) }
+        ensures room { self.new.room ≡ self.old.room }
+    {
+        let seat = self.seat_of(i);
+        let block = &mut self.blocks[seat.block];
+        let old = block.get(seat.offset).place;
+        block.set_place(seat.offset, place);
+        let number = block.number();
+        self.hints.remove(old);
+        self.hints.put(place, number);
+    }
+
+    /// Puts a node at a position. This takes no memory.
+    pub fn insert(&mut self, i: usize, node: Node)
+        requires within { i ≤ length (nodes_in self.old.blocks) }
+        requires room { 0 < self.old.room }
+        ensures nodes { nodes_in self.new.blocks ≡ insert (nodes_in self.old.blocks) i node }
+        ensures room { self.new.room + 1 ≡ self.old.room }
+    {
+        let seat = self.seat_with_room(i);
+        let block = &mut self.blocks[seat.block];
+        block.insert(seat.offset, node);
+        let number = block.number();
+        self.len += 1;
+        self.hints.put(node.place, number);
+    }
+
+    /// A seat behind so many nodes in a block that has room for one more; a full block is split. One insertion less is
+    /// promised.
+    fn seat_with_room(&mut self, i: usize) -> Seat
+        requires within { i ≤ length (nodes_in self.old.blocks) }
+        requires room { 0 < self.old.room }
+        ensures nodes { nodes_in self.new.blocks ≡ nodes_in self.old.blocks }
+        ensures seat { IsSeat self.new.blocks i result }
+        ensures few { length (get_or self.new.blocks result.block []) < block_size }
+        ensures room { self.new.room + 1 ≡ self.old.room }
+        ensures fits { length (nodes_in self.new.blocks) + self.old.room < 2 ^ 64 }
+    {
+        let seat = self.seat(i);
+        if self.blocks[seat.block].len() < BLOCK_SIZE {
+            self.room -= 1;
+            return seat;
+        }
+        self.split(seat.block);
+        if seat.offset <= HALF {
+            return seat;
+        }
+        Seat {
+            block: seat.block + 1,
+            offset: seat.offset - HALF,
+        }
+    }
+
+    /// Moves the second half of a block to a spare one behind it. One insertion less is promised.
+    fn split(&mut self, block: usize)
+        requires within { block < length self.old.blocks }
+        requires room { 0 < self.old.room }
+        requires full { length (get_or self.old.blocks block []) ≡ block_size }
+        ensures blocks { self.new.blocks ≡ split_at_half self.old.blocks block }
+        ensures room { self.new.room + 1 ≡ self.old.room }
+    {
+        let mut back = self.spare.pop().unwrap();
+        self.blocks[block].split_into(HALF, &mut back);
+        let number = self.hints.number();
+        back.set_number(number);
+        hint_nodes(&mut self.hints, &back);
+        let inserted = self.blocks.insert(block + 1, back);
+        prove!(inserted.is_ok());
+        self.room -= 1;
+        hint_blocks(&mut self.hints, &self.blocks, block + 1);
+    }
+
+    /// Memory for so many more nodes: after it so many insertions take none.
+    pub fn reserve(&mut self, n: usize) -> Result<(), AllocError>
+        ensures blocks { self.new.blocks ≡ self.old.blocks }
+        ensures ok { OnOk result (n ≤ self.new.room) }
+        ensures grows { self.old.room ≤ self.new.room }
+        ensures err { OnErr result (self.new ≡ self.old) }
+    {
+        if n <= self.room {
+            return Ok(());
+        }
+        if usize::MAX - self.len < n {
+            return Err(AllocError);
+        }
+        self.blocks.reserve(n)?;
+        fill(&mut self.spare, n)?;
+        self.room = n;
+        Ok(())
+    }
+
+    /// Each node whose place has one in the map gets that.
+    pub fn rename_all(&mut self, new: &PlaceMap)
+        ensures nodes { nodes_in self.new.blocks ≡ nodes_renamed (place_for new.now) (nodes_in self.old.blocks) }
+        ensures room { self.new.room ≡ self.old.room }
+    {
+        rename_blocks(&mut self.blocks, &mut self.hints, new);
+    }
+
+    /// These nodes in blocks.
+    pub fn of(alloc: Global, nodes: &[Node]) -> Result<Blocks, AllocError>
+        requires { 0 < length nodes.now }
+        ensures nodes { IfOk result (λ b. nodes_in b.blocks ≡ nodes.now) }
+    {
+        let mut blocks = Vec::new(alloc);
+        let mut hints = Hints::none(alloc);
+        let mut rest = nodes;
+        while !rest.is_empty() {
+            let (first, others) = rest.split_at(FILLED.min(rest.len()));
+            let mut block = Block::empty(alloc)?;
+            block.extend(first);
+            let number = hints.number();
+            block.set_number(number);
+            hint_nodes(&mut hints, &block);
+            blocks.push(block).map_err(AllocError::from)?;
+            rest = others;
+        }
+        hint_blocks(&mut hints, &blocks, 0);
+        Ok(Blocks {
+            blocks,
+            spare: Vec::new(alloc),
+            room: 0,
+            len: nodes.len(),
+            hints,
+        })
+    }
+
+    /// The nodes as one list, with room for so many at least.
+    pub fn flat(&self, alloc: Global, room: usize) -> Result<Vec<Node>, AllocError>
+        ensures nodes { IfOk result (λ nodes. nodes.items ≡ nodes_in self.now.blocks) }
+        ensures room { IfOk result (λ nodes. room ≤ vec_capacity nodes) }
+    {
+        let mut nodes = Vec::with_capacity(alloc, room)?;
+        for block in &self.blocks {
+            nodes.extend_from_slice(block.nodes())?;
+        }
+        Ok(nodes)
+    }
+
+    /// The nodes from a position to another.
+    pub fn copy(&self, alloc: Global, from: usize, to: usize) -> Result<Vec<Node>, AllocError>
+        requires rising { from ≤ to }
+        requires within { to ≤ length (nodes_in self.now.blocks) }
+        ensures { IfOk result (λ nodes. nodes.items ≡ slice_range (nodes_in self.now.blocks) from to) }
+    {
+        let mut nodes = Vec::with_capacity(alloc, to - from)?;
+        while nodes.len() < to - from {
+            let at = from + nodes.len();
+            let Seat { block, offset } = self.seat_of(at);
+            let there = self.blocks[block].nodes();
+            let end = there.len().min(offset + (to - at));
+            nodes.extend_from_slice(&there[offset..end])?;
+        }
+        Ok(nodes)
+    }
+
+    /// Takes the nodes from a position of one block to another out.
+    fn remove_in_block(&mut self, block: usize, from: usize, to: usize)
+        requires block { block < length self.old.blocks }
+        requires rising { from ≤ to }
+        requires within { to ≤ length (get_or self.old.blocks block []) }
+        ensures blocks { self.new.blocks ≡ set self.old.blocks block (take from (get_or self.old.blocks block []) ++ drop to (get_or self.old.blocks block [])) }
+        ensures room { self.new.room ≡ self.old.room }
+    {
+        let removed = &mut self.blocks[block];
+        forget_nodes(&mut self.hints, &removed.nodes()[from..to]);
+        removed.remove(from, to);
+        self.len -= to - from;
+    }
+
+    /// Takes the nodes from a position to another out.
+    pub fn remove(&mut self, from: usize, to: usize)
+        requires rising { from ≤ to }
+        requires within { to ≤ length (nodes_in self.old.blocks) }
+        ensures nodes { nodes_in self.new.blocks ≡ take from (nodes_in self.old.blocks) ++ drop to (nodes_in self.old.blocks) }
+        ensures room { self.new.room ≡ self.old.room }
+    {
+        let mut left = to - from;
+        while left > 0 {
+            let Seat { block, offset } = self.seat_of(from);
+            let taken = left.min(self.blocks[block].len() - offset);
+            self.remove_in_block(block, offset, offset + taken);
+            left -= taken;
+        }
+    }
+
+    /// Takes ranges out.
+    pub fn remove_all(&mut self, ranges: &[Range<usize>])
+        requires { AreRising 0 ranges.now (length (nodes_in self.old.blocks)) }
+        ensures nodes { nodes_in self.new.blocks ≡ outside 0 ranges.now (nodes_in self.old.blocks) }
+        ensures room { self.new.room ≡ self.old.room }
+    {
+        let mut gone = 0;
+        for range in ranges {
+            self.remove(range.start - gone, range.end - gone);
+            gone += range.end - range.start;
+        }
+    }
+}
+
+/// Blocks of no nodes, until there are so many.
+fn fill(blocks: &mut Vec<Block>, n: usize) -> Result<(), AllocError>
+    ensures more { length blocks.old.items ≤ length blocks.new.items }
+    ensures ok { OnOk result (n ≤ length blocks.new.items) }
+{
+    let alloc = *blocks.allocator();
+    while blocks.len() < n {
+        let block = Block::empty(alloc)?;
+        blocks.push(block)?;
+    }
+    Ok(())
+}
+
+/// Each node of some blocks whose place has one in the map gets that.
+fn rename_blocks(blocks: &mut [Block], hints: &mut Hints, new: &PlaceMap)
+    ensures { blocks.new ≡ map (nodes_renamed (place_for new.now)) blocks.old }
+{
+    for block in blocks.iter_mut() {
+        forget_nodes(hints, block.nodes());
+        block.rename_all(new);
+        hint_nodes(hints, block);
+    }
+}
+
+/// The places of these nodes stand nowhere.
+fn forget_nodes(hints: &mut Hints, nodes: &[Node]) {
+    for node in nodes {
+        hints.remove(node.place);
+    }
+}
+
+/// The places of a block stand there.
+fn hint_nodes(hints: &mut Hints, block: &Block) {
+    let number = block.number();
+    for node in block.nodes() {
+        hints.put(node.place, number);
+    }
+}
+
+/// Where the blocks from one on stand.
+fn hint_blocks(hints: &mut Hints, blocks: &[Block], from: usize) {
+    for k in from..blocks.len() {
+        hints.set_block(blocks[k].number(), k);
+    }
+}

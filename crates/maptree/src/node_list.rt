@@ -1,0 +1,331 @@
+//! A list of nodes: one vector while it is short, blocks once it is long.
+
+use crate::blocks::Blocks;
+use crate::cutting::{Cutting, joined};
+use crate::ends::ends_of;
+use crate::growing::grown;
+use crate::links::linked;
+use crate::node::Node;
+use crate::place_map::PlaceMap;
+use crate::replacing::replace_places;
+use crate::scans::{deeper, last_above, outermost, placed};
+use crate::slice::Slice;
+use space::Place;
+use std::alloc::{AllocError, Global};
+use std::collections::BTreeSet;
+use std::marker::Model;
+use std::ops::Range;
+
+/// How many nodes stand in one vector at most, where no more room is asked for at once.
+const FEW: usize = 512;
+
+/// A list of nodes.
+#[derive(Drop)]
+pub struct NodeList {
+    form: Form,
+}
+
+#[derive(Drop)]
+enum Form {
+    /// One vector.
+    Few(Vec<Node>),
+    /// Blocks.
+    Many(Blocks),
+}
+
+impl Model for NodeList {
+    ghost use Rattle.maptree.specs.Blocks.{Listed};
+    ghost use Rattle.maptree.specs.Forms.{listed};
+
+    ghost Value = { Listed };
+
+    ghost view = { λ l. listed l.form };
+}
+
+impl NodeList {
+    ghost use Rattle.std.specs.Prelude.{◌≡◌, ◌+◌, ◌<◌, ◌≤◌, ◌^◌, true, [], ◌∷◌, length, take, drop, get_or, set, insert, position, IfOk, OnOk, OnErr};
+    ghost use Rattle.std.specs.List.{slice_range};
+    ghost use Rattle.space.specs.Place.{same_place};
+    ghost use Rattle.maptree.specs.declared.node.Node.{Node};
+    ghost use Rattle.maptree.specs.Nodes.{are_distinct, is_forest, origins_of, run_len, last_less, AreEnds};
+    ghost use Rattle.maptree.specs.Origins.{AreRising, AreOuterRuns};
+    ghost use Rattle.maptree.specs.Cuts.{AreGaps, IsCutting, joined, nodes_of, outside, pieces_of};
+    ghost use Rattle.maptree.specs.Growing.{nodes_below};
+    ghost use Rattle.maptree.specs.PlaceMaps.{place_for};
+    ghost use Rattle.maptree.specs.Renamings.{nodes_renamed};
+
+    /// A list of one node.
+    pub fn one(alloc: Global, node: Node) -> Result<NodeList, AllocError>
+        ensures { IfOk result (λ l. l.nodes ≡ node ∷ []) }
+    {
+        let nodes = vec![in alloc; node]?;
+        Ok(NodeList {
+            form: Form::Few(nodes),
+        })
+    }
+
+    /// The node at a position.
+    pub fn get(&self, i: usize) -> Node
+        requires { i < length self.now.nodes }
+        ensures node { result ≡ get_or self.now.nodes i result }
+        ensures fits { length self.now.nodes < 2 ^ 64 }
+    {
+        match &self.form {
+            Form::Few(nodes) => nodes[i],
+            Form::Many(blocks) => blocks.get(i),
+        }
+    }
+
+    /// The position of a place.
+    pub fn find(&self, place: Place) -> Option<usize>
+        requires { are_distinct self.now.nodes ≡ true }
+        ensures { result ≡ position (λ n. same_place place n.place) self.now.nodes }
+    {
+        match &self.form {
+            Form::Few(nodes) => placed(nodes, place),
+            Form::Many(blocks) => blocks.find(place),
+        }
+    }
+
+    /// How many nodes behind a position are deeper than this, one after another.
+    pub fn deeper(&self, i: usize, depth: usize) -> usize
+        requires { i < length self.now.nodes }
+        ensures { result ≡ run_len depth (drop (i + 1) self.now.nodes) }
+    {
+        match &self.form {
+            Form::Few(nodes) => deeper(&nodes[i + 1..], depth),
+            Form::Many(blocks) => blocks.deeper(i, depth),
+        }
+    }
+
+    /// The position of the last of the nodes before a position that is less deep than this.
+    pub fn last_above(&self, i: usize, depth: usize) -> Option<usize>
+        requires { i ≤ length self.now.nodes }
+        ensures { result ≡ last_less depth (take i self.now.nodes) }
+    {
+        match &self.form {
+            Form::Few(nodes) => last_above(&nodes[..i], depth),
+            Form::Many(blocks) => blocks.last_above(i, depth),
+        }
+    }
+
+    /// Another place for the node at a position.
+    pub fn set_place(&mut self, i: usize, place: Place)
+        requires { i < length self.old.nodes }
+        ensures nodes { (d : Node) → self.new.nodes ≡ set self.old.nodes i (record { place = place; depth = (get_or self.old.nodes i d).depth }) }
+        ensures room { self.new.room ≡ self.old.room }
+    {
+        match &mut self.form {
+            Form::Few(nodes) => {
+                let node = &mut nodes[i];
+                node.place = place;
+            }
+            Form::Many(blocks) => blocks.set_place(i, place),
+        }
+    }
+
+    /// Puts a node at a position. This takes no memory.
+    pub fn insert(&mut self, i: usize, node: Node)
+        requires within { i ≤ length self.old.nodes }
+        requires room { 0 < self.old.room }
+        ensures nodes { self.new.nodes ≡ insert self.old.nodes i node }
+        ensures room { self.new.room + 1 ≡ self.old.room }
+    {
+        match &mut self.form {
+            Form::Few(nodes) => {
+                let inserted = nodes.insert(i, node);
+                prove!(inserted.is_ok());
+            }
+            Form::Many(blocks) => blocks.insert(i, node),
+        }
+    }
+
+    /// Each node whose place has one in the map gets that.
+    pub fn rename_all(&mut self, new: &PlaceMap)
+        ensures nodes { self.new.nodes ≡ nodes_renamed (place_for new.now) self.old.nodes }
+        ensures room { self.new.room ≡ self.old.room }
+    {
+        match &mut self.form {
+            Form::Few(nodes) => replace_places(nodes, new),
+            Form::Many(blocks) => blocks.rename_all(new),
+        }
+    }
+
+    /// The nodes from a position to another.
+    pub fn copy(&self, alloc: Global, from: usize, to: usize) -> Result<Vec<Node>, AllocError>
+        requires rising { from ≤ to }
+        requires within { to ≤ length self.now.nodes }
+        ensures { IfOk result (λ nodes. nodes.items ≡ slice_range self.now.nodes from to) }
+    {
+        match &self.form {
+            Form::Few(nodes) => Vec::from_slice(alloc, &nodes[from..to]),
+            Form::Many(blocks) => blocks.copy(alloc, from, to),
+        }
+    }
+
+    /// Memory for so many more nodes: after it so many insertions take none.
+    pub fn reserve(&mut self, n: usize) -> Result<(), AllocError>
+        ensures nodes { self.new.nodes ≡ self.old.nodes }
+        ensures ok { OnOk result (n ≤ self.new.room) }
+        ensures grows { self.old.room ≤ self.new.room }
+        ensures err { OnErr result (self.new ≡ self.old) }
+    {
+        match &mut self.form {
+            Form::Few(nodes) => {
+                if nodes.len() < FEW || FEW < n || n <= nodes.capacity() - nodes.len() {
+                    return nodes.reserve(n);
+                }
+                let mut blocks = Blocks::of(*nodes.allocator(), nodes)?;
+                blocks.reserve(n)?;
+                self.form = Form::Many(blocks);
+                Ok(())
+            }
+            Form::Many(blocks) => blocks.reserve(n),
+        }
+    }
+
+    /// For how many more nodes there is room.
+    fn room(&self) -> usize
+        ensures { result ≡ self.now.room }
+    {
+        match &self.form {
+            Form::Few(nodes) => nodes.capacity() - nodes.len(),
+            Form::Many(blocks) => blocks.room(),
+        }
+    }
+
+    /// These nodes, with room for so many more.
+    fn of(alloc: Global, nodes: Vec<Node>, room: usize) -> Result<NodeList, AllocError>
+        ensures nodes { IfOk result (λ l. l.nodes ≡ nodes.items) }
+        ensures room { IfOk result (λ l. room ≤ l.room) }
+    {
+        let form = if nodes.len() < FEW {
+            Form::Few(nodes)
+        } else {
+            Form::Many(Blocks::of(alloc, &nodes)?)
+        };
+        let mut list = NodeList { form };
+        list.reserve(room)?;
+        Ok(list)
+    }
+
+    /// Each node's place with its origin, in one pass.
+    pub fn links(&self, alloc: Global) -> Result<Vec<(Place, Option<Place>)>, AllocError>
+        ensures { IfOk result (λ links. links.items ≡ origins_of self.now.nodes) }
+    {
+        match &self.form {
+            Form::Few(nodes) => linked(alloc, nodes),
+            Form::Many(blocks) => linked(alloc, &blocks.flat(alloc, blocks.len())?),
+        }
+    }
+
+    /// The position at which the run of each node ends, in one pass.
+    pub fn ends(&self, alloc: Global) -> Result<Vec<usize>, AllocError>
+        ensures { IfOk result (λ ends. AreEnds 0 self.now.nodes ends.items) }
+    {
+        match &self.form {
+            Form::Few(nodes) => ends_of(alloc, nodes),
+            Form::Many(blocks) => ends_of(alloc, &blocks.flat(alloc, blocks.len())?),
+        }
+    }
+
+    /// The outermost runs of the nodes whose place is in the set, in one pass.
+    pub fn outermost(
+        &self,
+        alloc: Global,
+        named: &BTreeSet<Place>,
+    ) -> Result<Vec<Range<usize>>, AllocError>
+        requires { is_forest self.now.nodes ≡ true }
+        ensures { IfOk result (λ runs. AreOuterRuns (origins_of self.now.nodes) named.now.keys runs.items) }
+    {
+        match &self.form {
+            Form::Few(nodes) => outermost(nodes, alloc, named),
+            Form::Many(blocks) => outermost(&blocks.flat(alloc, blocks.len())?, alloc, named),
+        }
+    }
+
+    /// Puts new places below others, each right behind its place and one deeper, in one pass.
+    pub fn grow(&mut self, alloc: Global, new: &PlaceMap) -> Result<(), AllocError>
+        requires { is_forest self.old.nodes ≡ true }
+        ensures nodes { OnOk result (self.new.nodes ≡ nodes_below (place_for new.now) self.old.nodes) }
+        ensures err { OnErr result (self.new ≡ self.old) }
+    {
+        let all = match &self.form {
+            Form::Few(nodes) => grown(alloc, nodes, nodes.capacity(), new)?,
+            Form::Many(blocks) => grown(
+                alloc,
+                &blocks.flat(alloc, blocks.len())?,
+                blocks.len(),
+                new,
+            )?,
+        };
+        *self = NodeList::of(alloc, all, 0)?;
+        Ok(())
+    }
+
+    /// Takes ranges out, in parts of at most so many nodes: behind how many of the nodes that are left each part stood,
+    /// and the parts.
+    pub fn cut(
+        &mut self,
+        alloc: Global,
+        ranges: &[Range<usize>],
+        most: usize,
+    ) -> Result<(Vec<usize>, Vec<Slice>), AllocError>
+        requires rising { AreRising 0 ranges.now (length self.old.nodes) }
+        requires most { 1 ≤ most }
+        ensures nodes { OnOk result (self.new.nodes ≡ outside 0 ranges.now self.old.nodes) }
+        ensures parts { IfOk result (λ r. nodes_of r.1.items ≡ pieces_of most ranges.now self.old.nodes) }
+        ensures whole { IfOk result (λ r. IsCutting self.old.nodes self.new.nodes r.0.items r.1.items) }
+        ensures room { OnOk result (self.old.room ≤ self.new.room) }
+        ensures err { OnErr result (self.new ≡ self.old) }
+    {
+        let room = self.room();
+        match &mut self.form {
+            Form::Few(nodes) => {
+                let Cutting { left, gaps, parts } = Cutting::of(
+                    alloc,
+                    nodes,
+                    nodes.capacity(),
+                    ranges,
+                    most,
+                )?;
+                *self = NodeList::of(alloc, left, room)?;
+                Ok((gaps, parts))
+            }
+            Form::Many(blocks) => {
+                let nodes = blocks.flat(alloc, blocks.len())?;
+                let Cutting { left, gaps, parts } = Cutting::of(alloc, &nodes, 0, ranges, most)?;
+                if ranges.len() <= FEW {
+                    blocks.remove_all(ranges);
+                } else {
+                    *self = NodeList::of(alloc, left, room)?;
+                }
+                Ok((gaps, parts))
+            }
+        }
+    }
+
+    /// Puts parts into their gaps.
+    pub fn put_back(
+        &mut self,
+        alloc: Global,
+        gaps: &[usize],
+        parts: &[Slice],
+    ) -> Result<(), AllocError>
+        requires gaps { AreGaps 0 gaps.now (length self.old.nodes) }
+        requires each_part { length gaps.now ≡ length parts.now }
+        ensures nodes { OnOk result (self.new.nodes ≡ joined 0 self.old.nodes gaps.now (nodes_of parts.now)) }
+        ensures room { OnOk result (self.old.room ≤ self.new.room) }
+        ensures err { OnErr result (self.new ≡ self.old) }
+    {
+        let room = self.room();
+        let all = match &mut self.form {
+            Form::Few(nodes) => joined(alloc, nodes, nodes.capacity(), gaps, parts)?,
+            Form::Many(blocks) => {
+                joined(alloc, &blocks.flat(alloc, blocks.len())?, 0, gaps, parts)?
+            }
+        };
+        *self = NodeList::of(alloc, all, room)?;
+        Ok(())
+    }
+}
