@@ -1,12 +1,18 @@
 -- Ranges taken out of a list one after another, in place, and parts put back so.
-use Rattle.std.proofs.Common.{◌≡◌, ℕ, zero, suc, ◌+◌, ◌-◌, ◌<◌, ◌≤◌, List, [], ◌∷◌, ◌++◌, length, take, drop, get_or, refl, sym, ap, ◌∙◌, subst, arith}
+use Rattle.std.proofs.Common.{◌≡◌, ℕ, zero, suc, ◌+◌, ◌-◌, ◌<◌, ◌≤◌, List, [], ◌∷◌, ◌++◌, length, take, drop, get_or, not, nat_eq, true, false, filter, refl, sym, ap, ◌∙◌, subst, arith}
 use Rattle.std.specs.List.{slice_range}
 use Rattle.std.specs.declared.ops.Range.{Range}
-use Rattle.std.proofs.lemmas.List.{append_assoc, append-nil, length-append, take_at, length-take-le, length-drop, drop-drop, drop_at, drop_more, take-append-le, get_or_default}
+use Rattle.std.proofs.lemmas.List.{append_assoc, append-nil, length-append, take_at, length-take-le, length-drop, drop-drop, drop_at, drop_more, take-append-le, get_or_default, length-map}
+use Rattle.std.proofs.lemmas.Bool.Decides.{nat_tests}
 use Rattle.maptree.specs.declared.node.Node.{Node}
 use Rattle.maptree.specs.Origins.{AreRising}
-use Rattle.maptree.specs.Cuts.{outside}
-use Rattle.maptree.proofs.Cuttings.{next_range, rising_within}
+use Rattle.std.specs.Prelude.{insert}
+use Rattle.std.proofs.lemmas.List.Edits.{insert-append_right}
+use Rattle.maptree.specs.Cuts.{outside, joined, AreGaps, count_of, nodes_of}
+use Rattle.maptree.specs.declared.slice.Slice.{Slice}
+use Rattle.maptree.specs.Blocks.{nodes_in}
+use Rattle.maptree.proofs.BlockChanges.{take_on}
+use Rattle.maptree.proofs.Cuttings.{next_range, rising_within, split_at, gaps_within}
 
 -- some of a list behind another
 take_behind : (xs ys : List Node) (n : ℕ) → take (length xs + n) (xs ++ ys) ≡ xs ++ take n ys
@@ -79,3 +85,112 @@ all_out nodes ranges i gone now upto so_far =
 -- a range that is read within the list
 pub range_read : (rs : List (Range ℕ)) (i : ℕ) (d : Range ℕ) → i < length rs → get_or rs i d ≡ get_or rs i (get_or rs i d)
 range_read rs i d within = get_or_default rs i d (get_or rs i d) within
+
+-- ---- parts put back, from the last on
+
+-- up to the first gap the list is as it was
+pub joined_from : (from gap : ℕ) (left : List Node) (gaps : List ℕ) (parts : List (List Node)) → from ≤ gap → AreGaps gap gaps (length left) → length gaps ≡ length parts → joined from left gaps parts ≡ slice_range left from gap ++ joined gap left gaps parts
+joined_from from gap left [] parts upto rise same = split_at from gap left upto
+joined_from from gap left (g ∷ gaps) [] upto rise same = absurd (omega (arith, same))
+joined_from from gap left (g ∷ gaps) (part ∷ parts) upto rise same =
+    let whole : gap - from + (g - gap) ≡ g - from = omega (arith, upto, rise.0) in
+    let there : from + (gap - from) ≡ gap = omega (arith, upto) in
+    let front : slice_range left from g ≡ slice_range left from gap ++ slice_range left gap g =
+    ap (λ n. take n (drop from left)) (sym whole) ∙ sym (take_on (gap - from) (g - gap) (drop from left))
+    ∙ ap (λ l. take (gap - from) (drop from left) ++ take (g - gap) l) (drop-drop (gap - from) from left ∙ ap (λ n. drop n left) there) in
+    let rest = joined g left gaps parts in
+    ap (λ l. (l ++ part) ++ rest) front ∙ ap (λ l. l ++ rest) (append_assoc (slice_range left from gap) (slice_range left gap g) part) ∙ append_assoc (slice_range left from gap) (slice_range left gap g ++ part) rest
+
+-- one part more is put back
+pub part_back : (left : List Node) (gap : ℕ) (gaps : List ℕ) (part : List Node) (parts : List (List Node)) → AreGaps gap gaps (length left) → length gaps ≡ length parts
+    → take gap (joined 0 left gaps parts) ++ (part ++ drop gap (joined 0 left gaps parts)) ≡ joined 0 left (gap ∷ gaps) (part ∷ parts)
+part_back left gap gaps part parts rise same =
+    let most = gaps_within gap gaps (length left) rise in
+    let none : gap - 0 ≡ gap = omega arith in
+    let from = joined_from 0 gap left gaps parts (omega arith) rise same in
+    let size : length (slice_range left 0 gap) ≡ gap = ap (λ n. length (take n left)) none ∙ length-take-le gap left most in
+    ap (λ l. take gap l ++ (part ++ drop gap l)) from
+    ∙ ap (λ l. l ++ (part ++ drop gap (slice_range left 0 gap ++ joined gap left gaps parts))) (take_at (slice_range left 0 gap) (joined gap left gaps parts) gap size)
+    ∙ ap (λ l. slice_range left 0 gap ++ (part ++ l)) (drop_at (slice_range left 0 gap) (joined gap left gaps parts) gap size)
+    ∙ sym (append_assoc (slice_range left 0 gap) part (joined gap left gaps parts))
+
+-- one node more in front of those that were put in
+pub node_in : (ns xs : List Node) (i : ℕ) (x : Node) → i ≤ length ns → insert (take i ns ++ xs) i x ≡ take i ns ++ (x ∷ xs)
+node_in ns xs i x within =
+    let size = length-take-le i ns within in
+    let none : i - i ≡ 0 = omega arith in
+    insert-append_right (take i ns) xs i i x size (omega arith) ∙ ap (λ n. take i ns ++ insert xs n x) none
+
+-- the gaps behind one
+gaps_behind : (from k : ℕ) (gaps : List ℕ) (most : ℕ) → AreGaps from gaps most → k < length gaps → AreGaps (get_or gaps k 0) (drop (suc k) gaps) most
+gaps_behind from k [] most rise within = absurd (omega (arith, within))
+gaps_behind from zero (g ∷ gaps) most rise within = rise.1
+gaps_behind from (suc k) (g ∷ gaps) most rise within = gaps_behind g k gaps most rise.1 (omega (arith, within))
+
+-- the parts from one on
+pub parts_from : (parts : List Slice) (k : ℕ) (e : Slice) → k < length parts → drop k (nodes_of parts) ≡ (get_or parts k e).nodes.items ∷ drop (suc k) (nodes_of parts)
+parts_from [] k e within = absurd (omega (arith, within))
+parts_from (p ∷ parts) zero e within = refl
+parts_from (p ∷ parts) (suc k) e within = parts_from parts k e (omega (arith, within))
+
+-- some of the parts have no more nodes than all
+count_drop : (ps : List (List Node)) (k : ℕ) → count_of (drop k ps) ≤ count_of ps
+count_drop [] zero = omega arith
+count_drop [] (suc k) = omega arith
+count_drop (p ∷ ps) zero = omega arith
+count_drop (p ∷ ps) (suc k) = let rest = count_drop ps k in omega (arith, rest)
+
+-- what the next part does, from the back
+pub record NextBack (left : List Node) (gaps : List ℕ) (parts : List Slice) (k : ℕ) (now part : List Node) : Type 0 where
+  pub within : get_or gaps (k - 1) 0 ≤ length now
+  pub nodes : (next : List Node) → next ≡ take (get_or gaps (k - 1) 0) now ++ (part ++ drop (get_or gaps (k - 1) 0) now) → next ≡ joined 0 left (drop (k - 1) gaps) (drop (k - 1) (nodes_of parts))
+  pub count : count_of (drop (k - 1) (nodes_of parts)) ≡ length part + count_of (drop k (nodes_of parts))
+  pub upto : length part + count_of (drop k (nodes_of parts)) ≤ count_of (nodes_of parts)
+
+pub next_back : (left : List Node) (gaps : List ℕ) (parts : List Slice) (k : ℕ) (now : List Node) (e : Slice) → AreGaps 0 gaps (length left) → length gaps ≡ length parts → 0 < k → k ≤ length parts
+    → now ≡ joined 0 left (drop k gaps) (drop k (nodes_of parts)) → NextBack left gaps parts k now (get_or parts (k - 1) e).nodes.items
+next_back left gaps parts k now e rise same some within now_is =
+    let next : suc (k - 1) ≡ k = omega (arith, some) in
+    let less : k - 1 < length parts = omega (arith, some, within) in
+    let less_gaps : k - 1 < length gaps = omega (arith, same, less) in
+    let gap = get_or gaps (k - 1) 0 in
+    let part = (get_or parts (k - 1) e).nodes.items in
+    let behind : AreGaps gap (drop k gaps) (length left) = subst (λ n. AreGaps gap (drop n gaps) (length left)) next (gaps_behind 0 (k - 1) gaps (length left) rise less_gaps) in
+    let all : length (nodes_of parts) ≡ length parts = length-map parts (λ s. s.nodes.items) in
+    let fewer_gaps = length-drop k gaps in
+    let fewer_parts = length-drop k (nodes_of parts) in
+    let each : length (drop k gaps) ≡ length (drop k (nodes_of parts)) = omega (arith, fewer_gaps, fewer_parts, all, same) in
+    let most = gaps_within gap (drop k gaps) (length left) behind in
+    let from = joined_from 0 gap left (drop k gaps) (drop k (nodes_of parts)) (omega arith) behind each in
+    let none : gap - 0 ≡ gap = omega arith in
+    let front : length (slice_range left 0 gap) ≡ gap = ap (λ n. length (take n left)) none ∙ length-take-le gap left most in
+    let size = ap length (now_is ∙ from) ∙ length-append (slice_range left 0 gap) (joined gap left (drop k gaps) (drop k (nodes_of parts))) in
+    let here : drop (k - 1) (nodes_of parts) ≡ part ∷ drop k (nodes_of parts) = parts_from parts (k - 1) e less ∙ ap (λ n. part ∷ drop n (nodes_of parts)) next in
+    let gaps_here : drop (k - 1) gaps ≡ gap ∷ drop k gaps = drop_more gaps (k - 1) 0 less_gaps ∙ ap (λ n. gap ∷ drop n gaps) (one ∙ next) in
+    let count = ap count_of here in
+    let low = count_drop (nodes_of parts) (k - 1) in
+    record {
+      within = omega (arith, size, front);
+      nodes = λ after is.
+          is ∙ ap (λ l. take gap l ++ (part ++ drop gap l)) now_is ∙ part_back left gap (drop k gaps) part (drop k (nodes_of parts)) behind each
+          ∙ ap (λ gs. joined 0 left gs (part ∷ drop k (nodes_of parts))) (sym gaps_here) ∙ ap (joined 0 left (drop (k - 1) gaps)) (sym here);
+      count = count;
+      upto = omega (arith, count, low);
+    }
+  where
+    one : k - 1 + 1 ≡ suc (k - 1)
+    one = omega arith
+
+-- ---- blocks without nodes
+
+pub without_empty : (bs : List (List Node)) → nodes_in (filter (λ b. not (nat_eq (length b) 0)) bs) ≡ nodes_in bs
+without_empty [] = refl
+without_empty ([] ∷ bs) = without_empty bs
+without_empty ((n ∷ b) ∷ bs) = let e = some_nodes (length b) in rw e (ap (λ l. (n ∷ b) ++ l) (without_empty bs))
+  where
+    some_nodes : (k : ℕ) → nat_eq (suc k) 0 ≡ false
+    some_nodes k = grind (arith, nat_tests)
+
+pub some_block : (bs : List (List Node)) → 0 < length (nodes_in bs) → 0 < length bs
+some_block [] some = absurd (omega (arith, some))
+some_block (b ∷ bs) some = omega arith

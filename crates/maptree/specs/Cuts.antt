@@ -1,5 +1,5 @@
 -- Runs cut out of a derivation tree in parts, and what is kept of the parts put back.
-use Rattle.std.specs.Prelude.{◌≡◌, ℕ, zero, suc, ◌≤◌, true, Bool, List, [], ◌∷◌, ◌++◌, length, take, drop, map, filter, Some}
+use Rattle.std.specs.Prelude.{◌≡◌, ℕ, zero, suc, ◌+◌, ◌≤◌, true, Bool, List, [], ◌∷◌, ◌++◌, length, take, drop, map, filter, Some}
 use Rattle.std.specs.List.{All, list_all, slice_range}
 use Rattle.std.specs.declared.ops.Range.{Range}
 use Rattle.space.specs.declared.place.Place.{Place}
@@ -85,3 +85,8 @@ pub record AreKept (tree : Shape) (parts : List Slice) : Type 0 where
   pub kept : nodes_of parts ≡ kept_of keep given
   pub left : list_all (λ o. keep o.0) tree.links ≡ true
   pub origins : (p o : Place) → origin_in whole p ≡ Some o → keep p ≡ true → keep o ≡ true
+
+-- how many nodes the parts have
+abbrev pub count_of : List (List Node) → ℕ
+count_of [] = 0
+count_of (part ∷ parts) = length part + count_of parts

@@ -8,6 +8,7 @@ use crate::block::{BLOCK_SIZE, Block};
 use crate::hints::Hints;
 use crate::node::Node;
 use crate::place_map::PlaceMap;
+use crate::slice::Slice;
 use space::Place;
 use std::alloc::{AllocError, Global};
 use std::marker::Model;
@@ -58,7 +59,7 @@ impl Blocks {
     ghost use Rattle.maptree.specs.Blocks.{block_size, nodes_in, IsSeat, split_at_half};
     ghost use Rattle.maptree.specs.Nodes.{are_distinct, run_len, last_less};
     ghost use Rattle.maptree.specs.Origins.{AreRising};
-    ghost use Rattle.maptree.specs.Cuts.{outside};
+    ghost use Rattle.maptree.specs.Cuts.{AreGaps, count_of, joined, nodes_of, outside};
     ghost use Rattle.maptree.specs.PlaceMaps.{place_for};
     ghost use Rattle.maptree.specs.Renamings.{nodes_renamed};
 
@@ -71,7 +72,8 @@ impl Blocks {
 
     /// How many insertions will take no memory.
     pub fn room(&self) -> usize
-        ensures { result ≡ self.now.room }
+        ensures room { result ≡ self.now.room }
+        ensures fits { result < 2 ^ 63 }
     {
         self.room
     }
@@ -421,6 +423,46 @@ impl Blocks {
             self.remove(range.start - gone, range.end - gone);
             gone += range.end - range.start;
         }
+        self.drop_empty();
+    }
+
+    /// Lets blocks go that have no nodes, if others have some.
+    fn drop_empty(&mut self)
+        ensures nodes { nodes_in self.new.blocks ≡ nodes_in self.old.blocks }
+        ensures room { self.new.room ≡ self.old.room }
+    {
+        if self.len == 0 {
+            return;
+        }
+        free_empty(&mut self.hints, &self.blocks);
+        self.blocks.retain(|block| !block.nodes().is_empty());
+        hint_blocks(&mut self.hints, &self.blocks, 0);
+    }
+
+    /// Puts parts into their gaps. This takes no memory.
+    pub fn put_back(&mut self, gaps: &[usize], parts: &[Slice])
+        requires gaps { AreGaps 0 gaps.now (length (nodes_in self.old.blocks)) }
+        requires each_part { length gaps.now ≡ length parts.now }
+        requires room { count_of (nodes_of parts.now) ≤ self.old.room }
+        ensures nodes { nodes_in self.new.blocks ≡ joined 0 (nodes_in self.old.blocks) gaps.now (nodes_of parts.now) }
+        ensures room { self.new.room + count_of (nodes_of parts.now) ≡ self.old.room }
+    {
+        // From the last on, so that the gaps to come stand where they stood.
+        for k in (0..parts.len()).rev() {
+            self.insert_all(gaps[k], &parts[k].nodes);
+        }
+    }
+
+    /// Puts nodes in at a position. This takes no memory.
+    fn insert_all(&mut self, i: usize, nodes: &[Node])
+        requires within { i ≤ length (nodes_in self.old.blocks) }
+        requires room { length nodes.now ≤ self.old.room }
+        ensures nodes { nodes_in self.new.blocks ≡ take i (nodes_in self.old.blocks) ++ (nodes.now ++ drop i (nodes_in self.old.blocks)) }
+        ensures room { self.new.room + length nodes.now ≡ self.old.room }
+    {
+        for k in (0..nodes.len()).rev() {
+            self.insert(i, nodes[k]);
+        }
     }
 }
 
@@ -445,6 +487,15 @@ fn rename_blocks(blocks: &mut [Block], hints: &mut Hints, new: &PlaceMap)
         forget_nodes(hints, block.nodes());
         block.rename_all(new);
         hint_nodes(hints, block);
+    }
+}
+
+/// The numbers of blocks without nodes are free.
+fn free_empty(hints: &mut Hints, blocks: &[Block]) {
+    for block in blocks {
+        if block.nodes().is_empty() {
+            hints.free(block.number());
+        }
     }
 }
 

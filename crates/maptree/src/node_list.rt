@@ -1,5 +1,8 @@
 //! A list of nodes: one vector while it is short, blocks once it is long.
 
+ghost use Rattle.std.specs.Prelude.{◌≡◌, ◌≤◌, IfSome};
+ghost use Rattle.maptree.specs.Cuts.{count_of, nodes_of};
+
 use crate::blocks::Blocks;
 use crate::cutting::{Cutting, joined};
 use crate::ends::ends_of;
@@ -322,10 +325,30 @@ impl NodeList {
         let all = match &mut self.form {
             Form::Few(nodes) => joined(alloc, nodes, nodes.capacity(), gaps, parts)?,
             Form::Many(blocks) => {
+                if let Some(kept) = kept_up_to(parts, FEW) {
+                    blocks.reserve(blocks.room() + kept)?;
+                    blocks.put_back(gaps, parts);
+                    return Ok(());
+                }
                 joined(alloc, &blocks.flat(alloc, blocks.len())?, 0, gaps, parts)?
             }
         };
         *self = NodeList::of(alloc, all, room)?;
         Ok(())
     }
+}
+
+/// How many nodes the parts have, if no more than this.
+fn kept_up_to(parts: &[Slice], most: usize) -> Option<usize>
+    ensures { IfSome result (λ n. (n ≡ count_of (nodes_of parts.now)) × (n ≤ most)) }
+{
+    let mut kept = 0;
+    for part in parts {
+        let more = part.nodes.len();
+        if most - kept < more {
+            return None;
+        }
+        kept += more;
+    }
+    Some(kept)
 }

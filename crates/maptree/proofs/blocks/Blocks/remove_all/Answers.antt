@@ -23,4 +23,4 @@ loop-range-preserved c =
     }
 
 pub returns-clause-nodes : goal.returns-clause-nodes
-returns-clause-nodes c = all_out (nodes_in c.args.self.now.blocks) c.args.ranges.now c.loop-range.range-index c.loop-range.gone (nodes_in c.loop-range.self.blocks) (search (rules, arith)) c.loop-range.invariant.out
+returns-clause-nodes c = c.drop_empty.ensures.nodes ∙ all_out (nodes_in c.args.self.now.blocks) c.args.ranges.now c.loop-range.range-index c.loop-range.gone (nodes_in c.loop-range.self.blocks) (search (rules, arith)) c.loop-range.invariant.out

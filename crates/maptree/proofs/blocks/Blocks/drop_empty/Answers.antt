@@ -1,0 +1,20 @@
+-- Blocks without nodes hold none.
+use Rattle.std.proofs.Common.{◌≡◌, ◌≤◌, ◌<◌, ◌+◌, length, not, nat_eq, filter, vec_capacity, ap, rules, arith, ◌∙◌, sym}
+use Rattle.std.proofs.lemmas.Fn.{filter_same}
+use Rattle.maptree.specs.Blocks.{nodes_in}
+use Rattle.maptree.proofs.Parts.{without_empty, some_block}
+use Rattle.maptree.proofs.blocks.Blocks.drop_empty.Goals as goal
+
+pub returns-clause-nodes : goal.returns-clause-nodes
+returns-clause-nodes c =
+    ap nodes_in (filter_same _ (λ b. not (nat_eq (length b) 0)) _ (λ x b f t. search rules) _ _ c.retain.ensures.filtered) ∙ without_empty c.self.inside.blocks.items ∙ ap (λ v. nodes_in v.blocks) c.self.view_is
+
+pub invariant_of-self : goal.invariant_of-self
+invariant_of-self c =
+    let items = c.self.inside.blocks.items in
+    let same = ap length (ap nodes_in (filter_same _ (λ b. not (nat_eq (length b) 0)) _ (λ x b f t. search rules) _ _ c.retain.ensures.filtered) ∙ without_empty items) in
+    let inv = c.self.invariant in
+    let some : 0 < length (nodes_in c.retain.new.self.items) = search (rules, arith, same, inv.0) in
+    let fewer : length c.retain.new.self.items ≤ length items = search (rules, arith) in
+    let room : length items + c.self.inside.room ≤ vec_capacity c.retain.new.self = search (rules, arith) in
+    (omega (arith, same, inv.0), some_block c.retain.new.self.items some, inv.2, omega (arith, fewer, room), inv.4)
