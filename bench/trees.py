@@ -86,16 +86,16 @@ def ratio(of, to):
 
 def report(sizes, results):
     """For each form and call a line for each size, and one of how the times grew."""
-    head = "".join(f"{kind:>15}" for kind in KINDS)
+    head = "".join(f"{kind:>20}" for kind in KINDS)
     print(f"{'nanoseconds a call':<26}{'nodes':>10}{head}{'to vector':>11}{'to pointers':>13}")
     for form, call in results[sizes[0]]["pointers"]:
         nanos = {(size, kind): results[size][kind].get((form, call), (None,))[0] for size in sizes for kind in KINDS}
         for size in sizes:
             ours, vector, pointers = (nanos[size, kind] for kind in KINDS)
-            times = "".join(f"{shown(it):>15}" for it in (ours, vector, pointers))
+            times = "".join(f"{shown(it):>20}" for it in (ours, vector, pointers))
             print(f"{form + ' ' + call:<26}{size:>10,}{times}{ratio(ours, vector):>11}{ratio(ours, pointers):>13}")
         if len(sizes) > 1:
-            grown = "".join(f"{growth(sizes, nanos, kind):>15}" for kind in KINDS)
+            grown = "".join(f"{growth(sizes, nanos, kind):>20}" for kind in KINDS)
             print(f"{'':<26}{'grew':>10}{grown}")
 
 

@@ -26,7 +26,7 @@ fn is_one_of(places: &[Place], place: Place) -> bool
 
 /// Whether no node of a tree of so many nodes derives from one of some places and is none of them itself: then what is
 /// left out with them leaves no node without its origin.
-fn are_closed(tree: &Tree, len: usize, gone: &[Place]) -> bool
+pub fn are_closed(tree: &Tree, len: usize, gone: &[Place]) -> bool
     requires { len ≡ length tree.now.links }
     ensures { result ≡ true → (p o : Place) → origin_in tree.now.links p ≡ Some o
         → not (list_any (λ q. same_place q p) gone.now) ≡ true
@@ -44,7 +44,7 @@ fn are_closed(tree: &Tree, len: usize, gone: &[Place]) -> bool
 }
 
 /// Whether none of some places is in the tree.
-fn are_absent(tree: &Tree, gone: &[Place]) -> bool
+pub fn are_absent(tree: &Tree, gone: &[Place]) -> bool
     ensures { result ≡ true
         → list_all (λ o. not (list_any (λ q. same_place q o.0) gone.now)) tree.now.links ≡ true }
 {
@@ -71,7 +71,11 @@ fn without(alloc: Global, nodes: &[Node], gone: &[Place]) -> Result<Vec<Node>, A
 }
 
 /// Parts without the nodes at some places.
-fn parts_without(alloc: Global, parts: &[Slice], gone: &[Place]) -> Result<Vec<Slice>, AllocError>
+pub fn parts_without(
+    alloc: Global,
+    parts: &[Slice],
+    gone: &[Place],
+) -> Result<Vec<Slice>, AllocError>
     ensures { IfOk result (λ kept.
         nodes_of kept.items ≡ kept_of (λ p. not (list_any (λ q. same_place q p) gone.now)) (nodes_of parts.now)) }
 {

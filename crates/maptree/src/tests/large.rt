@@ -52,7 +52,7 @@ impl Form {
 }
 
 /// The nth place.
-fn nth_place(n: u32) -> Place
+pub fn nth_place(n: u32) -> Place
     ensures { result.page * 512 + result.space ≡ n }
 {
     Place {
