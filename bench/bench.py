@@ -1,5 +1,5 @@
 #!/usr/bin/env python3
-"""Time and peak memory of the proved program on traces of thirteen kinds, each at three sizes.
+"""Time and peak memory of the proved program on traces of fourteen kinds, each at three sizes.
 
     bench/bench.py [PROGRAM]
 
@@ -7,6 +7,7 @@ PROGRAM is crates/l4map/out/l4map, which build.sh makes, if it is not given. Not
 stands that of `wc -l` over what the program read and wrote.
 """
 
+import math
 import os
 import random
 import statistics
@@ -21,6 +22,7 @@ SPACES = 512
 PAGES = 4096
 SIZES = [1_000, 10_000, 100_000]
 RUNS = 5
+LIMIT = 120  # once the runs on a trace have taken so many seconds, there are no more of them
 GNU_TIME = "/usr/bin/time"
 
 FIRST_PAGE = 0x0C7  # the fpage of page 0, all rights
@@ -53,6 +55,11 @@ def access(space, page, kind, offset=0):
 def unmap(space, word):
     """An unmap of one fpage word that takes nothing from the caller's own pages."""
     return f"unmap,{space},0,{word:x}"
+
+
+def flush(space, page):
+    """An unmap of one page of the caller, from the caller too."""
+    return f"unmap,{space},40,{page:x}0c7"
 
 
 def mixed(records):
@@ -184,6 +191,19 @@ def passed(records):
         yield grant_fpage(sender, 3 - sender, ALL_PAGES)
 
 
+def single(records):
+    """One page goes to page after page of space after space; then each of their holders gives its own up, in another order.
+
+    No record makes or revokes more than one mapping.
+    """
+    mappings = [(1 + number // PAGES, number % PAGES) for number in range(records // 2)]
+    for space, page in mappings:
+        yield send(0, space, 0, page)
+    random.Random(4).shuffle(mappings)
+    for space, page in mappings:
+        yield flush(space, page)
+
+
 # Each kind with its numbers of records. A record of `relay` and of `audit` is about 4,096 pages, and one of `grants` about 512.
 KINDS = [
     (mixed, SIZES),
@@ -199,6 +219,7 @@ KINDS = [
     (shared, [PAGES, PAGES + 8, PAGES + 80]),
     (siblings, [PAGES, PAGES + 8, PAGES + 80]),
     (passed, [PAGES, PAGES + 8, PAGES + 80]),
+    (single, [2 * PAGES, 8 * PAGES, 64 * PAGES]),
 ]
 
 
@@ -243,7 +264,9 @@ def measure(program, kind, records, room):
     with open(path, "w", encoding="ascii") as it:
         it.write(trace(kind, records))
     output = os.path.join(room, "output")
-    times = [seconds_of(program, path, output, records) for _ in range(RUNS)]
+    times = []
+    while len(times) < RUNS and sum(times) < LIMIT:
+        times.append(seconds_of(program, path, output, records))
     counted = statistics.median(seconds_to_count(path, output) for _ in range(RUNS))
     return statistics.median(times), peak_kilobytes(program, path), counted
 
@@ -253,27 +276,46 @@ def main():
     program = os.path.abspath(sys.argv[1] if len(sys.argv) > 1 else default)
     if not os.access(program, os.X_OK):
         sys.exit(f"bench.py: there is no program {program}: ./build.sh proves it and builds it")
-    print(f"median time of {RUNS} runs each; peak memory of one run")
+    print(f"median time of {RUNS} runs each, or of fewer once they have taken {LIMIT} seconds; peak memory of one run")
     print(f"{'records':>19} {'seconds':>10} {'records/s':>11} {'peak MiB':>9} {'wc -l':>8}  growth from the size before")
     with tempfile.TemporaryDirectory() as room:
-        report(program, mixed, [0], room)
+        start = measure(program, mixed, 0, room)
+        line("", 0, start, "")
         for kind, sizes in KINDS:
-            report(program, kind, sizes, room)
+            report(program, kind, sizes, start, room)
 
 
-def report(program, kind, sizes, room):
+def report(program, kind, sizes, start, room):
     """A line for each size."""
     before = None
     for records in sizes:
-        taken, peak, counted = measure(program, kind, records, room)
-        name = kind.__name__ if records else ""
-        rate = f"{records / taken:,.0f}" if records else "-"
-        memory = f"{peak / 1024:.1f}" if peak is not None else "unknown"
-        growth = ""
+        measured = measure(program, kind, records, room)
+        notes = []
         if before:
-            growth = f"{records / before[0]:g} times the records in {taken / before[1]:.1f} times the time"
-        print(f"{name:>8} {records:>10,} {taken:>10.4f} {rate:>11} {memory:>9} {counted:>8.4f}  {growth}".rstrip(), flush=True)
-        before = (records, taken)
+            notes.append(f"{records / before[0]:g} times the records in {measured[0] / before[1][0]:.1f} times the time")
+        if kind is single:
+            notes += beyond_start(start, records, measured, before)
+        line(kind.__name__, records, measured, ", ".join(notes))
+        before = (records, measured)
+
+
+def beyond_start(start, records, measured, before):
+    """What the mappings of `single` cost beyond a start with no records: how the time grows as a power of their number, and the
+    memory of each."""
+    if before and start[0] < min(measured[0], before[1][0]):
+        grown = math.log((measured[0] - start[0]) / (before[1][0] - start[0])) / math.log(records / before[0])
+        yield f"exponent {grown:.2f}"
+    yield f"{(measured[0] - start[0]) / records * 1e6:.2f} us a record"
+    if measured[1] is not None:
+        yield f"{(measured[1] - start[1]) * 1024 / (records // 2):.0f} bytes a mapping"
+
+
+def line(name, records, measured, notes):
+    """What was measured on a trace."""
+    taken, peak, counted = measured
+    rate = f"{records / taken:,.0f}" if records else "-"
+    memory = f"{peak / 1024:.1f}" if peak is not None else "unknown"
+    print(f"{name:>8} {records:>10,} {taken:>10.4f} {rate:>11} {memory:>9} {counted:>8.4f}  {notes}".rstrip(), flush=True)
 
 
 if __name__ == "__main__":

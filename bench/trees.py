@@ -1,12 +1,13 @@
 #!/usr/bin/env python3
-"""Each call on trees of 1,000, 10,000 and 100,000 nodes: `maptree` beside a plain vector of nodes in Rust.
+"""Each call on trees of 1,000 to 1,000,000 nodes: `maptree` beside a plain vector of nodes and beside a tree with pointers.
 
     bench/trees.py [NODES..]
 
 The first is the test `makes_each_call_on_a_thousand_nodes_or_as_many_as_are_asked_for` of crates/maptree/out/maptree_tests,
-which `rt ci` leaves; the second is trees.rs, built here by `rustc -O`. Both make the same calls on the same trees and time
-them, and the sums of their answers must be equal. `make` has two searches and one insertion a node; no place may come
-twice, so a search stands before each `rename` and `insert_below`. Nothing here has a threshold.
+which `rt ci` leaves; the others are trees.rs and pointers.rs, built here by `rustc -O`. All make the same calls on the same
+trees (calls.rs) and time them, and the sums of their answers must be equal. The vector, which passes over its nodes in each
+call, has no trees of more than 100,000 nodes. A run that takes longer than LIMIT seconds is given up: what it told counts,
+and the rest is missing. Nothing here has a threshold.
 """
 
 import os
@@ -17,19 +18,33 @@ import tempfile
 HERE = os.path.dirname(os.path.abspath(__file__))
 TESTS = os.path.join(os.path.dirname(HERE), "crates", "maptree", "out", "maptree_tests")
 TEST = "tests::large::makes_each_call_on_a_thousand_nodes_or_as_many_as_are_asked_for"
-NODES = ["1000", "10000", "100000"]
+NODES = [1_000, 10_000, 100_000, 1_000_000]
+MOST_OF_VECTOR = 100_000
 RUNS = 3
+LIMIT = 600
+KINDS = ["maptree", "vector", "pointers"]
 
 
 def measured(words):
     """The nanoseconds a call and the sum of the answers, by form and call: the least times of some runs."""
     least = {}
     for _ in range(RUNS):
-        ran = subprocess.run(words, check=True, stdout=subprocess.PIPE, text=True)
-        for form, call, nanos, answers in told(ran.stdout):
+        text, ended = output_of(words)
+        for form, call, nanos, answers in told(text):
             before = least.get((form, call), (nanos, answers))
             least[form, call] = (min(nanos, before[0]), answers)
+        if not ended:
+            break
     return least
+
+
+def output_of(words):
+    """What a run wrote, and whether it came to its end."""
+    try:
+        return subprocess.run(words, check=True, stdout=subprocess.PIPE, text=True, timeout=LIMIT).stdout, True
+    except subprocess.TimeoutExpired as given_up:
+        written = (given_up.stdout or b"").decode()
+        return written[: written.rfind("\n") + 1], False
 
 
 def told(text):
@@ -43,21 +58,73 @@ def told(text):
             yield form, call, int(nanos) / int(calls), int(answers)
 
 
+def built(source, room):
+    """The program of a Rust file beside this one."""
+    program = os.path.join(room, os.path.splitext(source)[0])
+    subprocess.run(["rustc", "--edition", "2021", "-O", "-o", program, os.path.join(HERE, source)], check=True)
+    return program
+
+
+def check_answers(nodes, of_kinds):
+    """Every kind answers alike."""
+    for (form, call), (_, answers) in of_kinds["pointers"].items():
+        for kind in KINDS:
+            other = of_kinds[kind].get((form, call), (0, answers))[1]
+            if other != answers:
+                sys.exit(f"trees.py: {form} {nodes} {call}: the sum of {kind} is {other}, that of pointers {answers}")
+
+
+def shown(nanos):
+    """Nanoseconds, or a dash where there are none."""
+    return "-" if nanos is None else f"{nanos:,.1f}"
+
+
+def ratio(of, to):
+    """How many times one is of another, or a dash."""
+    return "-" if of is None or to is None else f"{of / max(to, 0.1):,.2f}"
+
+
+def report(sizes, results):
+    """For each form and call a line for each size, and one of how the times grew."""
+    head = "".join(f"{kind:>20}" for kind in KINDS)
+    print(f"{'nanoseconds a call':<26}{'nodes':>10}{head}{'to vector':>11}{'to pointers':>13}")
+    for form, call in results[sizes[0]]["pointers"]:
+        nanos = {(size, kind): results[size][kind].get((form, call), (None,))[0] for size in sizes for kind in KINDS}
+        for size in sizes:
+            ours, vector, pointers = (nanos[size, kind] for kind in KINDS)
+            times = "".join(f"{shown(it):>20}" for it in (ours, vector, pointers))
+            print(f"{form + ' ' + call:<26}{size:>10,}{times}{ratio(ours, vector):>11}{ratio(ours, pointers):>13}")
+        if len(sizes) > 1:
+            grown = "".join(f"{growth(sizes, nanos, kind):>20}" for kind in KINDS)
+            print(f"{'':<26}{'grew':>10}{grown}")
+
+
+def growth(sizes, nanos, kind):
+    """How many times the time of a call grew from the smallest size to the largest that was measured."""
+    measured_sizes = [size for size in sizes if nanos[size, kind] is not None]
+    if len(measured_sizes) < 2:
+        return "-"
+    first, last = measured_sizes[0], measured_sizes[-1]
+    mark = "" if last == sizes[-1] else f" ({last:,})"
+    return f"{nanos[last, kind] / max(nanos[first, kind], 0.1):,.1f}{mark}"
+
+
 def main():
     if not os.access(TESTS, os.X_OK):
         sys.exit(f"trees.py: there is no {TESTS}: `rt test` in crates/maptree proves it and builds it")
-    sizes = sys.argv[1:] or NODES
+    sizes = sorted({int(word) for word in sys.argv[1:]} or NODES)
+    results = {}
     with tempfile.TemporaryDirectory() as room:
-        plain = os.path.join(room, "trees")
-        subprocess.run(["rustc", "-O", "-o", plain, os.path.join(HERE, "trees.rs")], check=True)
-        print(f"{'nanoseconds a call':<26}{'nodes':>8}{'maptree':>12}{'vector':>12}{'ratio':>8}")
+        vector, pointers = built("trees.rs", room), built("pointers.rs", room)
         for nodes in sizes:
-            ours, theirs = measured([TESTS, TEST, nodes]), measured([plain, nodes])
-            for (form, call), (nanos, answers) in ours.items():
-                other, other_answers = theirs[form, call]
-                if answers != other_answers:
-                    sys.exit(f"trees.py: {form} {nodes} {call} answers {answers}, the plain vector {other_answers}")
-                print(f"{form + ' ' + call:<26}{nodes:>8}{nanos:>12.1f}{other:>12.1f}{nanos / max(other, 0.1):>8.2f}", flush=True)
+            print(f"trees.py: trees of {nodes:,} nodes", file=sys.stderr, flush=True)
+            results[nodes] = {
+                "maptree": measured([TESTS, TEST, str(nodes)]),
+                "vector": measured([vector, str(nodes)]) if nodes <= MOST_OF_VECTOR else {},
+                "pointers": measured([pointers, str(nodes)]),
+            }
+            check_answers(nodes, results[nodes])
+    report(sizes, results)
 
 
 if __name__ == "__main__":

@@ -6,6 +6,7 @@ mod cases;
 mod cuts;
 mod large;
 mod lists;
+mod many;
 
 use crate::{PlaceMap, Tree};
 use lists::tree_of;

@@ -26,7 +26,7 @@ fn is_one_of(places: &[Place], place: Place) -> bool
 
 /// Whether no node of a tree of so many nodes derives from one of some places and is none of them itself: then what is
 /// left out with them leaves no node without its origin.
-fn are_closed(tree: &Tree, len: usize, gone: &[Place]) -> bool
+pub fn are_closed(tree: &Tree, len: usize, gone: &[Place]) -> bool
     requires { len ≡ length tree.now.links }
     ensures { result ≡ true → (p o : Place) → origin_in tree.now.links p ≡ Some o
         → not (list_any (λ q. same_place q p) gone.now) ≡ true
@@ -44,7 +44,7 @@ fn are_closed(tree: &Tree, len: usize, gone: &[Place]) -> bool
 }
 
 /// Whether none of some places is in the tree.
-fn are_absent(tree: &Tree, gone: &[Place]) -> bool
+pub fn are_absent(tree: &Tree, gone: &[Place]) -> bool
     ensures { result ≡ true
         → list_all (λ o. not (list_any (λ q. same_place q o.0) gone.now)) tree.now.links ≡ true }
 {
@@ -71,7 +71,11 @@ fn without(alloc: Global, nodes: &[Node], gone: &[Place]) -> Result<Vec<Node>, A
 }
 
 /// Parts without the nodes at some places.
-fn parts_without(alloc: Global, parts: &[Slice], gone: &[Place]) -> Result<Vec<Slice>, AllocError>
+pub fn parts_without(
+    alloc: Global,
+    parts: &[Slice],
+    gone: &[Place],
+) -> Result<Vec<Slice>, AllocError>
     ensures { IfOk result (λ kept.
         nodes_of kept.items ≡ kept_of (λ p. not (list_any (λ q. same_place q p) gone.now)) (nodes_of parts.now)) }
 {
@@ -144,7 +148,16 @@ fn works(
     Ok(())
 }
 
-/// Cuts runs out and puts all of them back; how many parts they were.
+/// How many nodes some parts have.
+pub fn nodes_in(parts: &[Slice]) -> usize {
+    let mut count = 0_usize;
+    for part in parts {
+        count = count.wrapping_add(part.nodes.len());
+    }
+    count
+}
+
+/// Cuts runs out and puts all of them back; how many nodes they were.
 pub fn put_back(
     alloc: Global,
     tree: &mut Tree,
@@ -157,7 +170,7 @@ pub fn put_back(
     ensures { OnOk result (tree.new.links ≡ tree.old.links) }
 {
     let parts = tree.cut(alloc, runs, most)?;
-    let count = parts.len();
+    let count = nodes_in(&parts);
     tree.splice(parts)?;
     Ok(count)
 }
@@ -184,7 +197,7 @@ fn cuts_runs_and_puts_back_what_is_kept(rt: HostRuntime) -> Result<(), Fail> {
 fn stays_as_the_last_cut_left_it_where_nothing_is_put_back(rt: HostRuntime) -> Result<(), Fail> {
     let alloc = rt.alloc();
     let mut tree = sample(&rt, alloc)?;
-    for (named, parts, left, parts_then) in [
+    for (named, parts, left, nodes_then) in [
         (place(2, 0), 2, "0:5/0 1:0/1 2:4/1", 2),
         (place(2, 4), 1, "0:5/0 1:0/1", 1),
         (place(2, 4), 0, "0:5/0 1:0/1", 1),
@@ -195,7 +208,7 @@ fn stays_as_the_last_cut_left_it_where_nothing_is_put_back(rt: HostRuntime) -> R
         assert_eq!(rt; tree.cut(alloc, &runs, 1)?.len(), parts, "{left}");
         assert_tree(&rt, &tree, left, SAMPLE.tree);
         let rest = tree.outer_runs(alloc, &[place(1, 0), place(2, 4)])?;
-        assert_eq!(rt; put_back(alloc, &mut tree, &rest, 2)?, parts_then, "{left}");
+        assert_eq!(rt; put_back(alloc, &mut tree, &rest, 2)?, nodes_then, "{left}");
         assert_tree(&rt, &tree, left, SAMPLE.tree);
     }
     Ok(())

@@ -1,16 +1,14 @@
 //! Each call on large trees. Where a number of nodes is asked for behind the test's name, it tells for each call how often
 //! it was made, how many nanoseconds that took, and the sum of the answers: bench/trees.py reads these lines.
 
-ghost use Rattle.std.specs.Prelude.{◌≡◌, ◌<◌, ◌≤◌, IfOk, OnOk, length};
-ghost use Rattle.std.specs.List.{All};
-ghost use Rattle.maptree.specs.Origins.{AreRising, IsRun};
+ghost use Rattle.std.specs.Prelude.{◌≡◌, ◌+◌, ◌*◌, ◌<◌, nat_lt, true, None, OnOk, length, position};
+ghost use Rattle.std.specs.List.{list_all};
+ghost use Rattle.space.specs.Place.{same_place};
 
-use super::cuts::put_back;
-use super::lists::grown;
-use crate::Tree;
+use super::cuts::{nodes_in, put_back};
+use crate::{Slice, Tree};
 use space::{NoMemory, Place};
 use std::alloc::{AllocError, Global};
-use std::ops::Range;
 use std::process::Abort;
 use std::rt::Runtime;
 use std::test::Fail;
@@ -20,8 +18,8 @@ use std::{env, io};
 /// How often each call is made on a tree.
 const CALLS: u32 = 1_000;
 
-/// How often runs are cut out of a tree and put back.
-const CUTS: u32 = 100;
+/// How often a call that is about many nodes at once.
+const PASSES: u32 = 20;
 
 /// How many nodes a part has at most.
 const MOST: usize = 256;
@@ -54,19 +52,107 @@ impl Form {
 }
 
 /// The nth place.
-fn nth_place(n: u32) -> Place {
+pub fn nth_place(n: u32) -> Place
+    ensures { result.page * 512 + result.space ≡ n }
+{
     Place {
         space: (n % 512) as u16,
         page: n / 512,
     }
 }
 
-/// The position that the nth call is about.
-fn nth_position(n: u32, len: usize) -> usize
-    requires { 0 < len }
-    ensures { result < len }
-{
-    (n as usize).wrapping_mul(7919) % len
+/// The number of a place.
+fn number_of(place: Place) -> usize {
+    place.page as usize * 512 + place.space as usize
+}
+
+/// A tree of numbered places. All numbers are below that of the next place, so that it is new without a search for it.
+#[derive(Drop)]
+struct Numbered {
+    tree: Tree,
+    /// How many nodes the tree has.
+    len: usize,
+    /// The number of the next place.
+    next: u32,
+    ghost some: { 0 < len },
+    ghost counted: { len ≡ length tree.links },
+    ghost below: { list_all (λ o. nat_lt (o.0.page * 512 + o.0.space) next) tree.links ≡ true },
+}
+
+impl Numbered {
+    /// A tree of the place 0.
+    fn root(alloc: Global) -> Result<Numbered, NoMemory> {
+        let tree = Tree::root(alloc, nth_place(0))?;
+        Ok(Numbered {
+            tree,
+            len: 1,
+            next: 1,
+        })
+    }
+
+    /// The next place.
+    fn fresh(&self) -> Place
+        ensures number { result.page * 512 + result.space ≡ self.now.next }
+        ensures new { position (λ o. same_place result o.0) self.now.tree.links ≡ None }
+    {
+        nth_place(self.next)
+    }
+
+    /// Puts the next place below a node.
+    fn grow(&mut self, rt: &impl Abort, at: usize) -> Result<(), NoMemory>
+        requires { at < self.old.len }
+    {
+        let (Some(len), Some(next)) = (self.len.checked_add(1), self.next.checked_add(1)) else {
+            panic!(rt; "the tree is full");
+        };
+        let place = self.fresh();
+        self.tree.reserve(1)?;
+        self.tree.insert_below(at, place);
+        self.len = len;
+        self.next = next;
+        Ok(())
+    }
+
+    /// Gives a node the next place.
+    fn rename(&mut self, rt: &impl Abort, at: usize)
+        requires { at < self.old.len }
+    {
+        let Some(next) = self.next.checked_add(1) else {
+            panic!(rt; "there are no more places");
+        };
+        let place = self.fresh();
+        self.tree.rename(at, place);
+        self.next = next;
+    }
+
+    /// The position that the nth call is about.
+    fn position(&self, n: u32) -> usize
+        ensures { result < self.now.len }
+    {
+        (n as usize).wrapping_mul(7919) % self.len
+    }
+}
+
+/// A tree of so many nodes.
+fn large_tree(
+    rt: &impl Abort,
+    alloc: Global,
+    form: Form,
+    nodes: u32,
+) -> Result<Numbered, NoMemory> {
+    let mut made = Numbered::root(alloc)?;
+    for n in 1..nodes {
+        match made.tree.find(nth_place(form.origin(n))) {
+            Some(at) => made.grow(rt, at)?,
+            None => panic!(rt; "the place {} is not in the tree", form.origin(n)),
+        }
+    }
+    Ok(made)
+}
+
+/// The number of the place that the nth call on so many places is about.
+fn nth_number(n: u32, places: u32) -> u32 {
+    n.wrapping_mul(7919) % places.max(1)
 }
 
 /// Every tenth place.
@@ -80,26 +166,8 @@ fn every_tenth(alloc: Global, nodes: u32) -> Result<Vec<Place>, NoMemory> {
     Ok(places)
 }
 
-/// A tree of so many nodes, and how many it has.
-fn large_tree(
-    rt: &impl Abort,
-    alloc: Global,
-    form: Form,
-    nodes: u32,
-) -> Result<(Tree, usize), NoMemory>
-    ensures { IfOk result (λ made. made.1 ≡ length made.0.links) }
-{
-    let mut tree = Tree::root(alloc, nth_place(0))?;
-    tree.reserve(nodes as usize)?;
-    let mut len = 1;
-    for n in 1..nodes {
-        len = grown(rt, &mut tree, len, nth_place(form.origin(n)), nth_place(n))?;
-    }
-    Ok((tree, len))
-}
-
 /// The calls that are made on a tree, in this order.
-const MADE: [&str; 9] = [
+const MADE: [&str; 12] = [
     "make",
     "find",
     "run_of",
@@ -109,6 +177,9 @@ const MADE: [&str; 9] = [
     "cut+splice",
     "find+rename",
     "find+insert_below",
+    "cut+splice_one",
+    "cut_one",
+    "links",
 ];
 
 /// What some calls of one kind took and answered.
@@ -127,111 +198,68 @@ impl Told {
     }
 }
 
-fn times_find(rt: &impl Runtime, tree: &Tree, nodes: u32) -> io::Result<Told> {
+/// The numbers of the places that are found.
+fn times_find(rt: &impl Runtime, made: &Numbered, nodes: u32) -> io::Result<Told> {
     let mut sum = 0_usize;
     let start = Instant::now(rt)?;
     for n in 0..CALLS {
-        let place = nth_place(n.wrapping_mul(7919) % nodes.max(1));
-        sum = sum.wrapping_add(tree.find(place).unwrap_or(0));
+        if let Some(at) = made.tree.find(nth_place(nth_number(n, nodes))) {
+            sum = sum.wrapping_add(number_of(made.tree.node(at).place));
+        }
     }
     Told::since(rt, start, CALLS, sum)
 }
 
-fn times_run_of(rt: &impl Runtime, tree: &Tree, len: usize) -> io::Result<Told>
-    requires some { 0 < len }
-    requires within { len ≤ length tree.now.links }
-{
+/// How many nodes the runs have.
+fn times_run_of(rt: &impl Runtime, made: &Numbered) -> io::Result<Told> {
     let mut sum = 0_usize;
     let start = Instant::now(rt)?;
     for n in 0..CALLS {
-        sum = sum.wrapping_add(tree.run_of(nth_position(n, len)).end);
+        let run = made.tree.run_of(made.position(n));
+        sum = sum.wrapping_add(run.end.saturating_sub(run.start));
     }
     Told::since(rt, start, CALLS, sum)
 }
 
-fn times_origin_of(rt: &impl Runtime, tree: &Tree, len: usize) -> io::Result<Told>
-    requires some { 0 < len }
-    requires within { len ≤ length tree.now.links }
-{
+/// The numbers of the origins' places.
+fn times_origin_of(rt: &impl Runtime, made: &Numbered) -> io::Result<Told> {
     let mut sum = 0_usize;
     let start = Instant::now(rt)?;
     for n in 0..CALLS {
-        sum = sum.wrapping_add(tree.origin_of(nth_position(n, len)).unwrap_or(0));
+        if let Some(origin) = made.tree.origin_of(made.position(n)) {
+            sum = sum.wrapping_add(number_of(made.tree.node(origin).place));
+        }
     }
     Told::since(rt, start, CALLS, sum)
 }
 
-fn times_is_origin(rt: &impl Runtime, tree: &Tree, len: usize) -> io::Result<Told>
-    requires some { 0 < len }
-    requires within { len ≤ length tree.now.links }
-{
+/// How many of the pairs are a node and an origin of it.
+fn times_is_origin(rt: &impl Runtime, made: &Numbered) -> io::Result<Told> {
     let mut sum = 0_usize;
     let start = Instant::now(rt)?;
     for n in 0..CALLS {
-        let (a, b) = (nth_position(n, len), nth_position(n.wrapping_mul(31), len));
-        sum = sum.wrapping_add(usize::from(tree.is_origin(a, b)));
+        let (a, b) = (made.position(n), made.position(n.wrapping_mul(31)));
+        sum = sum.wrapping_add(usize::from(made.tree.is_origin(a, b)));
     }
     Told::since(rt, start, CALLS, sum)
 }
 
+/// How many runs there are.
 fn times_outer_runs(
     rt: &impl Runtime,
     alloc: Global,
-    tree: &Tree,
+    made: &Numbered,
     named: &[Place],
 ) -> Result<Told, Fail> {
     let mut sum = 0_usize;
     let start = Instant::now(rt)?;
-    for _ in 0..CUTS {
-        sum = sum.wrapping_add(tree.outer_runs(alloc, named)?.len());
+    for _ in 0..PASSES {
+        sum = sum.wrapping_add(made.tree.outer_runs(alloc, named)?.len());
     }
-    Ok(Told::since(rt, start, CUTS, sum)?)
+    Ok(Told::since(rt, start, PASSES, sum)?)
 }
 
-/// Each place is seen to be new before a node gets it.
-fn times_rename(rt: &(impl Runtime + Abort), tree: &mut Tree, len: usize) -> io::Result<Told>
-    requires some { 0 < len }
-    requires within { len ≤ length tree.old.links }
-    ensures { len ≤ length tree.new.links }
-{
-    let mut sum = 0_usize;
-    let start = Instant::now(rt)?;
-    for n in 0..CALLS {
-        let at = nth_position(n, len);
-        let place = nth_place(n.wrapping_add(1_000_000));
-        match tree.find(place) {
-            None => tree.rename(at, place),
-            Some(_) => panic!(rt; "{place} is in the tree"),
-        }
-        sum = sum.wrapping_add(at);
-    }
-    Told::since(rt, start, CALLS, sum)
-}
-
-/// Each place is seen to be new before a node gets it.
-fn times_insert_below(
-    rt: &(impl Runtime + Abort),
-    tree: &mut Tree,
-    len: usize,
-) -> Result<Told, Fail>
-    requires some { 0 < len }
-    requires within { len ≤ length tree.old.links }
-{
-    tree.reserve(CALLS as usize)?;
-    let mut sum = 0_usize;
-    let start = Instant::now(rt)?;
-    for n in 0..CALLS {
-        let at = nth_position(n, len);
-        let place = nth_place(n.wrapping_add(2_000_000));
-        match tree.find(place) {
-            None => tree.insert_below(at, place),
-            Some(_) => panic!(rt; "{place} is in the tree"),
-        }
-        sum = sum.wrapping_add(at);
-    }
-    Ok(Told::since(rt, start, CALLS, sum)?)
-}
-
+/// How many nodes are cut out and put back.
 fn times_cut_and_splice(
     rt: &impl Runtime,
     alloc: Global,
@@ -243,10 +271,86 @@ fn times_cut_and_splice(
     let runs = tree.outer_runs(alloc, named)?;
     let mut sum = 0_usize;
     let start = Instant::now(rt)?;
-    for _ in 0..CUTS {
+    for _ in 0..PASSES {
         sum = sum.wrapping_add(put_back(alloc, tree, &runs, MOST)?);
     }
-    Ok(Told::since(rt, start, CUTS, sum)?)
+    Ok(Told::since(rt, start, PASSES, sum)?)
+}
+
+/// How many nodes get another place.
+fn times_rename(rt: &(impl Runtime + Abort), made: &mut Numbered, nodes: u32) -> io::Result<Told> {
+    let mut sum = 0_usize;
+    let start = Instant::now(rt)?;
+    for n in 0..CALLS {
+        if let Some(at) = made.tree.find(nth_place(nth_number(n, nodes))) {
+            made.rename(rt, at);
+            sum = sum.wrapping_add(1);
+        }
+    }
+    Told::since(rt, start, CALLS, sum)
+}
+
+/// How many nodes come, each below one of the places from this one on.
+fn times_insert_below(
+    rt: &(impl Runtime + Abort),
+    made: &mut Numbered,
+    first: u32,
+) -> Result<Told, Fail> {
+    let mut sum = 0_usize;
+    let start = Instant::now(rt)?;
+    for n in 0..CALLS {
+        if let Some(at) = made.tree.find(nth_place(first.wrapping_add(n))) {
+            made.grow(rt, at)?;
+            sum = sum.wrapping_add(1);
+        }
+    }
+    Ok(Told::since(rt, start, CALLS, sum)?)
+}
+
+/// How many nodes are cut out and put back, of each of the places from this one on.
+fn times_cut_and_splice_one(
+    rt: &impl Runtime,
+    alloc: Global,
+    tree: &mut Tree,
+    first: u32,
+) -> Result<Told, Fail> {
+    let mut sum = 0_usize;
+    let start = Instant::now(rt)?;
+    for n in 0..CALLS {
+        let runs = tree.outer_runs(alloc, &[nth_place(first.wrapping_add(n))])?;
+        sum = sum.wrapping_add(put_back(alloc, tree, &runs, MOST)?);
+    }
+    Ok(Told::since(rt, start, CALLS, sum)?)
+}
+
+/// How many nodes are cut out, of each of the places from this one on.
+fn times_cut_one(
+    rt: &impl Runtime,
+    alloc: Global,
+    tree: &mut Tree,
+    first: u32,
+) -> Result<Told, Fail> {
+    let mut sum = 0_usize;
+    let start = Instant::now(rt)?;
+    for n in 0..CALLS {
+        let runs = tree.outer_runs(alloc, &[nth_place(first.wrapping_add(n))])?;
+        let parts: Vec<Slice> = tree.cut(alloc, &runs, MOST)?;
+        sum = sum.wrapping_add(nodes_in(&parts));
+    }
+    Ok(Told::since(rt, start, CALLS, sum)?)
+}
+
+/// A sum of all places and origins that depends on their order.
+fn times_links(rt: &impl Runtime, alloc: Global, tree: &Tree) -> Result<Told, Fail> {
+    let mut sum = 0_usize;
+    let start = Instant::now(rt)?;
+    for (place, origin) in &tree.links(alloc)? {
+        sum = sum.wrapping_mul(31).wrapping_add(number_of(*place));
+        if let Some(origin) = origin {
+            sum = sum.wrapping_mul(31).wrapping_add(number_of(*origin));
+        }
+    }
+    Ok(Told::since(rt, start, 1, sum)?)
 }
 
 /// Makes each call on a tree of this form.
@@ -255,22 +359,35 @@ fn works(
     alloc: Global,
     form: Form,
     nodes: u32,
-) -> Result<[Told; 9], Fail> {
+) -> Result<[Told; 12], Fail> {
     let start = Instant::now(rt)?;
-    let (mut tree, len) = large_tree(rt, alloc, form, nodes)?;
-    assert!(rt; 0 < len);
-    let make = Told::since(rt, start, nodes, tree.run_of(0).end)?;
+    let mut made = large_tree(rt, alloc, form, nodes)?;
+    let make = Told::since(rt, start, nodes, made.tree.run_of(0).end)?;
     let named = every_tenth(alloc, nodes)?;
+    let find = times_find(rt, &made, nodes)?;
+    let run_of = times_run_of(rt, &made)?;
+    let origin_of = times_origin_of(rt, &made)?;
+    let is_origin = times_is_origin(rt, &made)?;
+    let outer_runs = times_outer_runs(rt, alloc, &made, &named)?;
+    let cut_and_splice = times_cut_and_splice(rt, alloc, &mut made.tree, &named)?;
+    let renamed = made.next;
+    let rename = times_rename(rt, &mut made, nodes)?;
+    let inserted = made.next;
+    let insert_below = times_insert_below(rt, &mut made, renamed)?;
+    let Numbered { mut tree, .. } = made;
     Ok([
         make,
-        times_find(rt, &tree, nodes)?,
-        times_run_of(rt, &tree, len)?,
-        times_origin_of(rt, &tree, len)?,
-        times_is_origin(rt, &tree, len)?,
-        times_outer_runs(rt, alloc, &tree, &named)?,
-        times_cut_and_splice(rt, alloc, &mut tree, &named)?,
-        times_rename(rt, &mut tree, len)?,
-        times_insert_below(rt, &mut tree, len)?,
+        find,
+        run_of,
+        origin_of,
+        is_origin,
+        outer_runs,
+        cut_and_splice,
+        rename,
+        insert_below,
+        times_cut_and_splice_one(rt, alloc, &mut tree, inserted)?,
+        times_cut_one(rt, alloc, &mut tree, inserted)?,
+        times_links(rt, alloc, &tree)?,
     ])
 }
 
@@ -285,15 +402,14 @@ fn tells(rt: &(impl Runtime + Abort), alloc: Global, nodes: u32) -> Result<(), F
     Ok(())
 }
 
-/// Sums on trees of a thousand nodes: 1,000 calls are about each position once, 0 + 1 + .. + 999, and those on runs 100
-/// times about the same 99 places.
+/// Sums on trees of a thousand nodes: 1,000 calls are about each position or place once, and those on runs 20 times about
+/// the same 99 places.
 fn has_sums(rt: &(impl Runtime + Abort), alloc: Global) -> Result<(), Fail> {
-    let each_position = 499_500;
     for (form, sums) in [
-        // Each run ends behind the last node, and the 99 places have one outermost run, of 990 nodes in four parts.
-        (Form::Chain, [1_000_000, 498_501, 100, 400]),
-        // Each run but the root's ends behind its node, and each of the 99 places has a run of its own.
-        (Form::Fan, [501_499, 0, 9_900, 9_900]),
+        // Each run ends behind the last node, and the 99 places have one outermost run, of 990 nodes.
+        (Form::Chain, [500_500, 498_501, 20, 19_800]),
+        // Each run but the root's is one node, and each of the 99 places has a run of its own.
+        (Form::Fan, [1_999, 0, 1_980, 1_980]),
     ] {
         let [
             make,
@@ -305,12 +421,16 @@ fn has_sums(rt: &(impl Runtime + Abort), alloc: Global) -> Result<(), Fail> {
             cut,
             rename,
             insert,
+            cut_and_put_back,
+            cut_out,
+            _,
         ] = works(rt, alloc, form, 1_000)?;
         let got = [run_of.sum, origin_of.sum, outer_runs.sum, cut.sum];
-        assert_eq!(rt; make.sum, 1_000);
         assert_eq!(rt; got, sums, "{}", form.name());
-        for told in [find, rename, insert] {
-            assert_eq!(rt; told.sum, each_position, "{}", form.name());
+        // 0 + 1 + .. + 999
+        assert_eq!(rt; find.sum, 499_500, "{}", form.name());
+        for told in [make, rename, insert, cut_and_put_back, cut_out] {
+            assert_eq!(rt; told.sum, 1_000, "{}", form.name());
         }
     }
     Ok(())

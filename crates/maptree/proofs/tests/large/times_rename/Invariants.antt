@@ -1,6 +1,0 @@
--- No node goes.
-use Rattle.std.proofs.Common.{◌≤◌, length}
-use Rattle.maptree.proofs.tests.large.times_rename.Given as goal
-
-abbrev pub invariant-loop-n : goal.invariant-loop-n
-invariant-loop-n g l = l.len ≤ length l.tree.links
