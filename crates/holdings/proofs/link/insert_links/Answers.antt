@@ -1,6 +1,6 @@
 -- One group more.
 use Rattle.std.proofs.Common.{◌<◌, length, arith}
-use Rattle.holdings.proofs.LinkedFrames.{no_group, frame_there, next_once, next_spaces, next_sources, next_targets, next_linked, all_groups}
+use Rattle.holdings.proofs.Links.LinkedFrames.{no_group, frame_there, next_once, next_spaces, next_sources, next_targets, next_linked, all_groups}
 use Rattle.holdings.proofs.link.insert_links.Goals as goal
 
 pub loop-from-init : goal.loop-from-init

@@ -9,8 +9,8 @@ use Rattle.holdings.specs.declared.spots.Spot.{Spot}
 use Rattle.maptree.specs.Origins.{Origins, AreRunEnds, are_once}
 use Rattle.holdings.specs.Spots.{IsHeldSomewhere, AreSpots, AreSpotsOf}
 use Rattle.holdings.specs.Held.{links_in}
-use Rattle.holdings.proofs.Holders.{links_read}
-use Rattle.holdings.proofs.Noting.{has_tree, noted_on}
+use Rattle.holdings.proofs.Contents.Holders.{links_read}
+use Rattle.holdings.proofs.Trees.Noting.{has_tree, noted_on}
 use Rattle.holdings.proofs.spots.spots_of.Goals as goal
 
 pub bounds-trees-frame : goal.bounds-trees-frame

@@ -5,7 +5,7 @@ use Rattle.model.specs.Holdings.{at}
 use Rattle.holdings.specs.Held.{IsWithin}
 use Rattle.holdings.specs.Contents.{Contents, entry_of}
 use Rattle.holdings.specs.Stripping.{limits_in}
-use Rattle.holdings.proofs.Holders.{entry_within}
+use Rattle.holdings.proofs.Contents.Holders.{entry_within}
 use Rattle.holdings.proofs.holdings.Holdings.entry.Goals as goal
 
 pub returns : goal.returns

@@ -9,8 +9,8 @@ use Rattle.maptree.specs.Origins.{Origins, Shape, are_once}
 use Rattle.holdings.specs.Contents.{Contents}
 use Rattle.holdings.specs.Mappings.{entered}
 use Rattle.holdings.specs.Stripping.{limits_in}
-use Rattle.holdings.proofs.Holders.{place_within}
-use Rattle.holdings.proofs.Entered.{from_sort, each_within, entered_holdings}
+use Rattle.holdings.proofs.Contents.Holders.{place_within}
+use Rattle.holdings.proofs.Contents.Entered.{from_sort, each_within, entered_holdings}
 use Rattle.holdings.proofs.holdings.Holdings.mappings.Goals as goal
 
 pub entered-requires-clause-places : goal.entered-requires-clause-places

@@ -6,7 +6,7 @@ use Rattle.holdings.specs.Held.{holdings_of}
 use Rattle.holdings.specs.Meaning.{limits_of}
 use Rattle.holdings.specs.Sound.{IsSound}
 use Rattle.holdings.specs.Stripping.{limits_in}
-use Rattle.holdings.proofs.Roots.{start_holdings, start_sound}
+use Rattle.holdings.proofs.Contents.Roots.{start_holdings, start_sound}
 use Rattle.holdings.proofs.holdings.Holdings.new.Goals as goal
 
 -- words and trees are made for the limits

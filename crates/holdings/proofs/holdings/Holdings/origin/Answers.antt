@@ -7,7 +7,7 @@ use Rattle.model.specs.Holdings.{origin_at}
 use Rattle.holdings.specs.Held.{IsWithin}
 use Rattle.holdings.specs.Contents.{Contents}
 use Rattle.holdings.specs.Stripping.{limits_in}
-use Rattle.holdings.proofs.Holders.{absent_within, origin_within, links_read}
+use Rattle.holdings.proofs.Contents.Holders.{absent_within, origin_within, links_read}
 use Rattle.holdings.proofs.holdings.Holdings.origin.Goals as goal
 
 pub returns-in_default : goal.returns-in_default

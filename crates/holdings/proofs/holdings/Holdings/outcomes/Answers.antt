@@ -6,8 +6,8 @@ use Rattle.holdings.specs.Contents.{Contents, IsConsistent}
 use Rattle.holdings.specs.Spots.{AreSpots}
 use Rattle.holdings.specs.Stripping.{holdings_in}
 use Rattle.holdings.specs.Sending.{job_of_pages, page_on}
-use Rattle.holdings.proofs.Consistent.{consistent}
-use Rattle.holdings.proofs.PageOutcomes.{AreOutcomesUpTo, same_fate, none_yet, one_more, all_outcomes}
+use Rattle.holdings.proofs.Contents.Consistent.{consistent}
+use Rattle.holdings.proofs.Outcomes.PageOutcomes.{AreOutcomesUpTo, same_fate, none_yet, one_more, all_outcomes}
 use Rattle.holdings.proofs.holdings.Holdings.outcomes.Goals as goal
 
 pub loop-i-init : goal.loop-i-init

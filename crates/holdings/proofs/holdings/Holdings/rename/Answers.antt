@@ -7,9 +7,9 @@ use Rattle.holdings.specs.Meaning.{counts_of}
 use Rattle.holdings.specs.Stripping.{AreSound, limits_in, holdings_in}
 use Rattle.holdings.specs.Sending.{ArePlanned, AreFree}
 use Rattle.holdings.specs.Links.{last_target, AreMovable, AreRenamed}
-use Rattle.holdings.proofs.LinkedTrees.{no_transfer}
-use Rattle.holdings.proofs.MovingWords.{AreMoving, none_moved, ends_apart, source_place, target_place, step, one_counts, all_moved}
-use Rattle.holdings.proofs.MovingTrees.{movable, all_left, all_sound, same_limits}
+use Rattle.holdings.proofs.Links.LinkedTrees.{no_transfer}
+use Rattle.holdings.proofs.Renamings.MovingWords.{AreMoving, none_moved, ends_apart, source_place, target_place, step, one_counts, all_moved}
+use Rattle.holdings.proofs.Renamings.MovingTrees.{movable, all_left, all_sound, same_limits}
 use Rattle.holdings.proofs.holdings.Holdings.rename.Goals as goal
 
 pub rename_links-requires : goal.rename_links-requires

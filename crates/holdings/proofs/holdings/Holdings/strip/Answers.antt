@@ -8,8 +8,8 @@ use Rattle.holdings.specs.declared.pages.HeldPage.{HeldPage}
 use Rattle.holdings.specs.Held.{IsWithin}
 use Rattle.holdings.specs.Contents.{Contents, contents_of, IsStripped}
 use Rattle.holdings.specs.Stripping.{limits_in, holdings_in, any_of, places_in, AreOfFrame}
-use Rattle.holdings.proofs.HeldPages.{any_within}
-use Rattle.holdings.proofs.Named.{ArePages, AreStrippedUpTo, pages_in_order, same_pages, none_of_pages, frame_within, of_frame, one_group, all_groups, group_shown, places_of_set, strip_of_set, word_of_set}
+use Rattle.holdings.proofs.Stripping.HeldPages.{any_within}
+use Rattle.holdings.proofs.Stripping.Named.{ArePages, AreStrippedUpTo, pages_in_order, same_pages, none_of_pages, frame_within, of_frame, one_group, all_groups, group_shown, places_of_set, strip_of_set, word_of_set}
 use Rattle.holdings.proofs.holdings.Holdings.strip.Goals as goal
 
 pub loop-from-init : goal.loop-from-init

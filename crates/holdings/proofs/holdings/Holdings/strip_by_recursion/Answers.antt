@@ -10,7 +10,7 @@ use Rattle.model.specs.Strip.{strip, strip_word}
 use Rattle.holdings.specs.Contents.{Contents, contents_of, IsStripped}
 use Rattle.holdings.specs.Held.{IsWithin, is_listed}
 use Rattle.holdings.specs.Stripping.{AreSound, limits_in, holdings_in, any_of}
-use Rattle.holdings.proofs.PlaceByPlace.{AreVisitedUpTo, none_visited, one_visited, none_there, all_visited}
+use Rattle.holdings.proofs.Recursions.PlaceByPlace.{AreVisitedUpTo, none_visited, one_visited, none_there, all_visited}
 use Rattle.holdings.proofs.holdings.Holdings.strip_by_recursion.Goals as goal
 
 -- the place that is visited next

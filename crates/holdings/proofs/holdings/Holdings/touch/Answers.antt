@@ -8,8 +8,8 @@ use Rattle.holdings.specs.Held.{IsWithin, holdings_of}
 use Rattle.holdings.specs.Contents.{Contents, contents_of, left_with}
 use Rattle.holdings.specs.Sound.{IsSound}
 use Rattle.holdings.specs.Stripping.{limits_in}
-use Rattle.holdings.proofs.Accesses.{touch_fault, can_touch_absent, can_touch_present, touched, touched_sound, marked_entry}
-use Rattle.holdings.proofs.WordChanges.{IsWordSet}
+use Rattle.holdings.proofs.Contents.Accesses.{touch_fault, can_touch_absent, can_touch_present, touched, touched_sound, marked_entry}
+use Rattle.holdings.proofs.Contents.WordChanges.{IsWordSet}
 use Rattle.holdings.proofs.holdings.Holdings.touch.Goals as goal
 
 pub returns-in_default-clause-answer : goal.returns-in_default-clause-answer

@@ -24,7 +24,7 @@ use Rattle.holdings.specs.Derivation.{stands_in}
 use Rattle.holdings.specs.Held.{IsWithin, is_place, links_in, is_listed, held_of, held_at, has_frame, listed}
 use Rattle.holdings.specs.Mappings.{held_with, entered}
 use Rattle.holdings.specs.Stripping.{limits_in, holdings_in, AreSound}
-use Rattle.holdings.proofs.Listing.{are_rising, sorted_listed, at_listed, listing_is, within_from_place}
+use Rattle.holdings.proofs.Contents.Listing.{are_rising, sorted_listed, at_listed, listing_is, within_from_place}
 
 -- ---- how often a place comes
 

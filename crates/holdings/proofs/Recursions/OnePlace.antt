@@ -15,8 +15,8 @@ use Rattle.model.proofs.LawfulParts.{IsLawful, lawful_parts}
 use Rattle.model.proofs.StripUnions.{strip_same, word_same}
 use Rattle.holdings.specs.Held.{is_listed}
 use Rattle.holdings.specs.Stripping.{holdings_in, any_of, firsts, AreSound, AreLoose, AreOfFrame}
-use Rattle.holdings.proofs.Sequences.{AreStripped, any_more}
-use Rattle.holdings.proofs.Frames.{loose_from}
+use Rattle.holdings.proofs.Stripping.Sequences.{AreStripped, any_more}
+use Rattle.holdings.proofs.Stripping.Frames.{loose_from}
 
 -- a listed place of sound words and trees is of the frame of its tree
 pub one_of_frame : (shards : Shards) (trees : List Shape) → AreSound shards trees → (frame : ℕ) (p : Place) → is_listed trees frame p ≡ true → AreOfFrame shards trees frame (p ∷ [])

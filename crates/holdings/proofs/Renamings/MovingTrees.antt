@@ -32,11 +32,11 @@ use Rattle.holdings.specs.Sound.{IsSound}
 use Rattle.holdings.specs.Stripping.{limits_in, holdings_in, AreSound}
 use Rattle.holdings.specs.Sending.{IsTreeSet, IsTransferWithin, ArePaired, ArePlanned, AllGo, moving_of, pair_of}
 use Rattle.holdings.specs.Links.{link_of, links_of, last_target, AreTargets, is_of_frame, AreMovable, AreRenamed}
-use Rattle.holdings.proofs.Holders.{present_within, absent_within, links_read}
-use Rattle.holdings.proofs.NewMappings.{tree_set}
-use Rattle.holdings.proofs.LinkedTrees.{no_link, some_or, IsAt, last_some, told_none}
-use Rattle.holdings.proofs.MovedPages.{IsFrameMoved, are_replaced, are_kept, AreWordsMoved, stood_replaced, stay_apart, held_listed, moved_holdings, moved_sound}
-use Rattle.holdings.proofs.MovingWords.{in_moving, paired_moving}
+use Rattle.holdings.proofs.Contents.Holders.{present_within, absent_within, links_read}
+use Rattle.holdings.proofs.Links.NewMappings.{tree_set}
+use Rattle.holdings.proofs.Links.LinkedTrees.{no_link, some_or, IsAt, last_some, told_none}
+use Rattle.holdings.proofs.Renamings.MovedPages.{IsFrameMoved, are_replaced, are_kept, AreWordsMoved, stood_replaced, stay_apart, held_listed, moved_holdings, moved_sound}
+use Rattle.holdings.proofs.Renamings.MovingWords.{in_moving, paired_moving}
 
 -- ---- places that are replaced again
 

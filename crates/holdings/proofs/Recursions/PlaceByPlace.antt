@@ -16,8 +16,8 @@ use Rattle.model.proofs.StripUnions.{strip-union, word-union, strip_same, word_s
 use Rattle.model.proofs.Chains.{below_empty, below_unheld}
 use Rattle.holdings.specs.Held.{IsWithin}
 use Rattle.holdings.specs.Stripping.{limits_in, holdings_in, any_of, AreSound}
-use Rattle.holdings.proofs.Holders.{absent_within}
-use Rattle.holdings.proofs.Sequences.{any_more}
+use Rattle.holdings.proofs.Contents.Holders.{absent_within}
+use Rattle.holdings.proofs.Stripping.Sequences.{any_more}
 
 -- what the visits of the first places took and left
 pub record AreVisitedUpTo (old : Shards) (old_trees : List Shape) (places : List Place) (i : ℕ) (a : Rights) (f : Bool) (now : Shards) (now_trees : List Shape) (status : Rights) : Type 0 where

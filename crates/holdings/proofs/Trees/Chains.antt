@@ -22,8 +22,8 @@ use Rattle.model.proofs.Chains.{held_with_origin}
 use Rattle.model.proofs.Derivations.{below_is_a_chain}
 use Rattle.holdings.specs.Held.{IsWithin, is_listed, links_in, held_of, held_at}
 use Rattle.holdings.specs.Stripping.{limits_in, holdings_in, AreLoose}
-use Rattle.holdings.proofs.Listing.{listed_within}
-use Rattle.holdings.proofs.Holders.{present_within, origin_within}
+use Rattle.holdings.proofs.Contents.Listing.{listed_within}
+use Rattle.holdings.proofs.Contents.Holders.{present_within, origin_within}
 
 -- tests that decide facts of which each gives the other are one
 same_decision : {P Q : Type 0} (a b : Bool) → Decides a P → Decides b Q → (P → Q) → (Q → P) → a ≡ b

@@ -28,14 +28,14 @@ use Rattle.model.proofs.StripAt.{stripping}
 use Rattle.model.proofs.Narrowings.{not_narrowed}
 use Rattle.holdings.specs.Held.{IsWithin, is_place, is_listed, links_in, has_frame, holdings_of}
 use Rattle.holdings.specs.Stripping.{limits_in, holdings_in, any_of, firsts, AreSound, AreLoose, AreOfFrame, has_entry, OriginsHaveEntries, pruned}
-use Rattle.holdings.proofs.Listing.{within_from_place, place_from_within}
+use Rattle.holdings.proofs.Contents.Listing.{within_from_place, place_from_within}
 use Rattle.holdings.specs.Sending.{IsTreeSet}
 use Rattle.model.specs.Records.{are_limits}
-use Rattle.holdings.proofs.Holders.{same_origins, present_within, origin_within}
-use Rattle.holdings.proofs.Chains.{chains_agree, stands, listed_at, at_among, below_among, entry_held}
-use Rattle.holdings.proofs.Walks.{place_any, place_kept}
-use Rattle.holdings.proofs.Sequences.{AreStripped, rising_at}
-use Rattle.holdings.proofs.Outer.{outer_word, outer_strip}
+use Rattle.holdings.proofs.Contents.Holders.{same_origins, present_within, origin_within}
+use Rattle.holdings.proofs.Trees.Chains.{chains_agree, stands, listed_at, at_among, below_among, entry_held}
+use Rattle.holdings.proofs.Stripping.Walks.{place_any, place_kept}
+use Rattle.holdings.proofs.Stripping.Sequences.{AreStripped, rising_at}
+use Rattle.holdings.proofs.Stripping.Outer.{outer_word, outer_strip}
 
 -- what a tree lists is held
 pub stood : (frame : ℕ) (o : Option Entry) → has_frame frame o ≡ true → (e : Entry) × (o ≡ Some e) × (e.frame ≡ frame)

@@ -17,8 +17,8 @@ use Rattle.holdings.specs.declared.pages.HeldPage.{HeldPage}
 use Rattle.model.specs.Calls.{Limits}
 use Rattle.holdings.specs.Held.{IsWithin, is_place, has_frame}
 use Rattle.holdings.specs.Stripping.{any_of, has_entry, HasItsFrame, AreHeldPages}
-use Rattle.holdings.proofs.Listing.{place_from_within}
-use Rattle.holdings.proofs.Sequences.{any_more}
+use Rattle.holdings.proofs.Contents.Listing.{place_from_within}
+use Rattle.holdings.proofs.Stripping.Sequences.{any_more}
 
 module _ (shards : Shards) (places : List Place) where
   -- before the first place

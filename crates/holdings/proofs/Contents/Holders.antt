@@ -17,7 +17,7 @@ use Rattle.model.specs.Calls.{Limits}
 use Rattle.holdings.specs.Held.{IsWithin, links_in, held_of, held_at, holdings_of}
 use Rattle.holdings.specs.Contents.{entry_of}
 use Rattle.holdings.specs.Sound.{IsFitting}
-use Rattle.holdings.proofs.Listing.{at_within, listing_same}
+use Rattle.holdings.proofs.Contents.Listing.{at_within, listing_same}
 
 -- ---- limits and places
 

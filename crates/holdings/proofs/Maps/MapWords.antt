@@ -33,13 +33,13 @@ use Rattle.holdings.specs.Stripping.{limits_in, holdings_in, AreSound}
 use Rattle.holdings.specs.Sound.{IsSound}
 use Rattle.holdings.specs.Sending.{IsTransferWithin, ArePaired, ArePlanned, IsReady, IsTreeSet, fate_in, pair_of, worked_of, worked, map_transfers}
 use Rattle.holdings.specs.Links.{link_of, links_of, is_new_of, AreLinked, AreLinkable, IsPageLost, IsPageMapped}
-use Rattle.holdings.proofs.Listing.{listing_same}
-use Rattle.holdings.proofs.Trees.{derived_below}
-use Rattle.holdings.proofs.Holders.{place_within, absent_within, present_within, entry_within}
-use Rattle.holdings.proofs.NewMappings.{tree_set, unlisted}
-use Rattle.holdings.proofs.MapPages.{IsWorked, same_limits, worked_left, worked_sound, lost_counts, lost_left, extended_counts, linked_counts, page_extended, target_unlisted, page_linked}
-use Rattle.holdings.proofs.MapAll.{AreMapped, sources_in, agree_here, ready_now, none_mapped, one_mapped, all_mapped}
-use Rattle.holdings.proofs.LinkedTrees.{no_transfer}
+use Rattle.holdings.proofs.Contents.Listing.{listing_same}
+use Rattle.holdings.proofs.Trees.Positions.{derived_below}
+use Rattle.holdings.proofs.Contents.Holders.{place_within, absent_within, present_within, entry_within}
+use Rattle.holdings.proofs.Links.NewMappings.{tree_set, unlisted}
+use Rattle.holdings.proofs.Maps.MapPages.{IsWorked, same_limits, worked_left, worked_sound, lost_counts, lost_left, extended_counts, linked_counts, page_extended, target_unlisted, page_linked}
+use Rattle.holdings.proofs.Maps.MapAll.{AreMapped, sources_in, agree_here, ready_now, none_mapped, one_mapped, all_mapped}
+use Rattle.holdings.proofs.Links.LinkedTrees.{no_transfer}
 
 -- ---- trees that have the same places with the same origins
 

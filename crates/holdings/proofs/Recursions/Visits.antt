@@ -18,8 +18,8 @@ use Rattle.model.specs.Holdings.{PlaceSet}
 use Rattle.holdings.specs.Held.{links_in}
 use Rattle.space.specs.Entries.{narrowed, status_of}
 use Rattle.holdings.specs.Stripping.{AreLoose}
-use Rattle.holdings.proofs.Chains.{is_among, among_at}
-use Rattle.holdings.proofs.Walks.{AreTaken, none_taken, same_taken, one_taken, among_more, not_among, place_any, listed_place}
+use Rattle.holdings.proofs.Trees.Chains.{is_among, among_at}
+use Rattle.holdings.proofs.Stripping.Walks.{AreTaken, none_taken, same_taken, one_taken, among_more, not_among, place_any, listed_place}
 
 -- ---- pages whose visit has begun
 

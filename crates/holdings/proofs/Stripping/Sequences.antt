@@ -17,7 +17,7 @@ use Rattle.model.proofs.LawfulParts.{IsLawful, lawful_parts}
 use Rattle.model.proofs.Chains.{below_empty}
 use Rattle.model.proofs.StripUnions.{strip-union, word-union, strip_same, word_same, strip_nothing, word_nothing}
 use Rattle.holdings.specs.Stripping.{holdings_in, any_of, firsts, AreLoose}
-use Rattle.holdings.proofs.Walks.{same_layouts}
+use Rattle.holdings.proofs.Stripping.Walks.{same_layouts}
 
 -- ---- ranges
 

@@ -24,17 +24,17 @@ use Rattle.model.proofs.Chains.{below_empty}
 use Rattle.holdings.specs.declared.pages.HeldPage.{HeldPage}
 use Rattle.holdings.specs.Held.{is_place}
 use Rattle.holdings.specs.Stripping.{limits_in, holdings_in, any_of, any_page, places_in, has_entry, HasItsFrame, AreSound, AreOfFrame}
-use Rattle.holdings.proofs.Listing.{within_from_place}
+use Rattle.holdings.proofs.Contents.Listing.{within_from_place}
 use Rattle.maptree.proofs.Cuttings as lists
 use Rattle.maptree.proofs.Cuttings.{take_all}
 use Rattle.model.proofs.EvenChanges.{was_held}
 use Rattle.model.proofs.StripAt.{stripping, left_is}
 use Rattle.model.specs.Strip.{is_narrowed, stripped}
 use Rattle.std.proofs.lemmas.List.Elements.{All-take, All-drop}
-use Rattle.holdings.proofs.Holders.{present_within}
+use Rattle.holdings.proofs.Contents.Holders.{present_within}
 use Rattle.holdings.specs.Held.{held_of}
-use Rattle.holdings.proofs.Chains.{entry_held}
-use Rattle.holdings.proofs.Frames.{stood, loose_from}
+use Rattle.holdings.proofs.Trees.Chains.{entry_held}
+use Rattle.holdings.proofs.Stripping.Frames.{stood, loose_from}
 
 -- ---- groups of one frame
 

@@ -36,11 +36,11 @@ use Rattle.std.proofs.lemmas.Option.{same_Some}
 use Rattle.holdings.specs.Held.{IsWithin, is_place, is_listed, links_in, held_of, held_at, holdings_of}
 use Rattle.space.specs.Entries.{narrowed, status_of, with_status}
 use Rattle.holdings.specs.Stripping.{limits_in, holdings_in, AreLoose}
-use Rattle.holdings.proofs.Listing.{listing_each, within_from_place}
+use Rattle.holdings.proofs.Contents.Listing.{listing_each, within_from_place}
 use Rattle.space.specs.Directory.{pages_of}
 use Rattle.std.proofs.lemmas.List.{length-drop}
-use Rattle.holdings.proofs.Holders.{held_within, absent_within, origin_within}
-use Rattle.holdings.proofs.Chains.{is_among, among_at, listed_at, place_at_drop, below_among, entry_held}
+use Rattle.holdings.proofs.Contents.Holders.{held_within, absent_within, origin_within}
+use Rattle.holdings.proofs.Trees.Chains.{is_among, among_at, listed_at, place_at_drop, below_among, entry_held}
 
 -- ---- unions of status
 

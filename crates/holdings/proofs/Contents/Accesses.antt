@@ -18,9 +18,9 @@ use Rattle.model.proofs.Lookups.{changed}
 use Rattle.model.proofs.Touches.{touch_keeps_lawful}
 use Rattle.holdings.specs.Held.{IsWithin, held_of, held_at, has_frame, holdings_of}
 use Rattle.holdings.specs.Sound.{IsFitting, IsSound}
-use Rattle.holdings.proofs.Listing.{listing_each}
-use Rattle.holdings.proofs.Holders.{place_within, held_there, held_elsewhere, absent_within, present_within}
-use Rattle.holdings.proofs.WordChanges.{IsWordSet, sound_set}
+use Rattle.holdings.proofs.Contents.Listing.{listing_each}
+use Rattle.holdings.proofs.Contents.Holders.{place_within, held_there, held_elsewhere, absent_within, present_within}
+use Rattle.holdings.proofs.Contents.WordChanges.{IsWordSet, sound_set}
 use Rattle.std.proofs.lemmas.Bool.{eq-eqb}
 
 -- ---- which accesses are made

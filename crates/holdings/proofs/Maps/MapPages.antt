@@ -29,10 +29,10 @@ use Rattle.holdings.specs.Held.{IsWithin, is_listed, held_of, held_at, has_frame
 use Rattle.holdings.specs.Sound.{IsSound}
 use Rattle.holdings.specs.Stripping.{limits_in, holdings_in, AreSound}
 use Rattle.holdings.specs.Sending.{fate_in, pair_of, worked_of, IsReady, IsLinked}
-use Rattle.holdings.proofs.Listing.{listing_put}
-use Rattle.holdings.proofs.Holders.{place_within, held_elsewhere, present_within, absent_within}
-use Rattle.holdings.proofs.WordChanges.{IsWordSet, sound_set}
-use Rattle.holdings.proofs.NewMappings.{IsMapped, linked_entry, mapped_holdings, mapped_sound, word_free, unlisted}
+use Rattle.holdings.proofs.Contents.Listing.{listing_put}
+use Rattle.holdings.proofs.Contents.Holders.{place_within, held_elsewhere, present_within, absent_within}
+use Rattle.holdings.proofs.Contents.WordChanges.{IsWordSet, sound_set}
+use Rattle.holdings.proofs.Links.NewMappings.{IsMapped, linked_entry, mapped_holdings, mapped_sound, word_free, unlisted}
 
 -- ---- a mapping of a held place that gains rights of it
 

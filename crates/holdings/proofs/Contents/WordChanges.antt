@@ -14,8 +14,8 @@ use Rattle.model.specs.Calls.{Limits}
 use Rattle.model.specs.Lawful.{is_lawful}
 use Rattle.holdings.specs.Held.{IsWithin, is_listed, has_frame, holdings_of}
 use Rattle.holdings.specs.Sound.{IsFitting, IsSound}
-use Rattle.holdings.proofs.Listing.{within_from_place}
-use Rattle.holdings.proofs.Holders.{place_within, entry_elsewhere}
+use Rattle.holdings.proofs.Contents.Listing.{within_from_place}
+use Rattle.holdings.proofs.Contents.Holders.{place_within, entry_elsewhere}
 
 -- a word that was set
 pub record IsWordSet (old new : Shards) (q : Place) (entry : Option Entry) : Type 0 where

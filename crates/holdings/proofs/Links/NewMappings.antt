@@ -29,9 +29,9 @@ use Rattle.holdings.specs.Derivation.{stands_in, IsDerived}
 use Rattle.holdings.specs.Held.{IsWithin, is_place, links_in, is_listed, held_of, held_at, has_frame, holdings_of}
 use Rattle.holdings.specs.Sound.{IsPruned, IsSound}
 use Rattle.holdings.specs.Sending.{IsTreeSet}
-use Rattle.holdings.proofs.Listing.{listing_put, place_from_within, within_from_place}
-use Rattle.holdings.proofs.Holders.{place_within, entry_elsewhere, present_within, absent_within}
-use Rattle.holdings.proofs.WordChanges.{IsWordSet}
+use Rattle.holdings.proofs.Contents.Listing.{listing_put, place_from_within, within_from_place}
+use Rattle.holdings.proofs.Contents.Holders.{place_within, entry_elsewhere, present_within, absent_within}
+use Rattle.holdings.proofs.Contents.WordChanges.{IsWordSet}
 
 -- ---- one tree is changed
 

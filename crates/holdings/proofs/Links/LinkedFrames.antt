@@ -19,9 +19,9 @@ use Rattle.holdings.specs.Derivation.{stands_in}
 use Rattle.holdings.specs.Held.{links_in, is_listed}
 use Rattle.holdings.specs.Sending.{IsTreeSet}
 use Rattle.holdings.specs.Links.{is_new_in, is_new_of, AreLinkedIn, AreLinked, AreOnce, AreLinkable}
-use Rattle.holdings.proofs.Holders.{links_read}
-use Rattle.holdings.proofs.NewMappings.{tree_set}
-use Rattle.holdings.proofs.LinkedTrees.{no_link, apart_before, some_or}
+use Rattle.holdings.proofs.Contents.Holders.{links_read}
+use Rattle.holdings.proofs.Links.NewMappings.{tree_set}
+use Rattle.holdings.proofs.Links.LinkedTrees.{no_link, apart_before, some_or}
 
 -- ---- in another order
 

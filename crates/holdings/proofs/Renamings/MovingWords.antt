@@ -31,10 +31,10 @@ use Rattle.holdings.specs.Held.{IsWithin, holdings_of}
 use Rattle.holdings.specs.Sound.{IsSound}
 use Rattle.holdings.specs.Sending.{IsTransferWithin, IsApartFrom, ArePaired, ArePlanned, AllGo, pair_of, worked_of, worked, moving_of}
 use Rattle.holdings.specs.Links.{IsPageLost, IsPageMoved}
-use Rattle.holdings.proofs.Holders.{place_within, entry_elsewhere, present_within, absent_within}
-use Rattle.holdings.proofs.WordChanges.{IsWordSet}
+use Rattle.holdings.proofs.Contents.Holders.{place_within, entry_elsewhere, present_within, absent_within}
+use Rattle.holdings.proofs.Contents.WordChanges.{IsWordSet}
 use Rattle.holdings.proofs.CountSums.{add_assoc, add_none, none_add, total_sum}
-use Rattle.holdings.proofs.MovedPages.{entry_moved, CameFrom, AreWordsMoved}
+use Rattle.holdings.proofs.Renamings.MovedPages.{entry_moved, CameFrom, AreWordsMoved}
 
 -- ---- the pairs that move
 

@@ -28,10 +28,10 @@ use Rattle.model.proofs.Moves.{paired_apart}
 use Rattle.holdings.specs.Derivation.{stands_in}
 use Rattle.holdings.specs.Held.{IsWithin, is_place, links_in, is_listed, held_of, held_at, has_frame, holdings_of}
 use Rattle.holdings.specs.Sound.{IsSound}
-use Rattle.holdings.proofs.Listing.{listing_is, listed_within, place_from_within, within_from_place}
-use Rattle.holdings.proofs.Holders.{present_within}
-use Rattle.holdings.proofs.WordChanges.{frame_from}
-use Rattle.holdings.proofs.LinkedTrees.{some_or}
+use Rattle.holdings.proofs.Contents.Listing.{listing_is, listed_within, place_from_within, within_from_place}
+use Rattle.holdings.proofs.Contents.Holders.{present_within}
+use Rattle.holdings.proofs.Contents.WordChanges.{frame_from}
+use Rattle.holdings.proofs.Links.LinkedTrees.{some_or}
 
 -- ---- a tree in which places are replaced
 

@@ -25,8 +25,8 @@ use Rattle.model.proofs.Starts.{lawful_roots, start_is_lawful}
 use Rattle.holdings.specs.Held.{IsWithin, is_place, links_in, is_listed, held_of, held_at, has_frame, holdings_of}
 use Rattle.holdings.specs.Start.{root_place, root_entry}
 use Rattle.holdings.specs.Sound.{IsSound}
-use Rattle.holdings.proofs.Listing.{listing_is, place_from_within}
-use Rattle.holdings.proofs.Holders.{entry_elsewhere}
+use Rattle.holdings.proofs.Contents.Listing.{listing_is, place_from_within}
+use Rattle.holdings.proofs.Contents.Holders.{entry_elsewhere}
 
 -- ---- limits that are served
 

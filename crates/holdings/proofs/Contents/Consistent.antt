@@ -6,7 +6,7 @@ use Rattle.model.specs.Holdings.{at}
 use Rattle.holdings.specs.Held.{held_at, listing}
 use Rattle.holdings.specs.Contents.{contents_of, IsConsistent}
 use Rattle.holdings.specs.Stripping.{limits_in, AreSound}
-use Rattle.holdings.proofs.Listing.{listing_same, at_within}
+use Rattle.holdings.proofs.Contents.Listing.{listing_same, at_within}
 
 pub consistent : (shards : Shards) (trees : List Shape) → AreSound shards trees → IsConsistent (contents_of shards trees)
 consistent shards trees sound =
