@@ -1,23 +1,20 @@
 -- Holdings as their callers see them, and what each phase makes of them.
-use Rattle.std.specs.Prelude.{◌≡◌, true, Bool, List, []}
+use Rattle.std.specs.Prelude.{◌≡◌, true, List, Bool, []}
 use Rattle.fpage.specs.declared.item.ItemKind.TheVariants.{Map}
 use Rattle.fpage.specs.declared.rights.Rights.{Rights}
 use Rattle.space.specs.declared.place.Entry.{Entry}
-use Rattle.space.specs.declared.shards.Shards.{Shards}
-use Rattle.maptree.specs.Origins.{Shape}
 use Rattle.model.specs.Calls.{Limits}
+use Rattle.model.specs.Grant.{renamed}
 use Rattle.model.specs.Holdings.{Held, Holdings, PlaceSet, at}
 use Rattle.model.specs.Lawful.{is_lawful}
 use Rattle.model.specs.Records.{are_limits}
-use Rattle.model.specs.Grant.{renamed}
 use Rattle.model.specs.Replay.{start}
 use Rattle.model.specs.Strip.{strip, strip_word}
+use Rattle.holdings.specs.Places.{listing}
+use Rattle.holdings.specs.Sending.{worked, map_transfers, moving_of}
 use Rattle.holdings.specs.declared.transfer.Transfer.{Transfer}
 use Rattle.holdings.specs.declared.worked.Worked.{Worked}
-use Rattle.holdings.specs.Held.{listing}
 use Rattle.holdings.specs.Meaning.{counts_of}
-use Rattle.holdings.specs.Stripping.{limits_in, holdings_in}
-use Rattle.holdings.specs.Sending.{map_transfers, moving_of, worked}
 
 -- the limits, and what is held
 pub record Contents : Type 0 where
@@ -29,10 +26,6 @@ pub record IsConsistent (c : Contents) : Type 0 where
   pub served : are_limits c.limits ≡ true
   pub listed : c.holdings ≡ listing c.limits (at c.holdings)
   pub lawful : is_lawful c.holdings ≡ true
-
--- what words and trees say
-abbrev pub contents_of : Shards → List Shape → Contents
-contents_of shards trees = record { limits = limits_in shards trees; holdings = holdings_in shards trees }
 
 -- the start
 abbrev pub at_start : Limits → Contents

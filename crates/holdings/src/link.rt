@@ -3,7 +3,7 @@
 ghost use Rattle.std.specs.Prelude.{◌≡◌, ◌<◌, IfOk, OnOk, IsFalse, length};
 ghost use Rattle.std.specs.List.{All};
 ghost use Rattle.space.specs.Shards.{IsPlace, is_taken};
-ghost use Rattle.holdings.specs.Links.{links_of, AreLinkable, AreLinked};
+ghost use Rattle.holdings.specs.Inner.Links.{links_of, AreLinkable, AreLinked};
 
 use crate::transfer::Transfer;
 use crate::tree::{self, FEW};
@@ -82,8 +82,8 @@ fn same_frame(links: &[Link], frame: u32) -> usize
 }
 
 ghost use Rattle.std.specs.Prelude.{ℕ, false};
-ghost use Rattle.holdings.specs.Derivation.{stands_in};
-ghost use Rattle.holdings.specs.Links.{AreOnce, AreLinkedIn};
+ghost use Rattle.holdings.specs.Inner.Derivation.{stands_in};
+ghost use Rattle.holdings.specs.Inner.Links.{AreOnce, AreLinkedIn};
 
 /// Puts new mappings of one frame into its tree: a few one by one, and many in one pass.
 ///
@@ -118,7 +118,7 @@ fn insert_each(tree: &mut Tree, links: &[Link]) -> Result<(), NoMemory>
 }
 
 ghost use Rattle.maptree.specs.PlaceMaps.{place_for};
-ghost use Rattle.holdings.specs.Links.{AreTargets};
+ghost use Rattle.holdings.specs.Inner.Links.{AreTargets};
 
 /// The targets, each for its source.
 pub fn targets_of(alloc: Global, space: u16, links: &[Link]) -> Result<PlaceMap, AllocError>

@@ -48,7 +48,7 @@ ghost use Rattle.holdings.specs.Meaning.{counts_of};
 ghost use Rattle.std.specs.Prelude.{IsFalse};
 ghost use Rattle.space.specs.declared.place.Entry.{Entry};
 ghost use Rattle.space.specs.Shards.{IsPlace, entry_at, is_taken};
-ghost use Rattle.holdings.specs.Links.{IsPageLost, IsPageMapped};
+ghost use Rattle.holdings.specs.Inner.Links.{IsPageLost, IsPageMapped};
 
 /// Works one page of a MapItem, whose new mapping stands in the tree already.
 fn map_page(shards: &mut Shards, transfer: Transfer, rights: Rights) -> Worked

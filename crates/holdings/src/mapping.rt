@@ -58,7 +58,7 @@ fn all_links(alloc: Global, trees: &[Tree]) -> Result<Vec<(Place, Option<Place>)
 
 ghost use Rattle.std.specs.Prelude.{IsFalse};
 ghost use Rattle.space.specs.Shards.{IsPlace, is_taken};
-ghost use Rattle.holdings.specs.Mappings.{entered};
+ghost use Rattle.holdings.specs.Inner.Entered.{entered};
 
 /// What the words hold at these places, with the origin of each.
 fn entered(

@@ -46,7 +46,8 @@ ghost use Rattle.std.specs.Prelude.{false, IsFalse};
 ghost use Rattle.space.specs.declared.place.Entry.{Entry};
 ghost use Rattle.space.specs.Place.{same_place};
 ghost use Rattle.space.specs.Shards.{IsPlace, entry_at, is_taken};
-ghost use Rattle.holdings.specs.Links.{IsPageLost, IsPageMoved};
+ghost use Rattle.holdings.specs.Inner.Links.{IsPageLost};
+ghost use Rattle.holdings.specs.Inner.Renamings.{IsPageMoved};
 
 /// Moves what a page holds, without its status, to the target, which stands in its place in the tree already.
 fn move_page(shards: &mut Shards, source: Place, target: Place) -> Worked

@@ -3,7 +3,8 @@
 ghost use Rattle.std.specs.Prelude.{◌≡◌, ◌≤◌, ◌==◌, true, IfOk, IsFalse, length, take};
 ghost use Rattle.std.specs.List.{All, list_all};
 ghost use Rattle.space.specs.Shards.{IsPlace, is_taken};
-ghost use Rattle.holdings.specs.Stripping.{AreHeldPages, any_of, places_in};
+ghost use Rattle.holdings.specs.Inner.Stripping.{AreHeldPages, places_in};
+ghost use Rattle.holdings.specs.Places.{any_of};
 
 use space::{Place, Shards};
 use std::alloc::{AllocError, Global};

@@ -9,10 +9,11 @@ use Rattle.space.specs.declared.place.Place.{Place}
 use Rattle.space.specs.Place.{same_place}
 use Rattle.space.proofs.Places.{same_self, same_or_apart, apart_back}
 use Rattle.model.specs.Calls.{Limits}
-use Rattle.holdings.specs.Held.{IsWithin, is_place}
+use Rattle.holdings.specs.Places.{IsWithin}
+use Rattle.holdings.specs.Inner.Held.{is_place}
 use Rattle.holdings.proofs.Contents.Listing.{within_from_place}
 use Rattle.holdings.specs.declared.transfer.Transfer.{Transfer}
-use Rattle.holdings.specs.Stripping.{any_of}
+use Rattle.holdings.specs.Places.{any_of}
 use Rattle.mapdb.specs.declared.plan.End.{End}
 use Rattle.mapdb.specs.Sending.{end_of, ends_of}
 

@@ -26,7 +26,7 @@ use Rattle.space.specs.declared.error.NoMemory.{NoMemory}
 use Rattle.holdings.specs.declared.transfer.Transfer.{Transfer}
 use Rattle.holdings.specs.declared.worked.Worked.{Worked}
 use Rattle.holdings.specs.Contents.{Contents, left_with, IsStripped, AreMoved}
-use Rattle.holdings.specs.Stripping.{any_of}
+use Rattle.holdings.specs.Places.{any_of}
 use Rattle.mapdb.specs.declared.plan.End.TheVariants.{Source}
 use Rattle.holdings.specs.Sending.{pair_of, fate_in, AllGo, IsReady, moving_of, worked}
 use Rattle.mapdb.specs.Sending.{ends_of, AreWorkedBy}

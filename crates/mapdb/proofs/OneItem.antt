@@ -17,7 +17,7 @@ use Rattle.holdings.specs.declared.transfer.Transfer.{Transfer}
 use Rattle.holdings.specs.declared.worked.Worked.{Worked}
 use Rattle.holdings.specs.Contents.{Contents, left_with, IsConsistent, IsStripped}
 use Rattle.holdings.specs.Meaning as phase
-use Rattle.holdings.specs.Stripping.{any_of}
+use Rattle.holdings.specs.Places.{any_of}
 use Rattle.holdings.specs.Sending.{job_of_pages, AreItemPages, ArePlanned, AreReady, worked}
 use Rattle.holdings.proofs.CountSums.{total_sum}
 use Rattle.mapdb.specs.declared.plan.End.TheVariants.{Target}

@@ -33,7 +33,7 @@ use Rattle.holdings.specs.declared.transfer.Transfer.{Transfer}
 use Rattle.mapdb.specs.declared.plan.End.TheVariants.{Source, Target}
 use Rattle.mapdb.specs.declared.plan.End.{End}
 use Rattle.holdings.specs.declared.item_pages.ItemPages.{ItemPages}
-use Rattle.holdings.specs.Held.{is_place}
+use Rattle.holdings.specs.Inner.Held.{is_place}
 use Rattle.holdings.proofs.Contents.Listing.{place_from_within}
 use Rattle.holdings.specs.Sending.{pair_of, fate_in, IsTransferWithin, IsApartFrom, ArePaired, AllGo, IsReady, worked, map_transfers, moving_of, job_of_pages, AreItemPages, ArePlanned}
 use Rattle.mapdb.specs.Sending.{transfer_of, transfers_of, decided_of, decided, end_of, ends_of, after_flush}

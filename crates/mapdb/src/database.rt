@@ -41,7 +41,7 @@ impl Database {
     ghost use Rattle.fpage.specs.Fpage.{IsFpageOf};
     ghost use Rattle.model.specs.Lawful.{is_lawful};
     ghost use Rattle.holdings.specs.Meaning.{limits_of};
-    ghost use Rattle.holdings.specs.Held.{IsWithin, listing};
+    ghost use Rattle.holdings.specs.Places.{IsWithin, listing};
     ghost use Rattle.holdings.specs.Mappings.{mapped_of};
     ghost use Rattle.holdings.specs.Contents.{entry_of};
     ghost use Rattle.mapdb.specs.Meaning.{counts_of};

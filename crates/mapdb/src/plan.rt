@@ -3,7 +3,7 @@
 ghost use Rattle.std.specs.Prelude.{◌≡◌, ◌∷◌, [], IfOk, MatchOption};
 ghost use Rattle.holdings.specs.Contents.{IsConsistent};
 ghost use Rattle.holdings.specs.Sending.{AreItemPages, fate_of_outcome, job_of_pages};
-ghost use Rattle.holdings.specs.Stripping.{any_of};
+ghost use Rattle.holdings.specs.Places.{any_of};
 ghost use Rattle.space.specs.declared.place.Place.{Place};
 ghost use Rattle.mapdb.specs.Meaning.{counts_of};
 ghost use Rattle.mapdb.specs.Sending.{decided, transfer_of, transfers_of, end_of, ends_of};

@@ -16,8 +16,9 @@ use Rattle.model.specs.Lawful.{is_lawful}
 use Rattle.model.specs.Touch.{can_touch, marked, touch}
 use Rattle.model.proofs.Lookups.{changed}
 use Rattle.model.proofs.Touches.{touch_keeps_lawful}
-use Rattle.holdings.specs.Held.{IsWithin, held_of, held_at, has_frame, holdings_of}
-use Rattle.holdings.specs.Sound.{IsFitting, IsSound}
+use Rattle.holdings.specs.Places.{IsWithin}
+use Rattle.holdings.specs.Inner.Held.{held_of, held_at, has_frame, holdings_of}
+use Rattle.holdings.specs.Inner.Sound.{IsFitting, IsSound}
 use Rattle.holdings.proofs.Contents.Listing.{listing_each}
 use Rattle.holdings.proofs.Contents.Holders.{place_within, held_there, held_elsewhere, absent_within, present_within}
 use Rattle.holdings.proofs.Contents.WordChanges.{IsWordSet, sound_set}

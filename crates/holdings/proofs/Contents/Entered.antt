@@ -20,10 +20,12 @@ use Rattle.space.proofs.Places.{same_self, same_or_apart, apart_back}
 use Rattle.maptree.specs.Origins.{Origins, Shape, are_once, origin_in}
 use Rattle.model.specs.Calls.{Limits}
 use Rattle.model.specs.Holdings.{Held, at, keep}
-use Rattle.holdings.specs.Derivation.{stands_in}
-use Rattle.holdings.specs.Held.{IsWithin, is_place, links_in, is_listed, held_of, held_at, has_frame, listed}
-use Rattle.holdings.specs.Mappings.{held_with, entered}
-use Rattle.holdings.specs.Stripping.{limits_in, holdings_in, AreSound}
+use Rattle.holdings.specs.Inner.Derivation.{stands_in}
+use Rattle.holdings.specs.Places.{IsWithin, listed}
+use Rattle.holdings.specs.Inner.Held.{is_place, links_in, is_listed, held_of, held_at, has_frame}
+use Rattle.holdings.specs.Inner.Entered.{held_with, entered}
+use Rattle.holdings.specs.Inner.Held.{limits_in, holdings_in}
+use Rattle.holdings.specs.Inner.Sound.{AreSound}
 use Rattle.holdings.proofs.Contents.Listing.{are_rising, sorted_listed, at_listed, listing_is, within_from_place}
 
 -- ---- how often a place comes

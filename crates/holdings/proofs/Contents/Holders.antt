@@ -14,9 +14,10 @@ use Rattle.space.proofs.Places.{same_self}
 use Rattle.maptree.specs.Origins.{Shape, origin_in}
 use Rattle.model.specs.Holdings.{at, origin_at}
 use Rattle.model.specs.Calls.{Limits}
-use Rattle.holdings.specs.Held.{IsWithin, links_in, held_of, held_at, holdings_of}
+use Rattle.holdings.specs.Places.{IsWithin}
+use Rattle.holdings.specs.Inner.Held.{links_in, held_of, held_at, holdings_of}
 use Rattle.holdings.specs.Contents.{entry_of}
-use Rattle.holdings.specs.Sound.{IsFitting}
+use Rattle.holdings.specs.Inner.Sound.{IsFitting}
 use Rattle.holdings.proofs.Contents.Listing.{at_within, listing_same}
 
 -- ---- limits and places

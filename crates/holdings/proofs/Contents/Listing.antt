@@ -14,7 +14,8 @@ use Rattle.model.specs.Holdings.{Held, Holdings, at, keep, each}
 use Rattle.model.specs.Calls.{Limits}
 use Rattle.model.proofs.Lookups.{Sorted, same_holdings, at_each, sorted_each, changed}
 use Rattle.model.proofs.Puts.{apart_places, put_here, put_elsewhere, sorted_put}
-use Rattle.holdings.specs.Held.{IsWithin, is_place, pages_from, spaces_from, listed, listing}
+use Rattle.holdings.specs.Places.{IsWithin, pages_from, spaces_from, listed, listing}
+use Rattle.holdings.specs.Inner.Held.{is_place}
 
 -- ---- the places within the limits, by rising place
 

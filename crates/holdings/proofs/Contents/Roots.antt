@@ -22,9 +22,10 @@ use Rattle.model.specs.Calls.{Limits}
 use Rattle.model.specs.Records.{are_limits}
 use Rattle.model.specs.Replay.{root, roots_from, start}
 use Rattle.model.proofs.Starts.{lawful_roots, start_is_lawful}
-use Rattle.holdings.specs.Held.{IsWithin, is_place, links_in, is_listed, held_of, held_at, has_frame, holdings_of}
-use Rattle.holdings.specs.Start.{root_place, root_entry}
-use Rattle.holdings.specs.Sound.{IsSound}
+use Rattle.holdings.specs.Places.{IsWithin}
+use Rattle.holdings.specs.Inner.Held.{is_place, links_in, is_listed, held_of, held_at, has_frame, holdings_of}
+use Rattle.holdings.specs.Inner.Start.{root_place, root_entry}
+use Rattle.holdings.specs.Inner.Sound.{IsSound}
 use Rattle.holdings.proofs.Contents.Listing.{listing_is, place_from_within}
 use Rattle.holdings.proofs.Contents.Holders.{entry_elsewhere}
 

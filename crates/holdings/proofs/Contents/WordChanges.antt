@@ -12,8 +12,9 @@ use Rattle.space.proofs.Places.{same_or_apart}
 use Rattle.maptree.specs.Origins.{Shape}
 use Rattle.model.specs.Calls.{Limits}
 use Rattle.model.specs.Lawful.{is_lawful}
-use Rattle.holdings.specs.Held.{IsWithin, is_listed, has_frame, holdings_of}
-use Rattle.holdings.specs.Sound.{IsFitting, IsSound}
+use Rattle.holdings.specs.Places.{IsWithin}
+use Rattle.holdings.specs.Inner.Held.{is_listed, has_frame, holdings_of}
+use Rattle.holdings.specs.Inner.Sound.{IsFitting, IsSound}
 use Rattle.holdings.proofs.Contents.Listing.{within_from_place}
 use Rattle.holdings.proofs.Contents.Holders.{place_within, entry_elsewhere}
 

@@ -15,10 +15,10 @@ use Rattle.space.proofs.Places.{apart_back}
 use Rattle.maptree.specs.Origins.{Origins, Shape, origin_in}
 use Rattle.maptree.proofs.Cuttings as lists
 use Rattle.holdings.specs.declared.link.Link.{Link}
-use Rattle.holdings.specs.Derivation.{stands_in}
-use Rattle.holdings.specs.Held.{links_in, is_listed}
-use Rattle.holdings.specs.Sending.{IsTreeSet}
-use Rattle.holdings.specs.Links.{is_new_in, is_new_of, AreLinkedIn, AreLinked, AreOnce, AreLinkable}
+use Rattle.holdings.specs.Inner.Derivation.{stands_in}
+use Rattle.holdings.specs.Inner.Held.{links_in, is_listed}
+use Rattle.holdings.specs.Inner.Links.{IsTreeSet}
+use Rattle.holdings.specs.Inner.Links.{is_new_in, is_new_of, AreLinkedIn, AreLinked, AreOnce, AreLinkable}
 use Rattle.holdings.proofs.Contents.Holders.{links_read}
 use Rattle.holdings.proofs.Links.NewMappings.{tree_set}
 use Rattle.holdings.proofs.Links.LinkedTrees.{no_link, apart_before, some_or}

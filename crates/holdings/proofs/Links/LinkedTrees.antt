@@ -17,8 +17,8 @@ use Rattle.maptree.specs.Origins.{Origins, origin_in}
 use Rattle.maptree.specs.Growing.{with_new, with_below, AreApart}
 use Rattle.holdings.specs.declared.link.Link.{Link}
 use Rattle.maptree.proofs.Found.{none_found}
-use Rattle.holdings.specs.Derivation.{stands_in, IsDerived}
-use Rattle.holdings.specs.Links.{is_new_in, AreLinkedIn, AreOnce, last_target, AreTargets}
+use Rattle.holdings.specs.Inner.Derivation.{stands_in, IsDerived}
+use Rattle.holdings.specs.Inner.Links.{is_new_in, AreLinkedIn, AreOnce, last_target, AreTargets}
 use Rattle.holdings.specs.declared.transfer.Transfer.{Transfer}
 
 abbrev pub no_link : Link

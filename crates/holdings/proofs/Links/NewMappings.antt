@@ -25,10 +25,11 @@ use Rattle.model.specs.Map.{linked}
 use Rattle.model.proofs.LawfulParts.{IsLawful, IsOrigin, lawful_parts, lawful_from}
 use Rattle.model.proofs.Growths.{lawful_grown}
 use Rattle.model.proofs.Puts.{apart_places, put_here, put_elsewhere, sorted_put}
-use Rattle.holdings.specs.Derivation.{stands_in, IsDerived}
-use Rattle.holdings.specs.Held.{IsWithin, is_place, links_in, is_listed, held_of, held_at, has_frame, holdings_of}
-use Rattle.holdings.specs.Sound.{IsPruned, IsSound}
-use Rattle.holdings.specs.Sending.{IsTreeSet}
+use Rattle.holdings.specs.Inner.Derivation.{stands_in, IsDerived}
+use Rattle.holdings.specs.Places.{IsWithin}
+use Rattle.holdings.specs.Inner.Held.{is_place, links_in, is_listed, held_of, held_at, has_frame, holdings_of}
+use Rattle.holdings.specs.Inner.Sound.{IsPruned, IsSound}
+use Rattle.holdings.specs.Inner.Links.{IsTreeSet}
 use Rattle.holdings.proofs.Contents.Listing.{listing_put, place_from_within, within_from_place}
 use Rattle.holdings.proofs.Contents.Holders.{place_within, entry_elsewhere, present_within, absent_within}
 use Rattle.holdings.proofs.Contents.WordChanges.{IsWordSet}

@@ -18,7 +18,8 @@ use Rattle.model.specs.SendLaws.{total}
 use Rattle.model.proofs.Puts.{apart_places}
 use Rattle.model.proofs.Maps.{pair_other}
 use Rattle.holdings.specs.declared.transfer.Transfer.{Transfer}
-use Rattle.holdings.specs.Stripping.{limits_in, holdings_in, AreSound}
+use Rattle.holdings.specs.Inner.Held.{limits_in, holdings_in}
+use Rattle.holdings.specs.Inner.Sound.{AreSound}
 use Rattle.holdings.specs.Sending.{IsReady, ArePaired, fate_in, pair_of, map_transfers, worked, worked_of}
 use Rattle.holdings.proofs.CountSums.{add_assoc, add_none, none_add, total_sum}
 

@@ -25,10 +25,13 @@ use Rattle.model.proofs.Growths.{lawful_grown}
 use Rattle.model.proofs.Puts.{put_here, put_elsewhere, sorted_put}
 use Rattle.holdings.specs.declared.transfer.Transfer.{Transfer}
 use Rattle.space.specs.Entries as word
-use Rattle.holdings.specs.Held.{IsWithin, is_listed, held_of, held_at, has_frame, holdings_of}
-use Rattle.holdings.specs.Sound.{IsSound}
-use Rattle.holdings.specs.Stripping.{limits_in, holdings_in, AreSound}
-use Rattle.holdings.specs.Sending.{fate_in, pair_of, worked_of, IsReady, IsLinked}
+use Rattle.holdings.specs.Places.{IsWithin}
+use Rattle.holdings.specs.Inner.Held.{is_listed, held_of, held_at, has_frame, holdings_of}
+use Rattle.holdings.specs.Inner.Sound.{IsSound}
+use Rattle.holdings.specs.Inner.Held.{limits_in, holdings_in}
+use Rattle.holdings.specs.Inner.Sound.{AreSound}
+use Rattle.holdings.specs.Sending.{fate_in, pair_of, worked_of, IsReady}
+use Rattle.holdings.specs.Inner.Links.{IsLinked}
 use Rattle.holdings.proofs.Contents.Listing.{listing_put}
 use Rattle.holdings.proofs.Contents.Holders.{place_within, held_elsewhere, present_within, absent_within}
 use Rattle.holdings.proofs.Contents.WordChanges.{IsWordSet, sound_set}

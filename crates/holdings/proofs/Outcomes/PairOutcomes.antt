@@ -18,11 +18,14 @@ use Rattle.model.specs.Derived.{is_under}
 use Rattle.model.specs.DerivationLaws.{LeadsInto}
 use Rattle.model.specs.Items.{Job, Fate, absent, norights, to_origin, extends, goes, is_map, has_origin, fate_of, fate}
 use Rattle.model.proofs.Derivations.{under_is_a_chain}
-use Rattle.holdings.specs.Held.{IsWithin, links_in}
-use Rattle.holdings.specs.Stripping.{limits_in, holdings_in, AreSound}
-use Rattle.holdings.specs.Sending.{fate_of_outcome, IsOutcomeIn}
+use Rattle.holdings.specs.Places.{IsWithin}
+use Rattle.holdings.specs.Inner.Held.{links_in}
+use Rattle.holdings.specs.Inner.Held.{limits_in, holdings_in}
+use Rattle.holdings.specs.Inner.Sound.{AreSound}
+use Rattle.holdings.specs.Sending.{fate_of_outcome}
+use Rattle.holdings.specs.Inner.Outcomes.{IsOutcomeIn}
 use Rattle.holdings.specs.declared.spots.Spot.{Spot}
-use Rattle.holdings.specs.Spots.{IsSpotIn}
+use Rattle.holdings.specs.Inner.Spots.{IsSpotIn}
 use Rattle.holdings.specs.declared.outcome.Outcome.{Outcome}
 use Rattle.holdings.specs.declared.outcome.Outcome.TheVariants as outcome
 use Rattle.maptree.proofs.Found.{found_at}

@@ -13,8 +13,11 @@ use Rattle.model.specs.Holdings.{Holdings, only}
 use Rattle.model.specs.Strip.{strip, strip_word}
 use Rattle.model.proofs.LawfulParts.{IsLawful, lawful_parts}
 use Rattle.model.proofs.StripUnions.{strip_same, word_same}
-use Rattle.holdings.specs.Held.{is_listed}
-use Rattle.holdings.specs.Stripping.{holdings_in, any_of, firsts, AreSound, AreLoose, AreOfFrame}
+use Rattle.holdings.specs.Inner.Held.{is_listed}
+use Rattle.holdings.specs.Inner.Held.{holdings_in}
+use Rattle.holdings.specs.Places.{any_of}
+use Rattle.holdings.specs.Inner.Stripping.{firsts, AreOfFrame}
+use Rattle.holdings.specs.Inner.Sound.{AreSound, AreLoose}
 use Rattle.holdings.proofs.Stripping.Sequences.{AreStripped, any_more}
 use Rattle.holdings.proofs.Stripping.Frames.{loose_from}
 

@@ -15,9 +15,9 @@ use Rattle.space.proofs.Places.{same_self, same_or_apart, apart_back}
 use Rattle.maptree.specs.declared.node.Node.{Node}
 use Rattle.maptree.specs.Origins.{Origins, Shape, place_at}
 use Rattle.model.specs.Holdings.{PlaceSet}
-use Rattle.holdings.specs.Held.{links_in}
+use Rattle.holdings.specs.Inner.Held.{links_in}
 use Rattle.space.specs.Entries.{narrowed, status_of}
-use Rattle.holdings.specs.Stripping.{AreLoose}
+use Rattle.holdings.specs.Inner.Sound.{AreLoose}
 use Rattle.holdings.proofs.Trees.Chains.{is_among, among_at}
 use Rattle.holdings.proofs.Stripping.Walks.{AreTaken, none_taken, same_taken, one_taken, among_more, not_among, place_any, listed_place}
 

@@ -25,9 +25,10 @@ use Rattle.model.proofs.LawfulParts.{IsLawful, lawful_parts, lawful_from}
 use Rattle.model.proofs.Puts.{apart_places}
 use Rattle.model.proofs.Renames.{MovesApart, moved_cases, renamed_sorted, renamed_was, renamed_at, lawful_renamed}
 use Rattle.model.proofs.Moves.{paired_apart}
-use Rattle.holdings.specs.Derivation.{stands_in}
-use Rattle.holdings.specs.Held.{IsWithin, is_place, links_in, is_listed, held_of, held_at, has_frame, holdings_of}
-use Rattle.holdings.specs.Sound.{IsSound}
+use Rattle.holdings.specs.Inner.Derivation.{stands_in}
+use Rattle.holdings.specs.Places.{IsWithin}
+use Rattle.holdings.specs.Inner.Held.{is_place, links_in, is_listed, held_of, held_at, has_frame, holdings_of}
+use Rattle.holdings.specs.Inner.Sound.{IsSound}
 use Rattle.holdings.proofs.Contents.Listing.{listing_is, listed_within, place_from_within, within_from_place}
 use Rattle.holdings.proofs.Contents.Holders.{present_within}
 use Rattle.holdings.proofs.Contents.WordChanges.{frame_from}

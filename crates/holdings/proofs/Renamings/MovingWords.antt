@@ -27,10 +27,12 @@ use Rattle.model.proofs.Puts.{apart_places}
 use Rattle.model.proofs.Renames.{moved_cases}
 use Rattle.model.proofs.Moves.{one_source, one_other}
 use Rattle.holdings.specs.declared.transfer.Transfer.{Transfer}
-use Rattle.holdings.specs.Held.{IsWithin, holdings_of}
-use Rattle.holdings.specs.Sound.{IsSound}
+use Rattle.holdings.specs.Places.{IsWithin}
+use Rattle.holdings.specs.Inner.Held.{holdings_of}
+use Rattle.holdings.specs.Inner.Sound.{IsSound}
 use Rattle.holdings.specs.Sending.{IsTransferWithin, IsApartFrom, ArePaired, ArePlanned, AllGo, pair_of, worked_of, worked, moving_of}
-use Rattle.holdings.specs.Links.{IsPageLost, IsPageMoved}
+use Rattle.holdings.specs.Inner.Links.{IsPageLost}
+use Rattle.holdings.specs.Inner.Renamings.{IsPageMoved}
 use Rattle.holdings.proofs.Contents.Holders.{place_within, entry_elsewhere, present_within, absent_within}
 use Rattle.holdings.proofs.Contents.WordChanges.{IsWordSet}
 use Rattle.holdings.proofs.CountSums.{add_assoc, add_none, none_add, total_sum}

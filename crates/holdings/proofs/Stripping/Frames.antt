@@ -26,10 +26,14 @@ use Rattle.model.proofs.Derivations.{below_is_a_chain}
 use Rattle.model.proofs.Lookups.{changed, at_each}
 use Rattle.model.proofs.StripAt.{stripping}
 use Rattle.model.proofs.Narrowings.{not_narrowed}
-use Rattle.holdings.specs.Held.{IsWithin, is_place, is_listed, links_in, has_frame, holdings_of}
-use Rattle.holdings.specs.Stripping.{limits_in, holdings_in, any_of, firsts, AreSound, AreLoose, AreOfFrame, has_entry, OriginsHaveEntries, pruned}
+use Rattle.holdings.specs.Places.{IsWithin}
+use Rattle.holdings.specs.Inner.Held.{is_place, is_listed, links_in, has_frame, holdings_of}
+use Rattle.holdings.specs.Inner.Held.{limits_in, holdings_in, has_entry}
+use Rattle.holdings.specs.Places.{any_of}
+use Rattle.holdings.specs.Inner.Stripping.{firsts, AreOfFrame, OriginsHaveEntries, pruned}
+use Rattle.holdings.specs.Inner.Sound.{AreSound, AreLoose}
 use Rattle.holdings.proofs.Contents.Listing.{within_from_place, place_from_within}
-use Rattle.holdings.specs.Sending.{IsTreeSet}
+use Rattle.holdings.specs.Inner.Links.{IsTreeSet}
 use Rattle.model.specs.Records.{are_limits}
 use Rattle.holdings.proofs.Contents.Holders.{same_origins, present_within, origin_within}
 use Rattle.holdings.proofs.Trees.Chains.{chains_agree, stands, listed_at, at_among, below_among, entry_held}

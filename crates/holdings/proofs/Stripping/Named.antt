@@ -22,8 +22,11 @@ use Rattle.model.proofs.LawfulParts.{IsLawful, lawful_parts}
 use Rattle.model.proofs.StripUnions.{strip-union, word-union, strip_same, word_same, strip_nothing, word_nothing}
 use Rattle.model.proofs.Chains.{below_empty}
 use Rattle.holdings.specs.declared.pages.HeldPage.{HeldPage}
-use Rattle.holdings.specs.Held.{is_place}
-use Rattle.holdings.specs.Stripping.{limits_in, holdings_in, any_of, any_page, places_in, has_entry, HasItsFrame, AreSound, AreOfFrame}
+use Rattle.holdings.specs.Inner.Held.{is_place}
+use Rattle.holdings.specs.Inner.Held.{limits_in, holdings_in, has_entry}
+use Rattle.holdings.specs.Places.{any_of}
+use Rattle.holdings.specs.Inner.Stripping.{any_page, places_in, HasItsFrame, AreOfFrame}
+use Rattle.holdings.specs.Inner.Sound.{AreSound}
 use Rattle.holdings.proofs.Contents.Listing.{within_from_place}
 use Rattle.maptree.proofs.Cuttings as lists
 use Rattle.maptree.proofs.Cuttings.{take_all}
@@ -32,7 +35,7 @@ use Rattle.model.proofs.StripAt.{stripping, left_is}
 use Rattle.model.specs.Strip.{is_narrowed, stripped}
 use Rattle.std.proofs.lemmas.List.Elements.{All-take, All-drop}
 use Rattle.holdings.proofs.Contents.Holders.{present_within}
-use Rattle.holdings.specs.Held.{held_of}
+use Rattle.holdings.specs.Inner.Held.{held_of}
 use Rattle.holdings.proofs.Trees.Chains.{entry_held}
 use Rattle.holdings.proofs.Stripping.Frames.{stood, loose_from}
 

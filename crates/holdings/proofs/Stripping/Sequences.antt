@@ -16,7 +16,10 @@ use Rattle.model.specs.Strip.{strip, strip_word}
 use Rattle.model.proofs.LawfulParts.{IsLawful, lawful_parts}
 use Rattle.model.proofs.Chains.{below_empty}
 use Rattle.model.proofs.StripUnions.{strip-union, word-union, strip_same, word_same, strip_nothing, word_nothing}
-use Rattle.holdings.specs.Stripping.{holdings_in, any_of, firsts, AreLoose}
+use Rattle.holdings.specs.Inner.Held.{holdings_in}
+use Rattle.holdings.specs.Places.{any_of}
+use Rattle.holdings.specs.Inner.Stripping.{firsts}
+use Rattle.holdings.specs.Inner.Sound.{AreLoose}
 use Rattle.holdings.proofs.Stripping.Walks.{same_layouts}
 
 -- ---- ranges

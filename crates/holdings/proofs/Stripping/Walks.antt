@@ -33,9 +33,11 @@ use Rattle.model.proofs.Recursions.{passing, passed_is}
 use Rattle.model.specs.Lawful.{is_lawful}
 use Rattle.model.specs.Records.{are_limits}
 use Rattle.std.proofs.lemmas.Option.{same_Some}
-use Rattle.holdings.specs.Held.{IsWithin, is_place, is_listed, links_in, held_of, held_at, holdings_of}
+use Rattle.holdings.specs.Places.{IsWithin}
+use Rattle.holdings.specs.Inner.Held.{is_place, is_listed, links_in, held_of, held_at, holdings_of}
 use Rattle.space.specs.Entries.{narrowed, status_of, with_status}
-use Rattle.holdings.specs.Stripping.{limits_in, holdings_in, AreLoose}
+use Rattle.holdings.specs.Inner.Held.{limits_in, holdings_in}
+use Rattle.holdings.specs.Inner.Sound.{AreLoose}
 use Rattle.holdings.proofs.Contents.Listing.{listing_each, within_from_place}
 use Rattle.space.specs.Directory.{pages_of}
 use Rattle.std.proofs.lemmas.List.{length-drop}

@@ -10,11 +10,11 @@ use Rattle.space.specs.Place.{same_place}
 use Rattle.space.specs.Shards.{entry_at}
 use Rattle.space.proofs.Places.{same_self, apart_back}
 use Rattle.maptree.specs.Origins.{Origins, Shape, are_once, origin_in, IsRun, AreRunEnds}
-use Rattle.holdings.specs.Held.{links_in, has_frame}
-use Rattle.holdings.specs.Stripping.{AreSound}
+use Rattle.holdings.specs.Inner.Held.{links_in, has_frame}
+use Rattle.holdings.specs.Inner.Sound.{AreSound}
 use Rattle.holdings.specs.declared.spots.Spot.{Spot}
 use Rattle.maptree.proofs.Found.{found_at}
-use Rattle.holdings.specs.Spots.{IsSpotIn, IsSpot, AreSpots, IsSpotOf, AreSpotsOf, IsHeldSomewhere}
+use Rattle.holdings.specs.Inner.Spots.{IsSpotIn, IsSpot, AreSpots, IsSpotOf, AreSpotsOf, IsHeldSomewhere}
 use Rattle.holdings.specs.Sending.{page_on}
 
 -- ---- a place of a tree

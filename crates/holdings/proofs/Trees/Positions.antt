@@ -9,13 +9,13 @@ use Rattle.std.proofs.Common.{List, ◌++◌, ◌≤◌, ◌⊎◌, inl, inr}
 use Rattle.std.proofs.lemmas.List.{length-append}
 use Rattle.std.proofs.lemmas.Bool.{cases_lt}
 use Rattle.maptree.specs.Origins.{Shape}
-use Rattle.holdings.specs.Held.{links_in}
-use Rattle.holdings.specs.Start.{root_place}
+use Rattle.holdings.specs.Inner.Held.{links_in}
+use Rattle.holdings.specs.Inner.Start.{root_place}
 use Rattle.space.specs.declared.place.Place.{Place}
 use Rattle.space.specs.Place.{place_cmp, same_place}
 use Rattle.space.proofs.Places.{same_self}
 use Rattle.maptree.specs.Origins.{Origins, origin_in}
-use Rattle.holdings.specs.Derivation.{IsDerived}
+use Rattle.holdings.specs.Inner.Derivation.{IsDerived}
 
 -- ---- a place that is not in the tree
 

@@ -13,7 +13,8 @@ use Rattle.maptree.specs.declared.node.Node.{Node}
 use Rattle.maptree.specs.declared.slice.Slice.{Slice}
 use Rattle.maptree.specs.Origins.{Origins, Shape, place_at, AreRising}
 use Rattle.maptree.specs.Cuts.{outside, pieces, pieces_of, nodes_of, places_of, kept_of, IsCut, AreKept}
-use Rattle.holdings.specs.Stripping.{has_entry, OriginsHaveEntries}
+use Rattle.holdings.specs.Inner.Held.{has_entry}
+use Rattle.holdings.specs.Inner.Stripping.{OriginsHaveEntries}
 
 -- one element more of those that pass a test
 pub filter_more : {A : Type 0} (test : A → Bool) (xs : List A) (i : ℕ) (d : A) → i < length xs → filter test (take (i + 1) xs) ≡ filter test (take i xs) ++ (if test (get_or xs i d) then get_or xs i d ∷ [] else [])

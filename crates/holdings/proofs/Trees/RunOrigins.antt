@@ -8,7 +8,7 @@ use Rattle.space.specs.declared.place.Place.{Place}
 use Rattle.space.specs.Place.{place_cmp, same_place}
 use Rattle.space.proofs.Places.{same_self, apart_back}
 use Rattle.maptree.specs.Origins.{Origins, OriginsStand, are_once, origin_in, place_at}
-use Rattle.holdings.specs.Stripping.{IsOriginAt}
+use Rattle.holdings.specs.Inner.Derivation.{IsOriginAt}
 
 -- a node's origin stands beside its place
 own_origin : (os : Origins) (i : ℕ) (o : Place × Option Place) (d : Place) → are_once os ≡ true → i < length os → origin_in os (place_at os i d) ≡ (get_or os i o).1

@@ -1,6 +1,7 @@
 -- The mappings so far with those to come are all.
 use Rattle.std.proofs.Common.{◌≡◌, ◌++◌, drop, map}
-use Rattle.holdings.specs.Mappings.{mapped_of, entered}
+use Rattle.holdings.specs.Mappings.{mapped_of}
+use Rattle.holdings.specs.Inner.Entered.{entered}
 use Rattle.holdings.proofs.mapping.entered.Given as goal
 
 abbrev pub invariant-loop-place : goal.invariant-loop-place

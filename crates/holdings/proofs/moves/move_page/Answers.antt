@@ -2,7 +2,7 @@
 use Rattle.std.proofs.Common.{sym, ◌∙◌, subst}
 use Rattle.std.proofs.lemmas.Option.{same_Some}
 use Rattle.holdings.specs.Meaning.{counts_of}
-use Rattle.holdings.specs.Links.{IsPageMoved}
+use Rattle.holdings.specs.Inner.Renamings.{IsPageMoved}
 use Rattle.holdings.proofs.Renamings.MovingWords.{page_moved}
 use Rattle.holdings.proofs.moves.move_page.Goals as goal
 

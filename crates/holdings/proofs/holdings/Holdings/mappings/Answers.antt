@@ -7,8 +7,8 @@ use Rattle.std.specs.List.{All, flat_map}
 use Rattle.std.specs.List.Sorted.{IsPermutation}
 use Rattle.maptree.specs.Origins.{Origins, Shape, are_once}
 use Rattle.holdings.specs.Contents.{Contents}
-use Rattle.holdings.specs.Mappings.{entered}
-use Rattle.holdings.specs.Stripping.{limits_in}
+use Rattle.holdings.specs.Inner.Entered.{entered}
+use Rattle.holdings.specs.Inner.Held.{limits_in}
 use Rattle.holdings.proofs.Contents.Holders.{place_within}
 use Rattle.holdings.proofs.Contents.Entered.{from_sort, each_within, entered_holdings}
 use Rattle.holdings.proofs.holdings.Holdings.mappings.Goals as goal

@@ -5,9 +5,12 @@ use Rattle.std.proofs.lemmas.List.{with_items_is}
 use Rattle.maptree.specs.Origins.{Shape}
 use Rattle.model.specs.Strip.{strip, strip_word}
 use Rattle.holdings.specs.declared.pages.HeldPage.{HeldPage}
-use Rattle.holdings.specs.Held.{IsWithin}
-use Rattle.holdings.specs.Contents.{Contents, contents_of, IsStripped}
-use Rattle.holdings.specs.Stripping.{limits_in, holdings_in, any_of, places_in, AreOfFrame}
+use Rattle.holdings.specs.Places.{IsWithin}
+use Rattle.holdings.specs.Contents.{Contents, IsStripped}
+use Rattle.holdings.specs.Inner.Held.{contents_of}
+use Rattle.holdings.specs.Inner.Held.{limits_in, holdings_in}
+use Rattle.holdings.specs.Places.{any_of}
+use Rattle.holdings.specs.Inner.Stripping.{places_in, AreOfFrame}
 use Rattle.holdings.proofs.Stripping.HeldPages.{any_within}
 use Rattle.holdings.proofs.Stripping.Named.{ArePages, AreStrippedUpTo, pages_in_order, same_pages, none_of_pages, frame_within, of_frame, one_group, all_groups, group_shown, places_of_set, strip_of_set, word_of_set}
 use Rattle.holdings.proofs.holdings.Holdings.strip.Goals as goal

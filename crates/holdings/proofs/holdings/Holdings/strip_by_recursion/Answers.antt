@@ -7,9 +7,13 @@ use Rattle.maptree.specs.Origins.{Shape}
 use Rattle.model.specs.Calls.{Limits}
 use Rattle.model.specs.Holdings.{only}
 use Rattle.model.specs.Strip.{strip, strip_word}
-use Rattle.holdings.specs.Contents.{Contents, contents_of, IsStripped}
-use Rattle.holdings.specs.Held.{IsWithin, is_listed}
-use Rattle.holdings.specs.Stripping.{AreSound, limits_in, holdings_in, any_of}
+use Rattle.holdings.specs.Contents.{Contents, IsStripped}
+use Rattle.holdings.specs.Inner.Held.{contents_of}
+use Rattle.holdings.specs.Places.{IsWithin}
+use Rattle.holdings.specs.Inner.Held.{is_listed}
+use Rattle.holdings.specs.Inner.Sound.{AreSound}
+use Rattle.holdings.specs.Inner.Held.{limits_in, holdings_in}
+use Rattle.holdings.specs.Places.{any_of}
 use Rattle.holdings.proofs.Recursions.PlaceByPlace.{AreVisitedUpTo, none_visited, one_visited, none_there, all_visited}
 use Rattle.holdings.proofs.holdings.Holdings.strip_by_recursion.Goals as goal
 

@@ -1,23 +1,21 @@
 -- The new mappings of an item, put into the trees before the words say so.
-use Rattle.std.specs.Prelude.{◌≡◌, ℕ, ◌==◌, ◌<◌, ◌≤◌, Bool, true, false, ◌&&◌, ◌||◌, List, [], ◌∷◌, length, Option, Some, None, count_by, if◌then◌else◌}
-use Rattle.std.specs.List.{All, list_any}
-use Rattle.space.specs.declared.place.Place.{Place}
-use Rattle.space.specs.declared.place.Entry.{Entry}
-use Rattle.space.specs.declared.shards.Shards.{Shards}
-use Rattle.space.specs.Place.{same_place}
-use Rattle.space.specs.Shards.{IsPlace, IsSetAt, IsLaidOutAs, entry_at, is_taken}
-use Rattle.std.specs.Prelude.{IsFalse, option_map}
-use Rattle.fpage.specs.declared.rights.Rights.{Rights}
+use Rattle.std.specs.List.{list_any, All}
+use Rattle.std.specs.Prelude.{◌≡◌, ℕ, ◌<◌, ◌≤◌, true, List, length, Option, Some, None, ◌==◌, ◌&&◌, Bool, false, [], ◌∷◌, option_map, ◌||◌, IsFalse, if◌then◌else◌, count_by}
 use Rattle.fpage.specs.Rights.{no_rights, meet}
-use Rattle.maptree.specs.Origins.{Origins, Shape, origin_in}
-use Rattle.maptree.specs.Renamings.{all_renamed, StayApart}
-use Rattle.model.specs.Items.{Counts, counts_of, goes}
-use Rattle.holdings.specs.declared.transfer.Transfer.{Transfer}
-use Rattle.holdings.specs.declared.link.Link.{Link}
-use Rattle.holdings.specs.Derivation.{stands_in}
-use Rattle.holdings.specs.Held.{links_in, is_listed}
+use Rattle.fpage.specs.declared.rights.Rights.{Rights}
+use Rattle.space.specs.Place.{same_place}
+use Rattle.space.specs.Shards.{entry_at, is_taken, IsSetAt, IsLaidOutAs}
+use Rattle.space.specs.declared.place.Entry.{Entry}
+use Rattle.space.specs.declared.place.Place.{Place}
+use Rattle.space.specs.declared.shards.Shards.{Shards}
 use Rattle.space.specs.Entries as word
+use Rattle.maptree.specs.Origins.{Origins, Shape, origin_in}
+use Rattle.model.specs.Items.{counts_of, Counts, goes}
+use Rattle.holdings.specs.Inner.Derivation.{stands_in, IsDerived}
+use Rattle.holdings.specs.Inner.Held.{links_in, is_listed}
 use Rattle.holdings.specs.Sending.{fate_in}
+use Rattle.holdings.specs.declared.link.Link.{Link}
+use Rattle.holdings.specs.declared.transfer.Transfer.{Transfer}
 
 -- a new mapping for a transfer whose source holds this, in front of others
 abbrev pub link_of : Transfer → Option Entry → List Link → List Link
@@ -80,6 +78,21 @@ pub record IsPageMapped (old new : Shards) (rights : Rights) (t : Transfer) (e :
   pub layout : IsLaidOutAs old new
   pub counted : counts ≡ counts_of (fate_in t) true
 
+-- the tree of this frame became another, and no other did
+pub record IsTreeSet (old new : List Shape) (frame : ℕ) (links : Origins) : Type 0 where
+  pub count : length new ≡ length old
+  pub there : links_in new frame ≡ links
+  pub elsewhere : (f : ℕ) → (f ≡ frame → ⊥) → links_in new f ≡ links_in old f
+
+-- a page became a mapping of another: its word was set, and it was put into the tree of the frame
+pub record IsLinked (old new : Shards) (trees new_trees : List Shape) (source target : Place) (e : Entry) : Type 0 where
+  pub links : Origins
+  pub set : IsSetAt old new target (Some (record e { status = no_rights }))
+  pub present : IsFalse (is_taken new)
+  pub layout : IsLaidOutAs old new
+  pub tree : IsTreeSet trees new_trees e.frame links
+  pub derived : IsDerived (links_in trees e.frame) links source target
+
 -- the target that the last of these with a source tells
 abbrev pub last_target : List Link → Place → Option Place → Option Place
 last_target [] p last = last
@@ -88,32 +101,3 @@ last_target (l ∷ ls) p last = last_target ls p (if same_place p l.source then 
 -- each source has its target
 abbrev pub AreTargets : List Link → (Place → Option Place) → Type 0
 AreTargets ls new = (p : Place) → new p ≡ last_target ls p None
-
--- ---- pages that move
-
--- whether there is one of the frame
-abbrev pub is_of_frame : List Link → ℕ → Bool
-is_of_frame ls f = list_any (λ l. l.frame == f) ls
-
--- in trees each source can become its target: no two places of a tree become one
-pub record AreMovable (trees : List Shape) (ls : List Link) : Type 0 where
-  pub space : ℕ
-  pub sources : All (λ l. l.source.space ≡ space) ls
-  pub targets : All (λ l. l.target.space ≡ space → ⊥) ls
-  pub frames : All (λ l. l.frame < length trees) ls
-  pub apart : (f : ℕ) → StayApart (λ p. last_target ls p None) (links_in trees f)
-
--- places were replaced in the trees of these frames
-pub record AreRenamed (new : Place → Option Place) (ls : List Link) (old now : List Shape) : Type 0 where
-  pub count : length now ≡ length old
-  pub there : (f : ℕ) → is_of_frame ls f ≡ true → links_in now f ≡ all_renamed new (links_in old f)
-  pub elsewhere : (f : ℕ) → is_of_frame ls f ≡ false → links_in now f ≡ links_in old f
-
--- the words after a page moved that held this, and how it counts
-pub record IsPageMoved (old new : Shards) (source target : Place) (e : Entry) (counts : Counts) : Type 0 where
-  pub gone : entry_at new source ≡ None
-  pub there : entry_at new target ≡ Some (record e { status = no_rights })
-  pub elsewhere : (p : Place) → IsPlace old p → same_place p source ≡ false → same_place p target ≡ false → entry_at new p ≡ entry_at old p
-  pub present : IsFalse (is_taken new)
-  pub layout : IsLaidOutAs old new
-  pub counted : counts ≡ counts_of goes true

@@ -1,8 +1,8 @@
 -- Words and trees at the start.
-use Rattle.std.specs.Prelude.{ℕ, ◌==◌, ◌&&◌, nat_lt, Option, Some, None, if◌then◌else◌}
-use Rattle.fpage.specs.Rights.{all_rights, no_rights}
-use Rattle.space.specs.declared.place.Place.{Place}
+use Rattle.std.specs.Prelude.{ℕ, Option, Some, None, ◌==◌, ◌&&◌, nat_lt, if◌then◌else◌}
+use Rattle.fpage.specs.Rights.{no_rights, all_rights}
 use Rattle.space.specs.declared.place.Entry.{Entry}
+use Rattle.space.specs.declared.place.Place.{Place}
 
 -- the page of space 0 that holds a frame
 abbrev pub root_place : ℕ → Place

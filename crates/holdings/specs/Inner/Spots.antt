@@ -1,16 +1,16 @@
 -- Where places stand in the trees of their frames, as far as it was noted.
 use Rattle.std.specs.Prelude.{◌≡◌, ℕ, ◌+◌, ◌^◌, ◌<◌, ◌≤◌, true, List, length, Option, Some, None, slice_index, slice_index_or, ◌⊎◌, position}
-use Rattle.space.specs.declared.place.Place.{Place}
-use Rattle.space.specs.declared.place.Entry.{Entry}
-use Rattle.space.specs.declared.shards.Shards.{Shards}
 use Rattle.space.specs.Place.{same_place}
 use Rattle.space.specs.Shards.{IsPlace, entry_at}
+use Rattle.space.specs.declared.place.Entry.{Entry}
+use Rattle.space.specs.declared.place.Place.{Place}
+use Rattle.space.specs.declared.shards.Shards.{Shards}
 use Rattle.maptree.specs.Origins.{Origins, Shape, IsRun, origin_in}
-use Rattle.holdings.specs.Held.{links_in, has_frame}
+use Rattle.holdings.specs.Inner.Held.{links_in, has_frame}
 use Rattle.holdings.specs.Sending.{page_on}
 use Rattle.holdings.specs.declared.item_pages.ItemPages.{ItemPages}
-use Rattle.holdings.specs.declared.spots.Spot.{Spot}
 use Rattle.holdings.specs.declared.spots.PairSpots.{PairSpots}
+use Rattle.holdings.specs.declared.spots.Spot.{Spot}
 
 -- a place of a tree stands there
 pub record IsSpotIn (os : Origins) (p : Place) (s : Spot) : Type 0 where
