@@ -1,4 +1,5 @@
 pub mod CountSums
+pub mod Groups
 pub mod Contents
 pub mod Trees
 pub mod Stripping

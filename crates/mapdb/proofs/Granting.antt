@@ -29,8 +29,8 @@ use Rattle.holdings.specs.Contents.{Contents, left_with, IsStripped, AreMoved}
 use Rattle.holdings.specs.Places.{any_of}
 use Rattle.mapdb.specs.declared.plan.End.TheVariants.{Source}
 use Rattle.holdings.specs.Sending.{pair_of, fate_in, AllGo, IsReady, moving_of, worked}
+use Rattle.holdings.proofs.Stripping.Sequences.{same_back}
 use Rattle.mapdb.specs.Sending.{ends_of, AreWorkedBy}
-use Rattle.mapdb.proofs.Ends.{same_back}
 
 module _ (h : Holdings) (lawful : IsLawful h) (rights : Rights) where
   -- the held sources are those of the pairs that move

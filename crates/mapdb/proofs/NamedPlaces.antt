@@ -8,8 +8,7 @@ use Rattle.space.specs.declared.place.Place.{Place}
 use Rattle.space.specs.Directory.{pages_of}
 use Rattle.model.specs.Calls.{Limits}
 use Rattle.model.specs.Answers.{pages_in}
-use Rattle.holdings.specs.Places.{IsWithin, pages_from}
-use Rattle.holdings.specs.Places.{any_of}
+use Rattle.holdings.specs.Places.{IsWithin, pages_from, any_of}
 use Rattle.holdings.proofs.Contents.Listing.{in_pages}
 
 -- one page more

@@ -37,8 +37,8 @@ use Rattle.holdings.specs.Inner.Held.{is_place}
 use Rattle.holdings.proofs.Contents.Listing.{place_from_within}
 use Rattle.holdings.specs.Sending.{pair_of, fate_in, IsTransferWithin, IsApartFrom, ArePaired, AllGo, IsReady, worked, map_transfers, moving_of, job_of_pages, AreItemPages, ArePlanned}
 use Rattle.mapdb.specs.Sending.{transfer_of, transfers_of, decided_of, decided, end_of, ends_of, after_flush}
-use Rattle.mapdb.proofs.Ends.{same_back}
 use Rattle.holdings.proofs.CountSums.{add_assoc}
+use Rattle.holdings.proofs.Stripping.Sequences.{same_back}
 use Rattle.mapdb.proofs.Plans.{transfers_few, pairs_length}
 
 -- ---- which pairs

@@ -3,11 +3,9 @@ use Rattle.std.proofs.Common.{List, sym}
 use Rattle.space.specs.declared.shards.Shards.{Shards}
 use Rattle.maptree.specs.Origins.{Shape}
 use Rattle.model.specs.Holdings.{at}
-use Rattle.holdings.specs.Inner.Held.{held_at}
+use Rattle.holdings.specs.Inner.Held.{held_at, contents_of, limits_in}
 use Rattle.holdings.specs.Places.{listing}
-use Rattle.holdings.specs.Inner.Held.{contents_of}
 use Rattle.holdings.specs.Contents.{IsConsistent}
-use Rattle.holdings.specs.Inner.Held.{limits_in}
 use Rattle.holdings.specs.Inner.Sound.{AreSound}
 use Rattle.holdings.proofs.Contents.Listing.{listing_same, at_within}
 

@@ -6,7 +6,7 @@ use Rattle.std.specs.List.Sorted.{IsPermutation, IsSorted}
 use Rattle.std.specs.Ordering.{is_lt, ordering_then}
 use Rattle.std.specs.declared.cmp.Ordering.{Ordering}
 use Rattle.std.specs.declared.cmp.Ordering.TheVariants.{Less, Equal, Greater}
-use Rattle.std.proofs.lemmas.Bool.{and_parts, and_from}
+use Rattle.std.proofs.lemmas.Bool.{and_parts, and_from, false_from_ne_true}
 use Rattle.std.proofs.lemmas.Bool.Decides.{nat_tests}
 use Rattle.std.proofs.lemmas.List.Sums.{sum_by-cons}
 use Rattle.std.proofs.lemmas.List.Elements.{All-nil, All-cons, All-head, All-tail, All-append}
@@ -22,9 +22,8 @@ use Rattle.model.specs.Calls.{Limits}
 use Rattle.model.specs.Holdings.{Held, at, keep}
 use Rattle.holdings.specs.Inner.Derivation.{stands_in}
 use Rattle.holdings.specs.Places.{IsWithin, listed}
-use Rattle.holdings.specs.Inner.Held.{is_place, links_in, is_listed, held_of, held_at, has_frame}
+use Rattle.holdings.specs.Inner.Held.{is_place, links_in, is_listed, held_of, held_at, has_frame, limits_in, holdings_in}
 use Rattle.holdings.specs.Inner.Entered.{held_with, entered}
-use Rattle.holdings.specs.Inner.Held.{limits_in, holdings_in}
 use Rattle.holdings.specs.Inner.Sound.{AreSound}
 use Rattle.holdings.proofs.Contents.Listing.{are_rising, sorted_listed, at_listed, listing_is, within_from_place}
 
@@ -128,10 +127,6 @@ times_listed p (t ∷ ts) some = by (stands_in t.links p) refl (times_listed p t
         let there = rest (omega (arith, some, none, sum)) in
         (suc there.0, there.1)
 
-not_true : (b : Bool) → (b ≡ true → ⊥) → b ≡ false
-not_true true is = absurd (is refl)
-not_true false is = refl
-
 trees_times : (p : Place) (ts : List Shape) → AreOnce ts → ((f g : ℕ) → is_listed ts f p ≡ true → is_listed ts g p ≡ true → f ≡ g) → times p (all_links ts) ≤ 1
 trees_times p [] once alone = omega arith
 trees_times p (t ∷ ts) once alone =
@@ -140,7 +135,7 @@ trees_times p (t ∷ ts) once alone =
     by : (b : Bool) → stands_in t.links p ≡ b → times p (all_links ts) ≤ 1 → times p (all_links (t ∷ ts)) ≤ 1
     by true is rest_upto =
         let first = once_times p t.links (All-head (λ (t : Shape). are_once t.links ≡ true) t ts once) in
-        let rest = unlisted_times p ts (λ f. not_true (is_listed ts f p) (λ there. let e = alone 0 (suc f) is there in absurd (omega (arith, e)))) in
+        let rest = unlisted_times p ts (λ f. false_from_ne_true (is_listed ts f p) (λ there. let e = alone 0 (suc f) is there in absurd (omega (arith, e)))) in
         let sum = times_append p t.links (all_links ts) in
         omega (arith, first, rest, sum)
     by false is rest_upto =
@@ -170,7 +165,7 @@ apart_each : (p : Place) (os : Origins) → list_all (λ q. not (same_place p q.
 apart_each p [] apart = All-nil (λ q. same_place p q.0 ≡ false)
 apart_each p (o ∷ os) apart =
     let parts = and_parts (not (same_place p o.0)) (list_all (λ q. not (same_place p q.0)) os) apart in
-    All-cons (λ q. same_place p q.0 ≡ false) o os (not_true (same_place p o.0) (λ is. cc (is, parts.0))) (apart_each p os parts.1)
+    All-cons (λ q. same_place p q.0 ≡ false) o os (false_from_ne_true (same_place p o.0) (λ is. cc (is, parts.0))) (apart_each p os parts.1)
 
 each_link : (os : Origins) → are_once os ≡ true → All (IsLinkIn os) os
 each_link [] once = All-nil (IsLinkIn [])

@@ -3,7 +3,7 @@ use Rattle.std.proofs.Common.{◌≡◌, ℕ, zero, suc, ◌+◌, ◌<◌, true,
 use Rattle.std.specs.List.{list_any, list_all}
 use Rattle.std.specs.Ordering.{is_lt}
 use Rattle.std.specs.FinMap.Entries.{below_all, put}
-use Rattle.std.proofs.lemmas.Bool.{and_parts, and_from}
+use Rattle.std.proofs.lemmas.Bool.{and_parts, and_from, ltb-true}
 use Rattle.std.proofs.lemmas.Bool.Decides.{nat_tests}
 use Rattle.std.proofs.lemmas.List.Folds.{list_any-append, list_all-append}
 use Rattle.space.specs.declared.place.Place.{Place}
@@ -105,10 +105,7 @@ place_from_within limits p within =
 pub within_from_place : (limits : Limits) (p : Place) → is_place limits p ≡ true → IsWithin limits p
 within_from_place limits p is =
     let parts = and_parts _ _ is in
-    record { space = less p.space limits.spaces parts.0; page = less p.page (pages_of limits.bits) parts.1 }
-  where
-    less : (a b : ℕ) → nat_lt a b ≡ true → a < b
-    less a b is = grind (arith, nat_tests)
+    record { space = ltb-true p.space limits.spaces parts.0; page = ltb-true p.page (pages_of limits.bits) parts.1 }
 
 -- ---- what is held, listed
 

@@ -3,7 +3,7 @@ use Rattle.std.proofs.Common.{◌≡◌, ℕ, zero, suc, ◌+◌, ◌<◌, ◌�
 use Rattle.std.specs.Prelude.{IsFalse}
 use Rattle.std.specs.Option.{option_map, option_map_or, option_and_then}
 use Rattle.std.specs.List.{list_any}
-use Rattle.std.proofs.lemmas.Bool.{and_parts, or_left, cases_lt, eq-eqb, eqb-true}
+use Rattle.std.proofs.lemmas.Bool.{and_parts, or_left, cases_lt, eq-eqb, eqb-true, ltb-true}
 use Rattle.std.proofs.Math.Bool.{or-false}
 use Rattle.std.proofs.lemmas.Bool.Decides.{nat_tests}
 use Rattle.std.proofs.lemmas.Option.{slice_get_past}
@@ -48,9 +48,6 @@ served l is =
     six : (s b f n : ℕ) → (nat_le 2 s && nat_le s 512 && nat_le 18 b && nat_le b 24 && nat_le 1 f && nat_le f n) ≡ true
         → (2 ≤ s) × (s ≤ 512) × (18 ≤ b) × (b ≤ 24) × (1 ≤ f) × (f ≤ n)
     six s b f n is = grind (arith, nat_tests)
-
-less_from : (a b : ℕ) → nat_lt a b ≡ true → a < b
-less_from a b is = grind (arith, nat_tests)
 
 -- ---- the words of roots
 
@@ -98,7 +95,7 @@ root_is frames p e is = by ((p.space == 0) && nat_lt p.page frames) refl is
         let page : p.page ≡ e.frame = ap (λ x. x.frame) one in
         record {
           place = λ i. record { space = eqb-true p.space 0 parts.0 i; page = page i };
-          frame = subst (λ f. f < frames) page (less_from p.page frames parts.1);
+          frame = subst (λ f. f < frames) page (ltb-true p.page frames parts.1);
         }
 
 pub root_at_place : (frames f : ℕ) → f < frames → root_entry frames (root_place f) ≡ Some (record { frame = f; rights = all_rights; status = no_rights })

@@ -7,7 +7,8 @@ use Rattle.space.specs.declared.place.Place.{Place}
 use Rattle.space.specs.declared.place.Entry.{Entry}
 use Rattle.space.specs.declared.shards.Shards.{Shards}
 use Rattle.space.specs.Place.{same_place}
-use Rattle.space.specs.Shards.{entry_at, is_taken, IsSetAt, IsLaidOutAs}
+use Rattle.space.specs.Directory.{pages_of}
+use Rattle.space.specs.Shards.{entry_at, is_taken, IsSetAt, IsLaidOutAs, IsPlace}
 use Rattle.space.proofs.Places.{same_or_apart}
 use Rattle.maptree.specs.Origins.{Shape}
 use Rattle.model.specs.Calls.{Limits}
@@ -31,6 +32,10 @@ KeepsFrame before after = (e : Entry) → after ≡ Some e → has_frame e.frame
 pub frame_from : (f : ℕ) (o : Option Entry) → has_frame f o ≡ true → (e : Entry) × (o ≡ Some e) × (e.frame ≡ f)
 frame_from f None has = absurd (cc has)
 frame_from f (Some e) has = (e, refl, eqb-true e.frame f has)
+
+-- where words were laid out in one way, a place that had one has one
+pub place_kept : (old new : Shards) → IsLaidOutAs old new → (p : Place) → IsPlace old p → IsPlace new p
+place_kept old new layout p place = record { space = subst (λ n. p.space < n) (sym layout.spaces) place.space; page = subst (λ b. p.page < pages_of b) (sym layout.bits) place.page }
 
 module _ (limits : Limits) (old new : Shards) (trees : List Shape) (q : Place) (entry : Option Entry) (w : IsWordSet old new q entry) where
   module _ (fits : IsFitting limits old trees) where

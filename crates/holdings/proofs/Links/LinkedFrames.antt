@@ -3,12 +3,13 @@ use Rattle.std.proofs.Common.{◌≡◌, ℕ, zero, suc, ◌+◌, ◌-◌, ◌<�
 use Rattle.std.specs.Prelude.{count_by, slice_set}
 use Rattle.std.specs.List.{All, list_all, slice_range}
 use Rattle.std.specs.List.Sorted.{IsPermutation}
-use Rattle.std.proofs.lemmas.Bool.{or_parts, and_from, and_parts, eq-eqb, eqb-true, cases_eq, false_from_ne_true}
-use Rattle.std.proofs.lemmas.List.{drop_more, length-drop, length-append, take_all, get_or_append_left, get_or-append-add}
+use Rattle.std.proofs.lemmas.Bool.{or_parts, and_parts, eq-eqb, eqb-true, cases_eq, false_from_ne_true}
+use Rattle.std.proofs.lemmas.List.{length-append, take_all, get_or_append_left, get_or-append-add}
 use Rattle.std.proofs.lemmas.List.Sums.{sum_by-append, sum_by-take-le}
 use Rattle.std.proofs.lemmas.List.Folds.{list_any-append, list_any_none}
 use Rattle.std.proofs.lemmas.List.Sorted.{IsPermutation-sym, All-permutation, list_any-IsPermutation, sum_by-IsPermutation}
 use Rattle.std.proofs.lemmas.List.Elements.{All-append, All-take, All-drop, All-from_get_or}
+use Rattle.std.proofs.Math.Bool.{or-false, and-false}
 use Rattle.space.specs.declared.place.Place.{Place}
 use Rattle.space.specs.Place.{same_place}
 use Rattle.space.proofs.Places.{apart_back}
@@ -17,8 +18,8 @@ use Rattle.maptree.proofs.Cuttings as lists
 use Rattle.holdings.specs.declared.link.Link.{Link}
 use Rattle.holdings.specs.Inner.Derivation.{stands_in}
 use Rattle.holdings.specs.Inner.Held.{links_in, is_listed}
-use Rattle.holdings.specs.Inner.Links.{IsTreeSet}
-use Rattle.holdings.specs.Inner.Links.{is_new_in, is_new_of, AreLinkedIn, AreLinked, AreOnce, AreLinkable}
+use Rattle.holdings.specs.Inner.Links.{IsTreeSet, is_new_in, is_new_of, AreLinkedIn, AreLinked, AreOnce, AreLinkable}
+use Rattle.holdings.proofs.Groups.{group_shown}
 use Rattle.holdings.proofs.Contents.Holders.{links_read}
 use Rattle.holdings.proofs.Links.NewMappings.{tree_set}
 use Rattle.holdings.proofs.Links.LinkedTrees.{no_link, apart_before, some_or}
@@ -84,11 +85,7 @@ module _ (pre group : List Link) (once : (p : Place) → count_by (λ l. same_pl
   not_before f j within =
       list_any_none (λ l. l.frame == f && same_place (get_or group j no_link).target l.target) pre
       (All-from_get_or (λ l. (l.frame == f && same_place (get_or group j no_link).target l.target) ≡ false) pre no_link
-      (λ i less. ap (λ b. ((get_or pre i no_link).frame == f) && b) (apart_back (get_or pre i no_link).target (get_or group j no_link).target (apart_parts i j less within)) ∙ none ((get_or pre i no_link).frame == f)))
-    where
-      none : (b : Bool) → (b && false) ≡ false
-      none true = refl
-      none false = refl
+      (λ i less. ap (λ b. ((get_or pre i no_link).frame == f) && b) (apart_back (get_or pre i no_link).target (get_or group j no_link).target (apart_parts i j less within)) ∙ and-false ((get_or pre i no_link).frame == f)))
 
   not_behind : (i : ℕ) → i < length pre → is_new_in group (get_or pre i no_link).target ≡ false
   not_behind i within =
@@ -101,9 +98,6 @@ module _ (pre group : List Link) (once : (p : Place) → count_by (λ l. same_pl
 
     swap : (a b c : Bool) → (a || (b || c)) ≡ ((b || a) || c)
     swap a b c = grind arith
-
-    last_none : (b : Bool) → (b || false) ≡ b
-    last_none b = grind arith
 
     pub group_more : AreLinked (pre ++ group) old new
     group_more = record {
@@ -125,7 +119,7 @@ module _ (pre group : List Link) (once : (p : Place) → count_by (λ l. same_pl
             ∙ ap (λ b. b || is_listed old f p) (sym (appended f p)) ∙ ap (λ g. is_new_of (pre ++ group) g p || is_listed old g p) (sym same)
         stands g p (inr differ) =
             ap (λ (os : Origins). stands_in os p) (set.elsewhere g differ) ∙ before.stands g p
-            ∙ ap (λ b. b || is_listed old g p) (sym (last_none (is_new_of pre g p)) ∙ ap (λ b. is_new_of pre g p || b) (sym (new_elsewhere f g group are differ p)) ∙ sym (appended g p))
+            ∙ ap (λ b. b || is_listed old g p) (sym (or-false (is_new_of pre g p)) ∙ ap (λ b. is_new_of pre g p || b) (sym (new_elsewhere f g group are differ p)) ∙ sym (appended g p))
 
         origins : (g : ℕ) (p : Place) → is_new_of pre g p ≡ false → is_new_of group g p ≡ false → (g ≡ f) ⊎ (g ≡ f → ⊥) → origin_in (links_in new g) p ≡ origin_in (links_in old g) p
         origins g p none_pre none_group (inl same) =
@@ -142,18 +136,6 @@ module _ (pre group : List Link) (once : (p : Place) → count_by (λ l. same_pl
         kept i within (inr differ) = ap (λ os. origin_in os (get_or pre i no_link).target) (set.elsewhere (get_or pre i no_link).frame differ)
 
 -- ---- the groups of a list in order
-
--- what is shown of a group, as the code finds it
-pub group_all : (ls : List Link) (from n f : ℕ) (d : Link) → from < length ls → (get_or ls from d).frame ≡ f → n ≤ length (take (length ls - (from + 1)) (drop (from + 1) ls))
-    → list_all (λ l. l.frame == f) (take n (take (length ls - (from + 1)) (drop (from + 1) ls))) ≡ true
-    → (from + 1 + n ≤ length ls) × AreOf f (slice_range ls from (from + 1 + n))
-group_all ls from n f d within is most all =
-    let dropped = length-drop (from + 1) ls in
-    let whole : take (length ls - (from + 1)) (drop (from + 1) ls) ≡ drop (from + 1) ls = take_all (length ls - (from + 1)) (drop (from + 1) ls) (omega (arith, dropped)) in
-    let most_there : n ≤ length (drop (from + 1) ls) = subst (λ xs. n ≤ length xs) whole most in
-    let span : from + 1 + n - from ≡ suc n = omega arith in
-    let front : slice_range ls from (from + 1 + n) ≡ get_or ls from d ∷ take n (drop (from + 1) ls) = ap (λ k. take k (drop from ls)) span ∙ ap (take (suc n)) (drop_more ls from d within) in
-    (omega (arith, most_there, dropped, within), of_frame f (slice_range ls from (from + 1 + n)) (ap (list_all (λ (l : Link). l.frame == f)) front ∙ and_from _ _ (eq-eqb (get_or ls from d).frame f is) (ap (λ xs. list_all (λ (l : Link). l.frame == f) (take n xs)) (sym whole) ∙ all)))
 
 module _ (old : List Shape) (ls : List Link) (can : AreLinkable old ls) (from end f : ℕ) (mid : List Shape) (before : AreLinked (take from ls) old mid) (upto : from ≤ end) (are : AreOf f (slice_range ls from end)) where
   abbrev the_group : List Link
@@ -202,15 +184,14 @@ pub no_group : (old : List Shape) → AreLinked [] old old
 no_group old = record { count = refl; stands = λ f p. refl; elsewhere = λ f p _. refl; there = λ k d within. absurd (omega (arith, within)) }
 
 -- the next group, as the code finds it
-module _ (old : List Shape) (given sorted : List Link) (order : IsPermutation given sorted) (linkable : AreLinkable old given) (mid : List Shape) (from n : ℕ) (l : Link) (before : AreLinked (take from sorted) old mid)
+module _ (old : List Shape) (given sorted : List Link) (order : IsPermutation given sorted) (linkable : AreLinkable old given) (mid : List Shape) (from end : ℕ) (l : Link) (before : AreLinked (take from sorted) old mid)
     (within : from < length sorted) (is : l ≡ get_or sorted from l) (rest : List Link) (rest_is : rest ≡ sorted)
-    (most : n ≤ length (take (length rest - (from + 1)) (drop (from + 1) rest))) (same : list_all (λ m. m.frame == l.frame) (take n (take (length rest - (from + 1)) (drop (from + 1) rest))) ≡ true) where
+    (least : from < end) (same : (d : Link) → list_all (λ m. m.frame == (get_or rest from d).frame) (slice_range rest from end) ≡ true) where
   can : AreLinkable old sorted
   can = linkable_in_order old given sorted order linkable
 
-  facts : (from + 1 + n ≤ length sorted) × AreOf l.frame (slice_range sorted from (from + 1 + n))
-  facts = group_all sorted from n l.frame l within (ap (λ (m : Link). m.frame) (sym is)) (subst (λ xs. n ≤ length (take (length xs - (from + 1)) (drop (from + 1) xs))) rest_is most)
-      (subst (λ xs. list_all (λ (m : Link). m.frame == l.frame) (take n (take (length xs - (from + 1)) (drop (from + 1) xs))) ≡ true) rest_is same)
+  are : AreOf l.frame (slice_range sorted from end)
+  are = of_frame l.frame (slice_range sorted from end) (group_shown (λ (m : Link). m.frame) sorted rest from end l rest_is is same)
 
   pub frame_there : l.frame < length mid
   frame_there =
@@ -218,33 +199,30 @@ module _ (old : List Shape) (given sorted : List Link) (order : IsPermutation gi
       let count = before.count in
       omega (arith, less, count)
 
-  abbrev last : ℕ
-  last = from + 1 + n
-
   module _ (shown : List Link) (shown_is : shown ≡ sorted) where
-    pub next_once : AreOnce (slice_range shown from (from + 1 + n))
-    next_once = subst (λ xs. AreOnce (slice_range xs from last)) (sym shown_is) (group_once old sorted can from last l.frame mid before (omega arith) facts.1)
+    pub next_once : AreOnce (slice_range shown from end)
+    next_once = subst (λ xs. AreOnce (slice_range xs from end)) (sym shown_is) (group_once old sorted can from end l.frame mid before (omega (arith, least)) are)
 
-    pub next_spaces : (k : ℕ) × All (λ m. m.source.space ≡ k) (slice_range shown from (from + 1 + n))
-    next_spaces = subst (λ xs. (k : ℕ) × All (λ (m : Link). m.source.space ≡ k) (slice_range xs from last)) (sym shown_is) (group_spaces old sorted can from last l.frame mid before (omega arith) facts.1)
+    pub next_spaces : (k : ℕ) × All (λ m. m.source.space ≡ k) (slice_range shown from end)
+    next_spaces = subst (λ xs. (k : ℕ) × All (λ (m : Link). m.source.space ≡ k) (slice_range xs from end)) (sym shown_is) (group_spaces old sorted can from end l.frame mid before (omega (arith, least)) are)
 
     module _ (t : Shape) (t_is : t ≡ get_or mid l.frame t) where
       tree_is : links_in mid l.frame ≡ (get_or mid l.frame t).links
       tree_is = links_read mid l.frame t frame_there t_is ∙ ap (λ (s : Shape). s.links) t_is
 
-      pub next_sources : All (λ m. stands_in (get_or mid l.frame t).links m.source ≡ true) (slice_range shown from (from + 1 + n))
-      next_sources = subst (λ xs. All (λ (m : Link). stands_in (get_or mid l.frame t).links m.source ≡ true) (slice_range xs from last)) (sym shown_is)
-          (subst (λ os. All (λ (m : Link). stands_in os m.source ≡ true) (slice_range sorted from last)) tree_is (group_sources old sorted can from last l.frame mid before (omega arith) facts.1))
+      pub next_sources : All (λ m. stands_in (get_or mid l.frame t).links m.source ≡ true) (slice_range shown from end)
+      next_sources = subst (λ xs. All (λ (m : Link). stands_in (get_or mid l.frame t).links m.source ≡ true) (slice_range xs from end)) (sym shown_is)
+          (subst (λ os. All (λ (m : Link). stands_in os m.source ≡ true) (slice_range sorted from end)) tree_is (group_sources old sorted can from end l.frame mid before (omega (arith, least)) are))
 
-      pub next_targets : All (λ m. stands_in (get_or mid l.frame t).links m.target ≡ false) (slice_range shown from (from + 1 + n))
-      next_targets = subst (λ xs. All (λ (m : Link). stands_in (get_or mid l.frame t).links m.target ≡ false) (slice_range xs from last)) (sym shown_is)
-          (subst (λ os. All (λ (m : Link). stands_in os m.target ≡ false) (slice_range sorted from last)) tree_is (group_targets old sorted can from last l.frame mid before (omega arith) facts.1))
+      pub next_targets : All (λ m. stands_in (get_or mid l.frame t).links m.target ≡ false) (slice_range shown from end)
+      next_targets = subst (λ xs. All (λ (m : Link). stands_in (get_or mid l.frame t).links m.target ≡ false) (slice_range xs from end)) (sym shown_is)
+          (subst (λ os. All (λ (m : Link). stands_in os m.target ≡ false) (slice_range sorted from end)) tree_is (group_targets old sorted can from end l.frame mid before (omega (arith, least)) are))
 
-      pub next_linked : (new : Shape) → AreLinkedIn (slice_range shown from (from + 1 + n)) (get_or mid l.frame t).links new.links → AreLinked (take (from + 1 + n) sorted) old (slice_set mid l.frame new)
+      pub next_linked : (new : Shape) → AreLinkedIn (slice_range shown from end) (get_or mid l.frame t).links new.links → AreLinked (take end sorted) old (slice_set mid l.frame new)
       next_linked new linked =
-          one_group old sorted can from last l.frame mid before (omega arith) facts.1 (slice_set mid l.frame new) new.links (tree_set mid l.frame new frame_there)
-          (subst (λ xs. AreLinkedIn (slice_range xs from last) (links_in mid l.frame) new.links) shown_is
-          (subst (λ os. AreLinkedIn (slice_range shown from last) os new.links) (sym tree_is) linked))
+          one_group old sorted can from end l.frame mid before (omega (arith, least)) are (slice_set mid l.frame new) new.links (tree_set mid l.frame new frame_there)
+          (subst (λ xs. AreLinkedIn (slice_range xs from end) (links_in mid l.frame) new.links) shown_is
+          (subst (λ os. AreLinkedIn (slice_range shown from end) os new.links) (sym tree_is) linked))
 
 -- all are in the trees
 pub all_groups : (old : List Shape) (given sorted : List Link) (from : ℕ) (new : List Shape) → IsPermutation given sorted → length sorted ≤ from → AreLinked (take from sorted) old new → AreLinked given old new

@@ -26,10 +26,8 @@ use Rattle.model.proofs.Puts.{put_here, put_elsewhere, sorted_put}
 use Rattle.holdings.specs.declared.transfer.Transfer.{Transfer}
 use Rattle.space.specs.Entries as word
 use Rattle.holdings.specs.Places.{IsWithin}
-use Rattle.holdings.specs.Inner.Held.{is_listed, held_of, held_at, has_frame, holdings_of}
-use Rattle.holdings.specs.Inner.Sound.{IsSound}
-use Rattle.holdings.specs.Inner.Held.{limits_in, holdings_in}
-use Rattle.holdings.specs.Inner.Sound.{AreSound}
+use Rattle.holdings.specs.Inner.Held.{is_listed, held_of, held_at, has_frame, holdings_of, limits_in, holdings_in}
+use Rattle.holdings.specs.Inner.Sound.{IsSound, AreSound}
 use Rattle.holdings.specs.Sending.{fate_in, pair_of, worked_of, IsReady}
 use Rattle.holdings.specs.Inner.Links.{IsLinked}
 use Rattle.holdings.proofs.Contents.Listing.{listing_put}

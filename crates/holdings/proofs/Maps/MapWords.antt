@@ -27,15 +27,12 @@ use Rattle.holdings.specs.declared.link.Link.{Link}
 use Rattle.holdings.specs.declared.transfer.Transfer.{Transfer}
 use Rattle.holdings.specs.Inner.Derivation.{stands_in, IsDerived}
 use Rattle.holdings.specs.Places.{IsWithin, listing}
-use Rattle.holdings.specs.Inner.Held.{links_in, is_listed, held_of, held_at}
+use Rattle.holdings.specs.Inner.Held.{links_in, is_listed, held_of, held_at, limits_in, holdings_in}
 use Rattle.space.specs.Entries as word
 use Rattle.holdings.specs.Contents.{entry_of}
-use Rattle.holdings.specs.Inner.Held.{limits_in, holdings_in}
-use Rattle.holdings.specs.Inner.Sound.{AreSound}
-use Rattle.holdings.specs.Inner.Sound.{IsSound}
+use Rattle.holdings.specs.Inner.Sound.{AreSound, IsSound}
 use Rattle.holdings.specs.Sending.{IsTransferWithin, ArePaired, ArePlanned, IsReady, fate_in, pair_of, worked_of, worked, map_transfers}
-use Rattle.holdings.specs.Inner.Links.{IsTreeSet}
-use Rattle.holdings.specs.Inner.Links.{link_of, links_of, is_new_of, AreLinked, AreLinkable, IsPageLost, IsPageMapped}
+use Rattle.holdings.specs.Inner.Links.{IsTreeSet, link_of, links_of, is_new_of, AreLinked, AreLinkable, IsPageLost, IsPageMapped}
 use Rattle.holdings.proofs.Contents.Listing.{listing_same}
 use Rattle.holdings.proofs.Trees.Positions.{derived_below}
 use Rattle.holdings.proofs.Contents.Holders.{place_within, absent_within, present_within, entry_within}

@@ -3,6 +3,8 @@ use Rattle.std.proofs.Common.{◌≡◌, ℕ, zero, suc, ◌<◌, nat_lt, nat_le
 use Rattle.std.specs.Prelude.{Decides, position}
 use Rattle.std.specs.Option.{option_and_then, option_map_or, is_some}
 use Rattle.std.proofs.lemmas.Bool.{false_from_ne_true, lt-ltb, le-ltb, le-leb, lt-leb, cases_order}
+use Rattle.std.proofs.lemmas.Option.{same_Some}
+use Rattle.std.proofs.Math.Bool.{and-false}
 use Rattle.fpage.specs.Rights.{is_empty, meet}
 use Rattle.fpage.specs.declared.rights.Rights.{Rights}
 use Rattle.fpage.specs.declared.item.ItemKind.{ItemKind}
@@ -19,8 +21,7 @@ use Rattle.model.specs.DerivationLaws.{LeadsInto}
 use Rattle.model.specs.Items.{Job, Fate, absent, norights, to_origin, extends, goes, is_map, has_origin, fate_of, fate}
 use Rattle.model.proofs.Derivations.{under_is_a_chain}
 use Rattle.holdings.specs.Places.{IsWithin}
-use Rattle.holdings.specs.Inner.Held.{links_in}
-use Rattle.holdings.specs.Inner.Held.{limits_in, holdings_in}
+use Rattle.holdings.specs.Inner.Held.{links_in, limits_in, holdings_in}
 use Rattle.holdings.specs.Inner.Sound.{AreSound}
 use Rattle.holdings.specs.Sending.{fate_of_outcome}
 use Rattle.holdings.specs.Inner.Outcomes.{IsOutcomeIn}
@@ -125,15 +126,12 @@ module _ (shards : Shards) (trees : List Shape) (sound : AreSound shards trees) 
           goes_from (ap (λ m. is_some m && is_under (holdings_in shards trees) (only target) source) free) (ap (λ m. option_map_or (same_place source) (option_and_then (λ m. m.origin) m) false) free)
 
       module _ (k : Entry) (replaced : entry_at shards target ≡ Some k) where
-        one_entry : (x y : Entry) → Some x ≡ Some y → x ≡ y
-        one_entry x y same = cc same
-
         -- a chain of origins keeps the frame
         same_frame : LeadsInto (holdings_in shards trees) 1 (only target) source → k.frame ≡ e.frame
         same_frame to =
             let agree = chains_agree shards trees (loose_from shards trees sound) to.origins source e source_within stood in
             let last = agree.1 to.into to.leads in
-            let one = one_entry k last.0 (sym replaced ∙ ap (entry_at shards) (same_is target to.into to.within) ∙ last.1) in
+            let one = same_Some k last.0 (sym replaced ∙ ap (entry_at shards) (same_is target to.into to.within) ∙ last.1) in
             ap (λ (x : Entry). x.frame) one ∙ last.2
 
         origin_frame : has_origin (holdings_in shards trees) target source ≡ true → e.frame ≡ k.frame
@@ -143,18 +141,14 @@ module _ (shards : Shards) (trees : List Shape) (sound : AreSound shards trees) 
             by None from is = absurd (cc is)
             by (Some o) from is =
                 let last = (chains_agree shards trees (loose_from shards trees sound) 1 target k target_within replaced).1 o (ap (option_and_then Some) from) in
-                let one = one_entry e last.0 (sym stood ∙ ap (entry_at shards) (same_is source o is) ∙ last.1) in
+                let one = same_Some e last.0 (sym stood ∙ ap (entry_at shards) (same_is source o is) ∙ last.1) in
                 ap (λ (x : Entry). x.frame) one ∙ last.2
 
         pub other_frame : (k.frame ≡ e.frame → ⊥) → goes ≡ the_fate
         other_frame differ =
             let under = under_is_a_chain (holdings_in shards trees) sound.kept.lawful (only target) source in
             let not_under : is_under (holdings_in shards trees) (only target) source ≡ false = false_from_ne_true _ (λ is. differ (same_frame (under.0 is))) in
-            goes_from (rw not_under (second (is_held (holdings_in shards trees) target))) (false_from_ne_true _ (λ is. differ (sym (origin_frame is))))
-          where
-            second : (b : Bool) → (b && false) ≡ false
-            second true = refl
-            second false = refl
+            goes_from (rw not_under (and-false (is_held (holdings_in shards trees) target))) (false_from_ne_true _ (λ is. differ (sym (origin_frame is))))
 
         -- with one frame the tree tells
         pub from_tree : k.frame ≡ e.frame → (o : Outcome) → IsOutcomeIn (links_in trees e.frame) kind source target o → fate_of_outcome o ≡ the_fate

@@ -13,8 +13,7 @@ use Rattle.model.specs.Holdings.{Holdings, only}
 use Rattle.model.specs.Strip.{strip, strip_word}
 use Rattle.model.proofs.LawfulParts.{IsLawful, lawful_parts}
 use Rattle.model.proofs.StripUnions.{strip_same, word_same}
-use Rattle.holdings.specs.Inner.Held.{is_listed}
-use Rattle.holdings.specs.Inner.Held.{holdings_in}
+use Rattle.holdings.specs.Inner.Held.{is_listed, holdings_in}
 use Rattle.holdings.specs.Places.{any_of}
 use Rattle.holdings.specs.Inner.Stripping.{firsts, AreOfFrame}
 use Rattle.holdings.specs.Inner.Sound.{AreSound, AreLoose}

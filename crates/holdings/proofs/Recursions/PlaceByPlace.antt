@@ -14,9 +14,8 @@ use Rattle.model.specs.Strip.{strip, strip_word}
 use Rattle.model.proofs.LawfulParts.{IsLawful, lawful_parts}
 use Rattle.model.proofs.StripUnions.{strip-union, word-union, strip_same, word_same, strip_nothing, word_nothing}
 use Rattle.model.proofs.Chains.{below_empty, below_unheld}
-use Rattle.holdings.specs.Places.{IsWithin}
+use Rattle.holdings.specs.Places.{IsWithin, any_of}
 use Rattle.holdings.specs.Inner.Held.{limits_in, holdings_in}
-use Rattle.holdings.specs.Places.{any_of}
 use Rattle.holdings.specs.Inner.Sound.{AreSound}
 use Rattle.holdings.proofs.Contents.Holders.{absent_within}
 use Rattle.holdings.proofs.Stripping.Sequences.{any_more}

@@ -3,8 +3,9 @@ use Rattle.std.proofs.Common.{◌≡◌, ℕ, ◌+◌, ◌-◌, ◌<◌, ◌≤�
 use Rattle.std.specs.Prelude.{IsFalse}
 use Rattle.std.specs.List.{list_any}
 use Rattle.std.specs.Option.{option_and_then}
-use Rattle.std.proofs.lemmas.Bool.{or_cases, or_left, or_right, and_parts, and_from, false_from_ne_true}
+use Rattle.std.proofs.lemmas.Bool.{or_cases, or_left, or_right, and_parts, and_from, false_from_ne_true, not-true, not_from_false, or_parts}
 use Rattle.std.proofs.lemmas.List.Folds.{list_any-append}
+use Rattle.std.proofs.Math.Bool.{or-false}
 use Rattle.fpage.specs.Rights.{no_rights, join}
 use Rattle.fpage.specs.declared.rights.Rights.{Rights}
 use Rattle.space.specs.declared.place.Place.{Place}
@@ -33,34 +34,22 @@ are_apart [] = true
 are_apart (n ∷ ns) = not (is_on ns n.place) && are_apart ns
 
 on_push : (ns : List Node) (n : Node) (p : Place) → is_on (ns ++ n ∷ []) p ≡ (is_on ns p || same_place p n.place)
-on_push ns n p = list_any-append (λ m. same_place p m.place) ns (n ∷ []) ∙ ap (λ b. is_on ns p || b) (or_false (same_place p n.place))
-  where
-    or_false : (b : Bool) → (b || false) ≡ b
-    or_false b = grind arith
-
-from_not : (b : Bool) → not b ≡ true → b ≡ false
-from_not b is = grind (arith, is)
-
-to_not : (b : Bool) → b ≡ false → not b ≡ true
-to_not b is = grind (arith, is)
-
-or_parts : (x y : Bool) → (x || y) ≡ false → (x ≡ false) × (y ≡ false)
-or_parts x y is = (grind (arith, is), grind (arith, is))
+on_push ns n p = list_any-append (λ m. same_place p m.place) ns (n ∷ []) ∙ ap (λ b. is_on ns p || b) (or-false (same_place p n.place))
 
 apart_push : (ns : List Node) (n : Node) → are_apart ns ≡ true → is_on ns n.place ≡ false → are_apart (ns ++ n ∷ []) ≡ true
 apart_push [] n apart new = refl
 apart_push (m ∷ ns) n apart new =
     let parts = and_parts (not (is_on ns m.place)) (are_apart ns) apart in
     let others = or_parts (same_place n.place m.place) (is_on ns n.place) new in
-    and_from _ _ (to_not _ (on_push ns n m.place ∙ rw (from_not _ parts.0, apart_back n.place m.place others.0) refl)) (apart_push ns n parts.1 others.1)
+    and_from _ _ (not_from_false _ (on_push ns n m.place ∙ rw (not-true _ parts.0, apart_back n.place m.place others.0) refl)) (apart_push ns n parts.1 others.1)
 
 apart_pop : (ns : List Node) (n : Node) → are_apart (ns ++ n ∷ []) ≡ true → (are_apart ns ≡ true) × (is_on ns n.place ≡ false)
 apart_pop [] n apart = (refl, refl)
 apart_pop (m ∷ ns) n apart =
     let parts = and_parts (not (is_on (ns ++ n ∷ []) m.place)) (are_apart (ns ++ n ∷ [])) apart in
     let rest = apart_pop ns n parts.1 in
-    let others = or_parts (is_on ns m.place) (same_place m.place n.place) (sym (on_push ns n m.place) ∙ from_not _ parts.0) in
-    (and_from _ _ (to_not _ others.0) rest.0, rw (apart_back m.place n.place others.1) rest.1)
+    let others = or_parts (is_on ns m.place) (same_place m.place n.place) (sym (on_push ns n m.place) ∙ not-true _ parts.0) in
+    (and_from _ _ (not_from_false _ others.0) rest.0, rw (apart_back m.place n.place others.1) rest.1)
 
 -- ---- the visit so far
 

@@ -28,13 +28,10 @@ use Rattle.model.proofs.Renames.{moved_cases}
 use Rattle.holdings.specs.declared.link.Link.{Link}
 use Rattle.holdings.specs.declared.transfer.Transfer.{Transfer}
 use Rattle.holdings.specs.Places.{IsWithin}
-use Rattle.holdings.specs.Inner.Held.{links_in, is_listed, holdings_of}
-use Rattle.holdings.specs.Inner.Sound.{IsSound}
-use Rattle.holdings.specs.Inner.Held.{limits_in, holdings_in}
-use Rattle.holdings.specs.Inner.Sound.{AreSound}
-use Rattle.holdings.specs.Inner.Links.{IsTreeSet}
+use Rattle.holdings.specs.Inner.Held.{links_in, is_listed, holdings_of, limits_in, holdings_in}
+use Rattle.holdings.specs.Inner.Sound.{IsSound, AreSound}
+use Rattle.holdings.specs.Inner.Links.{IsTreeSet, link_of, links_of, last_target, AreTargets}
 use Rattle.holdings.specs.Sending.{IsTransferWithin, ArePaired, ArePlanned, AllGo, moving_of, pair_of}
-use Rattle.holdings.specs.Inner.Links.{link_of, links_of, last_target, AreTargets}
 use Rattle.holdings.specs.Inner.Renamings.{is_of_frame, AreMovable, AreRenamed}
 use Rattle.holdings.proofs.Contents.Holders.{present_within, absent_within, links_read}
 use Rattle.holdings.proofs.Links.NewMappings.{tree_set}

@@ -13,7 +13,7 @@ use Rattle.space.specs.declared.place.Place.{Place}
 use Rattle.space.specs.declared.place.Entry.{Entry}
 use Rattle.space.specs.declared.shards.Shards.{Shards}
 use Rattle.space.specs.Place.{same_place}
-use Rattle.space.specs.Shards.{IsPlace, IsLaidOutAs, entry_at}
+use Rattle.space.specs.Shards.{IsPlace, entry_at}
 use Rattle.space.specs.Directory.{pages_of}
 use Rattle.space.proofs.Places.{same_self, same_or_apart, apart_back}
 use Rattle.maptree.specs.Origins.{Shape}
@@ -34,7 +34,7 @@ use Rattle.holdings.specs.Sending.{IsTransferWithin, IsApartFrom, ArePaired, Are
 use Rattle.holdings.specs.Inner.Links.{IsPageLost}
 use Rattle.holdings.specs.Inner.Renamings.{IsPageMoved}
 use Rattle.holdings.proofs.Contents.Holders.{place_within, entry_elsewhere, present_within, absent_within}
-use Rattle.holdings.proofs.Contents.WordChanges.{IsWordSet}
+use Rattle.holdings.proofs.Contents.WordChanges.{IsWordSet, place_kept}
 use Rattle.holdings.proofs.CountSums.{add_assoc, add_none, none_add, total_sum}
 use Rattle.holdings.proofs.Renamings.MovedPages.{entry_moved, CameFrom, AreWordsMoved}
 
@@ -111,18 +111,14 @@ spaces_at from to (suc i) (t ∷ ts) d paired within = spaces_at from to i ts d 
 
 -- ---- one word
 
--- two places within the limits of the same layout
-laid_place : (old new : Shards) → IsLaidOutAs old new → (p : Place) → IsPlace old p → IsPlace new p
-laid_place old new layout p place = record { space = subst (λ n. p.space < n) (sym layout.spaces) place.space; page = subst (λ b. p.page < pages_of b) (sym layout.bits) place.page }
-
 -- the word of the source is taken, and then put at the target
 pub page_moved : (old middle new : Shards) (source target : Place) (e : Entry) (status : Rights) (one : Counts) → IsPlace old source → IsPlace old target → same_place source target ≡ false
     → IsWordSet old middle source None → IsWordSet middle new target (Some (record { frame = e.frame; rights = e.rights; status = status })) → status ≡ no_rights → one ≡ counts_of goes true → IsPageMoved old new source target e one
 page_moved old middle new source target e status one source_in target_in apart taken put none counted = record {
-  gone = entry_elsewhere middle new [] target (Some (record { frame = e.frame; rights = e.rights; status = status })) put.set source (laid_place old middle taken.layout source source_in) apart ∙ taken.set.there;
+  gone = entry_elsewhere middle new [] target (Some (record { frame = e.frame; rights = e.rights; status = status })) put.set source (place_kept old middle taken.layout source source_in) apart ∙ taken.set.there;
   there = put.set.there ∙ ap (λ r. Some (record { frame = e.frame; rights = e.rights; status = r })) none;
   elsewhere = λ p place not_source not_target.
-      entry_elsewhere middle new [] target (Some (record { frame = e.frame; rights = e.rights; status = status })) put.set p (laid_place old middle taken.layout p place) not_target
+      entry_elsewhere middle new [] target (Some (record { frame = e.frame; rights = e.rights; status = status })) put.set p (place_kept old middle taken.layout p place) not_target
       ∙ entry_elsewhere old middle [] source None taken.set p place not_source;
   present = put.present;
   layout = record {

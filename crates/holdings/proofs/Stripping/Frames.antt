@@ -4,8 +4,8 @@ use Rattle.std.specs.List.{All, list_all, list_any, slice_range}
 use Rattle.std.specs.Option.{option_and_then}
 use Rattle.std.specs.FinMap.Entries.{find}
 use Rattle.std.specs.declared.ops.Range.{Range}
-use Rattle.std.proofs.lemmas.Bool.{or_cases, or_left, or_right, and_from, false_from_ne_true, eqb-true, eq-eqb, cases_order}
-use Rattle.std.proofs.lemmas.List.{length-drop}
+use Rattle.std.proofs.lemmas.Bool.{or_cases, or_left, or_right, and_from, false_from_ne_true, eq-eqb, cases_order}
+use Rattle.std.proofs.lemmas.List.{length-drop, take_all}
 use Rattle.std.proofs.lemmas.List.Folds.{list_all-append}
 use Rattle.fpage.specs.declared.rights.Rights.{Rights}
 use Rattle.space.specs.declared.place.Place.{Place}
@@ -26,32 +26,26 @@ use Rattle.model.proofs.Derivations.{below_is_a_chain}
 use Rattle.model.proofs.Lookups.{changed, at_each}
 use Rattle.model.proofs.StripAt.{stripping}
 use Rattle.model.proofs.Narrowings.{not_narrowed}
-use Rattle.holdings.specs.Places.{IsWithin}
-use Rattle.holdings.specs.Inner.Held.{is_place, is_listed, links_in, has_frame, holdings_of}
-use Rattle.holdings.specs.Inner.Held.{limits_in, holdings_in, has_entry}
-use Rattle.holdings.specs.Places.{any_of}
+use Rattle.holdings.specs.Places.{IsWithin, any_of}
+use Rattle.holdings.specs.Inner.Held.{is_place, is_listed, links_in, has_frame, holdings_of, limits_in, holdings_in, has_entry}
 use Rattle.holdings.specs.Inner.Stripping.{firsts, AreOfFrame, OriginsHaveEntries, pruned}
 use Rattle.holdings.specs.Inner.Sound.{AreSound, AreLoose}
 use Rattle.holdings.proofs.Contents.Listing.{within_from_place, place_from_within}
 use Rattle.holdings.specs.Inner.Links.{IsTreeSet}
 use Rattle.model.specs.Records.{are_limits}
 use Rattle.holdings.proofs.Contents.Holders.{same_origins, present_within, origin_within}
-use Rattle.holdings.proofs.Trees.Chains.{chains_agree, stands, listed_at, at_among, below_among, entry_held}
-use Rattle.holdings.proofs.Stripping.Walks.{place_any, place_kept}
+use Rattle.holdings.proofs.Trees.Chains.{chains_agree, stands, listed_at, at_among, below_among, entry_held, place_at_drop}
+use Rattle.holdings.proofs.Stripping.Walks.{place_any}
 use Rattle.holdings.proofs.Stripping.Sequences.{AreStripped, rising_at}
 use Rattle.holdings.proofs.Stripping.Outer.{outer_word, outer_strip}
-
--- what a tree lists is held
-pub stood : (frame : ℕ) (o : Option Entry) → has_frame frame o ≡ true → (e : Entry) × (o ≡ Some e) × (e.frame ≡ frame)
-stood frame None is = absurd (cc is)
-stood frame (Some e) is = (e, refl, eqb-true e.frame frame is)
+use Rattle.holdings.proofs.Contents.WordChanges.{frame_from, place_kept}
 
 -- sound words and trees are loose
 pub loose_from : (shards : Shards) (trees : List Shape) → AreSound shards trees → AreLoose shards trees
 loose_from shards trees sound = record {
   fits = sound.kept.fits;
   within = sound.pruned.within;
-  frames = λ frame p e listed is. let k = stood frame (entry_at shards p) (sound.pruned.held frame p listed) in by e k.0 (sym is ∙ k.1) k.2;
+  frames = λ frame p e listed is. let k = frame_from frame (entry_at shards p) (sound.pruned.held frame p listed) in by e k.0 (sym is ∙ k.1) k.2;
   lawful = sound.kept.lawful;
 }
   where
@@ -71,11 +65,6 @@ module _ (test : Place → Bool) (os : Origins) where
   all_slice : (a m : ℕ) → ((j : ℕ) (d : Place) → a ≤ j → j < a + m → j < length os → test (place_at os j d) ≡ true) → list_all (λ o. test o.0) (take m (drop a os)) ≡ true
   all_slice a m each = front m (drop a os) (λ i d less within. rw (place_at_drop a os i d) (each (a + i) d (omega arith) (omega (arith, less)) (omega (arith, within, length-drop a os))))
     where
-      place_at_drop : (a : ℕ) (os : Origins) (i : ℕ) (d : Place) → place_at (drop a os) i d ≡ place_at os (a + i) d
-      place_at_drop zero os i d = let same : i ≡ 0 + i = omega arith in ap (λ j. place_at os j d) same
-      place_at_drop (suc a) [] i d = refl
-      place_at_drop (suc a) (o ∷ os) i d = let more : suc a + i ≡ suc (a + i) = omega arith in place_at_drop a os i d ∙ ap (λ j. place_at (o ∷ os) j d) (sym more)
-
       front : (m : ℕ) (xs : Origins) → ((i : ℕ) (d : Place) → i < m → i < length xs → test (place_at xs i d) ≡ true) → list_all (λ o. test o.0) (take m xs) ≡ true
       front zero xs each = refl
       front (suc m) [] each = refl
@@ -85,12 +74,6 @@ module _ (test : Place → Bool) (os : Origins) where
   all_outside from [] rise each =
       let size = length-drop from os in
       ap (list_all (λ o. test o.0)) (sym (take_all (length os) (drop from os) (omega (arith, size)))) ∙ all_slice from (length os) (λ j d least less within. each j d least within (λ lies. lies))
-    where
-      take_all : (n : ℕ) (xs : Origins) → length xs ≤ n → take n xs ≡ xs
-      take_all zero [] upto = refl
-      take_all (suc n) [] upto = refl
-      take_all zero (x ∷ xs) upto = absurd (omega (arith, upto))
-      take_all (suc n) (x ∷ xs) upto = ap (λ ys. x ∷ ys) (take_all n xs (omega (arith, upto)))
   all_outside from (r ∷ rs) rise each =
       list_all-append (λ o. test o.0) (slice_range os from r.start) (outside r.end rs os)
       ∙ and_from _ _ (all_slice from (r.start - from) (λ j d least less within. each j d least within (λ lies. before j (omega (arith, less, least, rise.0)) lies)))
@@ -247,7 +230,7 @@ module _ (shards : Shards) (trees : List Shape) (sound : AreSound shards trees) 
         stays p j d within here out =
             let listed : is_listed trees frame p ≡ true = subst (λ q. is_listed trees frame q ≡ true) here (listed_at (links_in trees frame) j d within) in
             let inside = within_from_place (limits_in shards trees) p (sound.pruned.within frame p listed) in
-            let e = stood frame (entry_at shards p) (sound.pruned.held frame p listed) in
+            let e = frame_from frame (entry_at shards p) (sound.pruned.held frame p listed) in
             let held = present_within (limits_in shards trees) shards trees p inside e.0 e.1 in
             let not_below : is_below (holdings_in shards trees) (any_of (firsts (links_in trees frame) runs)) p ≡ false = false_from_ne_true _ (λ below. out (lies p j d within here below)) in
             let left = at_each (stripping (holdings_in shards trees) (any_of (firsts (links_in trees frame) runs)) a f) (holdings_in shards trees) p lawful.sorted in
@@ -258,7 +241,7 @@ module _ (shards : Shards) (trees : List Shape) (sound : AreSound shards trees) 
             lies p j d within here below =
                 let listed : is_listed trees frame p ≡ true = subst (λ q. is_listed trees frame q ≡ true) here (listed_at (links_in trees frame) j d within) in
                 let inside = within_from_place (limits_in shards trees) p (sound.pruned.within frame p listed) in
-                let e = stood frame (entry_at shards p) (sound.pruned.held frame p listed) in
+                let e = frame_from frame (entry_at shards p) (sound.pruned.held frame p listed) in
                 let chain = (below_is_a_chain (holdings_in shards trees) sound.kept.lawful (any_of (firsts (links_in trees frame) runs)) p).0 below in
                 let agree = chains_agree shards trees loose chain.origins p e.0 inside e.1 in
                 let leads : after chain.origins (links_in trees frame) p ≡ Some chain.into = ap (λ n. after chain.origins (links_in trees n) p) (sym e.2) ∙ sym agree.0 ∙ chain.leads in
@@ -322,7 +305,7 @@ module _ (shards : Shards) (trees : List Shape) (sound : AreSound shards trees) 
           by (inr apart) =
               let before : is_listed trees g p ≡ true = sym (ap (λ os. list_any (λ o. same_place p o.0) os) (set.elsewhere g apart)) ∙ listed in
               let inside = within_from_place (limits_in shards trees) p (sound.pruned.within g p before) in
-              let e = stood g (entry_at shards p) (sound.pruned.held g p before) in
+              let e = frame_from g (entry_at shards p) (sound.pruned.held g p before) in
               let held = present_within (limits_in shards trees) shards trees p inside e.0 e.1 in
               let not_below : is_below (holdings_in shards trees) (any_of (firsts (links_in trees frame) runs)) p ≡ false = false_from_ne_true _ (λ below. apart (below_frame p e.0 inside e.1 e.2 below)) in
               let left = at_each (stripping (holdings_in shards trees) (any_of (firsts (links_in trees frame) runs)) a f) (holdings_in shards trees) p lawful.sorted in

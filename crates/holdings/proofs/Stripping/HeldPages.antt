@@ -15,10 +15,8 @@ use Rattle.space.proofs.Places.{same_is, same_or_apart, same_self, apart_back}
 use Rattle.model.specs.Holdings.{only}
 use Rattle.holdings.specs.declared.pages.HeldPage.{HeldPage}
 use Rattle.model.specs.Calls.{Limits}
-use Rattle.holdings.specs.Places.{IsWithin}
-use Rattle.holdings.specs.Inner.Held.{is_place, has_frame}
-use Rattle.holdings.specs.Places.{any_of}
-use Rattle.holdings.specs.Inner.Held.{has_entry}
+use Rattle.holdings.specs.Places.{IsWithin, any_of}
+use Rattle.holdings.specs.Inner.Held.{is_place, has_frame, has_entry}
 use Rattle.holdings.specs.Inner.Stripping.{HasItsFrame, AreHeldPages}
 use Rattle.holdings.proofs.Contents.Listing.{place_from_within}
 use Rattle.holdings.proofs.Stripping.Sequences.{any_more}

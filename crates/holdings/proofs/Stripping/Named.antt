@@ -1,9 +1,9 @@
 -- The pages that a word names, and the groups of one frame among them.
-use Rattle.std.proofs.Common.{◌≡◌, ℕ, zero, suc, ◌+◌, ◌-◌, ◌<◌, ◌≤◌, true, Bool, ◌&&◌, ◌||◌, ◌==◌, List, [], ◌∷◌, length, drop, take, get_or, Option, Some, None, is_some, refl, sym, ap, ◌∙◌, subst, arith, ◌⊎◌, inl, inr}
+use Rattle.std.proofs.Common.{◌≡◌, ℕ, zero, suc, ◌-◌, ◌<◌, ◌≤◌, true, Bool, ◌&&◌, ◌||◌, ◌==◌, List, [], ◌∷◌, length, drop, take, get_or, Option, Some, None, is_some, refl, sym, ap, ◌∙◌, subst, arith, ◌⊎◌, inl, inr}
 use Rattle.std.specs.List.{All, list_all, slice_range}
 use Rattle.std.specs.List.Sorted.{IsPermutation}
-use Rattle.std.proofs.lemmas.Bool.{or_cases, or_right, and_parts, and_from, eqb-true, eq-eqb}
-use Rattle.std.proofs.lemmas.List.{drop_more, length-drop}
+use Rattle.std.proofs.lemmas.Bool.{or_cases, or_right, and_parts, eqb-true}
+use Rattle.std.proofs.lemmas.List.{take_all}
 use Rattle.model.specs.Calls.{Limits}
 use Rattle.std.proofs.lemmas.List.Folds.{list_any-append}
 use Rattle.std.proofs.lemmas.List.Sorted.{list_any-IsPermutation, All-permutation}
@@ -22,22 +22,21 @@ use Rattle.model.proofs.LawfulParts.{IsLawful, lawful_parts}
 use Rattle.model.proofs.StripUnions.{strip-union, word-union, strip_same, word_same, strip_nothing, word_nothing}
 use Rattle.model.proofs.Chains.{below_empty}
 use Rattle.holdings.specs.declared.pages.HeldPage.{HeldPage}
-use Rattle.holdings.specs.Inner.Held.{is_place}
-use Rattle.holdings.specs.Inner.Held.{limits_in, holdings_in, has_entry}
+use Rattle.holdings.specs.Inner.Held.{is_place, limits_in, holdings_in, has_entry, held_of}
 use Rattle.holdings.specs.Places.{any_of}
 use Rattle.holdings.specs.Inner.Stripping.{any_page, places_in, HasItsFrame, AreOfFrame}
 use Rattle.holdings.specs.Inner.Sound.{AreSound}
 use Rattle.holdings.proofs.Contents.Listing.{within_from_place}
 use Rattle.maptree.proofs.Cuttings as lists
-use Rattle.maptree.proofs.Cuttings.{take_all}
 use Rattle.model.proofs.EvenChanges.{was_held}
 use Rattle.model.proofs.StripAt.{stripping, left_is}
 use Rattle.model.specs.Strip.{is_narrowed, stripped}
 use Rattle.std.proofs.lemmas.List.Elements.{All-take, All-drop}
+use Rattle.std.proofs.lemmas.Option.{same_Some}
 use Rattle.holdings.proofs.Contents.Holders.{present_within}
-use Rattle.holdings.specs.Inner.Held.{held_of}
 use Rattle.holdings.proofs.Trees.Chains.{entry_held}
-use Rattle.holdings.proofs.Stripping.Frames.{stood, loose_from}
+use Rattle.holdings.proofs.Stripping.Frames.{loose_from}
+use Rattle.holdings.proofs.Contents.WordChanges.{frame_from}
 
 -- ---- groups of one frame
 
@@ -87,7 +86,7 @@ module _ (old : Shards) (old_trees : List Shape) (sound : AreSound old old_trees
 
   -- the frame of a page of the list
   page_frame : (i : ℕ) (d : HeldPage) → i < length pages → (e : Entry) × (entry_at old (get_or pages i d).place ≡ Some e) × (e.frame ≡ (get_or pages i d).frame)
-  page_frame i d within = stood (get_or pages i d).frame (entry_at old (get_or pages i d).place) (are.frames i d within)
+  page_frame i d within = frame_from (get_or pages i d).frame (entry_at old (get_or pages i d).place) (are.frames i d within)
 
   -- its frame is one of the frames
   pub frame_within : (now : Shards) (now_trees : List Shape) → limits_in now now_trees ≡ limits_in old old_trees → (i : ℕ) (d : HeldPage) → i < length pages → (get_or pages i d).frame < length now_trees
@@ -102,18 +101,15 @@ module _ (old : Shards) (old_trees : List Shape) (sound : AreSound old old_trees
       → list_all (λ h. h.frame == frame) (slice_range pages from to) ≡ true → AreOfFrame now now_trees frame (places_in (slice_range pages from to))
   of_frame now now_trees status from to frame so_far within same p e named is_page is =
       let found = find_page (slice_range pages from to) named same (All-take (HasItsFrame old) (to - from) (drop from pages) (All-drop (HasItsFrame old) from pages are.frames)) in
-      let before = stood found.0.frame (entry_at old found.0.place) found.3 in
+      let before = frame_from found.0.frame (entry_at old found.0.place) found.3 in
       let inside = within_from_place (limits_in now now_trees) p is_page in
       let held = present_within (limits_in now now_trees) now now_trees p inside e is in
       let was = was_held (holdings_in old old_trees) (stripping (holdings_in old old_trees) (any_page (take from pages)) a f) sound_lawful p (held_of now_trees p e) (ap (λ h. at h p) (sym so_far.left) ∙ held) in
       let kept = (left_is (is_narrowed (holdings_in old old_trees) (any_page (take from pages)) f p) (stripped (holdings_in old old_trees) (any_page (take from pages)) a f p was.before) (held_of now_trees p e) was.left).0 in
       let old_entry = entry_held old old_trees (loose_from old old_trees sound) p was.before was.held in
-      let one : old_entry.1.0 ≡ before.0 = same_entry old_entry.1.0 before.0 (sym old_entry.1.1 ∙ ap (entry_at old) found.1 ∙ before.1) in
+      let one : old_entry.1.0 ≡ before.0 = same_Some old_entry.1.0 before.0 (sym old_entry.1.1 ∙ ap (entry_at old) found.1 ∙ before.1) in
       ap (λ (m : Held). m.frame) kept ∙ ap (λ (m : Held). m.frame) old_entry.1.2 ∙ ap (λ (x : Entry). x.frame) one ∙ before.2 ∙ eqb-true found.0.frame frame found.2
     where
-      same_entry : (x y : Entry) → Some x ≡ Some y → x ≡ y
-      same_entry x y is = cc is
-
       find_page : (xs : List HeldPage) → any_of (places_in xs) p ≡ true → list_all (λ h. h.frame == frame) xs ≡ true → All (HasItsFrame old) xs → (h : HeldPage) × (p ≡ h.place) × ((h.frame == frame) ≡ true) × HasItsFrame old h
       find_page [] named same all = absurd (cc named)
       find_page (x ∷ xs) named same all =
@@ -183,23 +179,3 @@ pub places_of_set : (limits : Limits) (shards : Shards) (pages : List HeldPage) 
     → All (λ h. is_place limits h.place ≡ true) pages
 places_of_set limits shards pages set named within i d less =
     within (get_or pages i d).place (and_parts (set (get_or pages i d).place) (has_entry shards (get_or pages i d).place) (sym (named (get_or pages i d).place) ∙ any_at pages i d less)).0
-
--- a page and those behind it of the same frame are a group
-pub group_all : (pages : List HeldPage) (from n frame : ℕ) (d : HeldPage) → from < length pages → (get_or pages from d).frame ≡ frame → n ≤ length (take (length pages - (from + 1)) (drop (from + 1) pages))
-    → list_all (λ h. h.frame == frame) (take n (take (length pages - (from + 1)) (drop (from + 1) pages))) ≡ true
-    → (from + 1 + n ≤ length pages) × (list_all (λ h. h.frame == frame) (slice_range pages from (from + 1 + n)) ≡ true)
-group_all pages from n frame d within is most all =
-    let dropped = length-drop (from + 1) pages in
-    let whole : take (length pages - (from + 1)) (drop (from + 1) pages) ≡ drop (from + 1) pages = take_all (length pages - (from + 1)) (drop (from + 1) pages) (omega (arith, dropped)) in
-    let most_there : n ≤ length (drop (from + 1) pages) = subst (λ xs. n ≤ length xs) whole most in
-    let span : from + 1 + n - from ≡ suc n = omega arith in
-    let front : slice_range pages from (from + 1 + n) ≡ get_or pages from d ∷ take n (drop (from + 1) pages) = ap (λ k. take k (drop from pages)) span ∙ ap (take (suc n)) (drop_more pages from d within) in
-    (omega (arith, most_there, dropped, within), ap (list_all (λ (h : HeldPage). h.frame == frame)) front ∙ and_from _ _ (eq-eqb (get_or pages from d).frame frame is) (ap (λ xs. list_all (λ (h : HeldPage). h.frame == frame) (take n xs)) (sym whole) ∙ all))
-
--- the same of pages that are shown
-pub group_shown : (pages shown : List HeldPage) (from n frame : ℕ) (d : HeldPage) → shown ≡ pages → from < length pages → (get_or pages from d).frame ≡ frame → n ≤ length (take (length shown - (from + 1)) (drop (from + 1) shown))
-    → list_all (λ h. h.frame == frame) (take n (take (length shown - (from + 1)) (drop (from + 1) shown))) ≡ true
-    → (from + 1 + n ≤ length pages) × (list_all (λ h. h.frame == frame) (slice_range pages from (from + 1 + n)) ≡ true)
-group_shown pages shown from n frame d same within is most all =
-    group_all pages from n frame d within is (subst (λ xs. n ≤ length (take (length xs - (from + 1)) (drop (from + 1) xs))) same most)
-    (subst (λ xs. list_all (λ (h : HeldPage). h.frame == frame) (take n (take (length xs - (from + 1)) (drop (from + 1) xs))) ≡ true) same all)

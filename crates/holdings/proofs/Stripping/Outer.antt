@@ -2,6 +2,7 @@
 use Rattle.std.proofs.Common.{◌≡◌, true, false, Bool, ◌&&◌, ◌||◌, refl, sym, ap, ◌∙◌, arith}
 use Rattle.std.proofs.lemmas.Bool.{and_parts, false_from_ne_true}
 use Rattle.fpage.specs.declared.rights.Rights.{Rights}
+use Rattle.fpage.proofs.Truth.{same_truth}
 use Rattle.space.specs.declared.place.Place.{Place}
 use Rattle.model.specs.Holdings.{Holdings, PlaceSet, is_held}
 use Rattle.model.specs.Derived.{is_under, is_below}
@@ -9,13 +10,6 @@ use Rattle.model.specs.Strip.{strip, strip_word, is_narrowed}
 use Rattle.model.proofs.LawfulParts.{IsLawful}
 use Rattle.model.proofs.Chains.{in_below, under_within, below_within, under_same, below_same}
 use Rattle.model.proofs.StripUnions.{word_alike, strip_alike}
-
--- tests that follow from one another are one
-pub same_test : (a b : Bool) → (a ≡ true → b ≡ true) → (b ≡ true → a ≡ true) → a ≡ b
-same_test true true there back = refl
-same_test true false there back = sym (there refl)
-same_test false true there back = back refl
-same_test false false there back = refl
 
 module _ (h : Holdings) (l : IsLawful h) (C X : PlaceSet) (named : (q : Place) → C q ≡ true → X q ≡ true) (covers : (q : Place) → is_held h q ≡ true → X q ≡ true → is_below h C q ≡ true) where
   -- those that are held
@@ -35,10 +29,10 @@ module _ (h : Holdings) (l : IsLawful h) (C X : PlaceSet) (named : (q : Place) �
   back q is = let parts = and_parts (X q) (is_held h q) is in covers q parts.1 parts.0
 
   below_is : (p : Place) → is_held h p ≡ true → is_below h C p ≡ is_below h X p
-  below_is p is = same_test (is_below h C p) (is_below h X p) (below_within h l C X there p) (λ below. below_within h l held C back p (sym (below_same h l X held held_same p is) ∙ below))
+  below_is p is = same_truth (is_below h C p) (is_below h X p) (below_within h l C X there p) (λ below. below_within h l held C back p (sym (below_same h l X held held_same p is) ∙ below))
 
   under_is : (p : Place) → is_held h p ≡ true → is_under h C p ≡ is_under h X p
-  under_is p is = same_test (is_under h C p) (is_under h X p) (under_within h l C X there p) (λ under. under_within h l held C back p (sym (under_same h l X held held_same p is) ∙ under))
+  under_is p is = same_truth (is_under h C p) (is_under h X p) (under_within h l C X there p) (λ under. under_within h l held C back p (sym (under_same h l X held held_same p is) ∙ under))
 
   narrowed_is : (f : Bool) (p : Place) → is_held h p ≡ true → is_narrowed h C f p ≡ is_narrowed h X f p
   narrowed_is f p is = ap (λ b. b || (f && C p)) (under_is p is) ∙ by (is_under h X p) refl

@@ -3,6 +3,7 @@ use Rattle.std.proofs.Common.{◌≡◌, ℕ, zero, suc, ◌+◌, ◌<◌, ◌�
 use Rattle.std.specs.declared.ops.Range.{Range}
 use Rattle.std.proofs.lemmas.List.{take_more, map-append}
 use Rattle.std.proofs.lemmas.List.Folds.{list_any-append}
+use Rattle.std.proofs.Math.Bool.{or-false}
 use Rattle.fpage.specs.Rights.{no_rights, join}
 use Rattle.fpage.specs.declared.rights.Rights.{Rights}
 use Rattle.space.specs.declared.place.Place.{Place}
@@ -36,8 +37,9 @@ rising_at from (r ∷ rs) most (suc i) d rise within = rising_at r.end rs most i
 
 -- ---- sets
 
-same_sym : (p q : Place) → same_place p q ≡ same_place q p
-same_sym p q = by (same_or_apart p q)
+-- places are one or apart both ways
+pub same_back : (p q : Place) → same_place p q ≡ same_place q p
+same_back p q = by (same_or_apart p q)
   where
     by : (p ≡ q) ⊎ (same_place p q ≡ false) → same_place p q ≡ same_place q p
     by (inl same) = ap (λ x. same_place x q) same ∙ ap (same_place q) (sym same)
@@ -45,10 +47,7 @@ same_sym p q = by (same_or_apart p q)
 
 -- one more place of a list
 pub any_more : (ps : List Place) (c q : Place) → any_of (ps ++ c ∷ []) q ≡ (any_of ps q || only c q)
-any_more ps c q = list_any-append (same_place q) ps (c ∷ []) ∙ ap (λ b. any_of ps q || b) (last (same_place q c) ∙ same_sym q c)
-  where
-    last : (b : Bool) → (b || false) ≡ b
-    last b = grind arith
+any_more ps c q = list_any-append (same_place q) ps (c ∷ []) ∙ ap (λ b. any_of ps q || b) (or-false (same_place q c) ∙ same_back q c)
 
 -- ---- in turn
 

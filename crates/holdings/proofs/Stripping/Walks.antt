@@ -34,15 +34,16 @@ use Rattle.model.specs.Lawful.{is_lawful}
 use Rattle.model.specs.Records.{are_limits}
 use Rattle.std.proofs.lemmas.Option.{same_Some}
 use Rattle.holdings.specs.Places.{IsWithin}
-use Rattle.holdings.specs.Inner.Held.{is_place, is_listed, links_in, held_of, held_at, holdings_of}
+use Rattle.holdings.specs.Inner.Held.{is_place, is_listed, links_in, held_of, held_at, holdings_of, limits_in, holdings_in}
 use Rattle.space.specs.Entries.{narrowed, status_of, with_status}
-use Rattle.holdings.specs.Inner.Held.{limits_in, holdings_in}
 use Rattle.holdings.specs.Inner.Sound.{AreLoose}
 use Rattle.holdings.proofs.Contents.Listing.{listing_each, within_from_place}
 use Rattle.space.specs.Directory.{pages_of}
 use Rattle.std.proofs.lemmas.List.{length-drop}
+use Rattle.std.proofs.Math.Bool.{or-false}
 use Rattle.holdings.proofs.Contents.Holders.{held_within, absent_within, origin_within}
 use Rattle.holdings.proofs.Trees.Chains.{is_among, among_at, listed_at, place_at_drop, below_among, entry_held}
+use Rattle.holdings.proofs.Contents.WordChanges.{place_kept}
 
 -- ---- unions of status
 
@@ -166,12 +167,9 @@ module _ (old : Shards) (trees : List Shape) (loose : AreLoose old trees) (c : P
           let is_done : done' q ≡ true = one_more q ∙ or_right _ _ (same_self q) in
           rw (same, is_done) (set.there ∙ ap (option_and_then (narrowed loses a)) stood ∙ ap (λ b. option_and_then (narrowed b a) (entry_at old q)) loses_is)
       entry p p_place stood (inr apart) =
-          let unchanged : done' p ≡ done p = one_more p ∙ ap (λ b. done p || b) apart ∙ or_false _ in
-          let place_now : IsPlace now p = record { space = subst (λ n. p.space < n) (sym so_far.layout.spaces) p_place.space; page = subst (λ b. p.page < pages_of b) (sym so_far.layout.bits) p_place.page } in
+          let unchanged : done' p ≡ done p = one_more p ∙ ap (λ b. done p || b) apart ∙ or-false _ in
+          let place_now : IsPlace now p = place_kept old now so_far.layout p p_place in
           set.elsewhere p place_now (λ same. cc (apart, ap (λ x. same_place x q) same, same_self q)) ∙ so_far.entries p p_place ∙ ap (λ b. walked b (f || not (same_place p c)) a (entry_at old p)) (sym unchanged)
-        where
-          or_false : (b : Bool) → (b || false) ≡ b
-          or_false b = grind arith
 
 -- a position behind those so far has another place than they
 pub not_among : (os : Origins) (start i : ℕ) (q : Place) → ((j : ℕ) (d : Place) → j < length os → place_at os j d ≡ q → j ≡ i) → is_among os start i q ≡ false
@@ -419,10 +417,6 @@ standing_place shards trees frame loose p stands = let inside = within_from_plac
 pub listed_place : (shards : Shards) (trees : List Shape) (frame : ℕ) → AreLoose shards trees → (i : ℕ) (p : Place) → i < length (links_in trees frame) → ((d : Place) → place_at (links_in trees frame) i d ≡ p) → IsPlace shards p
 listed_place shards trees frame loose i p within at =
     standing_place shards trees frame loose p (subst (λ q. is_listed trees frame q ≡ true) (at p) (listed_at (links_in trees frame) i p within))
-
--- places of one layout
-pub place_kept : (old new : Shards) → IsLaidOutAs old new → (p : Place) → IsPlace old p → IsPlace new p
-place_kept old new layout p place = record { space = subst (λ n. p.space < n) (sym layout.spaces) place.space; page = subst (λ b. p.page < pages_of b) (sym layout.bits) place.page }
 
 pub same_layouts : (old now new : Shards) → IsLaidOutAs old now → IsLaidOutAs now new → IsLaidOutAs old new
 same_layouts old now new x y = record { spaces = y.spaces ∙ x.spaces; bits = y.bits ∙ x.bits; count = y.count ∙ x.count; index = λ p. y.index p ∙ x.index p }

@@ -21,8 +21,7 @@ use Rattle.model.proofs.LawfulParts.{IsLawful, lawful_parts}
 use Rattle.model.proofs.Chains.{held_with_origin}
 use Rattle.model.proofs.Derivations.{below_is_a_chain}
 use Rattle.holdings.specs.Places.{IsWithin}
-use Rattle.holdings.specs.Inner.Held.{is_listed, links_in, held_of, held_at}
-use Rattle.holdings.specs.Inner.Held.{limits_in, holdings_in}
+use Rattle.holdings.specs.Inner.Held.{is_listed, links_in, held_of, held_at, limits_in, holdings_in}
 use Rattle.holdings.specs.Inner.Sound.{AreLoose}
 use Rattle.holdings.proofs.Contents.Listing.{listed_within}
 use Rattle.holdings.proofs.Contents.Holders.{present_within, origin_within}

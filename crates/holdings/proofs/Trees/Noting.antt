@@ -1,8 +1,8 @@
 -- What is noted of places while a tree is walked.
-use Rattle.std.proofs.Common.{◌≡◌, ℕ, zero, suc, ◌<◌, true, false, Bool, not, nat_lt, List, [], ◌∷◌, length, Option, Some, None, refl, sym, ap, ◌∙◌, subst, arith, ◌⊎◌, inl, inr, cond}
+use Rattle.std.proofs.Common.{◌≡◌, ℕ, zero, suc, ◌<◌, true, false, not, nat_lt, List, [], ◌∷◌, length, Option, Some, None, refl, sym, ap, ◌∙◌, subst, arith, ◌⊎◌, inl, inr, cond}
 use Rattle.std.specs.Prelude.{position, slice_index_or}
 use Rattle.std.specs.List.{list_all, prefix_len}
-use Rattle.std.proofs.lemmas.Bool.{and_parts, lt-ltb, eqb-true}
+use Rattle.std.proofs.lemmas.Bool.{and_parts, lt-ltb, eqb-true, not-true}
 use Rattle.space.specs.declared.place.Place.{Place}
 use Rattle.space.specs.declared.place.Entry.{Entry}
 use Rattle.space.specs.declared.shards.Shards.{Shards}
@@ -19,14 +19,10 @@ use Rattle.holdings.specs.Sending.{page_on}
 
 -- ---- a place of a tree
 
-not_true : (b : Bool) → not b ≡ true → b ≡ false
-not_true true is = absurd (cc is)
-not_true false is = refl
-
 -- a place that stands at one position is not the first's
 apart_first : (os : Origins) (i : ℕ) (o x : Place × Option Place) → list_all (λ q. not (same_place o.0 q.0)) os ≡ true → i < length os → slice_index_or os i x ≡ x → same_place o.0 x.0 ≡ false
 apart_first [] i o x apart within there = absurd (omega (arith, within))
-apart_first (q ∷ os) zero o x apart within there = ap (λ (y : Place × Option Place). same_place o.0 y.0) (sym there) ∙ not_true (same_place o.0 q.0) (and_parts (not (same_place o.0 q.0)) (list_all (λ q. not (same_place o.0 q.0)) os) apart).0
+apart_first (q ∷ os) zero o x apart within there = ap (λ (y : Place × Option Place). same_place o.0 y.0) (sym there) ∙ not-true (same_place o.0 q.0) (and_parts (not (same_place o.0 q.0)) (list_all (λ q. not (same_place o.0 q.0)) os) apart).0
 apart_first (q ∷ os) (suc i) o x apart within there = apart_first os i o x (and_parts (not (same_place o.0 q.0)) (list_all (λ q. not (same_place o.0 q.0)) os) apart).1 (omega (arith, within)) there
 
 -- none before it has its place

@@ -1,9 +1,9 @@
 -- The origin of a node, read off the links of the tree.
-use Rattle.std.proofs.Common.{◌≡◌, ℕ, zero, suc, ◌<◌, true, false, Bool, not, [], ◌∷◌, length, get_or, Option, Some, refl, ap, ◌∙◌, arith, if◌then◌else◌}
+use Rattle.std.proofs.Common.{◌≡◌, ℕ, zero, suc, ◌<◌, true, false, not, [], ◌∷◌, length, get_or, Option, Some, ap, ◌∙◌, arith, if◌then◌else◌}
 use Rattle.std.specs.List.{list_all}
 use Rattle.std.specs.Option.{option_and_then}
 use Rattle.std.specs.FinMap.Entries.{find}
-use Rattle.std.proofs.lemmas.Bool.{and_parts}
+use Rattle.std.proofs.lemmas.Bool.{and_parts, not-true}
 use Rattle.space.specs.declared.place.Place.{Place}
 use Rattle.space.specs.Place.{place_cmp, same_place}
 use Rattle.space.proofs.Places.{same_self, apart_back}
@@ -16,11 +16,7 @@ own_origin os i o d once within = ap (option_and_then (λ o. o)) (found os i o d
   where
     apart_at : (p : Place) (os : Origins) (i : ℕ) (d : Place) → list_all (λ q. not (same_place p q.0)) os ≡ true → i < length os → same_place p (place_at os i d) ≡ false
     apart_at p [] i d apart within = absurd (omega (arith, within))
-    apart_at p (o ∷ os) zero d apart within = by (same_place p o.0) (and_parts (not (same_place p o.0)) (list_all (λ q. not (same_place p q.0)) os) apart).0
-      where
-        by : (b : Bool) → not b ≡ true → b ≡ false
-        by true is = absurd (cc is)
-        by false is = refl
+    apart_at p (o ∷ os) zero d apart within = not-true (same_place p o.0) (and_parts (not (same_place p o.0)) (list_all (λ q. not (same_place p q.0)) os) apart).0
     apart_at p (o ∷ os) (suc i) d apart within = apart_at p os i d (and_parts (not (same_place p o.0)) (list_all (λ q. not (same_place p q.0)) os) apart).1 (omega (arith, within))
 
     found : (os : Origins) (i : ℕ) (o : Place × Option Place) (d : Place) → are_once os ≡ true → i < length os → find place_cmp (place_at os i d) os ≡ Some (get_or os i o).1

@@ -6,10 +6,9 @@ use Rattle.space.specs.Place.{same_place}
 use Rattle.space.specs.Shards.{IsPlace}
 use Rattle.maptree.specs.Origins.{Origins, Shape, IsRun, AreRising, AreOuterRuns}
 use Rattle.maptree.specs.Cuts.{outside}
-use Rattle.holdings.specs.Inner.Held.{links_in}
+use Rattle.holdings.specs.Inner.Held.{links_in, has_entry, holdings_in}
 use Rattle.holdings.specs.Inner.Derivation.{stands_in}
 use Rattle.holdings.specs.Inner.Stripping.{AreOfFrame, firsts, pruned, OriginsHaveEntries}
-use Rattle.holdings.specs.Inner.Held.{has_entry, holdings_in}
 use Rattle.model.proofs.LawfulParts.{lawful_parts}
 use Rattle.holdings.proofs.Contents.Holders.{links_read}
 use Rattle.holdings.specs.Inner.Links.{IsTreeSet}

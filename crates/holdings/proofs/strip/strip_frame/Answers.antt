@@ -8,9 +8,8 @@ use Rattle.space.specs.declared.place.Place.{Place}
 use Rattle.space.specs.Shards.{IsPlace}
 use Rattle.maptree.specs.Origins.{Origins, Shape, place_at, IsRun, AreOuterRuns}
 use Rattle.maptree.specs.Cuts.{outside}
-use Rattle.holdings.specs.Inner.Held.{links_in}
+use Rattle.holdings.specs.Inner.Held.{links_in, has_entry}
 use Rattle.holdings.specs.Inner.Stripping.{firsts, pruned, OriginsHaveEntries}
-use Rattle.holdings.specs.Inner.Held.{has_entry}
 use Rattle.holdings.specs.Inner.Derivation.{IsOriginAt}
 use Rattle.holdings.proofs.Contents.Holders.{links_read}
 use Rattle.holdings.specs.Inner.Links.{IsTreeSet}

@@ -7,9 +7,8 @@ use Rattle.model.specs.SendLaws.{total}
 use Rattle.model.specs.Strip.{strip}
 use Rattle.holdings.specs.declared.transfer.Transfer.{Transfer}
 use Rattle.holdings.specs.Contents.{left_with}
-use Rattle.holdings.specs.Places.{IsWithin}
+use Rattle.holdings.specs.Places.{IsWithin, any_of}
 use Rattle.holdings.specs.Meaning as phase
-use Rattle.holdings.specs.Places.{any_of}
 use Rattle.holdings.specs.Sending.{job_of_pages, IsTransferWithin, ArePlanned, AllGo, AreReady}
 use Rattle.mapdb.specs.declared.plan.End.TheVariants.{Target}
 use Rattle.mapdb.specs.Meaning.{counts_of}

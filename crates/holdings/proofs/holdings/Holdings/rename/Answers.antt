@@ -3,10 +3,9 @@ use Rattle.std.proofs.Common.{◌≡◌, ◌+◌, List, None, length, sym, ap, s
 use Rattle.std.proofs.lemmas.List.{with_items_is}
 use Rattle.maptree.specs.Origins.{Shape}
 use Rattle.holdings.specs.Contents.{Contents, AreMoved}
-use Rattle.holdings.specs.Inner.Held.{contents_of}
+use Rattle.holdings.specs.Inner.Held.{contents_of, limits_in, holdings_in}
 use Rattle.holdings.specs.Meaning.{counts_of}
 use Rattle.holdings.specs.Inner.Sound.{AreSound}
-use Rattle.holdings.specs.Inner.Held.{limits_in, holdings_in}
 use Rattle.holdings.specs.Sending.{ArePlanned, AreFree}
 use Rattle.holdings.specs.Inner.Links.{last_target}
 use Rattle.holdings.specs.Inner.Renamings.{AreMovable, AreRenamed}

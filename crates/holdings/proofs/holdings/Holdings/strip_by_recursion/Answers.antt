@@ -8,12 +8,9 @@ use Rattle.model.specs.Calls.{Limits}
 use Rattle.model.specs.Holdings.{only}
 use Rattle.model.specs.Strip.{strip, strip_word}
 use Rattle.holdings.specs.Contents.{Contents, IsStripped}
-use Rattle.holdings.specs.Inner.Held.{contents_of}
-use Rattle.holdings.specs.Places.{IsWithin}
-use Rattle.holdings.specs.Inner.Held.{is_listed}
+use Rattle.holdings.specs.Inner.Held.{contents_of, is_listed, limits_in, holdings_in}
+use Rattle.holdings.specs.Places.{IsWithin, any_of}
 use Rattle.holdings.specs.Inner.Sound.{AreSound}
-use Rattle.holdings.specs.Inner.Held.{limits_in, holdings_in}
-use Rattle.holdings.specs.Places.{any_of}
 use Rattle.holdings.proofs.Recursions.PlaceByPlace.{AreVisitedUpTo, none_visited, one_visited, none_there, all_visited}
 use Rattle.holdings.proofs.holdings.Holdings.strip_by_recursion.Goals as goal
 
