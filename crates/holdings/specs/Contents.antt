@@ -11,9 +11,9 @@ use Rattle.model.specs.Records.{are_limits}
 use Rattle.model.specs.Replay.{start}
 use Rattle.model.specs.Strip.{strip, strip_word}
 use Rattle.holdings.specs.Places.{listing}
-use Rattle.holdings.specs.Sending.{worked, map_transfers, moving_of}
+use Rattle.holdings.specs.Sending.{counts_after_flush, map_transfers, moving_of}
 use Rattle.holdings.specs.declared.transfer.Transfer.{Transfer}
-use Rattle.holdings.specs.declared.worked.Worked.{Worked}
+use Rattle.holdings.specs.declared.transfer_counts.TransferCounts.{TransferCounts}
 use Rattle.holdings.specs.Meaning.{counts_of}
 
 -- the limits, and what is held
@@ -45,11 +45,11 @@ pub record IsStripped (old : Contents) (pages : PlaceSet) (revoked : Rights) (fl
   pub status : r.1 ≡ strip_word old.holdings pages
 
 -- transfers were mapped one after another, and counted
-pub record AreMapped (old : Contents) (ts : List Transfer) (rights : Rights) (r : Contents × Worked) : Type 0 where
+pub record AreMapped (old : Contents) (ts : List Transfer) (rights : Rights) (r : Contents × TransferCounts) : Type 0 where
   pub left : r.0 ≡ left_with old (map_transfers old.holdings (record { kind = Map; rights = rights; pairs = [] }) ts old.holdings)
-  pub counted : counts_of r.1 ≡ worked old.holdings ts
+  pub counted : counts_of r.1 ≡ counts_after_flush old.holdings ts
 
 -- transfers were moved all at once, and counted
-pub record AreMoved (old : Contents) (ts : List Transfer) (r : Contents × Worked) : Type 0 where
+pub record AreMoved (old : Contents) (ts : List Transfer) (r : Contents × TransferCounts) : Type 0 where
   pub left : r.0 ≡ left_with old (renamed (moving_of old.holdings ts) old.holdings)
-  pub counted : counts_of r.1 ≡ worked old.holdings ts
+  pub counted : counts_of r.1 ≡ counts_after_flush old.holdings ts

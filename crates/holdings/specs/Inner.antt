@@ -4,7 +4,6 @@ pub mod Derivation
 pub mod Held
 pub mod Sound
 pub mod Start
-pub mod Entered
 pub mod Stripping
 pub mod Outcomes
 pub mod Spots

@@ -93,13 +93,13 @@ pub record IsReady (h : Holdings) (rights : Rights) (t : Transfer) : Type 0 wher
   pub derived : (m : Held) → t.extends ≡ true → at h t.source ≡ Some m → (k : Held) × (at h t.target ≡ Some k) × (k.origin ≡ Some t.source)
 
 -- what becomes of one that goes or extends: it is lost if its source was flushed
-abbrev pub worked_of : Holdings → Transfer → Counts
-worked_of flushed t = counts_of (fate_in t) (is_held flushed t.source)
+abbrev pub count_after_flush : Holdings → Transfer → Counts
+count_after_flush flushed t = counts_of (fate_in t) (is_held flushed t.source)
 
 -- of some
-abbrev pub worked : Holdings → List Transfer → Counts
-worked flushed [] = no_counts
-worked flushed (t ∷ ts) = add_counts (worked_of flushed t) (worked flushed ts)
+abbrev pub counts_after_flush : Holdings → List Transfer → Counts
+counts_after_flush flushed [] = no_counts
+counts_after_flush flushed (t ∷ ts) = add_counts (count_after_flush flushed t) (counts_after_flush flushed ts)
 
 -- each of some is ready
 abbrev pub AreReady : Holdings → Rights → List Transfer → Type 0

@@ -23,7 +23,7 @@ use Rattle.model.specs.Holdings.{Held, at, keep}
 use Rattle.holdings.specs.Inner.Derivation.{stands_in}
 use Rattle.holdings.specs.Places.{IsWithin, listed}
 use Rattle.holdings.specs.Inner.Held.{is_place, links_in, is_listed, held_of, held_at, has_frame, limits_in, holdings_in}
-use Rattle.holdings.specs.Inner.Entered.{held_with, entered}
+use Rattle.holdings.specs.Inner.Held.{held_with, holdings_at}
 use Rattle.holdings.specs.Inner.Sound.{AreSound}
 use Rattle.holdings.proofs.Contents.Listing.{are_rising, sorted_listed, at_listed, listing_is, within_from_place}
 
@@ -311,10 +311,10 @@ module _ (shards : Shards) (trees : List Shape) (sound : AreSound shards trees) 
       let with_origin : held_with o.1 e ≡ held_of trees o.0 e = λ i. held_with (origin i) e in
       ap (option_map (held_with o.1)) found.1 ∙ ap Some with_origin ∙ ap (option_map (held_of trees o.0)) (sym found.1)
 
-  entered_listed : (xs : Origins) → All (IsLink trees) xs → entered shards xs ≡ listed (held_at shards trees) (places_in xs)
-  entered_listed [] links = refl
-  entered_listed (x ∷ xs) links =
-      (λ i. keep x.0 (same_held x (All-head (IsLink trees) x xs links) i) (entered_listed xs (All-tail (IsLink trees) x xs links) i))
+  holdings_at_listed : (xs : Origins) → All (IsLink trees) xs → holdings_at shards xs ≡ listed (held_at shards trees) (places_in xs)
+  holdings_at_listed [] links = refl
+  holdings_at_listed (x ∷ xs) links =
+      (λ i. keep x.0 (same_held x (All-head (IsLink trees) x xs links) i) (holdings_at_listed xs (All-tail (IsLink trees) x xs links) i))
 
   module _ (sorted : DoNotFall os) where
     abbrev held : Place → Option Held
@@ -348,7 +348,7 @@ module _ (shards : Shards) (trees : List Shape) (sound : AreSound shards trees) 
             let there = times_listed p trees (subst (λ n. 1 ≤ n) (same_times p (all_links trees) os moved) some) in
             absurd (cc (out, sound.pruned.within there.0 p there.1))
 
-    pub entered_holdings : entered shards os ≡ holdings_in shards trees
-    entered_holdings =
-        entered_listed os each_of_these
+    pub holdings_at_all : holdings_at shards os ≡ holdings_in shards trees
+    holdings_at_all =
+        holdings_at_listed os each_of_these
         ∙ sym (listing_is held limits (listed held ps) (sorted_listed held ps (rising_places os sorted at_most_once)) inside outside)

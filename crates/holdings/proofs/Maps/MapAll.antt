@@ -20,7 +20,7 @@ use Rattle.model.proofs.Maps.{pair_other}
 use Rattle.holdings.specs.declared.transfer.Transfer.{Transfer}
 use Rattle.holdings.specs.Inner.Held.{limits_in, holdings_in}
 use Rattle.holdings.specs.Inner.Sound.{AreSound}
-use Rattle.holdings.specs.Sending.{IsReady, ArePaired, fate_in, pair_of, map_transfers, worked, worked_of}
+use Rattle.holdings.specs.Sending.{IsReady, ArePaired, fate_in, pair_of, map_transfers, counts_after_flush, count_after_flush}
 use Rattle.holdings.proofs.CountSums.{add_assoc, add_none, none_add, total_sum}
 
 -- ---- lists of transfers
@@ -35,7 +35,7 @@ pub All-both : {A : Type 0} (P Q R : A → Type 0) (xs : List A) → ((x : A) �
 All-both P Q R xs step p q i d within = step (get_or xs i d) (p i d within) (q i d within)
 
 -- one transfer counts once
-pub worked_one : (h : Holdings) (t : Transfer) → total (worked_of h t) ≡ 1
+pub worked_one : (h : Holdings) (t : Transfer) → total (count_after_flush h t) ≡ 1
 worked_one h t = by (fate_in t) (is_held h t.source) (either t.extends)
   where
     either : (b : Bool) → ((if b then extends else goes) ≡ extends) ⊎ ((if b then extends else goes) ≡ goes)
@@ -71,7 +71,7 @@ module _ (h now : Holdings) (rights : Rights) (t : Transfer) (agree : AgreeOn h 
   same_pair extends = λ i. extend the_job (pair_of t) (agree.0 i) (agree.1 i) now
   same_pair goes = ap (λ m. link the_job (pair_of t) m now) agree.0
 
-  pub same_worked : worked_of now t ≡ worked_of h t
+  pub same_worked : count_after_flush now t ≡ count_after_flush h t
   same_worked = ap (λ m. counts_of (fate_in t) (is_some m)) agree.0
 
 -- ---- the pages so far
@@ -80,7 +80,7 @@ pub record AreMapped (limits : Limits) (h : Holdings) (rights : Rights) (from to
   pub sound : AreSound shards trees
   pub same_limits : limits_in shards trees ≡ limits
   pub left : map_transfers h (record { kind = Map; rights = rights; pairs = [] }) (drop i ts) (holdings_in shards trees) ≡ map_transfers h (record { kind = Map; rights = rights; pairs = [] }) ts h
-  pub counts_are : add_counts counts (worked h (drop i ts)) ≡ worked h ts
+  pub counts_are : add_counts counts (counts_after_flush h (drop i ts)) ≡ counts_after_flush h ts
   pub few : total counts ≤ i
   pub paired : ArePaired from to (drop i ts)
   pub agree : All (AgreeOn h (holdings_in shards trees)) (drop i ts)
@@ -98,7 +98,7 @@ module _ (limits : Limits) (h : Holdings) (rights : Rights) (from to : ℕ) (dif
     sound = sound;
     same_limits = same_limits;
     left = ap (map_transfers h (record { kind = Map; rights = rights; pairs = [] }) ts) same;
-    counts_are = none_add (worked h ts);
+    counts_are = none_add (counts_after_flush h ts);
     few = omega arith;
     paired = paired;
     agree = λ k d within. (ap (λ g. at g (get_or ts k d).source) same, ap (λ g. at g (get_or ts k d).target) same);
@@ -122,19 +122,19 @@ module _ (limits : Limits) (h : Holdings) (rights : Rights) (from to : ℕ) (dif
 
     pub one_mapped : (next : Shards) (next_trees : List Shape) (one : Counts) → AreSound next next_trees → limits_in next next_trees ≡ limits_in shards trees
         → holdings_in next next_trees ≡ map_pair (holdings_in shards trees) (record { kind = Map; rights = rights; pairs = [] }) (pair_of t) (fate_in t) (holdings_in shards trees)
-        → one ≡ worked_of (holdings_in shards trees) t → AreMapped limits h rights from to ts (i + 1) next next_trees (add_counts counts one)
+        → one ≡ count_after_flush (holdings_in shards trees) t → AreMapped limits h rights from to ts (i + 1) next next_trees (add_counts counts one)
     one_mapped next next_trees one sound same_limits left counted =
         let job : Job = record { kind = Map; rights = rights; pairs = [] } in
         let now = holdings_in shards trees in
         let after : holdings_in next next_trees ≡ map_pair h job (pair_of t) (fate_in t) now = left ∙ same_pair h now rights t agree_here (fate_in t) in
-        let one_is : one ≡ worked_of h t = counted ∙ same_worked h now rights t agree_here in
+        let one_is : one ≡ count_after_flush h t = counted ∙ same_worked h now rights t agree_here in
         let single : total one ≡ 1 = ap total one_is ∙ worked_one h t in
         let others = subst (All (AgreeOn h now)) first_and_rest so_far.agree in
         record {
           sound = sound;
           same_limits = same_limits ∙ so_far.same_limits;
           left = ap (map_transfers h job rest) after ∙ sym (ap (λ xs. map_transfers h job xs now) first_and_rest) ∙ so_far.left;
-          counts_are = ap (λ c. add_counts (add_counts counts c) (worked h rest)) one_is ∙ add_assoc counts (worked_of h t) (worked h rest) ∙ sym (ap (λ xs. add_counts counts (worked h xs)) first_and_rest) ∙ so_far.counts_are;
+          counts_are = ap (λ c. add_counts (add_counts counts c) (counts_after_flush h rest)) one_is ∙ add_assoc counts (count_after_flush h t) (counts_after_flush h rest) ∙ sym (ap (λ xs. add_counts counts (counts_after_flush h xs)) first_and_rest) ∙ so_far.counts_are;
           few = subst (λ k. k ≤ i + 1) (sym (total_sum counts one)) (omega (arith, single, so_far.few));
           paired = paired_here.3;
           agree = All-both (AgreeOn h now) (λ x. (x.source.space ≡ from) × (same_place x.target t.target ≡ false)) (AgreeOn h (holdings_in next next_trees)) rest
@@ -149,9 +149,9 @@ module _ (limits : Limits) (h : Holdings) (rights : Rights) (from to : ℕ) (dif
         }
 
   pub all_mapped : (i : ℕ) (shards : Shards) (trees : List Shape) (counts : Counts) → length ts ≤ i → AreMapped limits h rights from to ts i shards trees counts
-      → (counts ≡ worked h ts) × (holdings_in shards trees ≡ map_transfers h (record { kind = Map; rights = rights; pairs = [] }) ts h)
+      → (counts ≡ counts_after_flush h ts) × (holdings_in shards trees ≡ map_transfers h (record { kind = Map; rights = rights; pairs = [] }) ts h)
   all_mapped i shards trees counts past so_far =
       let none : drop i ts ≡ [] = drop_all i ts past in (
-        sym (add_none counts) ∙ sym (ap (λ xs. add_counts counts (worked h xs)) none) ∙ so_far.counts_are,
+        sym (add_none counts) ∙ sym (ap (λ xs. add_counts counts (counts_after_flush h xs)) none) ∙ so_far.counts_are,
         sym (ap (λ xs. map_transfers h (record { kind = Map; rights = rights; pairs = [] }) xs (holdings_in shards trees)) none) ∙ so_far.left,
       )

@@ -28,7 +28,7 @@ use Rattle.space.specs.Entries as word
 use Rattle.holdings.specs.Places.{IsWithin}
 use Rattle.holdings.specs.Inner.Held.{is_listed, held_of, held_at, has_frame, holdings_of, limits_in, holdings_in}
 use Rattle.holdings.specs.Inner.Sound.{IsSound, AreSound}
-use Rattle.holdings.specs.Sending.{fate_in, pair_of, worked_of, IsReady}
+use Rattle.holdings.specs.Sending.{fate_in, pair_of, count_after_flush, IsReady}
 use Rattle.holdings.specs.Inner.Links.{IsLinked}
 use Rattle.holdings.proofs.Contents.Listing.{listing_put}
 use Rattle.holdings.proofs.Contents.Holders.{place_within, held_elsewhere, present_within, absent_within}
@@ -119,7 +119,7 @@ module _ (h : Holdings) (rights : Rights) (t : Transfer) where
   abbrev the_job : Job
   the_job = record { kind = Map; rights = rights; pairs = [] }
 
-  pub lost_counts : at h t.source ≡ None → (lost : Counts) → lost ≡ counts_of goes false → lost ≡ worked_of h t
+  pub lost_counts : at h t.source ≡ None → (lost : Counts) → lost ≡ counts_of goes false → lost ≡ count_after_flush h t
   lost_counts none lost is = is ∙ by t.extends ∙ ap (λ m. counts_of (fate_in t) (is_some m)) (sym none)
     where
       by : (b : Bool) → counts_of goes false ≡ counts_of (if b then extends else goes) false
@@ -133,10 +133,10 @@ module _ (h : Holdings) (rights : Rights) (t : Transfer) where
       by true = rw none refl
       by false = rw none refl
 
-  pub extended_counts : (m : Held) → at h t.source ≡ Some m → t.extends ≡ true → (one : Counts) → one ≡ counts_of extends true → one ≡ worked_of h t
+  pub extended_counts : (m : Held) → at h t.source ≡ Some m → t.extends ≡ true → (one : Counts) → one ≡ counts_of extends true → one ≡ count_after_flush h t
   extended_counts m held is one one_is = one_is ∙ sym (ap (λ b. counts_of (if b then extends else goes) (is_held h t.source)) is ∙ ap (λ m. counts_of extends (is_some m)) held)
 
-  pub linked_counts : (m : Held) → at h t.source ≡ Some m → t.extends ≡ false → (one : Counts) → one ≡ counts_of goes true → one ≡ worked_of h t
+  pub linked_counts : (m : Held) → at h t.source ≡ Some m → t.extends ≡ false → (one : Counts) → one ≡ counts_of goes true → one ≡ count_after_flush h t
   linked_counts m held is one one_is = one_is ∙ sym (ap (λ b. counts_of (if b then extends else goes) (is_held h t.source)) is ∙ ap (λ m. counts_of goes (is_some m)) held)
 
 -- ---- a page that extends

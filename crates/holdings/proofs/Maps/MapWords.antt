@@ -31,7 +31,7 @@ use Rattle.holdings.specs.Inner.Held.{links_in, is_listed, held_of, held_at, lim
 use Rattle.space.specs.Entries as word
 use Rattle.holdings.specs.Contents.{entry_of}
 use Rattle.holdings.specs.Inner.Sound.{AreSound, IsSound}
-use Rattle.holdings.specs.Sending.{IsTransferWithin, ArePaired, ArePlanned, IsReady, fate_in, pair_of, worked_of, worked, map_transfers}
+use Rattle.holdings.specs.Sending.{IsTransferWithin, ArePaired, ArePlanned, IsReady, fate_in, pair_of, count_after_flush, counts_after_flush, map_transfers}
 use Rattle.holdings.specs.Inner.Links.{IsTreeSet, link_of, links_of, is_new_of, AreLinked, AreLinkable, IsPageLost, IsPageMapped}
 use Rattle.holdings.proofs.Contents.Listing.{listing_same}
 use Rattle.holdings.proofs.Trees.Positions.{derived_below}
@@ -188,7 +188,7 @@ module _ (first : Shards) (first_trees : List Shape) (rights : Rights) (ts : Lis
   linked_now = subst (λ o. AreLinked (link_of t o rest) so_far.trees ahead) stood_first (subst (λ xs. AreLinked (links_of first xs) so_far.trees ahead) (drop_more ts i no_transfer within) so_far.linked)
 
   next : (new : Shards) (trees : List Shape) (one : Counts) → AreSound new trees → limits_in new trees ≡ limits_in shards so_far.trees
-      → holdings_in new trees ≡ map_pair now (record { kind = Map; rights = rights; pairs = [] }) (pair_of t) (fate_in t) now → one ≡ worked_of now t → AreLinked rest trees ahead
+      → holdings_in new trees ≡ map_pair now (record { kind = Map; rights = rights; pairs = [] }) (pair_of t) (fate_in t) now → one ≡ count_after_flush now t → AreLinked rest trees ahead
       → AreAhead first (limits_in first first_trees) h rights ts (i + 1) new ahead (add_counts counts one)
   next new trees one is_sound same left counted linked = record {
     trees = trees;
@@ -375,7 +375,7 @@ module _ (first : Shards) (limits : Limits) (h : Holdings) (rights : Rights) (ts
   at_end : AreLinked [] so_far.trees ahead
   at_end = subst (λ xs. AreLinked (links_of first xs) so_far.trees ahead) (drop_all i ts past) so_far.linked
 
-  pub all_counted : counts ≡ worked h ts
+  pub all_counted : counts ≡ counts_after_flush h ts
   all_counted = (all_mapped limits h rights so_far.from so_far.to so_far.differ ts i shards so_far.trees counts past so_far.are).0
 
   pub all_left : holdings_in shards ahead ≡ map_transfers h (record { kind = Map; rights = rights; pairs = [] }) ts h

@@ -30,7 +30,7 @@ use Rattle.holdings.specs.declared.transfer.Transfer.{Transfer}
 use Rattle.holdings.specs.Places.{IsWithin}
 use Rattle.holdings.specs.Inner.Held.{holdings_of}
 use Rattle.holdings.specs.Inner.Sound.{IsSound}
-use Rattle.holdings.specs.Sending.{IsTransferWithin, IsApartFrom, ArePaired, ArePlanned, AllGo, pair_of, worked_of, worked, moving_of}
+use Rattle.holdings.specs.Sending.{IsTransferWithin, IsApartFrom, ArePaired, ArePlanned, AllGo, pair_of, count_after_flush, counts_after_flush, moving_of}
 use Rattle.holdings.specs.Inner.Links.{IsPageLost}
 use Rattle.holdings.specs.Inner.Renamings.{IsPageMoved}
 use Rattle.holdings.proofs.Contents.Holders.{place_within, entry_elsewhere, present_within, absent_within}
@@ -135,7 +135,7 @@ page_moved old middle new source target e status one source_in target_in apart t
 -- the first transfers are done: their words moved, and with those to come they count as all
 pub record AreMoving (limits : Limits) (h : Holdings) (old : Shards) (ts : List Transfer) (i : ℕ) (now : Shards) (counts : Counts) : Type 0 where
   pub words : AreWordsMoved limits (moving_of h (take i ts)) old now
-  pub reckoned : add_counts counts (worked h (drop i ts)) ≡ worked h ts
+  pub reckoned : add_counts counts (counts_after_flush h (drop i ts)) ≡ counts_after_flush h ts
   pub few : total counts ≤ i
 
 module _ (limits : Limits) (old : Shards) (trees : List Shape) (sound : IsSound limits old trees) (ts : List Transfer) (planned : ArePlanned limits ts) (all_go : AllGo ts)
@@ -152,7 +152,7 @@ module _ (limits : Limits) (old : Shards) (trees : List Shape) (sound : IsSound 
       forth = λ p e within stood. stood;
       back = λ q x within stood. record { place = q; entry = x; within = within; stood = stood; to = refl };
     };
-    reckoned = none_add (worked h ts);
+    reckoned = none_add (counts_after_flush h ts);
     few = omega arith;
   }
 
@@ -245,11 +245,11 @@ module _ (limits : Limits) (old : Shards) (trees : List Shape) (sound : IsSound 
     -- ---- counts
 
     -- it counts by whether its source is held
-    reckoned_more : (b : Bool) → is_held h t.source ≡ b → (one all : Counts) → all ≡ add_counts counts one → one ≡ counts_of goes b → add_counts all (worked h (drop (i + 1) ts)) ≡ worked h ts
+    reckoned_more : (b : Bool) → is_held h t.source ≡ b → (one all : Counts) → all ≡ add_counts counts one → one ≡ counts_of goes b → add_counts all (counts_after_flush h (drop (i + 1) ts)) ≡ counts_after_flush h ts
     reckoned_more b held one all all_is one_is =
-        let counted : worked_of h t ≡ counts_of goes b = (λ j. counts_of (if All-get_or (λ (x : Transfer). x.extends ≡ false) ts i d within all_go j then extends else goes) (held j)) in
-        ap (λ c. add_counts c (worked h (drop (i + 1) ts))) all_is ∙ add_assoc counts one (worked h (drop (i + 1) ts))
-        ∙ ap (λ c. add_counts counts (add_counts c (worked h (drop (i + 1) ts)))) (one_is ∙ sym counted) ∙ ap (λ xs. add_counts counts (worked h xs)) (sym (drop_more ts i d within)) ∙ so_far.reckoned
+        let counted : count_after_flush h t ≡ counts_of goes b = (λ j. counts_of (if All-get_or (λ (x : Transfer). x.extends ≡ false) ts i d within all_go j then extends else goes) (held j)) in
+        ap (λ c. add_counts c (counts_after_flush h (drop (i + 1) ts))) all_is ∙ add_assoc counts one (counts_after_flush h (drop (i + 1) ts))
+        ∙ ap (λ c. add_counts counts (add_counts c (counts_after_flush h (drop (i + 1) ts)))) (one_is ∙ sym counted) ∙ ap (λ xs. add_counts counts (counts_after_flush h xs)) (sym (drop_more ts i d within)) ∙ so_far.reckoned
 
     few_more : (one all : Counts) → all ≡ add_counts counts one → total one ≡ 1 → total all ≤ i + 1
     few_more one all all_is is = let few = so_far.few in subst (λ c. total c ≤ i + 1) (sym all_is) (subst (λ k. k ≤ i + 1) (sym (total_sum counts one)) (omega (arith, few, is)))
@@ -371,8 +371,8 @@ module _ (limits : Limits) (old : Shards) (trees : List Shape) (sound : IsSound 
           by (Some e) is = step_moved e is next one (moved e is) all all_is
 
 -- all are done
-pub all_moved : (limits : Limits) (h : Holdings) (old : Shards) (ts : List Transfer) (i : ℕ) (now : Shards) (counts : Counts) → length ts ≤ i → AreMoving limits h old ts i now counts → AreWordsMoved limits (moving_of h ts) old now × (counts ≡ worked h ts)
+pub all_moved : (limits : Limits) (h : Holdings) (old : Shards) (ts : List Transfer) (i : ℕ) (now : Shards) (counts : Counts) → length ts ≤ i → AreMoving limits h old ts i now counts → AreWordsMoved limits (moving_of h ts) old now × (counts ≡ counts_after_flush h ts)
 all_moved limits h old ts i now counts past so_far = (
   subst (λ xs. AreWordsMoved limits (moving_of h xs) old now) (take_all i ts past) so_far.words,
-  sym (add_none counts) ∙ ap (λ xs. add_counts counts (worked h xs)) (sym (drop_all i ts past)) ∙ so_far.reckoned,
+  sym (add_none counts) ∙ ap (λ xs. add_counts counts (counts_after_flush h xs)) (sym (drop_all i ts past)) ∙ so_far.reckoned,
 )

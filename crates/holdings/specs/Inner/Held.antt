@@ -2,7 +2,7 @@
 -- frame.
 use Rattle.std.specs.List.{slice_get}
 use Rattle.std.specs.Option.{option_map_or}
-use Rattle.std.specs.Prelude.{ℕ, List, length, Option, ◌==◌, ◌&&◌, nat_lt, Bool, false, [], option_map, is_some}
+use Rattle.std.specs.Prelude.{ℕ, List, length, Option, ◌==◌, ◌&&◌, nat_lt, Bool, false, [], option_map, is_some, ◌∷◌}
 use Rattle.space.specs.Directory.{pages_of}
 use Rattle.space.specs.Shards.{entry_at, spaces_of, bits_of}
 use Rattle.space.specs.declared.place.Entry.{Entry}
@@ -10,7 +10,7 @@ use Rattle.space.specs.declared.place.Place.{Place}
 use Rattle.space.specs.declared.shards.Shards.{Shards}
 use Rattle.maptree.specs.Origins.{Origins, Shape, origin_in}
 use Rattle.model.specs.Calls.{Limits}
-use Rattle.model.specs.Holdings.{Held, Holdings}
+use Rattle.model.specs.Holdings.{Held, Holdings, keep}
 use Rattle.holdings.specs.Contents.{Contents}
 use Rattle.holdings.specs.Inner.Derivation.{stands_in}
 use Rattle.holdings.specs.Places.{listing}
@@ -58,3 +58,14 @@ holdings_in shards trees = holdings_of (limits_in shards trees) shards trees
 -- what words and trees say
 abbrev pub contents_of : Shards → List Shape → Contents
 contents_of shards trees = record { limits = limits_in shards trees; holdings = holdings_in shards trees }
+
+-- ---- what is held at places whose origins are known
+
+-- what an entry says, with an origin
+abbrev pub held_with : Option Place → Entry → Held
+held_with origin e = record { frame = e.frame; rights = e.rights; status = e.status; origin = origin }
+
+-- what the words hold at places, with the origin of each
+abbrev pub holdings_at : Shards → Origins → Holdings
+holdings_at shards [] = []
+holdings_at shards (o ∷ os) = keep o.0 (option_map (held_with o.1) (entry_at shards o.0)) (holdings_at shards os)
