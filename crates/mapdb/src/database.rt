@@ -177,7 +177,8 @@ impl Database {
         requires window { IsFpageOf self.old.limits.bits window.now }
         requires items { All (λ item. IsFpageOf self.old.limits.bits item.sent) items.now }
         ensures refused { IsRefused (refusal self.old (send from to window.now items.now)) self.old self.new result }
-        ensures no_memory { IsErrOf result NoMemory → (self.new.is_halted ≡ true) × (self.new.limits ≡ self.old.limits) }
+        ensures no_memory { IsErrOf result NoMemory → self.new ≡ halted self.old }
+        ensures limits { self.new.limits ≡ self.old.limits }
         ensures counts { IfOk result (λ reply.
             counts_of reply ≡ (send_answer from to window.now items.now self.old.holdings).counts) }
         ensures left { OnOk result (
