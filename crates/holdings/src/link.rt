@@ -1,6 +1,6 @@
 //! Pages that are mapped or moved to targets, and the new mappings in the trees: those of one frame in one pass.
 
-ghost use Rattle.std.specs.Prelude.{◌≡◌, ◌<◌, IfOk, OnOk, IsFalse, length};
+ghost use Rattle.std.specs.Prelude.{◌≡◌, IfOk, OnOk, IsFalse};
 ghost use Rattle.std.specs.List.{All};
 ghost use Rattle.space.specs.Shards.{IsPlace, is_taken};
 ghost use Rattle.holdings.specs.Inner.Links.{links_of, AreLinkable, AreLinked};
