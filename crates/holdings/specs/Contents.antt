@@ -1,23 +1,20 @@
 -- Holdings as their callers see them, and what each phase makes of them.
-use Rattle.std.specs.Prelude.{◌≡◌, true, Bool, List, []}
+use Rattle.std.specs.Prelude.{◌≡◌, true, List, Bool, []}
 use Rattle.fpage.specs.declared.item.ItemKind.TheVariants.{Map}
 use Rattle.fpage.specs.declared.rights.Rights.{Rights}
 use Rattle.space.specs.declared.place.Entry.{Entry}
-use Rattle.space.specs.declared.shards.Shards.{Shards}
-use Rattle.maptree.specs.Origins.{Shape}
 use Rattle.model.specs.Calls.{Limits}
+use Rattle.model.specs.Grant.{renamed}
 use Rattle.model.specs.Holdings.{Held, Holdings, PlaceSet, at}
 use Rattle.model.specs.Lawful.{is_lawful}
 use Rattle.model.specs.Records.{are_limits}
-use Rattle.model.specs.Grant.{renamed}
 use Rattle.model.specs.Replay.{start}
 use Rattle.model.specs.Strip.{strip, strip_word}
+use Rattle.holdings.specs.Places.{listing}
+use Rattle.holdings.specs.Sending.{counts_after_flush, map_transfers, moving_of}
 use Rattle.holdings.specs.declared.transfer.Transfer.{Transfer}
-use Rattle.holdings.specs.declared.worked.Worked.{Worked}
-use Rattle.holdings.specs.Held.{listing}
+use Rattle.holdings.specs.declared.transfer_counts.TransferCounts.{TransferCounts}
 use Rattle.holdings.specs.Meaning.{counts_of}
-use Rattle.holdings.specs.Stripping.{limits_in, holdings_in}
-use Rattle.holdings.specs.Sending.{map_transfers, moving_of, worked}
 
 -- the limits, and what is held
 pub record Contents : Type 0 where
@@ -29,10 +26,6 @@ pub record IsConsistent (c : Contents) : Type 0 where
   pub served : are_limits c.limits ≡ true
   pub listed : c.holdings ≡ listing c.limits (at c.holdings)
   pub lawful : is_lawful c.holdings ≡ true
-
--- what words and trees say
-abbrev pub contents_of : Shards → List Shape → Contents
-contents_of shards trees = record { limits = limits_in shards trees; holdings = holdings_in shards trees }
 
 -- the start
 abbrev pub at_start : Limits → Contents
@@ -52,11 +45,11 @@ pub record IsStripped (old : Contents) (pages : PlaceSet) (revoked : Rights) (fl
   pub status : r.1 ≡ strip_word old.holdings pages
 
 -- transfers were mapped one after another, and counted
-pub record AreMapped (old : Contents) (ts : List Transfer) (rights : Rights) (r : Contents × Worked) : Type 0 where
+pub record AreMapped (old : Contents) (ts : List Transfer) (rights : Rights) (r : Contents × TransferCounts) : Type 0 where
   pub left : r.0 ≡ left_with old (map_transfers old.holdings (record { kind = Map; rights = rights; pairs = [] }) ts old.holdings)
-  pub counted : counts_of r.1 ≡ worked old.holdings ts
+  pub counted : counts_of r.1 ≡ counts_after_flush old.holdings ts
 
 -- transfers were moved all at once, and counted
-pub record AreMoved (old : Contents) (ts : List Transfer) (r : Contents × Worked) : Type 0 where
+pub record AreMoved (old : Contents) (ts : List Transfer) (r : Contents × TransferCounts) : Type 0 where
   pub left : r.0 ≡ left_with old (renamed (moving_of old.holdings ts) old.holdings)
-  pub counted : counts_of r.1 ≡ worked old.holdings ts
+  pub counted : counts_of r.1 ≡ counts_after_flush old.holdings ts

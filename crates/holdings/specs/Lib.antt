@@ -1,11 +1,6 @@
 pub mod Meaning
-pub mod Derivation
-pub mod Held
-pub mod Start
+pub mod Places
 pub mod Contents
-pub mod Sound
-pub mod Stripping
-pub mod Sending
 pub mod Mappings
-pub mod Spots
-pub mod Links
+pub mod Sending
+pub mod Inner

@@ -1,27 +1,19 @@
 -- The pages of an item: what becomes of each, and those that are mapped or moved.
-use Rattle.std.specs.Prelude.{◌≡◌, ℕ, ◌+◌, ◌^◌, ◌≤◌, ◌<◌, true, false, IsFalse, ◌&&◌, List, [], ◌∷◌, length, get_or, Some, None, if◌then◌else◌}
 use Rattle.std.specs.List.{All}
-use Rattle.std.specs.Option.{option_map_or}
-use Rattle.fpage.specs.declared.item.ItemKind.{ItemKind}
+use Rattle.std.specs.Prelude.{◌≡◌, ℕ, ◌+◌, ◌^◌, ◌<◌, ◌≤◌, true, List, length, Some, None, false, [], ◌∷◌, get_or, if◌then◌else◌}
+use Rattle.fpage.specs.Rights.{is_empty, meet}
 use Rattle.fpage.specs.declared.rights.Rights.{Rights}
-use Rattle.fpage.specs.Rights.{no_rights, is_empty, meet}
-use Rattle.space.specs.declared.place.Place.{Place}
-use Rattle.space.specs.declared.place.Entry.{Entry}
-use Rattle.space.specs.declared.shards.Shards.{Shards}
-use Rattle.space.specs.Shards.{IsSetAt, IsLaidOutAs, is_taken}
-use Rattle.space.specs.Place.{same_place}
 use Rattle.space.specs.Directory.{pages_of}
-use Rattle.maptree.specs.Origins.{Origins, Shape, LeadsTo, origin_in}
+use Rattle.space.specs.Place.{same_place}
+use Rattle.space.specs.declared.place.Place.{Place}
 use Rattle.model.specs.Calls.{Limits}
 use Rattle.model.specs.Holdings.{Held, Holdings, at, is_held}
-use Rattle.model.specs.Items.{Job, Pair, pairs_from, is_map, Fate, absent, norights, to_origin, extends, goes, fate, Counts, no_counts, add_counts, counts_of}
+use Rattle.model.specs.Items.{counts_of, Counts, no_counts, Job, Pair, pairs_from, Fate, absent, norights, to_origin, extends, goes, fate, add_counts}
 use Rattle.model.specs.Map.{map_pair}
-use Rattle.holdings.specs.Derivation.{IsDerived}
-use Rattle.holdings.specs.Held.{links_in}
-use Rattle.holdings.specs.declared.outcome.Outcome.{Outcome}
-use Rattle.holdings.specs.declared.outcome.Outcome.TheVariants as outcome
-use Rattle.holdings.specs.declared.transfer.Transfer.{Transfer}
 use Rattle.holdings.specs.declared.item_pages.ItemPages.{ItemPages}
+use Rattle.holdings.specs.declared.outcome.Outcome.{Outcome}
+use Rattle.holdings.specs.declared.transfer.Transfer.{Transfer}
+use Rattle.holdings.specs.declared.outcome.Outcome.TheVariants as outcome
 
 -- the outcome as the definitions name it
 abbrev pub fate_of_outcome : Outcome → Fate
@@ -31,14 +23,7 @@ fate_of_outcome outcome.Origin = to_origin
 fate_of_outcome outcome.Extends = extends
 fate_of_outcome outcome.Goes = goes
 
--- the outcome of a pair whose source is held with some right that the item lets through, and whose target is held with
--- the same frame, as the tree of that frame has them
-pub record IsOutcomeIn (os : Origins) (kind : ItemKind) (source target : Place) (o : Outcome) : Type 0 where
-  pub origin : LeadsTo os 1 source target → o ≡ outcome.Origin
-  pub extends : (LeadsTo os 1 source target → ⊥) → (is_map kind && option_map_or (same_place source) (origin_in os target) false) ≡ true → o ≡ outcome.Extends
-  pub goes : (LeadsTo os 1 source target → ⊥) → (is_map kind && option_map_or (same_place source) (origin_in os target) false) ≡ false → o ≡ outcome.Goes
-
--- the item that a pages is
+-- the pages as an item of the definitions
 abbrev pub job_of_pages : ItemPages → Job
 job_of_pages p = record { kind = p.kind; rights = p.rights; pairs = pairs_from p.count p.source p.target }
 
@@ -80,11 +65,12 @@ pub record IsTransferWithin (limits : Limits) (t : Transfer) : Type 0 where
 abbrev pub IsApartFrom : Transfer → List Transfer → Type 0
 IsApartFrom t ts = All (λ d. (same_place d.source t.source ≡ false) × (same_place d.target t.target ≡ false)) ts
 
--- within the limits, from one space to another, and no two with one source or one target
+-- from one space to another, and no two with one source or one target
 abbrev pub ArePaired : ℕ → ℕ → List Transfer → Type 0
 ArePaired from to [] = Unit {0}
 ArePaired from to (t ∷ ts) = (t.source.space ≡ from) × (t.target.space ≡ to) × IsApartFrom t ts × ArePaired from to ts
 
+-- besides, within the limits, and few enough to be counted
 pub record ArePlanned (limits : Limits) (ts : List Transfer) : Type 0 where
   pub from : ℕ
   pub to : ℕ
@@ -107,13 +93,13 @@ pub record IsReady (h : Holdings) (rights : Rights) (t : Transfer) : Type 0 wher
   pub derived : (m : Held) → t.extends ≡ true → at h t.source ≡ Some m → (k : Held) × (at h t.target ≡ Some k) × (k.origin ≡ Some t.source)
 
 -- what becomes of one that goes or extends: it is lost if its source was flushed
-abbrev pub worked_of : Holdings → Transfer → Counts
-worked_of flushed t = counts_of (fate_in t) (is_held flushed t.source)
+abbrev pub count_after_flush : Holdings → Transfer → Counts
+count_after_flush flushed t = counts_of (fate_in t) (is_held flushed t.source)
 
 -- of some
-abbrev pub worked : Holdings → List Transfer → Counts
-worked flushed [] = no_counts
-worked flushed (t ∷ ts) = add_counts (worked_of flushed t) (worked flushed ts)
+abbrev pub counts_after_flush : Holdings → List Transfer → Counts
+counts_after_flush flushed [] = no_counts
+counts_after_flush flushed (t ∷ ts) = add_counts (count_after_flush flushed t) (counts_after_flush flushed ts)
 
 -- each of some is ready
 abbrev pub AreReady : Holdings → Rights → List Transfer → Type 0
@@ -127,21 +113,6 @@ AreFree h ts = All (λ t. at h t.target ≡ None) ts
 abbrev pub map_transfers : Holdings → Job → List Transfer → Holdings → Holdings
 map_transfers flushed job [] h = h
 map_transfers flushed job (t ∷ ts) h = map_transfers flushed job ts (map_pair flushed job (pair_of t) (fate_in t) h)
-
--- the tree of this frame became another, and no other did
-pub record IsTreeSet (old new : List Shape) (frame : ℕ) (links : Origins) : Type 0 where
-  pub count : length new ≡ length old
-  pub there : links_in new frame ≡ links
-  pub elsewhere : (f : ℕ) → (f ≡ frame → ⊥) → links_in new f ≡ links_in old f
-
--- a page became a mapping of another: its word was set, and it was put into the tree of the frame
-pub record IsLinked (old new : Shards) (trees new_trees : List Shape) (source target : Place) (e : Entry) : Type 0 where
-  pub links : Origins
-  pub set : IsSetAt old new target (Some (record e { status = no_rights }))
-  pub present : IsFalse (is_taken new)
-  pub layout : IsLaidOutAs old new
-  pub tree : IsTreeSet trees new_trees e.frame links
-  pub derived : IsDerived (links_in trees e.frame) links source target
 
 -- the pairs of those whose source is held
 abbrev pub moving_of : Holdings → List Transfer → List Pair

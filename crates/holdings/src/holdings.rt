@@ -21,8 +21,9 @@ pub struct Holdings {
 }
 
 impl Model for Holdings {
-    ghost use Rattle.holdings.specs.Contents.{Contents, contents_of};
-    ghost use Rattle.holdings.specs.Stripping.{AreSound};
+    ghost use Rattle.holdings.specs.Contents.{Contents};
+    ghost use Rattle.holdings.specs.Inner.Held.{contents_of};
+    ghost use Rattle.holdings.specs.Inner.Sound.{AreSound};
 
     ghost Value = { Contents };
 
@@ -37,7 +38,7 @@ impl Holdings {
     ghost use Rattle.model.specs.Records.{are_limits};
     ghost use Rattle.model.specs.Touch.{can_touch, touch};
     ghost use Rattle.holdings.specs.Meaning.{limits_of};
-    ghost use Rattle.holdings.specs.Held.{IsWithin};
+    ghost use Rattle.holdings.specs.Places.{IsWithin};
     ghost use Rattle.holdings.specs.Contents.{IsConsistent, at_start, left_with, entry_of};
 
     /// The holdings at the start: page `i` of space 0 holds frame `i` with all rights, for each frame.

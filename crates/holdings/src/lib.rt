@@ -2,6 +2,7 @@
 //! which calls change them.
 #![tactic(auto)]
 
+mod group;
 mod holdings;
 mod item_pages;
 mod limits;
@@ -18,8 +19,8 @@ mod spots;
 mod start;
 mod strip;
 mod transfer;
+mod transfer_counts;
 mod tree;
-mod worked;
 
 pub use holdings::Holdings;
 pub use item_pages::ItemPages;
@@ -27,4 +28,4 @@ pub use limits::Limits;
 pub use mapping::Mapping;
 pub use outcome::Outcome;
 pub use transfer::Transfer;
-pub use worked::Worked;
+pub use transfer_counts::TransferCounts;

@@ -1,10 +1,11 @@
 //! Pages that are mapped or moved to targets, and the new mappings in the trees: those of one frame in one pass.
 
-ghost use Rattle.std.specs.Prelude.{◌≡◌, ◌<◌, IfOk, OnOk, IsFalse, length};
+ghost use Rattle.std.specs.Prelude.{◌≡◌, IfOk, OnOk, IsFalse};
 ghost use Rattle.std.specs.List.{All};
 ghost use Rattle.space.specs.Shards.{IsPlace, is_taken};
-ghost use Rattle.holdings.specs.Links.{links_of, AreLinkable, AreLinked};
+ghost use Rattle.holdings.specs.Inner.Links.{links_of, AreLinkable, AreLinked};
 
+use crate::group::{OfFrame, group_end};
 use crate::transfer::Transfer;
 use crate::tree::{self, FEW};
 use maptree::{PlaceMap, Tree};
@@ -17,6 +18,14 @@ pub struct Link {
     pub frame: u32,
     pub source: Place,
     pub target: Place,
+}
+
+impl OfFrame for Link {
+    ghost frame_of = { λ l. l.frame };
+
+    fn frame(&self) -> u32 {
+        self.frame
+    }
 }
 
 /// The links of transfers that go and whose source is held, as the words stand.
@@ -58,32 +67,16 @@ pub fn insert_links(alloc: Global, trees: &mut [Tree], mut links: Vec<Link>) -> 
     let mut from = 0;
     while from < links.len() {
         let frame = links[from].frame;
-        let end = from + 1 + same_frame(&links[from + 1..], frame);
+        let end = group_end(&links, from);
         insert_group(alloc, &mut trees[frame as usize], &links[from..end])?;
         from = end;
     }
     Ok(())
 }
 
-ghost use Rattle.std.specs.Prelude.{◌≤◌, ◌==◌, true, take};
-ghost use Rattle.std.specs.List.{list_all};
-
-/// How many new mappings from the front on are of this frame.
-fn same_frame(links: &[Link], frame: u32) -> usize
-    ensures most { result ≤ length links.now }
-    ensures frames { list_all (λ l. l.frame == frame) (take result links.now) ≡ true }
-{
-    for i in 0..links.len() {
-        if links[i].frame != frame {
-            return i;
-        }
-    }
-    links.len()
-}
-
-ghost use Rattle.std.specs.Prelude.{ℕ, false};
-ghost use Rattle.holdings.specs.Derivation.{stands_in};
-ghost use Rattle.holdings.specs.Links.{AreOnce, AreLinkedIn};
+ghost use Rattle.std.specs.Prelude.{◌≤◌, ℕ, true, false};
+ghost use Rattle.holdings.specs.Inner.Derivation.{stands_in};
+ghost use Rattle.holdings.specs.Inner.Links.{AreOnce, AreLinkedIn};
 
 /// Puts new mappings of one frame into its tree: a few one by one, and many in one pass.
 ///
@@ -118,7 +111,7 @@ fn insert_each(tree: &mut Tree, links: &[Link]) -> Result<(), NoMemory>
 }
 
 ghost use Rattle.maptree.specs.PlaceMaps.{place_for};
-ghost use Rattle.holdings.specs.Links.{AreTargets};
+ghost use Rattle.holdings.specs.Inner.Links.{AreTargets};
 
 /// The targets, each for its source.
 pub fn targets_of(alloc: Global, space: u16, links: &[Link]) -> Result<PlaceMap, AllocError>

@@ -3,7 +3,7 @@
 use crate::holdings::Holdings;
 use crate::link::{insert_links, new_links};
 use crate::transfer::Transfer;
-use crate::worked::Worked;
+use crate::transfer_counts::TransferCounts;
 use fpage::Rights;
 use maptree::Tree;
 use space::{Entry, NoMemory, Place, Shards};
@@ -23,7 +23,7 @@ impl Holdings {
         alloc: Global,
         transfers: &[Transfer],
         rights: Rights,
-    ) -> Result<(Self, Worked), NoMemory>
+    ) -> Result<(Self, TransferCounts), NoMemory>
         requires planned { ArePlanned self.limits transfers.now }
         requires ready { AreReady self.holdings rights transfers.now }
         ensures { IfOk result (AreMapped self transfers.now rights) }
@@ -34,7 +34,7 @@ impl Holdings {
         } = self;
         let links = new_links(alloc, &shards, transfers)?;
         insert_links(alloc, &mut trees, links)?;
-        let mut worked = Worked::none();
+        let mut worked = TransferCounts::none();
         for transfer in transfers {
             let one = map_page(&mut shards, *transfer, rights);
             worked = worked.plus(one);
@@ -48,10 +48,10 @@ ghost use Rattle.holdings.specs.Meaning.{counts_of};
 ghost use Rattle.std.specs.Prelude.{IsFalse};
 ghost use Rattle.space.specs.declared.place.Entry.{Entry};
 ghost use Rattle.space.specs.Shards.{IsPlace, entry_at, is_taken};
-ghost use Rattle.holdings.specs.Links.{IsPageLost, IsPageMapped};
+ghost use Rattle.holdings.specs.Inner.Links.{IsPageLost, IsPageMapped};
 
 /// Works one page of a MapItem, whose new mapping stands in the tree already.
-fn map_page(shards: &mut Shards, transfer: Transfer, rights: Rights) -> Worked
+fn map_page(shards: &mut Shards, transfer: Transfer, rights: Rights) -> TransferCounts
     requires source { IsPlace shards.old transfer.source }
     requires target { IsPlace shards.old transfer.target }
     requires present { IsFalse (is_taken shards.old) }
@@ -59,12 +59,12 @@ fn map_page(shards: &mut Shards, transfer: Transfer, rights: Rights) -> Worked
     ensures mapped { (e : Entry) → entry_at shards.old transfer.source ≡ Some e → IsPageMapped shards.old shards.new rights transfer e (counts_of result) }
 {
     let Some(source) = shards.get(transfer.source) else {
-        return Worked::lost();
+        return TransferCounts::one_lost();
     };
     let rights = source.rights.meet(rights);
     if transfer.extends {
         shards.extend(transfer.target, rights);
-        return Worked::extended();
+        return TransferCounts::one_extended();
     }
     let status = Rights::none();
     let entry = Entry {
@@ -73,5 +73,5 @@ fn map_page(shards: &mut Shards, transfer: Transfer, rights: Rights) -> Worked
         ..source
     };
     shards.set(transfer.target, Some(entry));
-    Worked::linked()
+    TransferCounts::one_linked()
 }

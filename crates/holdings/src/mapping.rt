@@ -34,7 +34,7 @@ impl Holdings {
         let mut links = all_links(alloc, &self.trees)?;
         // By place, since no place comes twice.
         links.sort_unstable();
-        let mappings = entered(alloc, &self.shards, &links)?;
+        let mappings = mappings_at(alloc, &self.shards, &links)?;
         Ok(mappings)
     }
 }
@@ -58,17 +58,17 @@ fn all_links(alloc: Global, trees: &[Tree]) -> Result<Vec<(Place, Option<Place>)
 
 ghost use Rattle.std.specs.Prelude.{IsFalse};
 ghost use Rattle.space.specs.Shards.{IsPlace, is_taken};
-ghost use Rattle.holdings.specs.Mappings.{entered};
+ghost use Rattle.holdings.specs.Inner.Held.{holdings_at};
 
 /// What the words hold at these places, with the origin of each.
-fn entered(
+fn mappings_at(
     alloc: Global,
     shards: &Shards,
     links: &[(Place, Option<Place>)],
 ) -> Result<Vec<Mapping>, AllocError>
     requires present { IsFalse (is_taken shards.now) }
     requires places { All (λ link. IsPlace shards.now link.0) links.now }
-    ensures { IfOk result (λ mappings. map mapped_of mappings.items ≡ entered shards.now links.now) }
+    ensures { IfOk result (λ mappings. map mapped_of mappings.items ≡ holdings_at shards.now links.now) }
 {
     let mut mappings = Vec::with_capacity(alloc, links.len())?;
     for (place, origin) in links {

@@ -4,7 +4,7 @@ use crate::holdings::Holdings;
 use crate::link::new_links;
 use crate::renaming::rename_links;
 use crate::transfer::Transfer;
-use crate::worked::Worked;
+use crate::transfer_counts::TransferCounts;
 use fpage::Rights;
 use maptree::Tree;
 use space::{Entry, NoMemory, Place, Shards};
@@ -19,7 +19,11 @@ impl Holdings {
     /// from the source derives from the target. A transfer whose source is not held is lost.
     ///
     /// Refused, where memory is: `NoMemory`.
-    pub fn rename(self, alloc: Global, transfers: &[Transfer]) -> Result<(Self, Worked), NoMemory>
+    pub fn rename(
+        self,
+        alloc: Global,
+        transfers: &[Transfer],
+    ) -> Result<(Self, TransferCounts), NoMemory>
         requires planned { ArePlanned self.limits transfers.now }
         requires all_go { AllGo transfers.now }
         requires free { AreFree self.holdings transfers.now }
@@ -31,7 +35,7 @@ impl Holdings {
         } = self;
         let links = new_links(alloc, &shards, transfers)?;
         rename_links(alloc, &mut trees, links)?;
-        let mut worked = Worked::none();
+        let mut worked = TransferCounts::none();
         for transfer in transfers {
             let one = move_page(&mut shards, transfer.source, transfer.target);
             worked = worked.plus(one);
@@ -46,10 +50,11 @@ ghost use Rattle.std.specs.Prelude.{false, IsFalse};
 ghost use Rattle.space.specs.declared.place.Entry.{Entry};
 ghost use Rattle.space.specs.Place.{same_place};
 ghost use Rattle.space.specs.Shards.{IsPlace, entry_at, is_taken};
-ghost use Rattle.holdings.specs.Links.{IsPageLost, IsPageMoved};
+ghost use Rattle.holdings.specs.Inner.Links.{IsPageLost};
+ghost use Rattle.holdings.specs.Inner.Renamings.{IsPageMoved};
 
 /// Moves what a page holds, without its status, to the target, which stands in its place in the tree already.
-fn move_page(shards: &mut Shards, source: Place, target: Place) -> Worked
+fn move_page(shards: &mut Shards, source: Place, target: Place) -> TransferCounts
     requires source { IsPlace shards.old source }
     requires target { IsPlace shards.old target }
     requires apart { same_place source target ≡ false }
@@ -58,10 +63,10 @@ fn move_page(shards: &mut Shards, source: Place, target: Place) -> Worked
     ensures moved { (e : Entry) → entry_at shards.old source ≡ Some e → IsPageMoved shards.old shards.new source target e (counts_of result) }
 {
     let Some(entry) = shards.get(source) else {
-        return Worked::lost();
+        return TransferCounts::one_lost();
     };
     shards.set(source, None);
     let status = Rights::none();
     shards.set(target, Some(Entry { status, ..entry }));
-    Worked::linked()
+    TransferCounts::one_linked()
 }

@@ -2,12 +2,13 @@
 
 ghost use Rattle.std.specs.Prelude.{◌≡◌, [], IfOk};
 ghost use Rattle.model.specs.Items.{fate};
-ghost use Rattle.holdings.specs.Held.{IsWithin};
-ghost use Rattle.holdings.specs.Stripping.{limits_in, holdings_in, AreSound};
+ghost use Rattle.holdings.specs.Places.{IsWithin};
+ghost use Rattle.holdings.specs.Inner.Held.{limits_in, holdings_in};
+ghost use Rattle.holdings.specs.Inner.Sound.{AreSound};
 ghost use Rattle.holdings.specs.Sending.{fate_of_outcome, AreItemPages, AreOutcomes};
 ghost use Rattle.std.specs.Prelude.{false};
 ghost use Rattle.space.specs.Place.{same_place};
-ghost use Rattle.holdings.specs.Spots.{ArePairSpots};
+ghost use Rattle.holdings.specs.Inner.Spots.{ArePairSpots};
 
 use crate::holdings::Holdings;
 use crate::item_pages::ItemPages;
@@ -115,10 +116,10 @@ fn outcome_of(
 }
 
 ghost use Rattle.std.specs.Prelude.{true};
-ghost use Rattle.holdings.specs.Derivation.{stands_in};
-ghost use Rattle.holdings.specs.Sending.{IsOutcomeIn};
+ghost use Rattle.holdings.specs.Inner.Derivation.{stands_in};
+ghost use Rattle.holdings.specs.Inner.Outcomes.{IsOutcomeIn};
 ghost use Rattle.holdings.specs.declared.spots.Spot.{Spot};
-ghost use Rattle.holdings.specs.Spots.{IsSpotIn};
+ghost use Rattle.holdings.specs.Inner.Spots.{IsSpotIn};
 
 /// The outcome of a page whose target is held with the same frame: from where source and target stand in the tree of that
 /// frame, if it was noted, and otherwise by searches of the tree.

@@ -1,10 +1,12 @@
-//! Those of some pages that are held, and those of one frame among them.
+//! Those of some pages that are held.
 
-ghost use Rattle.std.specs.Prelude.{◌≡◌, ◌≤◌, ◌==◌, true, IfOk, IsFalse, length, take};
-ghost use Rattle.std.specs.List.{All, list_all};
+ghost use Rattle.std.specs.Prelude.{◌≡◌, IfOk, IsFalse};
+ghost use Rattle.std.specs.List.{All};
 ghost use Rattle.space.specs.Shards.{IsPlace, is_taken};
-ghost use Rattle.holdings.specs.Stripping.{AreHeldPages, any_of, places_in};
+ghost use Rattle.holdings.specs.Inner.Stripping.{AreHeldPages, places_in};
+ghost use Rattle.holdings.specs.Places.{any_of};
 
+use crate::group::OfFrame;
 use space::{Place, Shards};
 use std::alloc::{AllocError, Global};
 
@@ -13,6 +15,14 @@ use std::alloc::{AllocError, Global};
 pub struct HeldPage {
     pub frame: u32,
     pub place: Place,
+}
+
+impl OfFrame for HeldPage {
+    ghost frame_of = { λ h. h.frame };
+
+    fn frame(&self) -> u32 {
+        self.frame
+    }
 }
 
 /// Those of some places that are held, with their frames.
@@ -35,19 +45,6 @@ pub fn held_pages(
         }
     }
     Ok(pages)
-}
-
-/// How many pages from the front on hold this frame.
-pub fn same_frame(pages: &[HeldPage], frame: u32) -> usize
-    ensures most { result ≤ length pages.now }
-    ensures frames { list_all (λ h. h.frame == frame) (take result pages.now) ≡ true }
-{
-    for i in 0..pages.len() {
-        if pages[i].frame != frame {
-            return i;
-        }
-    }
-    pages.len()
 }
 
 /// The places of pages.

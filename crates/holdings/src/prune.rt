@@ -5,7 +5,8 @@ ghost use Rattle.std.specs.List.{All, list_all, slice_range};
 ghost use Rattle.space.specs.Shards.{IsPlace, is_taken};
 ghost use Rattle.maptree.specs.Origins.{IsRun, AreRising};
 ghost use Rattle.maptree.specs.Cuts.{outside, nodes_of, kept_of};
-ghost use Rattle.holdings.specs.Stripping.{has_entry, pruned, OriginsHaveEntries};
+ghost use Rattle.holdings.specs.Inner.Held.{has_entry};
+ghost use Rattle.holdings.specs.Inner.Stripping.{pruned, OriginsHaveEntries};
 
 use maptree::{Node, Slice, Tree};
 use space::{NoMemory, Shards};

@@ -12,8 +12,7 @@ impl Holdings {
     ghost use Rattle.std.specs.Prelude.{IfOk};
     ghost use Rattle.std.specs.List.{All};
     ghost use Rattle.holdings.specs.Contents.{IsStripped};
-    ghost use Rattle.holdings.specs.Held.{IsWithin};
-    ghost use Rattle.holdings.specs.Stripping.{any_of};
+    ghost use Rattle.holdings.specs.Places.{IsWithin, any_of};
 
     /// The same as `strip`, by recursion: page by page of those that are still held, first what derives from the page, and
     /// then the page itself. It takes longer.
@@ -63,9 +62,10 @@ ghost use Rattle.space.specs.Shards.{IsPlace, IsSetAt, IsLaidOutAs, entry_at, is
 ghost use Rattle.maptree.specs.Origins.{place_at, IsRun};
 ghost use Rattle.model.specs.Holdings.{only};
 ghost use Rattle.model.specs.Strip.{strip, strip_word};
-ghost use Rattle.holdings.specs.Held.{IsWithin, is_listed, links_in};
+ghost use Rattle.holdings.specs.Places.{IsWithin, any_of};
+ghost use Rattle.holdings.specs.Inner.Held.{is_listed, links_in, limits_in, holdings_in};
 ghost use Rattle.space.specs.Entries.{narrowed, status_of};
-ghost use Rattle.holdings.specs.Stripping.{limits_in, holdings_in, any_of, AreSound, AreLoose};
+ghost use Rattle.holdings.specs.Inner.Sound.{AreSound, AreLoose};
 
 /// Visits a place, takes out of its tree what is gone then, and gives back the status that was gathered.
 fn visit_place(

@@ -1,7 +1,8 @@
 //! Pages that move, in the trees: those of one frame in one pass.
 
 ghost use Rattle.std.specs.Prelude.{None, OnOk};
-ghost use Rattle.holdings.specs.Links.{last_target, AreMovable, AreRenamed};
+ghost use Rattle.holdings.specs.Inner.Links.{last_target};
+ghost use Rattle.holdings.specs.Inner.Renamings.{AreMovable, AreRenamed};
 
 use crate::link::{Link, targets_of};
 use maptree::Tree;

@@ -2,9 +2,10 @@
 
 ghost use Rattle.std.specs.Prelude.{◌≡◌, ◌<◌, IfOk, length};
 ghost use Rattle.std.specs.List.{All};
-ghost use Rattle.holdings.specs.Stripping.{limits_in, AreSound};
+ghost use Rattle.holdings.specs.Inner.Held.{limits_in};
+ghost use Rattle.holdings.specs.Inner.Sound.{AreSound};
 ghost use Rattle.holdings.specs.Sending.{AreItemPages};
-ghost use Rattle.holdings.specs.Spots.{AreSpots};
+ghost use Rattle.holdings.specs.Inner.Spots.{AreSpots};
 
 use crate::item_pages::ItemPages;
 use crate::tree::FEW;
@@ -91,7 +92,7 @@ fn no_spots(alloc: Global, count: u32) -> Result<Vec<Option<Spot>>, AllocError>
     vec![in alloc; None; count as usize]
 }
 
-ghost use Rattle.holdings.specs.Spots.{AreSpotsOf};
+ghost use Rattle.holdings.specs.Inner.Spots.{AreSpotsOf};
 
 /// Notes where those pages stand that a tree has.
 fn note(notes: &mut [Option<Spot>], first: Place, links: &[(Place, Option<Place>)], ends: &[usize])
@@ -128,8 +129,8 @@ fn number_of(place: Place, first: Place, count: usize) -> Option<usize>
 ghost use Rattle.std.specs.Prelude.{IsFalse, true};
 ghost use Rattle.std.specs.List.{Contains};
 ghost use Rattle.space.specs.Shards.{IsPlace, entry_at, is_taken};
-ghost use Rattle.holdings.specs.Held.{has_frame};
-ghost use Rattle.holdings.specs.Spots.{HaveWords, IsHeldSomewhere};
+ghost use Rattle.holdings.specs.Inner.Held.{has_frame};
+ghost use Rattle.holdings.specs.Inner.Spots.{HaveWords, IsHeldSomewhere};
 
 /// The frames of the pairs whose source and target hold one frame, pair by pair; none for an item of a few pages.
 fn contested_frames(

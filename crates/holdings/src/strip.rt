@@ -1,7 +1,8 @@
 //! Rights revoked from pages and from all that derives from them.
 
+use crate::group::group_end;
 use crate::holdings::Holdings;
-use crate::pages::{held_pages, places_of, same_frame};
+use crate::pages::{held_pages, places_of};
 use crate::prune::prune;
 use crate::tree::{links_for_many, origin_by};
 use fpage::Rights;
@@ -14,8 +15,7 @@ impl Holdings {
     ghost use Rattle.std.specs.Prelude.{IfOk};
     ghost use Rattle.std.specs.List.{All};
     ghost use Rattle.holdings.specs.Contents.{IsStripped};
-    ghost use Rattle.holdings.specs.Held.{IsWithin};
-    ghost use Rattle.holdings.specs.Stripping.{any_of};
+    ghost use Rattle.holdings.specs.Places.{IsWithin, any_of};
 
     /// Takes rights from all that derives from some pages, and with `flush` from these pages too. The status of all of
     /// them is cleared and returned, and what it was is added to that of the page from which they come. A page that has no
@@ -45,7 +45,7 @@ impl Holdings {
         let mut from = 0;
         while from < pages.len() {
             let frame = pages[from].frame;
-            let end = from + 1 + same_frame(&pages[from + 1..], frame);
+            let end = group_end(&pages, from);
             let word = strip_frame(
                 alloc,
                 &mut shards,
@@ -68,11 +68,15 @@ ghost use Rattle.space.specs.Shards.{IsLaidOutAs};
 ghost use Rattle.maptree.specs.Origins.{place_at, IsRun};
 ghost use Rattle.model.specs.Holdings.{only};
 ghost use Rattle.model.specs.Strip.{strip, strip_word};
-ghost use Rattle.holdings.specs.Held.{links_in};
-ghost use Rattle.holdings.specs.Stripping.{holdings_in, AreLoose};
+ghost use Rattle.holdings.specs.Inner.Held.{links_in, holdings_in};
+ghost use Rattle.holdings.specs.Inner.Sound.{AreLoose};
 ghost use Rattle.std.specs.Prelude.{IfOk, OnOk};
 ghost use Rattle.std.specs.List.{All};
-ghost use Rattle.holdings.specs.Stripping.{limits_in, any_of, AreSound, AreOfFrame, IsOriginAt};
+ghost use Rattle.holdings.specs.Inner.Held.{limits_in};
+ghost use Rattle.holdings.specs.Places.{any_of};
+ghost use Rattle.holdings.specs.Inner.Sound.{AreSound};
+ghost use Rattle.holdings.specs.Inner.Stripping.{AreOfFrame};
+ghost use Rattle.holdings.specs.Inner.Derivation.{IsOriginAt};
 
 /// Strips places that hold pages of one frame: what derives from them loses the rights, and they lose them too if that
 /// is asked. The status of all of these is cleared and given back, and each run's is added to that of its origin.

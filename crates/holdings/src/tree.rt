@@ -2,7 +2,7 @@
 
 ghost use Rattle.std.specs.Prelude.{◌≡◌, true, false, OnOk, OnErr};
 ghost use Rattle.maptree.specs.Origins.{origin_in};
-ghost use Rattle.holdings.specs.Derivation.{stands_in, IsDerived};
+ghost use Rattle.holdings.specs.Inner.Derivation.{stands_in, IsDerived};
 
 use maptree::Tree;
 use space::{NoMemory, Place};
@@ -36,7 +36,7 @@ pub fn derive(tree: &mut Tree, origin: Place, place: Place) -> Result<(), NoMemo
 
 ghost use Rattle.std.specs.Prelude.{◌<◌, IfOk, length};
 ghost use Rattle.std.specs.Option.{ForSome};
-ghost use Rattle.holdings.specs.Stripping.{IsOriginAt, AreLinksOf};
+ghost use Rattle.holdings.specs.Inner.Derivation.{IsOriginAt, AreLinksOf};
 
 /// The links of a tree, if the origins of so many of its nodes are asked for that one pass over the tree is faster than a
 /// search for each.

@@ -1,28 +1,21 @@
 -- The ends of transfers that go, one after another.
-use Rattle.std.proofs.Common.{◌≡◌, ℕ, zero, suc, arith, ◌+◌, ◌<◌, ◌≤◌, true, false, Bool, ◌&&◌, ◌||◌, not, List, [], ◌∷◌, ◌++◌, length, take, get_or, refl, sym, ap, ◌∙◌, ◌⊎◌, inl, inr}
+use Rattle.std.proofs.Common.{◌≡◌, ℕ, zero, suc, arith, ◌+◌, ◌<◌, ◌≤◌, true, false, ◌&&◌, ◌||◌, not, List, [], ◌∷◌, ◌++◌, length, take, get_or, refl, sym, ap, ◌∙◌}
 use Rattle.std.proofs.lemmas.List.{take_more}
 use Rattle.std.specs.List.{All}
 use Rattle.std.proofs.lemmas.Bool.{or_right}
 use Rattle.std.proofs.lemmas.List.Folds.{list_any-append}
 use Rattle.std.proofs.lemmas.List.{take_all}
+use Rattle.std.proofs.Math.Bool.{or-false}
 use Rattle.space.specs.declared.place.Place.{Place}
 use Rattle.space.specs.Place.{same_place}
-use Rattle.space.proofs.Places.{same_self, same_or_apart, apart_back}
+use Rattle.space.proofs.Places.{same_self}
 use Rattle.model.specs.Calls.{Limits}
-use Rattle.holdings.specs.Held.{IsWithin, is_place}
-use Rattle.holdings.proofs.Listing.{within_from_place}
+use Rattle.holdings.specs.Places.{IsWithin, any_of}
+use Rattle.holdings.specs.Inner.Held.{is_place}
+use Rattle.holdings.proofs.Contents.Listing.{within_from_place}
 use Rattle.holdings.specs.declared.transfer.Transfer.{Transfer}
-use Rattle.holdings.specs.Stripping.{any_of}
 use Rattle.mapdb.specs.declared.plan.End.{End}
 use Rattle.mapdb.specs.Sending.{end_of, ends_of}
-
--- places are one or the other way round
-pub same_back : (p q : Place) → same_place p q ≡ same_place q p
-same_back p q = by (same_or_apart p q)
-  where
-    by : (p ≡ q) ⊎ (same_place p q ≡ false) → same_place p q ≡ same_place q p
-    by (inl same) = rw same refl
-    by (inr apart) = apart ∙ sym (apart_back p q apart)
 
 -- the places that were found are the ends of these transfers
 abbrev pub AreEnds : End → List Transfer → List Place → Type 0
@@ -35,11 +28,7 @@ module _ (end : End) (ts : List Transfer) where
 
     -- one that extends
     pub one_extends : (get_or ts i d).extends ≡ true → AreEnds end (take (i + 1) ts) places
-    one_extends is p = so_far p ∙ sym (more p ∙ ap (λ b. ends_of end (take i ts) p || ((not b && same_place p (end_of end (get_or ts i d))) || false)) is ∙ none (ends_of end (take i ts) p))
-      where
-        none : (b : Bool) → (b || false) ≡ b
-        none true = refl
-        none false = refl
+    one_extends is p = so_far p ∙ sym (more p ∙ ap (λ b. ends_of end (take i ts) p || ((not b && same_place p (end_of end (get_or ts i d))) || false)) is ∙ or-false (ends_of end (take i ts) p))
 
     -- one that goes
     pub one_goes : (get_or ts i d).extends ≡ false → (q : Place) → q ≡ end_of end (get_or ts i d) → AreEnds end (take (i + 1) ts) (places ++ q ∷ [])

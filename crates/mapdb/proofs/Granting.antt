@@ -24,13 +24,13 @@ use Rattle.model.proofs.Grants.{without_withheld}
 use Rattle.fpage.specs.declared.item.ItemKind.TheVariants.{Grant}
 use Rattle.space.specs.declared.error.NoMemory.{NoMemory}
 use Rattle.holdings.specs.declared.transfer.Transfer.{Transfer}
-use Rattle.holdings.specs.declared.worked.Worked.{Worked}
+use Rattle.holdings.specs.declared.transfer_counts.TransferCounts.{TransferCounts}
 use Rattle.holdings.specs.Contents.{Contents, left_with, IsStripped, AreMoved}
-use Rattle.holdings.specs.Stripping.{any_of}
+use Rattle.holdings.specs.Places.{any_of}
 use Rattle.mapdb.specs.declared.plan.End.TheVariants.{Source}
-use Rattle.holdings.specs.Sending.{pair_of, fate_in, AllGo, IsReady, moving_of, worked}
+use Rattle.holdings.specs.Sending.{pair_of, fate_in, AllGo, IsReady, moving_of, counts_after_flush}
+use Rattle.holdings.proofs.Stripping.Sequences.{same_back}
 use Rattle.mapdb.specs.Sending.{ends_of, AreWorkedBy}
-use Rattle.mapdb.proofs.Ends.{same_back}
 
 module _ (h : Holdings) (lawful : IsLawful h) (rights : Rights) where
   -- the held sources are those of the pairs that move
@@ -97,10 +97,10 @@ module _ (h : Holdings) (lawful : IsLawful h) (rights : Rights) where
         by [] same = refl
         by (x ∷ xs) same = λ i. if same 0 x (omega arith) i then pair_of x ∷ by xs (λ k d within. same (suc k) d (omega (arith, within))) i else by xs (λ k d within. same (suc k) d (omega (arith, within))) i
 
-    pub after_strip_worked : worked left_of_sources ts ≡ worked h ts
+    pub after_strip_worked : counts_after_flush left_of_sources ts ≡ counts_after_flush h ts
     after_strip_worked = by ts all_still
       where
-        by : (xs : List Transfer) → All (λ t. is_held left_of_sources t.source ≡ is_held h t.source) xs → worked left_of_sources xs ≡ worked h xs
+        by : (xs : List Transfer) → All (λ t. is_held left_of_sources t.source ≡ is_held h t.source) xs → counts_after_flush left_of_sources xs ≡ counts_after_flush h xs
         by [] same = refl
         by (x ∷ xs) same = λ i. add_counts (counts_of (fate_in x) (same 0 x (omega arith) i)) (by xs (λ k d within. same (suc k) d (omega (arith, within))) i)
 
@@ -118,7 +118,7 @@ module _ (old : Contents) (lawful : is_lawful old.holdings ≡ true) (rights : R
       (after_strip_free old.holdings (lawful_parts old.holdings lawful) rights (sources_of (moving_of old.holdings ts)) ts go ready)
 
   -- what was moved then is what the definition moves
-  pub moved_after : All (IsReady old.holdings rights) ts → (r : Result (Contents × Worked) NoMemory) → IfOk r (AreMoved now ts) → IfOk r (AreWorkedBy old Grant rights ts)
+  pub moved_after : All (IsReady old.holdings rights) ts → (r : Result (Contents × TransferCounts) NoMemory) → IfOk r (AreMoved now ts) → IfOk r (AreWorkedBy old Grant rights ts)
   moved_after ready (Err e) moved = tt
   moved_after ready (Ok r) moved =
       let h = old.holdings in
@@ -126,5 +126,5 @@ module _ (old : Contents) (lawful : is_lawful old.holdings ≡ true) (rights : R
       let left = strip h (sources_of (moving_of h ts)) (without all_rights rights) true in
       record {
         left = moved.left ∙ ap (λ (g : Contents). left_with g (renamed (moving_of g.holdings ts) g.holdings)) sources_stripped ∙ ap (λ es. left_with old (renamed es left)) (after_strip_moving h l rights ts ready);
-        counted = moved.counted ∙ ap (λ (g : Contents). worked g.holdings ts) sources_stripped ∙ after_strip_worked h l rights ts ready;
+        counted = moved.counted ∙ ap (λ (g : Contents). counts_after_flush g.holdings ts) sources_stripped ∙ after_strip_worked h l rights ts ready;
       }

@@ -8,9 +8,8 @@ use Rattle.space.specs.declared.place.Place.{Place}
 use Rattle.space.specs.Directory.{pages_of}
 use Rattle.model.specs.Calls.{Limits}
 use Rattle.model.specs.Answers.{pages_in}
-use Rattle.holdings.specs.Held.{IsWithin, pages_from}
-use Rattle.holdings.specs.Stripping.{any_of}
-use Rattle.holdings.proofs.Listing.{in_pages}
+use Rattle.holdings.specs.Places.{IsWithin, pages_from, any_of}
+use Rattle.holdings.proofs.Contents.Listing.{in_pages}
 
 -- one page more
 pub one_page : (space page n : ℕ) (front all : List Place) → 0 < n → front ++ pages_from space page n ≡ all → (front ++ record { space = space; page = page } ∷ []) ++ pages_from space (page + 1) (n - 1) ≡ all

@@ -14,14 +14,14 @@ use Rattle.model.proofs.LawfulParts.{IsLawful, lawful_parts, lawful_from}
 use Rattle.model.proofs.StripAt.{lawful_strip}
 use Rattle.holdings.specs.declared.item_pages.ItemPages.{ItemPages}
 use Rattle.holdings.specs.declared.transfer.Transfer.{Transfer}
-use Rattle.holdings.specs.declared.worked.Worked.{Worked}
+use Rattle.holdings.specs.declared.transfer_counts.TransferCounts.{TransferCounts}
 use Rattle.holdings.specs.Contents.{Contents, left_with, IsConsistent, IsStripped}
 use Rattle.holdings.specs.Meaning as phase
-use Rattle.holdings.specs.Stripping.{any_of}
-use Rattle.holdings.specs.Sending.{job_of_pages, AreItemPages, ArePlanned, AreReady, worked}
+use Rattle.holdings.specs.Places.{any_of}
+use Rattle.holdings.specs.Sending.{job_of_pages, AreItemPages, ArePlanned, AreReady, counts_after_flush}
 use Rattle.holdings.proofs.CountSums.{total_sum}
 use Rattle.mapdb.specs.declared.plan.End.TheVariants.{Target}
-use Rattle.mapdb.specs.Sending.{transfers_of, decided, ends_of, after_flush, AreWorkedBy}
+use Rattle.mapdb.specs.Sending.{transfers_of, counts_before_flush, ends_of, after_flush, AreWorkedBy}
 use Rattle.mapdb.proofs.Phases.{is_job, flush_is, left_is, counts_are, total_is, are_planned, all_ready, few_pages}
 
 module _ (old : Contents) (p : ItemPages) (consistent : IsConsistent old) (pages : AreItemPages old.limits p) where
@@ -57,7 +57,7 @@ module _ (old : Contents) (p : ItemPages) (consistent : IsConsistent old) (pages
     pub ready_then : AreReady flushed.holdings p.rights the_transfers
     ready_then = subst (λ (h : Holdings). AreReady h p.rights the_transfers) (sym flushed_is) (all_ready old.holdings the_job lawful (is_job old.holdings lawful p pages.differ))
 
-    module _ (done : Contents × Worked) (by_phase : AreWorkedBy flushed p.kind p.rights the_transfers done) (first : Counts) (first_is : first ≡ decided old.holdings the_job the_job.pairs) where
+    module _ (done : Contents × TransferCounts) (by_phase : AreWorkedBy flushed p.kind p.rights the_transfers done) (first : Counts) (first_is : first ≡ counts_before_flush old.holdings the_job the_job.pairs) where
       -- what is left is that of the definition
       pub left_then : done.0 ≡ left_with old (item_answer old.holdings the_job).left
       left_then =
@@ -67,7 +67,7 @@ module _ (old : Contents) (p : ItemPages) (consistent : IsConsistent old) (pages
       -- and so are the counts
       pub counts_then : add_counts first (phase.counts_of done.1) ≡ (item_answer old.holdings the_job).counts
       counts_then =
-          let after = by_phase.counted ∙ ap (λ h. worked h the_transfers) flushed_is in
+          let after = by_phase.counted ∙ ap (λ h. counts_after_flush h the_transfers) flushed_is in
           (λ i. add_counts (first_is i) (after i)) ∙ counts_are old.holdings lawful p pages.differ
 
       pub total_then : total (add_counts first (phase.counts_of done.1)) < 2 ^ 32

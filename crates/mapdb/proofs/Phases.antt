@@ -33,12 +33,12 @@ use Rattle.holdings.specs.declared.transfer.Transfer.{Transfer}
 use Rattle.mapdb.specs.declared.plan.End.TheVariants.{Source, Target}
 use Rattle.mapdb.specs.declared.plan.End.{End}
 use Rattle.holdings.specs.declared.item_pages.ItemPages.{ItemPages}
-use Rattle.holdings.specs.Held.{is_place}
-use Rattle.holdings.proofs.Listing.{place_from_within}
-use Rattle.holdings.specs.Sending.{pair_of, fate_in, IsTransferWithin, IsApartFrom, ArePaired, AllGo, IsReady, worked, map_transfers, moving_of, job_of_pages, AreItemPages, ArePlanned}
-use Rattle.mapdb.specs.Sending.{transfer_of, transfers_of, decided_of, decided, end_of, ends_of, after_flush}
-use Rattle.mapdb.proofs.Ends.{same_back}
+use Rattle.holdings.specs.Inner.Held.{is_place}
+use Rattle.holdings.proofs.Contents.Listing.{place_from_within}
+use Rattle.holdings.specs.Sending.{pair_of, fate_in, IsTransferWithin, IsApartFrom, ArePaired, AllGo, IsReady, counts_after_flush, map_transfers, moving_of, job_of_pages, AreItemPages, ArePlanned}
+use Rattle.mapdb.specs.Sending.{transfer_of, transfers_of, count_before_flush, counts_before_flush, end_of, ends_of, after_flush}
 use Rattle.holdings.proofs.CountSums.{add_assoc}
+use Rattle.holdings.proofs.Stripping.Sequences.{same_back}
 use Rattle.mapdb.proofs.Plans.{transfers_few, pairs_length}
 
 -- ---- which pairs
@@ -161,16 +161,16 @@ module _ (h : Holdings) (job : Job) where
       one a b c = omega arith
 
   -- those that are decided at the start, and those that are worked after the flush, are all
-  pub all_counted : (flushed : Holdings) (es : List Pair) → counts_from h flushed job es ≡ add_counts (decided h job es) (worked flushed (transfers_of h job es))
+  pub all_counted : (flushed : Holdings) (es : List Pair) → counts_from h flushed job es ≡ add_counts (counts_before_flush h job es) (counts_after_flush flushed (transfers_of h job es))
   all_counted flushed [] = refl
   all_counted flushed (e ∷ es) = ap (add_counts (counts_of (fate h job e) (is_held flushed e.0))) (all_counted flushed es) ∙ by (fate h job e)
     where
-      by : (f : Fate) → add_counts (counts_of f (is_held flushed e.0)) (add_counts (decided h job es) (worked flushed (transfers_of h job es))) ≡ add_counts (add_counts (decided_of f) (decided h job es)) (worked flushed (transfer_of e f (transfers_of h job es)))
-      by absent = sym (add_assoc (decided_of absent) (decided h job es) (worked flushed (transfers_of h job es)))
-      by norights = sym (add_assoc (decided_of norights) (decided h job es) (worked flushed (transfers_of h job es)))
-      by to_origin = sym (add_assoc (decided_of to_origin) (decided h job es) (worked flushed (transfers_of h job es)))
-      by extends = swap (counts_of extends (is_held flushed e.0)) (decided h job es) (worked flushed (transfers_of h job es))
-      by goes = swap (counts_of goes (is_held flushed e.0)) (decided h job es) (worked flushed (transfers_of h job es))
+      by : (f : Fate) → add_counts (counts_of f (is_held flushed e.0)) (add_counts (counts_before_flush h job es) (counts_after_flush flushed (transfers_of h job es))) ≡ add_counts (add_counts (count_before_flush f) (counts_before_flush h job es)) (counts_after_flush flushed (transfer_of e f (transfers_of h job es)))
+      by absent = sym (add_assoc (count_before_flush absent) (counts_before_flush h job es) (counts_after_flush flushed (transfers_of h job es)))
+      by norights = sym (add_assoc (count_before_flush norights) (counts_before_flush h job es) (counts_after_flush flushed (transfers_of h job es)))
+      by to_origin = sym (add_assoc (count_before_flush to_origin) (counts_before_flush h job es) (counts_after_flush flushed (transfers_of h job es)))
+      by extends = swap (counts_of extends (is_held flushed e.0)) (counts_before_flush h job es) (counts_after_flush flushed (transfers_of h job es))
+      by goes = swap (counts_of goes (is_held flushed e.0)) (counts_before_flush h job es) (counts_after_flush flushed (transfers_of h job es))
 
   -- ---- map
 
@@ -308,7 +308,7 @@ module _ (h : Holdings) (lawful : IsLawful h) (p : ItemPages) (differ : p.source
       by Grant is = ap (λ es. renamed es (strip (flush h (going h the_job)) (sources_of es) (without all_rights p.rights) true)) (all_moving h the_job is (flush h (going h the_job)) (pairs_from p.count p.source p.target))
 
   -- the counts are those of the definition
-  pub counts_are : add_counts (decided h the_job (pairs_from p.count p.source p.target)) (worked (flush h (going h the_job)) the_transfers) ≡ counts h the_job
+  pub counts_are : add_counts (counts_before_flush h the_job (pairs_from p.count p.source p.target)) (counts_after_flush (flush h (going h the_job)) the_transfers) ≡ counts h the_job
   counts_are = sym (all_counted h the_job (flush h (going h the_job)) (pairs_from p.count p.source p.target))
 
   pub total_is : total (counts h the_job) ≡ p.count

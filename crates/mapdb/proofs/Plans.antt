@@ -8,7 +8,7 @@ use Rattle.model.specs.SendLaws.{total}
 use Rattle.holdings.specs.declared.transfer.Transfer.{Transfer}
 use Rattle.holdings.specs.Sending.{page_on}
 use Rattle.holdings.proofs.CountSums.{add_assoc, add_none, none_add, total_sum}
-use Rattle.mapdb.specs.Sending.{transfer_of, transfers_of, decided_of, decided}
+use Rattle.mapdb.specs.Sending.{transfer_of, transfers_of, count_before_flush, counts_before_flush}
 
 -- ---- pages
 
@@ -28,7 +28,7 @@ transfers_before e to_origin ts = refl
 transfers_before e extends ts = refl
 transfers_before e goes ts = refl
 
-pub decided_one : (f : Fate) → total (decided_of f) ≤ 1
+pub decided_one : (f : Fate) → total (count_before_flush f) ≤ 1
 decided_one absent = omega arith
 decided_one norights = omega arith
 decided_one to_origin = omega arith
@@ -37,7 +37,7 @@ decided_one goes = omega arith
 
 -- the outcomes so far with those of the pages to come are those of all pages
 pub record AreDecided (h : Holdings) (job : Job) (n i : ℕ) (source target : Place) (counts : Counts) (ts : List Transfer) : Type 0 where
-  pub counts_are : add_counts counts (decided h job (pairs_from (n - i) (page_on source i) (page_on target i))) ≡ decided h job (pairs_from n source target)
+  pub counts_are : add_counts counts (counts_before_flush h job (pairs_from (n - i) (page_on source i) (page_on target i))) ≡ counts_before_flush h job (pairs_from n source target)
   pub transfers_are : ts ++ transfers_of h job (pairs_from (n - i) (page_on source i) (page_on target i)) ≡ transfers_of h job (pairs_from n source target)
   pub few : total counts ≤ i
 
@@ -47,29 +47,29 @@ module _ (h : Holdings) (job : Job) (n : ℕ) (source target : Place) where
       let same : (p : ℕ) → p + 0 ≡ p = λ p. omega arith in
       let zero_less : (n : ℕ) → n - 0 ≡ n = λ n. omega arith in
       let all : pairs_from (n - 0) (page_on source 0) (page_on target 0) ≡ pairs_from n source target = λ j. pairs_from (zero_less n j) (record source { page = same source.page j }) (record target { page = same target.page j }) in
-      record { counts_are = none_add (decided h job (pairs_from (n - 0) (page_on source 0) (page_on target 0))) ∙ ap (decided h job) all; transfers_are = ap (transfers_of h job) all; few = omega arith }
+      record { counts_are = none_add (counts_before_flush h job (pairs_from (n - 0) (page_on source 0) (page_on target 0))) ∙ ap (counts_before_flush h job) all; transfers_are = ap (transfers_of h job) all; few = omega arith }
 
   pub one_decided : (i : ℕ) (counts more : Counts) (ts new : List Transfer) (f : Fate) → i < n → AreDecided h job n i source target counts ts → f ≡ fate h job (page_on source i, page_on target i)
-      → more ≡ add_counts counts (decided_of f) → new ≡ ts ++ transfer_of (page_on source i, page_on target i) f [] → AreDecided h job n (i + 1) source target more new
+      → more ≡ add_counts counts (count_before_flush f) → new ≡ ts ++ transfer_of (page_on source i, page_on target i) f [] → AreDecided h job n (i + 1) source target more new
   one_decided i counts more ts new f less so_far is more_is new_is =
       let rest = pairs_from (n - (i + 1)) (page_on source (i + 1)) (page_on target (i + 1)) in
       let e : Pair = (page_on source i, page_on target i) in
       let one = decided_one f in
       record {
-        counts_are = ap (λ c. add_counts c (decided h job rest)) more_is ∙ add_assoc counts (decided_of f) (decided h job rest)
-            ∙ ap (λ g. add_counts counts (add_counts (decided_of g) (decided h job rest))) is
-            ∙ sym (ap (λ es. add_counts counts (decided h job es)) (pairs_on n i source target less)) ∙ so_far.counts_are;
+        counts_are = ap (λ c. add_counts c (counts_before_flush h job rest)) more_is ∙ add_assoc counts (count_before_flush f) (counts_before_flush h job rest)
+            ∙ ap (λ g. add_counts counts (add_counts (count_before_flush g) (counts_before_flush h job rest))) is
+            ∙ sym (ap (λ es. add_counts counts (counts_before_flush h job es)) (pairs_on n i source target less)) ∙ so_far.counts_are;
         transfers_are = ap (λ xs. xs ++ transfers_of h job rest) new_is ∙ append_assoc ts (transfer_of e f []) (transfers_of h job rest)
             ∙ ap (λ xs. ts ++ xs) (sym (transfers_before e f (transfers_of h job rest)) ∙ ap (λ g. transfer_of e g (transfers_of h job rest)) is)
             ∙ sym (ap (λ es. ts ++ transfers_of h job es) (pairs_on n i source target less)) ∙ so_far.transfers_are;
-        few = subst (λ c. total c ≤ i + 1) (sym more_is) (subst (λ k. k ≤ i + 1) (sym (total_sum counts (decided_of f))) (omega (arith, one, so_far.few)));
+        few = subst (λ c. total c ≤ i + 1) (sym more_is) (subst (λ k. k ≤ i + 1) (sym (total_sum counts (count_before_flush f))) (omega (arith, one, so_far.few)));
       }
 
-  pub all_decided : (i : ℕ) (counts : Counts) (ts : List Transfer) → n ≤ i → AreDecided h job n i source target counts ts → (counts ≡ decided h job (pairs_from n source target)) × (ts ≡ transfers_of h job (pairs_from n source target))
+  pub all_decided : (i : ℕ) (counts : Counts) (ts : List Transfer) → n ≤ i → AreDecided h job n i source target counts ts → (counts ≡ counts_before_flush h job (pairs_from n source target)) × (ts ≡ transfers_of h job (pairs_from n source target))
   all_decided i counts ts past so_far =
       let none : n - i ≡ 0 = omega (arith, past) in
       let nothing : pairs_from (n - i) (page_on source i) (page_on target i) ≡ [] = ap (λ k. pairs_from k (page_on source i) (page_on target i)) none in (
-        sym (add_none counts) ∙ sym (ap (λ es. add_counts counts (decided h job es)) nothing) ∙ so_far.counts_are,
+        sym (add_none counts) ∙ sym (ap (λ es. add_counts counts (counts_before_flush h job es)) nothing) ∙ so_far.counts_are,
         sym (append-nil ts) ∙ sym (ap (λ es. ts ++ transfers_of h job es) nothing) ∙ so_far.transfers_are,
       )
 

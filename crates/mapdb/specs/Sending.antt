@@ -14,10 +14,10 @@ use Rattle.model.specs.Items.{Job, Pair, sources_of, Fate, absent, norights, to_
 use Rattle.model.specs.Strip.{strip}
 use Rattle.holdings.specs.declared.item_pages.ItemPages.{ItemPages}
 use Rattle.holdings.specs.declared.transfer.Transfer.{Transfer}
-use Rattle.holdings.specs.declared.worked.Worked.{Worked}
+use Rattle.holdings.specs.declared.transfer_counts.TransferCounts.{TransferCounts}
 use Rattle.holdings.specs.Contents.{Contents, left_with}
 use Rattle.holdings.specs.Meaning as phase
-use Rattle.holdings.specs.Sending.{map_transfers, moving_of, worked}
+use Rattle.holdings.specs.Sending.{map_transfers, moving_of, counts_after_flush}
 use Rattle.mapdb.specs.declared.plan.End.{End}
 use Rattle.mapdb.specs.declared.plan.End.TheVariants.{Source, Target}
 use Rattle.mapdb.specs.declared.reply.SendReply.{SendReply}
@@ -44,17 +44,17 @@ transfers_of h job [] = []
 transfers_of h job (e ∷ es) = transfer_of e (fate h job e) (transfers_of h job es)
 
 -- how a pair counts that neither goes nor extends
-abbrev pub decided_of : Fate → Counts
-decided_of absent = record no_counts { absent = 1 }
-decided_of norights = record no_counts { norights = 1 }
-decided_of to_origin = record no_counts { origin = 1 }
-decided_of extends = no_counts
-decided_of goes = no_counts
+abbrev pub count_before_flush : Fate → Counts
+count_before_flush absent = record no_counts { absent = 1 }
+count_before_flush norights = record no_counts { norights = 1 }
+count_before_flush to_origin = record no_counts { origin = 1 }
+count_before_flush extends = no_counts
+count_before_flush goes = no_counts
 
 -- how many of some pairs neither go nor extend
-abbrev pub decided : Holdings → Job → List Pair → Counts
-decided h job [] = no_counts
-decided h job (e ∷ es) = add_counts (decided_of (fate h job e)) (decided h job es)
+abbrev pub counts_before_flush : Holdings → Job → List Pair → Counts
+counts_before_flush h job [] = no_counts
+counts_before_flush h job (e ∷ es) = add_counts (count_before_flush (fate h job e)) (counts_before_flush h job es)
 
 -- the end of a pair
 abbrev pub end_of : End → Transfer → Place
@@ -73,9 +73,9 @@ after_flush Map rights ts h = map_transfers h (record { kind = Map; rights = rig
 after_flush Grant rights ts h = renamed (moving_of h ts) (strip h (sources_of (moving_of h ts)) (without all_rights rights) true)
 
 -- the phase after the flush left this, and counted its transfers
-pub record AreWorkedBy (old : Contents) (kind : ItemKind) (rights : Rights) (ts : List Transfer) (r : Contents × Worked) : Type 0 where
+pub record AreWorkedBy (old : Contents) (kind : ItemKind) (rights : Rights) (ts : List Transfer) (r : Contents × TransferCounts) : Type 0 where
   pub left : r.0 ≡ left_with old (after_flush kind rights ts old.holdings)
-  pub counted : phase.counts_of r.1 ≡ worked old.holdings ts
+  pub counted : phase.counts_of r.1 ≡ counts_after_flush old.holdings ts
 
 -- items left this, and were counted so
 pub record IsSent (old : Contents) (left : Holdings) (counts : Counts) (r : Contents × SendReply) : Type 0 where

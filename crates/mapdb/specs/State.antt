@@ -1,11 +1,11 @@
 -- A database as its callers see it.
-use Rattle.std.specs.Prelude.{◌≡◌, ℕ, Bool, false, true, Result, Ok, Err, Option, Some, None, if◌then◌else◌, List, [], ◌∷◌}
+use Rattle.std.specs.Prelude.{◌≡◌, ℕ, Bool, false, true, Result, Ok, Err, IfErr, Option, Some, None, option_map, if◌then◌else◌, List, [], ◌∷◌}
 use Rattle.fpage.specs.Fpage.{Flexpage}
 use Rattle.fpage.specs.declared.rights.Access.{Access}
 use Rattle.fpage.specs.declared.rights.Rights.{Rights}
 use Rattle.space.specs.declared.place.Place.{Place}
-use Rattle.model.specs.Answers.{pages_in}
-use Rattle.model.specs.Calls.{Limits}
+use Rattle.model.specs.Answers.{pages_in, call_refusal}
+use Rattle.model.specs.Calls.{Limits, Call, Refusal, same_space, no_window}
 use Rattle.model.specs.Holdings.{Holdings}
 use Rattle.model.specs.Recursion.{recur}
 use Rattle.model.specs.Replay.{start}
@@ -13,7 +13,7 @@ use Rattle.model.specs.Strip.{strip, strip_word}
 use Rattle.model.specs.Touch.{can_touch, touch}
 use Rattle.holdings.specs.Contents.{Contents}
 use Rattle.mapdb.specs.declared.error.DbError.{DbError}
-use Rattle.mapdb.specs.declared.error.DbError.TheVariants.{Halted}
+use Rattle.mapdb.specs.declared.error.DbError.TheVariants.{NoSuchSpace, SameSpace, NoWindow, NoMemory, Halted}
 
 -- its limits, what is held, and whether it was halted by a call that ran out of memory; then nothing is held
 pub record State : Type 0 where
@@ -56,6 +56,21 @@ access_answers h (a ∷ rest) = can_touch h a.0 a.1 ∷ access_answers (touch h 
 -- an answer of a call that changes nothing: that it is halted, or this
 abbrev pub unless_halted : {A : Type 0} → State → A → Result A DbError
 unless_halted s answer = if s.is_halted then Err Halted else Ok answer
+
+-- the error that says why a call is refused; what refuses a record alone refuses no call
+abbrev pub error_of : Refusal → DbError
+error_of same_space = SameSpace
+error_of no_window = NoWindow
+error_of other = NoSuchSpace
+
+-- why a call is refused, if not for want of memory: the first that fits
+abbrev pub refusal : State → Call → Option DbError
+refusal s call = if s.is_halted then Some Halted else option_map error_of (call_refusal s.limits call)
+
+-- a call that is refused for this answers so and changes nothing; any other may run out of memory, and has no other error
+abbrev pub IsRefused : {A : Type 0} → Option DbError → State → State → Result A DbError → Type 0
+IsRefused (Some why) old new result = (result ≡ Err why) × (new ≡ old)
+IsRefused None old new result = IfErr result (λ e. e ≡ NoMemory)
 
 -- the status that each word of an unmap gives back, one word after another
 abbrev pub unmap_status : ℕ → Bool → List Flexpage → Holdings → List Rights

@@ -31,23 +31,23 @@ impl Model for Database {
 }
 
 impl Database {
-    ghost use Rattle.std.specs.Prelude.{◌≡◌, ◌≤◌, ◌↔◌, ◌⊎◌, true, false, Some, map, option_map};
+    ghost use Rattle.std.specs.Prelude.{◌≡◌, ◌≤◌, ◌↔◌, ◌⊎◌, true, false, map, option_map};
     ghost use Rattle.std.specs.Prelude.{IfOk, OnOk, IfErr, OnErr, IsErrOf};
     ghost use Rattle.std.specs.List.{All};
     ghost use Rattle.model.specs.Holdings.{at, origin_at};
     ghost use Rattle.model.specs.Records.{are_limits};
-    ghost use Rattle.model.specs.Answers.{call_refusal, send_answer};
-    ghost use Rattle.model.specs.Calls.{send, no_such_space, same_space, no_window};
+    ghost use Rattle.model.specs.Answers.{send_answer};
+    ghost use Rattle.model.specs.Calls.{send};
     ghost use Rattle.fpage.specs.Fpage.{IsFpageOf};
     ghost use Rattle.model.specs.Lawful.{is_lawful};
     ghost use Rattle.holdings.specs.Meaning.{limits_of};
-    ghost use Rattle.holdings.specs.Held.{IsWithin, listing};
+    ghost use Rattle.holdings.specs.Places.{IsWithin, listing};
     ghost use Rattle.holdings.specs.Mappings.{mapped_of};
     ghost use Rattle.holdings.specs.Contents.{entry_of};
     ghost use Rattle.mapdb.specs.Meaning.{counts_of};
-    ghost use Rattle.mapdb.specs.State.{new_state, halted, left_with, unless_halted};
+    ghost use Rattle.mapdb.specs.State.{new_state, halted, left_with, unless_halted, refusal, IsRefused};
     ghost use Rattle.mapdb.specs.State.{touched_all, access_answers, unmap_status, unmap_left, plain_status, plain_left};
-    ghost use Rattle.mapdb.specs.declared.error.DbError.TheVariants.{BadLimits, NoSuchSpace, SameSpace, NoWindow, NoMemory, Halted};
+    ghost use Rattle.mapdb.specs.declared.error.DbError.TheVariants.{BadLimits, NoSuchSpace, NoMemory, Halted};
 
     /// The database at the start: page `i` of space 0 holds frame `i` with all rights, for each frame.
     ///
@@ -176,16 +176,9 @@ impl Database {
     ) -> Result<SendReply, DbError>
         requires window { IsFpageOf self.old.limits.bits window.now }
         requires items { All (λ item. IsFpageOf self.old.limits.bits item.sent) items.now }
-        ensures halted { IsErrOf result Halted ↔ (self.old.is_halted ≡ true) }
-        ensures no_such_space { IsErrOf result NoSuchSpace ↔ ((self.old.is_halted ≡ false)
-            × (call_refusal self.old.limits (send from to window.now items.now) ≡ Some no_such_space)) }
-        ensures same_space { IsErrOf result SameSpace ↔ ((self.old.is_halted ≡ false)
-            × (call_refusal self.old.limits (send from to window.now items.now) ≡ Some same_space)) }
-        ensures no_window { IsErrOf result NoWindow ↔ ((self.old.is_halted ≡ false)
-            × (call_refusal self.old.limits (send from to window.now items.now) ≡ Some no_window)) }
-        ensures errors { IfErr result (λ e. (e ≡ Halted) ⊎ (e ≡ NoSuchSpace) ⊎ (e ≡ SameSpace) ⊎ (e ≡ NoWindow) ⊎ (e ≡ NoMemory)) }
-        ensures refused { IfErr result (λ e. (e ≡ NoMemory) ⊎ (self.new ≡ self.old)) }
-        ensures no_memory { IsErrOf result NoMemory → (self.new.is_halted ≡ true) × (self.new.limits ≡ self.old.limits) }
+        ensures refused { IsRefused (refusal self.old (send from to window.now items.now)) self.old self.new result }
+        ensures no_memory { IsErrOf result NoMemory → self.new ≡ halted self.old }
+        ensures limits { self.new.limits ≡ self.old.limits }
         ensures counts { IfOk result (λ reply.
             counts_of reply ≡ (send_answer from to window.now items.now self.old.holdings).counts) }
         ensures left { OnOk result (

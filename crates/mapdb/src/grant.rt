@@ -8,7 +8,7 @@ ghost use Rattle.mapdb.specs.Sending.{AreWorkedBy};
 
 use crate::plan::{End, ends};
 use fpage::Rights;
-use holdings::{Holdings, Transfer, Worked};
+use holdings::{Holdings, Transfer, TransferCounts};
 use space::NoMemory;
 use std::alloc::Global;
 
@@ -20,7 +20,7 @@ pub fn grant_pages(
     held: Holdings,
     transfers: &[Transfer],
     rights: Rights,
-) -> Result<(Holdings, Worked), NoMemory>
+) -> Result<(Holdings, TransferCounts), NoMemory>
     requires lawful { is_lawful held.holdings ≡ true }
     requires planned { ArePlanned held.limits transfers.now }
     requires all_go { AllGo transfers.now }

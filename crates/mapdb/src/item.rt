@@ -12,7 +12,7 @@ use crate::item_pages::item_pages;
 use crate::plan::{End, ends, plan_item};
 use crate::reply::SendReply;
 use fpage::{Fpage, Item, ItemKind, Rights};
-use holdings::{Holdings, ItemPages, Transfer, Worked};
+use holdings::{Holdings, ItemPages, Transfer, TransferCounts};
 use space::NoMemory;
 use std::alloc::Global;
 
@@ -67,7 +67,7 @@ fn work_item(
     let replaced = ends(alloc, &plan.transfers, End::Target)?;
     let (held, _) = held.strip(alloc, &replaced, Rights::all(), true)?;
     let (held, worked) = map_or_grant(alloc, held, pages, &plan.transfers)?;
-    Ok((held, plan.decided.plus(SendReply::of_worked(worked))))
+    Ok((held, plan.decided.plus(SendReply::of_transfers(worked))))
 }
 
 ghost use Rattle.std.specs.Prelude.{true};
@@ -84,7 +84,7 @@ fn map_or_grant(
     held: Holdings,
     pages: &ItemPages,
     transfers: &[Transfer],
-) -> Result<(Holdings, Worked), NoMemory>
+) -> Result<(Holdings, TransferCounts), NoMemory>
     requires lawful { is_lawful held.holdings ≡ true }
     requires planned { ArePlanned held.limits transfers.now }
     requires all_go { pages.now.kind ≡ Grant → AllGo transfers.now }

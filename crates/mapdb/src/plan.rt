@@ -3,10 +3,10 @@
 ghost use Rattle.std.specs.Prelude.{◌≡◌, ◌∷◌, [], IfOk, MatchOption};
 ghost use Rattle.holdings.specs.Contents.{IsConsistent};
 ghost use Rattle.holdings.specs.Sending.{AreItemPages, fate_of_outcome, job_of_pages};
-ghost use Rattle.holdings.specs.Stripping.{any_of};
+ghost use Rattle.holdings.specs.Places.{any_of};
 ghost use Rattle.space.specs.declared.place.Place.{Place};
 ghost use Rattle.mapdb.specs.Meaning.{counts_of};
-ghost use Rattle.mapdb.specs.Sending.{decided, transfer_of, transfers_of, end_of, ends_of};
+ghost use Rattle.mapdb.specs.Sending.{counts_before_flush, transfer_of, transfers_of, end_of, ends_of};
 
 use crate::reply::SendReply;
 use holdings::{Holdings, ItemPages, Outcome, Transfer};
@@ -26,7 +26,7 @@ pub struct Plan {
 pub fn plan_item(alloc: Global, held: &Holdings, pages: &ItemPages) -> Result<Plan, AllocError>
     requires { AreItemPages held.now.limits pages.now }
     ensures decided { IfOk result (λ plan. counts_of plan.decided
-        ≡ decided held.now.holdings (job_of_pages pages.now) (job_of_pages pages.now).pairs) }
+        ≡ counts_before_flush held.now.holdings (job_of_pages pages.now) (job_of_pages pages.now).pairs) }
     ensures transfers { IfOk result (λ plan. plan.transfers.items
         ≡ transfers_of held.now.holdings (job_of_pages pages.now) (job_of_pages pages.now).pairs) }
     ensures consistent { IsConsistent held.now }
@@ -36,7 +36,7 @@ pub fn plan_item(alloc: Global, held: &Holdings, pages: &ItemPages) -> Result<Pl
     let mut transfers = Vec::with_capacity(alloc, outcomes.len())?;
     for i in 0..pages.count {
         let outcome = outcomes[i as usize];
-        decided = decided.plus(SendReply::of_decided(outcome));
+        decided = decided.plus(SendReply::of_outcome(outcome));
         if let Some(transfer) = transfer_of(outcome, pages, i) {
             transfers.push(transfer)?;
         }

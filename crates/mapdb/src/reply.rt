@@ -4,9 +4,9 @@ ghost use Rattle.model.specs.SendLaws.{total};
 ghost use Rattle.holdings.specs.Meaning as phase;
 ghost use Rattle.holdings.specs.Sending.{fate_of_outcome};
 ghost use Rattle.mapdb.specs.Meaning.{counts_of};
-ghost use Rattle.mapdb.specs.Sending.{decided_of};
+ghost use Rattle.mapdb.specs.Sending.{count_before_flush};
 
-use holdings::{Outcome, Worked};
+use holdings::{Outcome, TransferCounts};
 
 /// How many pairs of a send had which outcome. Their numbers have no bound but that of a slice of items.
 #[derive(Clone, Copy, Debug, PartialEq, Eq)]
@@ -44,8 +44,8 @@ impl SendReply {
     }
 
     /// One pair that is decided at an item's start, if it neither goes nor extends.
-    pub(crate) fn of_decided(outcome: Outcome) -> Self
-        ensures { counts_of result ≡ decided_of (fate_of_outcome outcome) }
+    pub(crate) fn of_outcome(outcome: Outcome) -> Self
+        ensures { counts_of result ≡ count_before_flush (fate_of_outcome outcome) }
     {
         match outcome {
             Outcome::Absent => SendReply { absent: 1, ..NONE },
@@ -59,7 +59,7 @@ impl SendReply {
     }
 
     /// The pairs that were worked after the flush.
-    pub(crate) fn of_worked(worked: Worked) -> Self
+    pub(crate) fn of_transfers(worked: TransferCounts) -> Self
         ensures { counts_of result ≡ phase.counts_of worked }
     {
         SendReply {

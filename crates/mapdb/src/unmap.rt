@@ -72,7 +72,7 @@ fn unmap_word(
     }
 }
 
-ghost use Rattle.holdings.specs.Held.{pages_from};
+ghost use Rattle.holdings.specs.Places.{pages_from};
 
 /// The pages of a space that an fpage names, by rising page.
 fn named_places(alloc: Global, space: u16, fpage: &Fpage) -> Result<Vec<Place>, AllocError>

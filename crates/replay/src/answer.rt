@@ -6,7 +6,7 @@ ghost use Rattle.fpage.specs.Fpage.{IsFpageOf};
 ghost use Rattle.fpage.specs.Control.{with_status};
 ghost use Rattle.model.specs.Calls.{send, access, unmap};
 ghost use Rattle.model.specs.Answers.{answer};
-ghost use Rattle.holdings.specs.Held.{IsWithin};
+ghost use Rattle.holdings.specs.Places.{IsWithin};
 ghost use Rattle.mapdb.specs.State.{left_with};
 ghost use Rattle.trace.specs.Meaning.{request_of, IsWithinLimits, reply_of};
 

@@ -5,7 +5,7 @@ use Rattle.std.specs.List.{All, zip}
 use Rattle.fpage.specs.Fpage.{IsFpageOf}
 use Rattle.model.specs.Calls.{Limits, Call, send, access, unmap, Refusal, bad_size, misaligned, out_of_space, not_an_item, bad_control, no_such_space, same_space, no_window, bad_record, Request, Reply, sent, accessed, unmapped, refused}
 use Rattle.model.specs.Records.{Fields}
-use Rattle.holdings.specs.Held.{IsWithin}
+use Rattle.holdings.specs.Places.{IsWithin}
 use Rattle.mapdb.specs.Meaning.{counts_of}
 use Rattle.trace.specs.declared.call.Call.{Call as TheCall}
 use Rattle.trace.specs.declared.call.Call.TheVariants.{Send, Access, Unmap}

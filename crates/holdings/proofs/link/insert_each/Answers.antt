@@ -1,9 +1,9 @@
 -- One more is in the tree.
 use Rattle.std.proofs.Common.{◌||◌, get_or, take, ap, ◌∙◌, subst}
-use Rattle.holdings.specs.Derivation.{stands_in}
-use Rattle.holdings.specs.Links.{is_new_in, AreLinkedIn}
+use Rattle.holdings.specs.Inner.Derivation.{stands_in}
+use Rattle.holdings.specs.Inner.Links.{is_new_in, AreLinkedIn}
 use Rattle.std.proofs.lemmas.List.{take_all}
-use Rattle.holdings.proofs.LinkedTrees.{none_linked, one_linked, new_target, no_link, some_or}
+use Rattle.holdings.proofs.Links.LinkedTrees.{none_linked, one_linked, new_target, no_link, some_or}
 use Rattle.holdings.proofs.link.insert_each.Goals as goal
 
 pub loop-link-init : goal.loop-link-init

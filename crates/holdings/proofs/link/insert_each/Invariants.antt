@@ -1,6 +1,6 @@
 -- Those so far are in the tree.
 use Rattle.std.proofs.Common.{take}
-use Rattle.holdings.specs.Links.{AreLinkedIn}
+use Rattle.holdings.specs.Inner.Links.{AreLinkedIn}
 use Rattle.holdings.proofs.link.insert_each.Given as goal
 
 abbrev pub invariant-loop-link : goal.invariant-loop-link

@@ -1,6 +1,6 @@
 -- A few one by one, and many in one pass.
 use Rattle.maptree.specs.PlaceMaps.{place_for}
-use Rattle.holdings.proofs.LinkedTrees.{apart_below, absent_below, group_linked, on_ok_as}
+use Rattle.holdings.proofs.Links.LinkedTrees.{apart_below, absent_below, group_linked, on_ok_as}
 use Rattle.holdings.proofs.link.insert_group.Goals as goal
 
 pub insert_all_below-requires-clause-absent : goal.insert_all_below-requires-clause-absent

@@ -1,6 +1,6 @@
 -- Those so far are in the trees.
 use Rattle.std.proofs.Common.{length, take, ◌-◌}
-use Rattle.holdings.specs.Links.{AreLinked}
+use Rattle.holdings.specs.Inner.Links.{AreLinked}
 use Rattle.holdings.proofs.link.insert_links.Given as goal
 
 abbrev pub invariant-loop-from : goal.invariant-loop-from

@@ -1,6 +1,6 @@
 -- The new mappings so far, with those of the transfers to come, are all.
 use Rattle.std.proofs.Common.{◌≡◌, ◌++◌, drop}
-use Rattle.holdings.specs.Links.{links_of}
+use Rattle.holdings.specs.Inner.Links.{links_of}
 use Rattle.holdings.proofs.link.new_links.Given as goal
 
 abbrev pub invariant-loop-transfer : goal.invariant-loop-transfer

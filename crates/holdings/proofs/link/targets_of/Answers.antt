@@ -2,7 +2,7 @@
 use Rattle.std.proofs.Common.{get_or, Some, ap, ◌∙◌, sym, subst, ◌≤◌, if◌then◌else◌}
 use Rattle.std.specs.List.{All}
 use Rattle.space.specs.Place.{same_place}
-use Rattle.holdings.proofs.LinkedTrees.{no_link, one_told}
+use Rattle.holdings.proofs.Links.LinkedTrees.{no_link, one_told}
 use Rattle.holdings.proofs.link.targets_of.Goals as goal
 
 pub loop-link-init : goal.loop-link-init

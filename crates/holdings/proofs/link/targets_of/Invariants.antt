@@ -3,7 +3,7 @@ use Rattle.std.proofs.Common.{◌≡◌, ◌≤◌, None, take}
 use Rattle.std.specs.List.{All}
 use Rattle.space.specs.declared.place.Place.{Place}
 use Rattle.maptree.specs.PlaceMaps.{place_for}
-use Rattle.holdings.specs.Links.{last_target}
+use Rattle.holdings.specs.Inner.Links.{last_target}
 use Rattle.holdings.proofs.link.targets_of.Given as goal
 
 abbrev pub invariant-loop-link : goal.invariant-loop-link

@@ -3,7 +3,7 @@ use Rattle.std.proofs.Common.{false, sym, ap, ◌∙◌, ◌&&◌}
 use Rattle.std.specs.Option.{option_map_or}
 use Rattle.space.specs.Place.{same_place}
 use Rattle.model.specs.Items.{is_map}
-use Rattle.holdings.proofs.Outcomes.{spots_tell, is_origin_found, extends_found, goes_found}
+use Rattle.holdings.proofs.Outcomes.PairOutcomes.{spots_tell, is_origin_found, extends_found, goes_found}
 use Rattle.holdings.proofs.outcome.outcome_at.Goals as goal
 
 pub returns-then-stands_below : goal.returns-then-stands_below

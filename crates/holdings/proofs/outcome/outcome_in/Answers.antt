@@ -3,7 +3,7 @@ use Rattle.std.proofs.Common.{sym, ap, ◌∙◌}
 use Rattle.std.specs.Prelude.{is_some}
 use Rattle.space.specs.Place.{same_place}
 use Rattle.maptree.proofs.Found.{some_found}
-use Rattle.holdings.proofs.Outcomes.{decided_by, is_origin_found, extends_found, goes_found}
+use Rattle.holdings.proofs.Outcomes.PairOutcomes.{decided_by, is_origin_found, extends_found, goes_found}
 use Rattle.holdings.proofs.outcome.outcome_in.Goals as goal
 
 pub unwrap-i-requires : goal.unwrap-i-requires

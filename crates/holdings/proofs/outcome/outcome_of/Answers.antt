@@ -1,13 +1,13 @@
 -- The outcome, case by case.
 use Rattle.std.proofs.Common.{◌≡◌, true, ◌<◌, length, sym, ap, ◌∙◌, subst, arith}
 use Rattle.fpage.specs.Rights.{is_empty}
-use Rattle.holdings.specs.Derivation.{stands_in}
+use Rattle.holdings.specs.Inner.Derivation.{stands_in}
 use Rattle.maptree.specs.Origins.{Origins}
-use Rattle.holdings.specs.Held.{links_in}
-use Rattle.holdings.specs.Sending.{IsOutcomeIn}
-use Rattle.holdings.specs.Spots.{IsSpotIn}
-use Rattle.holdings.proofs.Holders.{links_read}
-use Rattle.holdings.proofs.Outcomes.{source_absent, without_rights, target_absent, other_frame, from_tree}
+use Rattle.holdings.specs.Inner.Held.{links_in}
+use Rattle.holdings.specs.Inner.Outcomes.{IsOutcomeIn}
+use Rattle.holdings.specs.Inner.Spots.{IsSpotIn}
+use Rattle.holdings.proofs.Contents.Holders.{links_read}
+use Rattle.holdings.proofs.Outcomes.PairOutcomes.{source_absent, without_rights, target_absent, other_frame, from_tree}
 use Rattle.holdings.proofs.outcome.outcome_of.Goals as goal
 
 pub returns-in_default : goal.returns-in_default

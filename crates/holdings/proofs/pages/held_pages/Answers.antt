@@ -1,7 +1,8 @@
 -- One place more.
 use Rattle.std.proofs.Common.{◌+◌, take, sym, ap, ◌∙◌, subst}
-use Rattle.holdings.specs.Stripping.{any_of, AreHeldPages}
-use Rattle.holdings.proofs.HeldPages.{none_held, one_absent, one_held, all_held}
+use Rattle.holdings.specs.Places.{any_of}
+use Rattle.holdings.specs.Inner.Stripping.{AreHeldPages}
+use Rattle.holdings.proofs.Stripping.HeldPages.{none_held, one_absent, one_held, all_held}
 use Rattle.holdings.proofs.pages.held_pages.Goals.{in-Some+in_ok-push, in_default}
 use Rattle.holdings.proofs.pages.held_pages.Goals as goal
 

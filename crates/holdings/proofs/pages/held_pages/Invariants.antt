@@ -1,6 +1,7 @@
 -- The held pages of the places so far.
 use Rattle.std.proofs.Common.{take}
-use Rattle.holdings.specs.Stripping.{any_of, AreHeldPages}
+use Rattle.holdings.specs.Places.{any_of}
+use Rattle.holdings.specs.Inner.Stripping.{AreHeldPages}
 use Rattle.holdings.proofs.pages.held_pages.Given as goal
 
 abbrev pub invariant-loop-place : goal.invariant-loop-place

@@ -1,7 +1,7 @@
 -- The places of the runs so far have entries.
 use Rattle.std.proofs.Common.{◌≡◌, true, take}
 use Rattle.std.specs.List.{list_all, slice_range}
-use Rattle.holdings.specs.Stripping.{has_entry}
+use Rattle.holdings.specs.Inner.Held.{has_entry}
 use Rattle.holdings.proofs.prune.are_held.Given as goal
 
 abbrev pub invariant-loop-run : goal.invariant-loop-run

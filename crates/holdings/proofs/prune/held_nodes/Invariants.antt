@@ -1,6 +1,6 @@
 -- The nodes so far.
 use Rattle.std.proofs.Common.{◌≡◌, filter, take}
-use Rattle.holdings.specs.Stripping.{has_entry}
+use Rattle.holdings.specs.Inner.Held.{has_entry}
 use Rattle.holdings.proofs.prune.held_nodes.Given as goal
 
 abbrev pub invariant-loop-node : goal.invariant-loop-node

@@ -1,7 +1,7 @@
 -- The parts so far.
 use Rattle.std.proofs.Common.{◌≡◌, take}
 use Rattle.maptree.specs.Cuts.{nodes_of, kept_of}
-use Rattle.holdings.specs.Stripping.{has_entry}
+use Rattle.holdings.specs.Inner.Held.{has_entry}
 use Rattle.holdings.proofs.prune.held_parts.Given as goal
 
 abbrev pub invariant-loop-part : goal.invariant-loop-part

@@ -2,8 +2,8 @@
 use Rattle.std.proofs.Common.{◌∙◌, not, None, is_some, subst, sym, ap, arith}
 use Rattle.space.specs.declared.place.Place.{Place}
 use Rattle.space.specs.Shards.{IsPlace}
-use Rattle.holdings.specs.Stripping.{has_entry}
-use Rattle.holdings.proofs.Pruning.{read_at, range_passes, range_fails}
+use Rattle.holdings.specs.Inner.Held.{has_entry}
+use Rattle.holdings.proofs.Trees.Pruning.{read_at, range_passes, range_fails}
 use Rattle.holdings.proofs.prune.is_held.Goals as goal
 
 -- a place that stands for one past the end

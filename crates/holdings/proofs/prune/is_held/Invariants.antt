@@ -1,7 +1,7 @@
 -- The places so far have entries.
 use Rattle.std.proofs.Common.{◌≡◌, true}
 use Rattle.std.specs.List.{list_all, slice_range}
-use Rattle.holdings.specs.Stripping.{has_entry}
+use Rattle.holdings.specs.Inner.Held.{has_entry}
 use Rattle.holdings.proofs.prune.is_held.Given as goal
 
 abbrev pub invariant-loop-i : goal.invariant-loop-i

@@ -3,9 +3,9 @@ use Rattle.std.proofs.Common.{length, map, subst, sym, ap, ◌∙◌}
 use Rattle.std.specs.List.{All}
 use Rattle.space.specs.Shards.{IsPlace}
 use Rattle.maptree.specs.Cuts.{nodes_of, kept_of}
-use Rattle.holdings.specs.Stripping.{has_entry}
-use Rattle.holdings.proofs.Pruning.{all_pieces_of, all_parts, all_firsts, kept_parts, on_ok, none_gone, all_pass}
-use Rattle.holdings.proofs.Sequences.{rising_at}
+use Rattle.holdings.specs.Inner.Held.{has_entry}
+use Rattle.holdings.proofs.Trees.Pruning.{all_pieces_of, all_parts, all_firsts, kept_parts, on_ok, none_gone, all_pass}
+use Rattle.holdings.proofs.Stripping.Sequences.{rising_at}
 use Rattle.holdings.proofs.prune.prune.Goals as goal
 
 pub are_held-requires-clause-within : goal.are_held-requires-clause-within

@@ -6,12 +6,13 @@ use Rattle.space.specs.declared.place.Place.{Place}
 use Rattle.space.specs.Place.{same_place}
 use Rattle.maptree.specs.declared.node.Node.{Node}
 use Rattle.maptree.specs.Origins.{origin_in, place_at}
-use Rattle.holdings.specs.Held.{links_in}
-use Rattle.holdings.proofs.Holders.{links_read}
-use Rattle.holdings.proofs.Chains.{is_among}
-use Rattle.holdings.proofs.Walks.{AreTaken, IsStripped, place_any, listed_place, place_kept, run_without_origin, run_with_origin}
-use Rattle.holdings.proofs.Visits.{IsVisiting, visit_begins, visit_pushes, visit_pops, begun_place, visit_ends}
+use Rattle.holdings.specs.Inner.Held.{links_in}
+use Rattle.holdings.proofs.Contents.Holders.{links_read}
+use Rattle.holdings.proofs.Trees.Chains.{is_among}
+use Rattle.holdings.proofs.Stripping.Walks.{AreTaken, IsStripped, place_any, listed_place, run_without_origin, run_with_origin}
+use Rattle.holdings.proofs.Recursions.Visits.{IsVisiting, visit_begins, visit_pushes, visit_pops, begun_place, visit_ends}
 use Rattle.holdings.proofs.recursion.visit.Goals.{in-Some-origin_of, in_default-origin_of}
+use Rattle.holdings.proofs.Contents.WordChanges.{place_kept}
 use Rattle.holdings.proofs.recursion.visit.Goals as goal
 
 pub loop-i-init : goal.loop-i-init

@@ -1,6 +1,6 @@
 -- The visit so far.
 use Rattle.std.proofs.Common.{length}
-use Rattle.holdings.proofs.Visits.{IsVisiting}
+use Rattle.holdings.proofs.Recursions.Visits.{IsVisiting}
 use Rattle.holdings.proofs.recursion.visit.Given as goal
 
 abbrev pub invariant-loop-i : goal.invariant-loop-i

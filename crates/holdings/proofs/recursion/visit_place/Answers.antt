@@ -6,18 +6,18 @@ use Rattle.space.specs.Place.{same_place}
 use Rattle.space.specs.Shards.{IsPlace}
 use Rattle.maptree.specs.Origins.{Origins, Shape, IsRun, AreRising, AreOuterRuns}
 use Rattle.maptree.specs.Cuts.{outside}
-use Rattle.holdings.specs.Held.{links_in}
-use Rattle.holdings.specs.Derivation.{stands_in}
-use Rattle.holdings.specs.Stripping.{AreOfFrame, firsts, has_entry, pruned, OriginsHaveEntries, holdings_in}
+use Rattle.holdings.specs.Inner.Held.{links_in, has_entry, holdings_in}
+use Rattle.holdings.specs.Inner.Derivation.{stands_in}
+use Rattle.holdings.specs.Inner.Stripping.{AreOfFrame, firsts, pruned, OriginsHaveEntries}
 use Rattle.model.proofs.LawfulParts.{lawful_parts}
-use Rattle.holdings.proofs.Holders.{links_read}
-use Rattle.holdings.specs.Sending.{IsTreeSet}
-use Rattle.holdings.proofs.NewMappings.{tree_set}
+use Rattle.holdings.proofs.Contents.Holders.{links_read}
+use Rattle.holdings.specs.Inner.Links.{IsTreeSet}
+use Rattle.holdings.proofs.Links.NewMappings.{tree_set}
 use Rattle.maptree.proofs.Found.{some_found}
-use Rattle.holdings.proofs.Sequences.{AreStripped}
-use Rattle.holdings.proofs.Frames.{loose_from, tree_places, outside_held, origins_stay, frame_left, frame_status, frame_sound}
+use Rattle.holdings.proofs.Stripping.Sequences.{AreStripped}
+use Rattle.holdings.proofs.Stripping.Frames.{loose_from, tree_places, outside_held, origins_stay, frame_left, frame_status, frame_sound}
 use Rattle.maptree.proofs.OneRun.{IsRunOf, run_found, one_run}
-use Rattle.holdings.proofs.OnePlace.{one_of_frame, one_word, one_strip, one_first}
+use Rattle.holdings.proofs.Recursions.OnePlace.{one_of_frame, one_word, one_strip, one_first}
 use Rattle.holdings.proofs.recursion.visit_place.Goals as goal
 
 -- the tree as it is read

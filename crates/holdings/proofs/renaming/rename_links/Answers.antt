@@ -5,9 +5,9 @@ use Rattle.std.specs.List.Sorted.{IsPermutation}
 use Rattle.std.proofs.lemmas.Bool.{eqb-true}
 use Rattle.maptree.specs.PlaceMaps.{place_for}
 use Rattle.holdings.specs.declared.link.Link.{Link}
-use Rattle.holdings.specs.Links.{AreTargets}
-use Rattle.holdings.proofs.LinkedTrees.{no_link}
-use Rattle.holdings.proofs.MovingTrees.{AreRenaming, frame_within, apart_there, step_passed, step_renamed, all_trees}
+use Rattle.holdings.specs.Inner.Links.{AreTargets}
+use Rattle.holdings.proofs.Links.LinkedTrees.{no_link}
+use Rattle.holdings.proofs.Renamings.MovingTrees.{AreRenaming, frame_within, apart_there, step_passed, step_renamed, all_trees}
 use Rattle.holdings.proofs.renaming.rename_links.Goals.{then-ne, else-ne}
 use Rattle.holdings.proofs.renaming.rename_links.Goals as goal
 

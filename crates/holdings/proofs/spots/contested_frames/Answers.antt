@@ -2,7 +2,7 @@
 use Rattle.std.proofs.Common.{sym, ap, ◌∙◌, subst}
 use Rattle.std.specs.List.{All}
 use Rattle.std.proofs.lemmas.List.Elements.{All-push}
-use Rattle.holdings.specs.Spots.{IsHeldSomewhere}
+use Rattle.holdings.specs.Inner.Spots.{IsHeldSomewhere}
 use Rattle.holdings.specs.Sending.{page_on}
 use Rattle.holdings.proofs.spots.contested_frames.Goals.{in-Some+in_ok-push, in_default}
 use Rattle.holdings.proofs.spots.contested_frames.Goals as goal

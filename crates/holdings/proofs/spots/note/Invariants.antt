@@ -1,5 +1,5 @@
 -- What was noted is of the tree, or was noted before.
-use Rattle.holdings.specs.Spots.{AreSpotsOf}
+use Rattle.holdings.specs.Inner.Spots.{AreSpotsOf}
 use Rattle.holdings.proofs.spots.note.Given as goal
 
 abbrev pub invariant-loop-i : goal.invariant-loop-i

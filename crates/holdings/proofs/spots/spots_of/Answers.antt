@@ -7,10 +7,10 @@ use Rattle.std.proofs.lemmas.List.Elements.{All-get_or, All-contains}
 use Rattle.space.specs.declared.place.Place.{Place}
 use Rattle.holdings.specs.declared.spots.Spot.{Spot}
 use Rattle.maptree.specs.Origins.{Origins, AreRunEnds, are_once}
-use Rattle.holdings.specs.Spots.{IsHeldSomewhere, AreSpots, AreSpotsOf}
-use Rattle.holdings.specs.Held.{links_in}
-use Rattle.holdings.proofs.Holders.{links_read}
-use Rattle.holdings.proofs.Noting.{has_tree, noted_on}
+use Rattle.holdings.specs.Inner.Spots.{IsHeldSomewhere, AreSpots, AreSpotsOf}
+use Rattle.holdings.specs.Inner.Held.{links_in}
+use Rattle.holdings.proofs.Contents.Holders.{links_read}
+use Rattle.holdings.proofs.Trees.Noting.{has_tree, noted_on}
 use Rattle.holdings.proofs.spots.spots_of.Goals as goal
 
 pub bounds-trees-frame : goal.bounds-trees-frame

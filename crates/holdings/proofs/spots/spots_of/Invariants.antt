@@ -1,5 +1,5 @@
 -- What was noted so far.
-use Rattle.holdings.specs.Spots.{AreSpots}
+use Rattle.holdings.specs.Inner.Spots.{AreSpots}
 use Rattle.holdings.proofs.spots.spots_of.Given as goal
 
 abbrev pub invariant-loop-frame : goal.invariant-loop-frame

@@ -1,8 +1,8 @@
 -- One tree more.
 use Rattle.std.proofs.Common.{◌≡◌, ℕ, ◌<◌, ◌+◌, ◌++◌, ◌∷◌, [], None, length, is_ok, sym, ap, ◌∙◌, subst, if◌then◌else◌}
-use Rattle.holdings.specs.Held.{links_in}
-use Rattle.holdings.specs.Start.{root_place}
-use Rattle.holdings.proofs.Trees.{one_tree_more}
+use Rattle.holdings.specs.Inner.Held.{links_in}
+use Rattle.holdings.specs.Inner.Start.{root_place}
+use Rattle.holdings.proofs.Trees.Positions.{one_tree_more}
 use Rattle.holdings.proofs.start.root_trees.Goals as goal
 
 pub loop-frame-preserved : goal.loop-frame-preserved

@@ -1,7 +1,7 @@
 -- The trees of the frames so far.
 use Rattle.std.proofs.Common.{◌≡◌, ℕ, ◌<◌, [], ◌∷◌, None, length}
-use Rattle.holdings.specs.Held.{links_in}
-use Rattle.holdings.specs.Start.{root_place}
+use Rattle.holdings.specs.Inner.Held.{links_in}
+use Rattle.holdings.specs.Inner.Start.{root_place}
 use Rattle.holdings.proofs.start.root_trees.Given as goal
 
 abbrev pub invariant-loop-frame : goal.invariant-loop-frame

@@ -3,7 +3,7 @@ use Rattle.std.proofs.Common.{Some, ◌∙◌, subst, arith, ◌<◌}
 use Rattle.fpage.specs.declared.rights.Rights.{Rights}
 use Rattle.space.specs.Directory.{pages_of}
 use Rattle.space.specs.Shards.{IsSetAt}
-use Rattle.holdings.proofs.Roots.{root_set}
+use Rattle.holdings.proofs.Contents.Roots.{root_set}
 use Rattle.holdings.proofs.start.root_words.Goals as goal
 
 pub loop-frame-preserved : goal.loop-frame-preserved

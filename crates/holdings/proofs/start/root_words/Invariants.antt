@@ -3,7 +3,7 @@ use Rattle.std.proofs.Common.{◌≡◌}
 use Rattle.std.specs.Prelude.{IsFalse}
 use Rattle.space.specs.declared.place.Place.{Place}
 use Rattle.space.specs.Shards.{spaces_of, bits_of, IsPlace, entry_at, is_taken}
-use Rattle.holdings.specs.Start.{root_entry}
+use Rattle.holdings.specs.Inner.Start.{root_entry}
 use Rattle.holdings.proofs.start.root_words.Given as goal
 
 abbrev pub invariant-loop-frame : goal.invariant-loop-frame

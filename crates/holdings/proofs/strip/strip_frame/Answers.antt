@@ -8,13 +8,14 @@ use Rattle.space.specs.declared.place.Place.{Place}
 use Rattle.space.specs.Shards.{IsPlace}
 use Rattle.maptree.specs.Origins.{Origins, Shape, place_at, IsRun, AreOuterRuns}
 use Rattle.maptree.specs.Cuts.{outside}
-use Rattle.holdings.specs.Held.{links_in}
-use Rattle.holdings.specs.Stripping.{firsts, has_entry, pruned, OriginsHaveEntries, IsOriginAt}
-use Rattle.holdings.proofs.Holders.{links_read}
-use Rattle.holdings.specs.Sending.{IsTreeSet}
-use Rattle.holdings.proofs.NewMappings.{tree_set}
-use Rattle.holdings.proofs.Sequences.{AreStripped, rising_at, none_stripped, one_stripped, firsts_more}
-use Rattle.holdings.proofs.Frames.{loose_from, tree_places, outside_held, origins_stay, frame_left, frame_status, frame_sound}
+use Rattle.holdings.specs.Inner.Held.{links_in, has_entry}
+use Rattle.holdings.specs.Inner.Stripping.{firsts, pruned, OriginsHaveEntries}
+use Rattle.holdings.specs.Inner.Derivation.{IsOriginAt}
+use Rattle.holdings.proofs.Contents.Holders.{links_read}
+use Rattle.holdings.specs.Inner.Links.{IsTreeSet}
+use Rattle.holdings.proofs.Links.NewMappings.{tree_set}
+use Rattle.holdings.proofs.Stripping.Sequences.{AreStripped, rising_at, none_stripped, one_stripped, firsts_more}
+use Rattle.holdings.proofs.Stripping.Frames.{loose_from, tree_places, outside_held, origins_stay, frame_left, frame_status, frame_sound}
 use Rattle.holdings.proofs.strip.strip_frame.Goals as goal
 
 -- the links of the tree that is read

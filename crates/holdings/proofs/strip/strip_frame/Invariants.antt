@@ -1,8 +1,8 @@
 -- The runs so far are stripped.
 use Rattle.std.proofs.Common.{take}
-use Rattle.holdings.specs.Held.{links_in}
-use Rattle.holdings.specs.Stripping.{firsts}
-use Rattle.holdings.proofs.Sequences.{AreStripped}
+use Rattle.holdings.specs.Inner.Held.{links_in}
+use Rattle.holdings.specs.Inner.Stripping.{firsts}
+use Rattle.holdings.proofs.Stripping.Sequences.{AreStripped}
 use Rattle.holdings.proofs.strip.strip_frame.Given as goal
 
 abbrev pub invariant-loop-i : goal.invariant-loop-i

@@ -6,9 +6,10 @@ use Rattle.space.specs.declared.place.Place.{Place}
 use Rattle.space.specs.Place.{same_place}
 use Rattle.space.proofs.Places.{same_is, same_self}
 use Rattle.maptree.specs.Origins.{origin_in, place_at}
-use Rattle.holdings.specs.Held.{links_in}
-use Rattle.holdings.proofs.Holders.{links_read}
-use Rattle.holdings.proofs.Walks.{IsWalked, IsStripped, walk_begins, walk_goes, place_any, listed_place, standing_place, place_kept, run_without_origin, run_with_origin}
+use Rattle.holdings.specs.Inner.Held.{links_in}
+use Rattle.holdings.proofs.Contents.Holders.{links_read}
+use Rattle.holdings.proofs.Stripping.Walks.{IsWalked, IsStripped, walk_begins, walk_goes, place_any, listed_place, standing_place, run_without_origin, run_with_origin}
+use Rattle.holdings.proofs.Contents.WordChanges.{place_kept}
 use Rattle.holdings.proofs.strip.strip_run.Goals as goal
 
 pub narrow-status-requires-clause-place : goal.narrow-status-requires-clause-place

@@ -2,8 +2,8 @@
 use Rattle.std.proofs.Common.{◌≡◌}
 use Rattle.space.specs.declared.place.Place.{Place}
 use Rattle.maptree.specs.Origins.{place_at}
-use Rattle.holdings.specs.Held.{links_in}
-use Rattle.holdings.proofs.Walks.{IsWalked}
+use Rattle.holdings.specs.Inner.Held.{links_in}
+use Rattle.holdings.proofs.Stripping.Walks.{IsWalked}
 use Rattle.holdings.proofs.strip.strip_run.Given as goal
 
 abbrev pub invariant-loop-i : goal.invariant-loop-i

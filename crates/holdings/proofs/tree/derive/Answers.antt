@@ -3,9 +3,9 @@ use Rattle.std.proofs.Common.{◌+◌, Some, sym, ap, ◌∙◌}
 use Rattle.std.specs.Prelude.{is_some, insert}
 use Rattle.space.specs.Place.{same_place}
 use Rattle.maptree.specs.Origins.{Origins}
-use Rattle.holdings.specs.Derivation.{stands_in}
+use Rattle.holdings.specs.Inner.Derivation.{stands_in}
 use Rattle.maptree.proofs.Found.{some_found, none_found, found_at}
-use Rattle.holdings.proofs.Trees.{derived_below}
+use Rattle.holdings.proofs.Trees.Positions.{derived_below}
 use Rattle.holdings.proofs.tree.derive.Goals as goal
 
 pub unwrap-i-requires : goal.unwrap-i-requires

@@ -3,7 +3,7 @@ use Rattle.std.proofs.Common.{sym, ap, ◌∙◌}
 use Rattle.space.specs.Place.{same_place}
 use Rattle.maptree.specs.Origins.{origin_in}
 use Rattle.maptree.proofs.Found.{found_at, none_from_position}
-use Rattle.holdings.proofs.Trees.{unlisted_origin}
+use Rattle.holdings.proofs.Trees.Positions.{unlisted_origin}
 use Rattle.holdings.proofs.tree.origin.Goals as goal
 
 pub returns-in_err-i : goal.returns-in_err-i

@@ -1,8 +1,8 @@
 -- The origin is read at its position.
 use Rattle.std.proofs.Common.{◌≡◌, ◌<◌, true, length, Some, sym, ap, ◌∙◌, subst, arith}
 use Rattle.std.proofs.lemmas.Option.{same_Some}
-use Rattle.holdings.specs.Derivation.{stands_in}
-use Rattle.holdings.proofs.Chains.{listed_at}
+use Rattle.holdings.specs.Inner.Derivation.{stands_in}
+use Rattle.holdings.proofs.Trees.Chains.{listed_at}
 use Rattle.holdings.proofs.tree.origin_at.Goals as goal
 
 pub returns : goal.returns

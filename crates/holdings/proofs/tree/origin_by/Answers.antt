@@ -1,7 +1,7 @@
 -- The origin is read at its position.
 use Rattle.std.proofs.Common.{◌≡◌, get_or, sym, ap, ◌∙◌, subst}
-use Rattle.holdings.specs.Stripping.{IsOriginAt, AreLinksOf}
-use Rattle.holdings.proofs.RunOrigins.{listed_origin}
+use Rattle.holdings.specs.Inner.Derivation.{IsOriginAt, AreLinksOf}
+use Rattle.holdings.proofs.Trees.RunOrigins.{listed_origin}
 use Rattle.holdings.proofs.tree.origin_by.Goals as goal
 
 pub returns-in-Some : goal.returns-in-Some

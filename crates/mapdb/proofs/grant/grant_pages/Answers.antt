@@ -2,8 +2,7 @@
 use Rattle.std.proofs.Common.{sym, ap, ◌∙◌, subst}
 use Rattle.std.specs.List.{All}
 use Rattle.fpage.specs.Rights.{without}
-use Rattle.holdings.specs.Held.{IsWithin}
-use Rattle.holdings.specs.Stripping.{any_of}
+use Rattle.holdings.specs.Places.{IsWithin, any_of}
 use Rattle.mapdb.specs.declared.plan.End.TheVariants.{Source}
 use Rattle.mapdb.proofs.Ends.{all_within}
 use Rattle.mapdb.proofs.Phases.{ends_within}

@@ -7,9 +7,8 @@ use Rattle.model.specs.SendLaws.{total}
 use Rattle.model.specs.Strip.{strip}
 use Rattle.holdings.specs.declared.transfer.Transfer.{Transfer}
 use Rattle.holdings.specs.Contents.{left_with}
-use Rattle.holdings.specs.Held.{IsWithin}
+use Rattle.holdings.specs.Places.{IsWithin, any_of}
 use Rattle.holdings.specs.Meaning as phase
-use Rattle.holdings.specs.Stripping.{any_of}
 use Rattle.holdings.specs.Sending.{job_of_pages, IsTransferWithin, ArePlanned, AllGo, AreReady}
 use Rattle.mapdb.specs.declared.plan.End.TheVariants.{Target}
 use Rattle.mapdb.specs.Meaning.{counts_of}
@@ -47,7 +46,7 @@ map_or_grant-requires-clause-all_go c grants = subst AllGo (sym (shown c)) (gran
 pub map_or_grant-requires-clause-ready : goal.map_or_grant-requires-clause-ready
 map_or_grant-requires-clause-ready c = subst (AreReady c.in_ok-held.held.holdings c.args.pages.now.rights) (sym (shown c)) (ready_then c.args.held c.args.pages.now c.in_ok-plan.ensures.consistent c.requires c.in_ok-held.held (flushed c))
 
-module _ (c : goal.After-of_worked) where
+module _ (c : goal.After-of_transfers) where
   flushed_before : c.in_ok-held.held ≡ left_with c.args.held (strip c.args.held.holdings (ends_of Target (transfers_of c.args.held.holdings (job_of_pages c.args.pages.now) (job_of_pages c.args.pages.now).pairs)) all_rights true)
   flushed_before =
       flush_left c.args.held c.deref.result.now _ c.deref-2.result.now c.all.result (c.in_ok-held.held, c.in_ok-held.field-0-1) c.in_ok-held.ensures c.all.ensures
@@ -59,7 +58,7 @@ module _ (c : goal.After-of_worked) where
 
 pub plus-requires : goal.plus-requires
 plus-requires c =
-    subst (λ (more : Counts). total (counts_of c.in_ok-plan.plan.decided) + total more < 2 ^ 128) (sym c.of_worked.ensures)
+    subst (λ (more : Counts). total (counts_of c.in_ok-plan.plan.decided) + total more < 2 ^ 128) (sym c.of_transfers.ensures)
     (fits_then c.args.held c.args.pages.now c.in_ok-plan.ensures.consistent c.requires c.in_ok-held.held (flushed_before c) (c.in_ok-held-2.held, c.in_ok-held-2.worked) (phased c) (counts_of c.in_ok-plan.plan.decided) c.in_ok-plan.ensures.decided)
 
 module _ (c : goal.After-drop-plan-2) where
@@ -73,7 +72,7 @@ module _ (c : goal.After-drop-plan-2) where
       subst (λ (ts : List Transfer). AreWorkedBy c.in_ok-held.held c.args.pages.now.kind c.args.pages.now.rights ts (c.in_ok-held-2.held, c.in_ok-held-2.worked)) (c.deref-3.ensures.value ∙ c.in_ok-plan.ensures.transfers) c.in_ok-held-2.ensures
 
   counted : counts_of c.plus.result ≡ add_counts (counts_of c.in_ok-plan.plan.decided) (phase.counts_of c.in_ok-held-2.worked)
-  counted = c.plus.ensures ∙ ap (add_counts (counts_of c.in_ok-plan.plan.decided)) c.of_worked.ensures
+  counted = c.plus.ensures ∙ ap (add_counts (counts_of c.in_ok-plan.plan.decided)) c.of_transfers.ensures
 
 pub returns-clause-sent : goal.returns-clause-sent
 returns-clause-sent c = record {

@@ -21,7 +21,7 @@ loop-i-init c =
 pub plus-decided-requires : goal.plus-decided-requires
 plus-decided-requires c =
     let one = decided_one (fate_of_outcome c.index-outcome.result.now) in
-    let same = ap total c.of_decided.ensures in
+    let same = ap total c.of_outcome.ensures in
     omega (arith, one, same, c.loop-i.invariant.few, c.loop-i-test.true)
 
 pub transfer_of-requires-clause-source : goal.transfer_of-requires-clause-source
@@ -39,7 +39,7 @@ loop-i-preserved c =
     let o = c.index-outcome.result.now in
     let e : Pair = (page_on p.source i, page_on p.target i) in
     let is = ap fate_of_outcome c.index-outcome.ensures ∙ c.in_ok-outcomes.ensures.outcomes.each i o c.loop-i-test.true in
-    let counts = c.plus-decided.ensures ∙ ap (add_counts (counts_of c.loop-i.decided)) c.of_decided.ensures in
+    let counts = c.plus-decided.ensures ∙ ap (add_counts (counts_of c.loop-i.decided)) c.of_outcome.ensures in
     let next : c.match-transfer_of.transfers.items ≡ c.loop-i.transfers.items ++ transfer_of e (fate_of_outcome o) [] → AreDecided h job p.count (i + 1) p.source p.target (counts_of c.plus-decided.result) c.match-transfer_of.transfers.items =
     λ transfers.
     one_decided h job p.count p.source p.target i (counts_of c.loop-i.decided) (counts_of c.plus-decided.result) c.loop-i.transfers.items c.match-transfer_of.transfers.items (fate_of_outcome o) c.loop-i-test.true c.loop-i.invariant is counts transfers in

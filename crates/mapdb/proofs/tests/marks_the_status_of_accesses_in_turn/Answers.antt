@@ -7,7 +7,7 @@ use Rattle.fpage.specs.declared.rights.Access.TheVariants.{Read, Write, Execute}
 use Rattle.space.specs.declared.place.Place.{Place}
 use Rattle.space.specs.Directory.{pages_of}
 use Rattle.model.specs.Calls.{Limits}
-use Rattle.holdings.specs.Held.{IsWithin}
+use Rattle.holdings.specs.Places.{IsWithin}
 use Rattle.mapdb.proofs.tests.marks_the_status_of_accesses_in_turn.Goals as goal
 
 -- each is to a place within the smallest limits

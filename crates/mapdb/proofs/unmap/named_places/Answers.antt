@@ -1,7 +1,7 @@
 -- One page more.
 use Rattle.std.proofs.Common.{◌≡◌, ◌+◌, ◌-◌, ◌<◌, List, [], ◌∷◌, ◌++◌, sym, subst, arith}
 use Rattle.space.specs.declared.place.Place.{Place}
-use Rattle.holdings.specs.Held.{pages_from}
+use Rattle.holdings.specs.Places.{pages_from}
 use Rattle.mapdb.proofs.NamedPlaces.{one_page}
 use Rattle.mapdb.proofs.unmap.named_places.Goals as goal
 

@@ -1,6 +1,6 @@
 -- The pages so far.
 use Rattle.std.proofs.Common.{◌≡◌, ◌-◌, ◌+◌, ◌++◌}
-use Rattle.holdings.specs.Held.{pages_from}
+use Rattle.holdings.specs.Places.{pages_from}
 use Rattle.mapdb.proofs.unmap.named_places.Given as goal
 
 abbrev pub invariant-loop-page : goal.invariant-loop-page

@@ -4,9 +4,8 @@ use Rattle.std.specs.Prelude.{IfOk}
 use Rattle.std.specs.List.{All}
 use Rattle.fpage.specs.declared.rights.Rights.{Rights}
 use Rattle.model.specs.Holdings.{PlaceSet}
-use Rattle.holdings.specs.Held.{IsWithin}
+use Rattle.holdings.specs.Places.{IsWithin, any_of}
 use Rattle.holdings.specs.Contents.{IsStripped}
-use Rattle.holdings.specs.Stripping.{any_of}
 use Rattle.mapdb.proofs.NamedPlaces.{all_within, named_set}
 use Rattle.mapdb.proofs.unmap.unmap_word.Goals as goal
 

@@ -2,10 +2,10 @@
 use Rattle.std.proofs.Common.{◌≡◌, sym, ◌∙◌, subst}
 use Rattle.std.specs.Option.{option_map}
 use Rattle.model.specs.Holdings.{at}
-use Rattle.holdings.specs.Held.{IsWithin}
+use Rattle.holdings.specs.Places.{IsWithin}
 use Rattle.holdings.specs.Contents.{Contents, entry_of}
-use Rattle.holdings.specs.Stripping.{limits_in}
-use Rattle.holdings.proofs.Holders.{entry_within}
+use Rattle.holdings.specs.Inner.Held.{limits_in}
+use Rattle.holdings.proofs.Contents.Holders.{entry_within}
 use Rattle.holdings.proofs.holdings.Holdings.entry.Goals as goal
 
 pub returns : goal.returns

@@ -1,7 +1,7 @@
 -- What is held is lawful, and listed by place.
 use Rattle.std.proofs.Common.{subst}
 use Rattle.holdings.specs.Contents.{IsConsistent}
-use Rattle.holdings.proofs.Consistent.{consistent}
+use Rattle.holdings.proofs.Contents.Consistent.{consistent}
 use Rattle.holdings.proofs.holdings.Holdings.limits.Goals as goal
 
 pub returns-clause-consistent : goal.returns-clause-consistent

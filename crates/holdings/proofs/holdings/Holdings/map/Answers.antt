@@ -6,10 +6,10 @@ use Rattle.maptree.specs.Origins.{Shape}
 use Rattle.model.specs.SendLaws.{total}
 use Rattle.holdings.specs.Contents.{Contents}
 use Rattle.holdings.specs.Meaning.{counts_of}
-use Rattle.holdings.specs.Links.{AreLinkable, AreLinked}
+use Rattle.holdings.specs.Inner.Links.{AreLinkable, AreLinked}
 use Rattle.holdings.specs.Sending.{ArePlanned, AreReady}
-use Rattle.holdings.specs.Stripping.{limits_in, holdings_in}
-use Rattle.holdings.proofs.MapWords.{AreAhead, linkable, none_ahead, one_page, one_counts, all_counted, all_left, all_sound, all_limits}
+use Rattle.holdings.specs.Inner.Held.{limits_in, holdings_in}
+use Rattle.holdings.proofs.Maps.MapWords.{AreAhead, linkable, none_ahead, one_page, one_counts, all_counted, all_left, all_sound, all_limits}
 use Rattle.holdings.proofs.holdings.Holdings.map.Goals as goal
 
 pub insert_links-requires : goal.insert_links-requires

@@ -1,6 +1,6 @@
 -- The pages so far.
 use Rattle.holdings.specs.Meaning.{counts_of}
-use Rattle.holdings.proofs.MapWords.{AreAhead}
+use Rattle.holdings.proofs.Maps.MapWords.{AreAhead}
 use Rattle.holdings.proofs.holdings.Holdings.map.Given as goal
 
 abbrev pub invariant-loop-transfer : goal.invariant-loop-transfer

@@ -7,14 +7,14 @@ use Rattle.std.specs.List.{All, flat_map}
 use Rattle.std.specs.List.Sorted.{IsPermutation}
 use Rattle.maptree.specs.Origins.{Origins, Shape, are_once}
 use Rattle.holdings.specs.Contents.{Contents}
-use Rattle.holdings.specs.Mappings.{entered}
-use Rattle.holdings.specs.Stripping.{limits_in}
-use Rattle.holdings.proofs.Holders.{place_within}
-use Rattle.holdings.proofs.Entered.{from_sort, each_within, entered_holdings}
+use Rattle.holdings.specs.Inner.Held.{holdings_at}
+use Rattle.holdings.specs.Inner.Held.{limits_in}
+use Rattle.holdings.proofs.Contents.Holders.{place_within}
+use Rattle.holdings.proofs.Contents.Entered.{from_sort, each_within, holdings_at_all}
 use Rattle.holdings.proofs.holdings.Holdings.mappings.Goals as goal
 
-pub entered-requires-clause-places : goal.entered-requires-clause-places
-entered-requires-clause-places c =
+pub mappings_at-requires-clause-places : goal.mappings_at-requires-clause-places
+mappings_at-requires-clause-places c =
     let shards = c.self.inside.shards in
     let trees = c.self.inside.trees.items in
     let listed = c.in_ok-links.ensures.links ∙ ap (flat_map (λ (t : Shape). t.links)) c.deref.ensures.value in
@@ -33,5 +33,5 @@ returns c =
     let once = subst (All (λ (t : Shape). are_once t.links ≡ true)) c.deref.ensures.value c.in_ok-links.ensures.once in
     let moved = subst (λ (os : Origins). IsPermutation os c.sort_unstable.new.self.items) listed c.sort_unstable.ensures.permutation in
     let sorted = from_sort (λ a b. option_cmp place_cmp a.1 b.1) os c.sort_unstable.ensures.sorted in
-    let held = entered_holdings shards trees c.self.invariant once os moved sorted in
-    c.in_ok-mappings.ensures ∙ ap (entered shards) c.deref-2.ensures.value ∙ held ∙ ap (λ (h : Contents). h.holdings) c.self.view_is
+    let held = holdings_at_all shards trees c.self.invariant once os moved sorted in
+    c.in_ok-mappings.ensures ∙ ap (holdings_at shards) c.deref-2.ensures.value ∙ held ∙ ap (λ (h : Contents). h.holdings) c.self.view_is

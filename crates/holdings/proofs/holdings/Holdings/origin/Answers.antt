@@ -4,10 +4,10 @@ use Rattle.std.specs.Option.{option_and_then}
 use Rattle.space.specs.declared.place.Place.{Place}
 use Rattle.maptree.specs.Origins.{origin_in}
 use Rattle.model.specs.Holdings.{origin_at}
-use Rattle.holdings.specs.Held.{IsWithin}
+use Rattle.holdings.specs.Places.{IsWithin}
 use Rattle.holdings.specs.Contents.{Contents}
-use Rattle.holdings.specs.Stripping.{limits_in}
-use Rattle.holdings.proofs.Holders.{absent_within, origin_within, links_read}
+use Rattle.holdings.specs.Inner.Held.{limits_in}
+use Rattle.holdings.proofs.Contents.Holders.{absent_within, origin_within, links_read}
 use Rattle.holdings.proofs.holdings.Holdings.origin.Goals as goal
 
 pub returns-in_default : goal.returns-in_default

@@ -3,11 +3,11 @@ use Rattle.std.proofs.Common.{◌≡◌, ◌+◌, [], sym, ap, ◌∙◌, subst,
 use Rattle.model.specs.Holdings.{Holdings}
 use Rattle.model.specs.Items.{fate}
 use Rattle.holdings.specs.Contents.{Contents, IsConsistent}
-use Rattle.holdings.specs.Spots.{AreSpots}
-use Rattle.holdings.specs.Stripping.{holdings_in}
+use Rattle.holdings.specs.Inner.Spots.{AreSpots}
+use Rattle.holdings.specs.Inner.Held.{holdings_in}
 use Rattle.holdings.specs.Sending.{job_of_pages, page_on}
-use Rattle.holdings.proofs.Consistent.{consistent}
-use Rattle.holdings.proofs.PageOutcomes.{AreOutcomesUpTo, same_fate, none_yet, one_more, all_outcomes}
+use Rattle.holdings.proofs.Contents.Consistent.{consistent}
+use Rattle.holdings.proofs.Outcomes.PageOutcomes.{AreOutcomesUpTo, same_fate, none_yet, one_more, all_outcomes}
 use Rattle.holdings.proofs.holdings.Holdings.outcomes.Goals as goal
 
 pub loop-i-init : goal.loop-i-init

@@ -1,5 +1,5 @@
 -- The outcomes so far.
-use Rattle.holdings.proofs.PageOutcomes.{AreOutcomesUpTo}
+use Rattle.holdings.proofs.Outcomes.PageOutcomes.{AreOutcomesUpTo}
 use Rattle.holdings.proofs.holdings.Holdings.outcomes.Given as goal
 
 abbrev pub invariant-loop-i : goal.invariant-loop-i

@@ -2,14 +2,16 @@
 use Rattle.std.proofs.Common.{◌≡◌, ◌+◌, List, None, length, sym, ap, subst, arith}
 use Rattle.std.proofs.lemmas.List.{with_items_is}
 use Rattle.maptree.specs.Origins.{Shape}
-use Rattle.holdings.specs.Contents.{Contents, contents_of, AreMoved}
+use Rattle.holdings.specs.Contents.{Contents, AreMoved}
+use Rattle.holdings.specs.Inner.Held.{contents_of, limits_in, holdings_in}
 use Rattle.holdings.specs.Meaning.{counts_of}
-use Rattle.holdings.specs.Stripping.{AreSound, limits_in, holdings_in}
+use Rattle.holdings.specs.Inner.Sound.{AreSound}
 use Rattle.holdings.specs.Sending.{ArePlanned, AreFree}
-use Rattle.holdings.specs.Links.{last_target, AreMovable, AreRenamed}
-use Rattle.holdings.proofs.LinkedTrees.{no_transfer}
-use Rattle.holdings.proofs.MovingWords.{AreMoving, none_moved, ends_apart, source_place, target_place, step, one_counts, all_moved}
-use Rattle.holdings.proofs.MovingTrees.{movable, all_left, all_sound, same_limits}
+use Rattle.holdings.specs.Inner.Links.{last_target}
+use Rattle.holdings.specs.Inner.Renamings.{AreMovable, AreRenamed}
+use Rattle.holdings.proofs.Links.LinkedTrees.{no_transfer}
+use Rattle.holdings.proofs.Renamings.MovingWords.{AreMoving, none_moved, ends_apart, source_place, target_place, step, one_counts, all_moved}
+use Rattle.holdings.proofs.Renamings.MovingTrees.{movable, all_left, all_sound, same_limits}
 use Rattle.holdings.proofs.holdings.Holdings.rename.Goals as goal
 
 pub rename_links-requires : goal.rename_links-requires

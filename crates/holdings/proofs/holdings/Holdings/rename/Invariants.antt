@@ -1,6 +1,6 @@
 -- The words of the pages so far moved.
 use Rattle.holdings.specs.Meaning.{counts_of}
-use Rattle.holdings.proofs.MovingWords.{AreMoving}
+use Rattle.holdings.proofs.Renamings.MovingWords.{AreMoving}
 use Rattle.holdings.proofs.holdings.Holdings.rename.Given as goal
 
 abbrev pub invariant-loop-transfer : goal.invariant-loop-transfer

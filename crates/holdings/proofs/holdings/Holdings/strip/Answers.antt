@@ -1,15 +1,17 @@
 -- One group of pages more; the held pages stand for all places.
-use Rattle.std.proofs.Common.{◌≡◌, ℕ, ◌<◌, ◌+◌, ◌-◌, List, take, drop, length, sym, ap, ◌∙◌, subst, arith}
+use Rattle.std.proofs.Common.{◌≡◌, ℕ, ◌<◌, ◌≤◌, ◌-◌, List, take, drop, length, sym, ap, ◌∙◌, subst, arith}
 use Rattle.std.specs.List.{All, slice_range, drop-map, take-map}
 use Rattle.std.proofs.lemmas.List.{with_items_is}
 use Rattle.maptree.specs.Origins.{Shape}
 use Rattle.model.specs.Strip.{strip, strip_word}
 use Rattle.holdings.specs.declared.pages.HeldPage.{HeldPage}
-use Rattle.holdings.specs.Held.{IsWithin}
-use Rattle.holdings.specs.Contents.{Contents, contents_of, IsStripped}
-use Rattle.holdings.specs.Stripping.{limits_in, holdings_in, any_of, places_in, AreOfFrame}
-use Rattle.holdings.proofs.HeldPages.{any_within}
-use Rattle.holdings.proofs.Named.{ArePages, AreStrippedUpTo, pages_in_order, same_pages, none_of_pages, frame_within, of_frame, one_group, all_groups, group_shown, places_of_set, strip_of_set, word_of_set}
+use Rattle.holdings.specs.Places.{IsWithin, any_of}
+use Rattle.holdings.specs.Contents.{Contents, IsStripped}
+use Rattle.holdings.specs.Inner.Held.{contents_of, limits_in, holdings_in}
+use Rattle.holdings.specs.Inner.Stripping.{places_in, AreOfFrame}
+use Rattle.holdings.proofs.Stripping.HeldPages.{any_within}
+use Rattle.holdings.proofs.Groups.{group_shown}
+use Rattle.holdings.proofs.Stripping.Named.{ArePages, AreStrippedUpTo, pages_in_order, same_pages, none_of_pages, frame_within, of_frame, one_group, all_groups, places_of_set, strip_of_set, word_of_set}
 use Rattle.holdings.proofs.holdings.Holdings.strip.Goals as goal
 
 pub loop-from-init : goal.loop-from-init
@@ -49,38 +51,36 @@ strip_frame-requires-clause-places c =
     let s = c.self.inside.shards in
     let t = c.self.inside.trees.items in
     let pages = c.sort_unstable_by_key.new.self.items in
-    let group = group_shown pages c.deref-in-loop-from.result.now c.loop-from.from c.same_frame.result c.index.result.now.frame c.index.result.now c.deref-in-loop-from.ensures.value (before c)
-    (ap (λ (h : HeldPage). h.frame) (sym c.index.ensures)) c.same_frame.ensures.most c.same_frame.ensures.frames in
-    let end = c.loop-from.from + 1 + c.same_frame.result in
+    let group = group_shown (λ (h : HeldPage). h.frame) pages c.deref-in-loop-from.result.now c.loop-from.from c.group_end-end.result c.index.result.now c.deref-in-loop-from.ensures.value c.index.ensures c.group_end-end.ensures.frames in
+    let upto = subst (λ (hs : List HeldPage). c.group_end-end.result ≤ length hs) c.deref-in-loop-from.ensures.value c.group_end-end.ensures.within in
+    let end = c.group_end-end.result in
     let all : c.deref-in-loop-from-2.result.now ≡ places_in pages = c.deref-in-loop-from-2.ensures.value ∙ c.in_ok-named.ensures ∙ ap places_in c.deref.ensures.value in
     let places : slice_range c.deref-in-loop-from-2.result.now c.loop-from.from end ≡ places_in (slice_range pages c.loop-from.from end) = ap (λ ps. slice_range ps c.loop-from.from end) all ∙ places_slice pages c.loop-from.from end in
     subst (λ (ts : List Shape). AreOfFrame c.loop-from.shards ts c.index.result.now.frame (slice_range c.deref-in-loop-from-2.result.now c.loop-from.from end)) (sym c.deref_mut.ensures.value)
     (subst (AreOfFrame c.loop-from.shards c.loop-from.trees.items c.index.result.now.frame) (sym places)
     (of_frame s t c.self.invariant pages c.loop-from.invariant.0 c.args.revoked c.args.flush c.loop-from.shards c.loop-from.trees.items
-    c.loop-from.status c.loop-from.from (c.loop-from.from + 1 + c.same_frame.result) c.index.result.now.frame c.loop-from.invariant.1 group.0 group.1))
+    c.loop-from.status c.loop-from.from c.group_end-end.result c.index.result.now.frame c.loop-from.invariant.1 upto group))
 
 pub loop-from-preserved : goal.loop-from-preserved
 loop-from-preserved c =
     let s = c.self.inside.shards in
     let t = c.self.inside.trees.items in
     let pages = c.sort_unstable_by_key.new.self.items in
-    let within : c.loop-from.from < length pages = omega (arith, c.loop-from-test.true, c.len.ensures, c.sort_unstable_by_key.new.self.ok.0) in
-    let group = group_shown pages c.deref-in-loop-from.result.now c.loop-from.from c.same_frame.result c.index.result.now.frame c.index.result.now c.deref-in-loop-from.ensures.value within
-    (ap (λ (h : HeldPage). h.frame) (sym c.index.ensures)) c.same_frame.ensures.most c.same_frame.ensures.frames in
-    let end = c.loop-from.from + 1 + c.same_frame.result in
+    let upto = subst (λ (hs : List HeldPage). c.group_end-end.result ≤ length hs) c.deref-in-loop-from.ensures.value c.group_end-end.ensures.within in
+    let end = c.group_end-end.result in
     let all : c.deref-in-loop-from-2.result.now ≡ places_in pages = c.deref-in-loop-from-2.ensures.value ∙ c.in_ok-named.ensures ∙ ap places_in c.deref.ensures.value in
     let places : slice_range c.deref-in-loop-from-2.result.now c.loop-from.from end ≡ places_in (slice_range pages c.loop-from.from end) = ap (λ ps. slice_range ps c.loop-from.from end) all ∙ places_slice pages c.loop-from.from end in
     let was : (ts : List Shape) → ts ≡ c.loop-from.trees.items → holdings_in c.loop-from.shards ts ≡ holdings_in c.loop-from.shards c.loop-from.trees.items = λ ts is. ap (holdings_in c.loop-from.shards) is in
     let before_it = was c.deref_mut.result.now c.deref_mut.ensures.value in
     let next = one_group s t c.self.invariant pages c.loop-from.invariant.0 c.args.revoked c.args.flush c.loop-from.shards
-    c.strip_frame.new.shards c.loop-from.trees.items c.strip_frame.new.trees c.loop-from.status c.in_ok-word.word c.loop-from.from (c.loop-from.from + 1 + c.same_frame.result) c.loop-from.invariant.1 (omega arith) group.0
+    c.strip_frame.new.shards c.loop-from.trees.items c.strip_frame.new.trees c.loop-from.status c.in_ok-word.word c.loop-from.from c.group_end-end.result c.loop-from.invariant.1 (omega (arith, c.group_end-end.ensures.some)) upto
     (c.in_ok-word.ensures.status ∙ ap (λ h. strip_word h (any_of (slice_range c.deref-in-loop-from-2.result.now c.loop-from.from end))) before_it ∙ ap (λ ps. strip_word (holdings_in c.loop-from.shards c.loop-from.trees.items) (any_of ps)) places)
     (c.in_ok-word.ensures.left ∙ ap (λ h. strip h (any_of (slice_range c.deref-in-loop-from-2.result.now c.loop-from.from end)) c.args.revoked c.args.flush) before_it ∙ ap (λ ps. strip (holdings_in c.loop-from.shards c.loop-from.trees.items) (any_of ps) c.args.revoked c.args.flush) places)
     c.in_ok-word.ensures.sound (c.in_ok-word.ensures.limits ∙ ap (limits_in c.loop-from.shards) c.deref_mut.ensures.value) in
     let count : length c.strip_frame.new.trees ≡ c.loop-from.trees.len = omega (arith, c.strip_frame.auto.trees, ap length c.deref_mut.ensures.value, c.loop-from.trees.ok.0) in (
       c.loop-from.invariant.0,
-      subst (λ ts. AreStrippedUpTo s t pages (c.loop-from.from + 1 + c.same_frame.result) c.args.revoked c.args.flush c.strip_frame.new.shards ts c.join-status.result) (sym (with_items_is c.loop-from.trees c.strip_frame.new.trees count))
-          (subst (AreStrippedUpTo s t pages (c.loop-from.from + 1 + c.same_frame.result) c.args.revoked c.args.flush c.strip_frame.new.shards c.strip_frame.new.trees) (sym c.join-status.ensures) next),
+      subst (λ ts. AreStrippedUpTo s t pages c.group_end-end.result c.args.revoked c.args.flush c.strip_frame.new.shards ts c.join-status.result) (sym (with_items_is c.loop-from.trees c.strip_frame.new.trees count))
+          (subst (AreStrippedUpTo s t pages c.group_end-end.result c.args.revoked c.args.flush c.strip_frame.new.shards c.strip_frame.new.trees) (sym c.join-status.ensures) next),
     )
 
 pub returns : goal.returns

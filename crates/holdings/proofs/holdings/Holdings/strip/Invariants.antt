@@ -1,6 +1,6 @@
 -- The pages so far are stripped.
 use Rattle.std.proofs.Common.{length, ◌-◌}
-use Rattle.holdings.proofs.Named.{ArePages, AreStrippedUpTo}
+use Rattle.holdings.proofs.Stripping.Named.{ArePages, AreStrippedUpTo}
 use Rattle.holdings.proofs.holdings.Holdings.strip.Given as goal
 
 abbrev pub invariant-loop-from : goal.invariant-loop-from

@@ -7,10 +7,11 @@ use Rattle.maptree.specs.Origins.{Shape}
 use Rattle.model.specs.Calls.{Limits}
 use Rattle.model.specs.Holdings.{only}
 use Rattle.model.specs.Strip.{strip, strip_word}
-use Rattle.holdings.specs.Contents.{Contents, contents_of, IsStripped}
-use Rattle.holdings.specs.Held.{IsWithin, is_listed}
-use Rattle.holdings.specs.Stripping.{AreSound, limits_in, holdings_in, any_of}
-use Rattle.holdings.proofs.PlaceByPlace.{AreVisitedUpTo, none_visited, one_visited, none_there, all_visited}
+use Rattle.holdings.specs.Contents.{Contents, IsStripped}
+use Rattle.holdings.specs.Inner.Held.{contents_of, is_listed, limits_in, holdings_in}
+use Rattle.holdings.specs.Places.{IsWithin, any_of}
+use Rattle.holdings.specs.Inner.Sound.{AreSound}
+use Rattle.holdings.proofs.Recursions.PlaceByPlace.{AreVisitedUpTo, none_visited, one_visited, none_there, all_visited}
 use Rattle.holdings.proofs.holdings.Holdings.strip_by_recursion.Goals as goal
 
 -- the place that is visited next

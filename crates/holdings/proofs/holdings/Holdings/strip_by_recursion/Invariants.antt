@@ -1,5 +1,5 @@
 -- The places so far are visited.
-use Rattle.holdings.proofs.PlaceByPlace.{AreVisitedUpTo}
+use Rattle.holdings.proofs.Recursions.PlaceByPlace.{AreVisitedUpTo}
 use Rattle.holdings.proofs.holdings.Holdings.strip_by_recursion.Given as goal
 
 abbrev pub invariant-loop-place : goal.invariant-loop-place

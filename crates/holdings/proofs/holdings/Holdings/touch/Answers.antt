@@ -4,12 +4,12 @@ use Rattle.fpage.specs.Rights.{has}
 use Rattle.space.specs.declared.place.Entry.{Entry}
 use Rattle.model.specs.Calls.{Limits}
 use Rattle.model.specs.Touch.{can_touch, touch}
-use Rattle.holdings.specs.Held.{IsWithin, holdings_of}
-use Rattle.holdings.specs.Contents.{Contents, contents_of, left_with}
-use Rattle.holdings.specs.Sound.{IsSound}
-use Rattle.holdings.specs.Stripping.{limits_in}
-use Rattle.holdings.proofs.Accesses.{touch_fault, can_touch_absent, can_touch_present, touched, touched_sound, marked_entry}
-use Rattle.holdings.proofs.WordChanges.{IsWordSet}
+use Rattle.holdings.specs.Places.{IsWithin}
+use Rattle.holdings.specs.Inner.Held.{holdings_of, contents_of, limits_in}
+use Rattle.holdings.specs.Contents.{Contents, left_with}
+use Rattle.holdings.specs.Inner.Sound.{IsSound}
+use Rattle.holdings.proofs.Contents.Accesses.{touch_fault, can_touch_absent, can_touch_present, touched, touched_sound, marked_entry}
+use Rattle.holdings.proofs.Contents.WordChanges.{IsWordSet}
 use Rattle.holdings.proofs.holdings.Holdings.touch.Goals as goal
 
 pub returns-in_default-clause-answer : goal.returns-in_default-clause-answer

@@ -1,9 +1,9 @@
 -- A database that is halted holds nothing, and nothing is listed.
 use Rattle.std.proofs.Common.{◌≡◌, [], None, refl, sym, ap, ◌∙◌, subst}
 use Rattle.model.specs.Holdings.{Holdings, at}
-use Rattle.holdings.specs.Held.{listing}
+use Rattle.holdings.specs.Places.{listing}
 use Rattle.holdings.specs.Meaning.{limits_of}
-use Rattle.holdings.proofs.Listing.{listing_is}
+use Rattle.holdings.proofs.Contents.Listing.{listing_is}
 use Rattle.mapdb.specs.State.{State, state_of}
 use Rattle.mapdb.proofs.database.Database.limits.Goals as goal
 

@@ -1,0 +1,4 @@
+-- Pages that move.
+pub mod MovedPages
+pub mod MovingWords
+pub mod MovingTrees

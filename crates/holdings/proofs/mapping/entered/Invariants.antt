@@ -1,7 +1,0 @@
--- The mappings so far with those to come are all.
-use Rattle.std.proofs.Common.{◌≡◌, ◌++◌, drop, map}
-use Rattle.holdings.specs.Mappings.{mapped_of, entered}
-use Rattle.holdings.proofs.mapping.entered.Given as goal
-
-abbrev pub invariant-loop-place : goal.invariant-loop-place
-invariant-loop-place l = (map mapped_of l.mappings.items ++ entered l.shards (drop l.place-index l.links)) ≡ entered l.shards l.links
