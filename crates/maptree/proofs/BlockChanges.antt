@@ -1,14 +1,13 @@
 -- A list in blocks of which one block changes.
-use Rattle.std.proofs.Common.{◌≡◌, ℕ, zero, suc, ◌+◌, ◌-◌, ◌<◌, ◌≤◌, List, [], ◌∷◌, ◌++◌, length, take, drop, map, get_or, set, Option, refl, sym, ap, ◌∙◌, subst, arith}
+use Rattle.std.proofs.Common.{◌≡◌, ℕ, zero, suc, ◌+◌, ◌-◌, ◌<◌, ◌≤◌, List, [], ◌∷◌, ◌++◌, length, take, drop, map, get_or, set, Option, refl, sym, ap, ◌∙◌, arith}
 use Rattle.std.specs.Prelude.{insert}
 use Rattle.std.proofs.lemmas.List.{append_assoc, append-nil, length-append, take_at, length-take-le, length-drop, set_split, set-append_right, set-append_left, get_or_at, length-set, take-append-drop, drop-drop, drop_at, map-append, take-append-le, take_all}
 use Rattle.std.proofs.lemmas.List.Edits.{insert-append_left, insert-append_right, length-insert}
 use Rattle.maptree.specs.declared.node.Node.{Node}
-use Rattle.maptree.specs.declared.blocks.Seat.{Seat}
 use Rattle.space.specs.declared.place.Place.{Place}
 use Rattle.maptree.specs.Renamings.{nodes_renamed}
 use Rattle.maptree.specs.Blocks.{nodes_in, IsSeat, split_at_half}
-use Rattle.maptree.proofs.InBlocks.{nodes_of_both, three, before_seat, behind_seat, as_read}
+use Rattle.maptree.proofs.InBlocks.{nodes_of_both, three, before_seat, behind_seat}
 
 module _ (bs : List (List Node)) (k : ℕ) where
   -- another block in the place of one

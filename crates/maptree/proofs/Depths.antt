@@ -1,10 +1,10 @@
 -- A number that no depth of some nodes goes below, and what it says of runs.
-use Rattle.std.proofs.Common.{◌≡◌, ℕ, zero, suc, ◌+◌, ◌<◌, ◌≤◌, true, false, Bool, ◌&&◌, nat_lt, nat_le, List, [], ◌∷◌, ◌++◌, length, take, drop, set, get_or, Option, Some, None, refl, sym, ap, ◌∙◌, arith, if◌then◌else◌}
+use Rattle.std.proofs.Common.{◌≡◌, ℕ, zero, suc, ◌<◌, ◌≤◌, true, Bool, ◌&&◌, nat_le, List, [], ◌∷◌, ◌++◌, length, take, drop, set, get_or, Option, None, refl, ap, arith}
 use Rattle.std.specs.Prelude.{insert}
 use Rattle.std.proofs.lemmas.Bool.{and_parts, leb-true, le-leb, lt-ltb, le-ltb}
 use Rattle.space.specs.declared.place.Place.{Place}
 use Rattle.maptree.specs.declared.node.Node.{Node}
-use Rattle.maptree.specs.Nodes.{run_len, last_less, one_on}
+use Rattle.maptree.specs.Nodes.{run_len, last_less}
 use Rattle.maptree.specs.Blocks.{is_least}
 use Rattle.maptree.specs.Renamings.{nodes_renamed}
 

@@ -1,10 +1,8 @@
 -- A list in blocks: what stands before a block, in it and behind it.
-use Rattle.std.proofs.Common.{◌≡◌, ℕ, zero, suc, ◌+◌, ◌-◌, ◌<◌, ◌≤◌, true, false, Bool, not, nat_lt, List, [], ◌∷◌, ◌++◌, length, take, drop, get_or, set, Option, Some, None, option_map, refl, sym, ap, ◌∙◌, subst, arith, if◌then◌else◌, ◌⊎◌, inl, inr}
-use Rattle.std.specs.Prelude.{position, insert}
-use Rattle.std.specs.List.{prefix_len}
-use Rattle.std.proofs.lemmas.List.{append_assoc, append-nil, length-append, take-append-drop, take_more, drop_more, take_all, drop_all, get_or_default, get_or-append-add, set-append_right, set-append_left, get_or_append_left, drop-append-le, drop_at, take_at, take-append-le, length-take, length-take-le, length-drop, drop-drop}
+use Rattle.std.proofs.Common.{◌≡◌, ℕ, suc, ◌+◌, ◌-◌, ◌<◌, ◌≤◌, true, false, Bool, nat_lt, List, [], ◌∷◌, ◌++◌, length, take, drop, get_or, Some, None, option_map, refl, sym, ap, ◌∙◌, arith, if◌then◌else◌, ◌⊎◌, inl, inr}
+use Rattle.std.specs.Prelude.{position}
+use Rattle.std.proofs.lemmas.List.{append-nil, length-append, take-append-drop, take_more, drop_more, take_all, drop_all, get_or_default, get_or-append-add, get_or_append_left, drop-append-le, drop_at, take-append-le, drop-drop}
 use Rattle.std.proofs.lemmas.List.Concat.{flat_map-append}
-use Rattle.std.proofs.lemmas.Bool.Decides.{nat_tests}
 use Rattle.maptree.specs.declared.node.Node.{Node}
 use Rattle.maptree.specs.declared.blocks.Seat.{Seat}
 use Rattle.maptree.specs.Nodes.{run_len, last_less}

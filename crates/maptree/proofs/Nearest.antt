@@ -1,5 +1,5 @@
 -- The last node before a node that is less deep is its origin.
-use Rattle.std.proofs.Common.{◌≡◌, ℕ, zero, suc, ◌+◌, ◌<◌, ◌≤◌, true, List, [], ◌∷◌, length, take, get_or, Option, Some, None, option_map, refl, sym, ap, ◌∙◌, subst, arith, rules, IfSome}
+use Rattle.std.proofs.Common.{◌≡◌, ℕ, zero, suc, ◌<◌, ◌≤◌, true, List, [], ◌∷◌, length, take, get_or, Option, Some, None, option_map, refl, sym, ap, ◌∙◌, arith, rules, IfSome}
 use Rattle.std.proofs.Math.Nat.{min-le_left}
 use Rattle.std.proofs.lemmas.List.{length-take, length-take-le}
 use Rattle.space.specs.declared.place.Place.{Place}
@@ -9,7 +9,7 @@ use Rattle.maptree.specs.Nodes.{is_forest, origins_of, last_less}
 use Rattle.maptree.proofs.Runs.{depth_of}
 use Rattle.maptree.proofs.Positions.{depth_of_read}
 use Rattle.maptree.proofs.Origin.{nearest_is_origin, root_has_none, never}
-use Rattle.maptree.proofs.LastLess.{IsLastLess, some_says, none_says}
+use Rattle.maptree.proofs.LastLess.{some_says, none_says}
 
 -- it stands before
 pub nearest_before : (ns : List Node) (i depth : ℕ) (o : Option ℕ) → o ≡ last_less depth (take i ns) → IfSome o (λ r. r < i)

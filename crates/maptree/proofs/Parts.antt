@@ -1,8 +1,8 @@
 -- Ranges taken out of a list one after another, in place, and parts put back so.
-use Rattle.std.proofs.Common.{◌≡◌, ℕ, zero, suc, ◌+◌, ◌-◌, ◌<◌, ◌≤◌, List, [], ◌∷◌, ◌++◌, length, take, drop, get_or, not, nat_eq, true, false, filter, refl, sym, ap, ◌∙◌, subst, arith}
+use Rattle.std.proofs.Common.{◌≡◌, ℕ, zero, suc, ◌+◌, ◌-◌, ◌<◌, ◌≤◌, List, [], ◌∷◌, ◌++◌, length, take, drop, get_or, not, nat_eq, false, filter, refl, sym, ap, ◌∙◌, subst, arith}
 use Rattle.std.specs.List.{slice_range}
 use Rattle.std.specs.declared.ops.Range.{Range}
-use Rattle.std.proofs.lemmas.List.{append_assoc, append-nil, length-append, take_at, length-take-le, length-drop, drop-drop, drop_at, drop_more, take-append-le, get_or_default, length-map}
+use Rattle.std.proofs.lemmas.List.{append_assoc, length-append, take_at, length-take-le, length-drop, drop-drop, drop_at, drop_more, get_or_default, length-map}
 use Rattle.std.proofs.lemmas.Bool.Decides.{nat_tests}
 use Rattle.maptree.specs.declared.node.Node.{Node}
 use Rattle.maptree.specs.Origins.{AreRising}

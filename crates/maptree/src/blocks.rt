@@ -312,6 +312,7 @@ impl Blocks {
             return Err(AllocError);
         }
         self.blocks.reserve(n)?;
+        self.hints.reserve(n)?;
         fill(&mut self.spare, n)?;
         self.room = n;
         Ok(())
@@ -332,6 +333,7 @@ impl Blocks {
     {
         let mut blocks = Vec::new(alloc);
         let mut hints = Hints::none(alloc);
+        hints.reserve(nodes.len())?;
         let mut rest = nodes;
         while !rest.is_empty() {
             let (first, others) = rest.split_at(FILLED.min(rest.len()));

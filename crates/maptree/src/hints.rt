@@ -1,7 +1,7 @@
 //! Where places may stand.
 
 use space::Place;
-use std::alloc::Global;
+use std::alloc::{AllocError, Global};
 use std::collections::HashMap;
 
 /// In which block of a list each place may stand: it need not be so. Who asks looks whether the place stands there, so no
@@ -24,6 +24,12 @@ impl Hints {
             blocks: Vec::new(alloc),
             free: Vec::new(alloc),
         }
+    }
+
+    /// Memory for so many more places and blocks.
+    pub fn reserve(&mut self, n: usize) -> Result<(), AllocError> {
+        self.numbers.reserve(n)?;
+        self.blocks.reserve(n)
     }
 
     /// Where the block stands that may have the place.

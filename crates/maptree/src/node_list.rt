@@ -285,12 +285,10 @@ impl NodeList {
         let room = self.room();
         match &mut self.form {
             Form::Few(nodes) => {
+                // What is left needs less memory, and the parts find theirs when they are put back.
+                let memory = nodes.capacity().saturating_sub(total_of(ranges));
                 let Cutting { left, gaps, parts } = Cutting::of(
-                    alloc,
-                    nodes,
-                    nodes.capacity(),
-                    ranges,
-                    most,
+                    alloc, nodes, memory, ranges, most,
                 )?;
                 *self = NodeList::of(alloc, left, room)?;
                 Ok((gaps, parts))
@@ -323,7 +321,11 @@ impl NodeList {
     {
         let room = self.room();
         let all = match &mut self.form {
-            Form::Few(nodes) => joined(alloc, nodes, nodes.capacity(), gaps, parts)?,
+            Form::Few(nodes) => {
+                let kept = kept_up_to(parts, usize::MAX).unwrap_or(0);
+                let memory = nodes.capacity().saturating_add(kept);
+                joined(alloc, nodes, memory, gaps, parts)?
+            }
             Form::Many(blocks) => {
                 if let Some(kept) = kept_up_to(parts, FEW) {
                     blocks.reserve(blocks.room() + kept)?;
@@ -351,4 +353,13 @@ fn kept_up_to(parts: &[Slice], most: usize) -> Option<usize>
         kept += more;
     }
     Some(kept)
+}
+
+/// How many positions ranges have together.
+fn total_of(ranges: &[Range<usize>]) -> usize {
+    let mut total = 0_usize;
+    for range in ranges {
+        total = total.saturating_add(range.end.saturating_sub(range.start));
+    }
+    total
 }

@@ -1,5 +1,5 @@
 -- One node more.
-use Rattle.std.proofs.Common.{◌≡◌, [], ◌∷◌, ◌+◌, ◌++◌, ◌≤◌, take, get_or, sym, ap, ◌∙◌, true, rules, arith, subst, refl}
+use Rattle.std.proofs.Common.{[], ◌∷◌, ◌≤◌, take, get_or, ap, ◌∙◌, rules, arith}
 use Rattle.std.proofs.lemmas.List.{take_more}
 use Rattle.maptree.specs.Blocks.{is_least}
 use Rattle.maptree.proofs.Depths.{least_less, least_append, least_one}

@@ -1,7 +1,6 @@
 -- One block more has its new places.
-use Rattle.std.proofs.Common.{◌≡◌, ◌++◌, ◌+◌, suc, [], ◌∷◌, map, length, take, drop, set, get_or, ap, ◌∙◌, sym, List, arith, rules}
+use Rattle.std.proofs.Common.{◌≡◌, ◌++◌, ◌+◌, suc, [], map, length, take, drop, set, get_or, ap, ◌∙◌, arith, rules}
 use Rattle.std.proofs.lemmas.List.{get_or_default}
-use Rattle.maptree.specs.declared.node.Node.{Node}
 use Rattle.maptree.specs.PlaceMaps.{place_for}
 use Rattle.maptree.specs.Renamings.{nodes_renamed}
 use Rattle.maptree.proofs.BlockChanges.{mapped_more, to_come}

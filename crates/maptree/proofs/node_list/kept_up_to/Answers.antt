@@ -1,5 +1,5 @@
 -- One part more.
-use Rattle.std.proofs.Common.{◌≡◌, ◌≤◌, ◌+◌, suc, length, drop, get_or, ap, rules, arith, ◌∙◌, sym, ◌∷◌}
+use Rattle.std.proofs.Common.{◌≡◌, ◌+◌, suc, length, drop, get_or, ap, rules, arith}
 use Rattle.maptree.specs.Cuts.{nodes_of, count_of}
 use Rattle.maptree.proofs.Parts.{parts_from}
 use Rattle.maptree.proofs.node_list.kept_up_to.Goals as goal

@@ -1,5 +1,5 @@
 -- The search ends at a node that is less deep, and goes on at another.
-use Rattle.std.proofs.Common.{◌≡◌, ℕ, ◌<◌, ◌≤◌, ◌-◌, suc, length, sym, ap, ◌∙◌, drop, None, rules, arith, get_or}
+use Rattle.std.proofs.Common.{◌≡◌, ℕ, ◌<◌, ◌≤◌, ◌-◌, suc, length, sym, ap, ◌∙◌, drop, arith}
 use Rattle.maptree.specs.Nodes.{last_less}
 use Rattle.maptree.proofs.LastLess.{last_at, last_on, last_of_none}
 use Rattle.maptree.proofs.scans.last_above.Goals as goal

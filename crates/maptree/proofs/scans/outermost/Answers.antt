@@ -1,6 +1,5 @@
 -- The outermost runs of the nodes so far.
-use Rattle.std.proofs.Common.{◌+◌, ◌≤◌, ◌++◌, [], ◌∷◌, length, get_or, sym, ap, ◌∙◌, subst, arith, rules, if◌then◌else◌}
-use Rattle.std.specs.Result.{is_ok}
+use Rattle.std.proofs.Common.{◌+◌, ◌≤◌, length, get_or, sym, ◌∙◌, subst, arith, rules}
 use Rattle.maptree.proofs.Origin.{blank}
 use Rattle.maptree.proofs.Outermost.{AreSoFar, one_passed, one_more_run, all_runs, run_within}
 use Rattle.maptree.proofs.Positions.{run_is, read_any}

@@ -1,5 +1,5 @@
 -- No node is less deep than before, or than a new one.
-use Rattle.std.proofs.Common.{◌≡◌, ◌≤◌, ◌++◌, sym, ap, ◌∙◌, true, rules, arith, length}
+use Rattle.std.proofs.Common.{◌≡◌, ◌≤◌, ◌++◌, ap, ◌∙◌, rules, arith, length}
 use Rattle.maptree.specs.Blocks.{is_least}
 use Rattle.maptree.proofs.Depths.{least_less, least_append}
 use Rattle.maptree.proofs.block.Block.extend.Goals as goal

@@ -1,5 +1,5 @@
 -- No node is less deep than before, or than the new one.
-use Rattle.std.proofs.Common.{◌≡◌, ◌≤◌, sym, ap, ◌∙◌, true, rules, arith, length, if◌then◌else◌}
+use Rattle.std.proofs.Common.{◌≡◌, ◌≤◌, ap, ◌∙◌, rules, arith, length}
 use Rattle.std.specs.Prelude.{insert}
 use Rattle.maptree.specs.Blocks.{is_least}
 use Rattle.maptree.proofs.Depths.{least_less, least_insert}

@@ -1,5 +1,5 @@
 -- Where none is less deep, there is no last one.
-use Rattle.std.proofs.Common.{◌≡◌, sym, ap, ◌∙◌, take, None}
+use Rattle.std.proofs.Common.{sym, ap, ◌∙◌, take}
 use Rattle.maptree.specs.Nodes.{last_less}
 use Rattle.maptree.proofs.Depths.{none_less, least_take}
 use Rattle.maptree.proofs.block.Block.last_above.Goals as goal

@@ -1,5 +1,5 @@
 -- What is left is no less deep.
-use Rattle.std.proofs.Common.{◌≡◌, ◌≤◌, ◌++◌, take, drop, sym, ap, ◌∙◌, true, rules, arith, length}
+use Rattle.std.proofs.Common.{◌≡◌, ◌≤◌, ◌++◌, take, drop, ap, ◌∙◌, rules, arith, length}
 use Rattle.std.proofs.lemmas.List.{length-append, length-take-le, length-drop}
 use Rattle.maptree.specs.Blocks.{is_least}
 use Rattle.maptree.proofs.Depths.{least_take, least_drop, least_append}

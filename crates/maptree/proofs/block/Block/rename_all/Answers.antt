@@ -1,11 +1,11 @@
 -- Another place changes no depth.
-use Rattle.std.proofs.Common.{◌≡◌, ◌≤◌, ◌++◌, take, drop, sym, ap, ◌∙◌, true, rules, arith, length, subst, Option, List, refl}
+use Rattle.std.proofs.Common.{◌≡◌, ◌≤◌, ap, ◌∙◌, rules, arith, length, Option, List, refl}
 use Rattle.std.proofs.lemmas.List.{length-map, with_items_is}
 use Rattle.maptree.specs.Blocks.{is_least}
 use Rattle.space.specs.declared.place.Place.{Place}
 use Rattle.maptree.specs.declared.node.Node.{Node}
 use Rattle.maptree.specs.PlaceMaps.{place_for}
-use Rattle.maptree.specs.Renamings.{nodes_renamed, replaced_by}
+use Rattle.maptree.specs.Renamings.{nodes_renamed}
 use Rattle.maptree.proofs.Depths.{least_renamed}
 use Rattle.maptree.proofs.block.Block.rename_all.Goals as goal
 

@@ -1,5 +1,5 @@
 -- Another place changes no depth.
-use Rattle.std.proofs.Common.{◌≡◌, ◌≤◌, set, get_or, sym, ap, ◌∙◌, true, rules, arith, length}
+use Rattle.std.proofs.Common.{set, ap, ◌∙◌, rules, arith}
 use Rattle.std.proofs.lemmas.List.{length-set}
 use Rattle.maptree.specs.Blocks.{is_least}
 use Rattle.maptree.proofs.Depths.{least_set}

@@ -1,5 +1,5 @@
 -- The front is no less deep.
-use Rattle.std.proofs.Common.{◌≡◌, ◌≤◌, take, sym, ap, ◌∙◌, true, rules, arith, length}
+use Rattle.std.proofs.Common.{◌≤◌, ap, ◌∙◌, rules, arith, length}
 use Rattle.maptree.specs.Blocks.{is_least}
 use Rattle.maptree.proofs.Depths.{least_take}
 use Rattle.maptree.proofs.block.Block.split_into.Goals as goal

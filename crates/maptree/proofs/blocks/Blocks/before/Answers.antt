@@ -1,6 +1,5 @@
 -- One block more.
-use Rattle.std.proofs.Common.{◌≡◌, ◌<◌, length, ap, rules, arith, List, subst, ◌∙◌, get_or, sym}
-use Rattle.maptree.specs.declared.node.Node.{Node}
+use Rattle.std.proofs.Common.{◌≡◌, length, ap, rules, arith, ◌∙◌, get_or}
 use Rattle.maptree.specs.Blocks.{nodes_in}
 use Rattle.maptree.proofs.InBlocks.{Counts, counts}
 use Rattle.maptree.proofs.blocks.Blocks.before.Goals as goal

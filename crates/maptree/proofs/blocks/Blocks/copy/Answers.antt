@@ -1,7 +1,6 @@
 -- Some more nodes.
-use Rattle.std.proofs.Common.{◌≡◌, ◌<◌, ◌≤◌, ◌+◌, ◌-◌, ◌++◌, [], length, get_or, take, drop, ap, rules, arith, ◌∙◌, sym, List, ℕ}
+use Rattle.std.proofs.Common.{◌≡◌, ◌≤◌, ◌+◌, ◌-◌, ◌++◌, [], length, get_or, take, drop, ap, rules, arith, ◌∙◌, sym}
 use Rattle.std.proofs.lemmas.List.{drop-drop, length-drop, length-take-le}
-use Rattle.maptree.specs.declared.node.Node.{Node}
 use Rattle.maptree.specs.Blocks.{nodes_in}
 use Rattle.maptree.proofs.InBlocks.{read_of, as_read}
 use Rattle.maptree.proofs.BlockChanges.{some_behind, take_on}

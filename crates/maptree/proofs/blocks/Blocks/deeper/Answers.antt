@@ -1,7 +1,6 @@
 -- The run ends in the block of the node, or behind it.
-use Rattle.std.proofs.Common.{◌≡◌, ◌≤◌, ◌<◌, ◌+◌, ◌++◌, [], length, take, drop, ap, rules, arith, List, ◌∙◌, get_or, sym}
+use Rattle.std.proofs.Common.{◌≡◌, ◌≤◌, ◌<◌, ◌+◌, ◌++◌, length, drop, ap, rules, arith, ◌∙◌, sym}
 use Rattle.std.proofs.lemmas.List.{length-drop}
-use Rattle.maptree.specs.declared.node.Node.{Node}
 use Rattle.maptree.specs.Nodes.{run_len}
 use Rattle.maptree.specs.Blocks.{nodes_in}
 use Rattle.maptree.proofs.Positions.{run_len-le}

@@ -1,7 +1,5 @@
 -- One block more, or the block in which the run ends.
-use Rattle.std.proofs.Common.{◌≡◌, ◌≤◌, ◌<◌, ◌+◌, length, take, drop, ap, rules, arith, List, ◌∙◌, get_or, sym}
-use Rattle.maptree.specs.declared.node.Node.{Node}
-use Rattle.maptree.specs.Nodes.{run_len}
+use Rattle.std.proofs.Common.{◌≡◌, ◌≤◌, ◌<◌, length, ap, rules, arith}
 use Rattle.maptree.specs.Blocks.{nodes_in}
 use Rattle.maptree.proofs.Positions.{run_len-le}
 use Rattle.maptree.proofs.InBlocks.{counts, run_block_on, run_block_ends, read_of}

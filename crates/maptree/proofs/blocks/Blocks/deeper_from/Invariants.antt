@@ -1,5 +1,5 @@
 -- All nodes of the blocks so far are deeper.
-use Rattle.std.proofs.Common.{◌≡◌, ◌+◌, ◌≤◌, length, take, drop}
+use Rattle.std.proofs.Common.{◌≡◌, ◌+◌, length, take, drop}
 use Rattle.maptree.specs.Nodes.{run_len}
 use Rattle.maptree.specs.Blocks.{nodes_in}
 use Rattle.maptree.proofs.blocks.Blocks.deeper_from.Given as goal

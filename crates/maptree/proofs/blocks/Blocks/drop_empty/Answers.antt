@@ -1,5 +1,5 @@
 -- Blocks without nodes hold none.
-use Rattle.std.proofs.Common.{◌≡◌, ◌≤◌, ◌<◌, ◌+◌, length, not, nat_eq, filter, vec_capacity, ap, rules, arith, ◌∙◌, sym}
+use Rattle.std.proofs.Common.{◌≤◌, ◌<◌, ◌+◌, length, not, nat_eq, vec_capacity, ap, rules, arith, ◌∙◌}
 use Rattle.std.proofs.lemmas.Fn.{filter_same}
 use Rattle.maptree.specs.Blocks.{nodes_in}
 use Rattle.maptree.proofs.Parts.{without_empty, some_block}

@@ -1,5 +1,5 @@
 -- A place that stands in the block that was hinted at stands there alone.
-use Rattle.std.proofs.Common.{◌≡◌, ◌≤◌, ◌<◌, ◌+◌, length, ap, rules, arith, ◌∙◌, sym, Some}
+use Rattle.std.proofs.Common.{◌≡◌, ◌<◌, ◌+◌, length, ap, rules, arith, ◌∙◌, sym, Some}
 use Rattle.space.specs.Place.{same_place}
 use Rattle.maptree.specs.Blocks.{nodes_in}
 use Rattle.maptree.proofs.InBlocks.{read_of, counts, found_within}

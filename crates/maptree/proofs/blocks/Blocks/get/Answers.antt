@@ -1,6 +1,5 @@
 -- The node at the seat.
-use Rattle.std.proofs.Common.{◌≡◌, ◌≤◌, ◌<◌, ◌+◌, [], length, take, drop, ap, rules, arith, List, ◌∙◌, get_or, sym}
-use Rattle.maptree.specs.declared.node.Node.{Node}
+use Rattle.std.proofs.Common.{◌≡◌, length, ap, arith, ◌∙◌, get_or, sym}
 use Rattle.maptree.specs.Blocks.{nodes_in}
 use Rattle.maptree.proofs.InBlocks.{as_read, at_seat}
 use Rattle.maptree.proofs.blocks.Blocks.get.Goals as goal

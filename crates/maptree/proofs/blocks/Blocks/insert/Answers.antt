@@ -1,9 +1,8 @@
 -- One node more in one block.
-use Rattle.std.proofs.Common.{◌≡◌, ◌<◌, ◌≤◌, ◌+◌, [], length, set, get_or, take, ap, ◌^◌, rules, arith, ◌∙◌, sym, List}
+use Rattle.std.proofs.Common.{◌≡◌, ◌<◌, length, set, ap, rules, arith, ◌∙◌}
 use Rattle.std.specs.Prelude.{insert}
 use Rattle.std.proofs.lemmas.List.{length-set}
 use Rattle.std.proofs.lemmas.List.Edits.{length-insert}
-use Rattle.maptree.specs.declared.node.Node.{Node}
 use Rattle.maptree.specs.Blocks.{nodes_in}
 use Rattle.maptree.proofs.InBlocks.{read_of, as_read}
 use Rattle.maptree.proofs.BlockChanges.{insert_node, count_set}

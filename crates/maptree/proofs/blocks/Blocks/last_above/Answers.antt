@@ -1,8 +1,7 @@
 -- In the block of the seat, or before it.
-use Rattle.std.proofs.Common.{◌≡◌, ℕ, [], ◌≤◌, ◌<◌, ◌+◌, ◌-◌, length, take, ap, rules, arith, List, ◌∙◌, get_or, sym, Some, None, Option}
+use Rattle.std.proofs.Common.{◌≡◌, [], ◌+◌, ◌-◌, length, take, ap, rules, arith, ◌∙◌, get_or, sym, Some, None}
 use Rattle.std.proofs.lemmas.List.{length-take}
 use Rattle.std.proofs.Math.Nat.{min-le_left}
-use Rattle.maptree.specs.declared.node.Node.{Node}
 use Rattle.maptree.specs.Nodes.{last_less}
 use Rattle.maptree.specs.Blocks.{nodes_in}
 use Rattle.maptree.proofs.LastLess.{later}

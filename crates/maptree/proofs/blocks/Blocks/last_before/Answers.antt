@@ -1,11 +1,10 @@
 -- One block more from the back.
-use Rattle.std.proofs.Common.{◌≡◌, ℕ, ◌≤◌, ◌<◌, ◌+◌, ◌-◌, length, take, ap, rules, arith, List, ◌∙◌, get_or, sym, Some, None, Option}
+use Rattle.std.proofs.Common.{◌≡◌, ◌≤◌, ◌+◌, ◌-◌, length, take, ap, rules, arith, ◌∙◌, sym, Some, None}
 use Rattle.std.proofs.lemmas.List.{take_all}
-use Rattle.maptree.specs.declared.node.Node.{Node}
 use Rattle.maptree.specs.Nodes.{last_less}
 use Rattle.maptree.specs.Blocks.{nodes_in}
 use Rattle.maptree.proofs.LastLess.{later}
-use Rattle.maptree.proofs.InBlocks.{read_of, last_within, OneBack, one_back}
+use Rattle.maptree.proofs.InBlocks.{read_of, last_within, one_back}
 use Rattle.maptree.proofs.blocks.Blocks.last_before.Goals as goal
 
 pub overflow_sub-before : goal.overflow_sub-before

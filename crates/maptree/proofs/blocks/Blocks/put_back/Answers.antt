@@ -1,5 +1,5 @@
 -- One part more is in its gap.
-use Rattle.std.proofs.Common.{◌≡◌, ◌≤◌, ◌<◌, ◌+◌, ◌-◌, ◌++◌, length, take, drop, get_or, ap, rules, arith, ◌∙◌, sym}
+use Rattle.std.proofs.Common.{◌-◌, ◌++◌, length, take, drop, get_or, ap, arith, ◌∙◌}
 use Rattle.maptree.specs.Blocks.{nodes_in}
 use Rattle.maptree.proofs.Parts.{next_back}
 use Rattle.maptree.proofs.blocks.Blocks.put_back.Goals as goal

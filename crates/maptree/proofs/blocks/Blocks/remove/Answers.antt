@@ -1,6 +1,5 @@
 -- Some more are out.
-use Rattle.std.proofs.Common.{◌≡◌, ◌<◌, ◌≤◌, ◌+◌, ◌-◌, ◌++◌, [], length, set, get_or, take, drop, ap, rules, arith, ◌∙◌, sym, List, ℕ}
-use Rattle.maptree.specs.declared.node.Node.{Node}
+use Rattle.std.proofs.Common.{◌≡◌, ◌≤◌, ◌+◌, ◌++◌, [], length, get_or, take, drop, ap, rules, arith, ◌∙◌}
 use Rattle.maptree.specs.Blocks.{nodes_in}
 use Rattle.maptree.proofs.InBlocks.{read_of, as_read}
 use Rattle.maptree.proofs.BlockChanges.{cut_nodes, removed_more}

@@ -1,5 +1,5 @@
 -- All but so many of the nodes are out.
-use Rattle.std.proofs.Common.{◌≡◌, ◌++◌, ◌+◌, ◌-◌, ◌≤◌, take, drop}
+use Rattle.std.proofs.Common.{◌≡◌, ◌++◌, ◌-◌, ◌≤◌, take, drop}
 use Rattle.maptree.specs.Blocks.{nodes_in}
 use Rattle.maptree.proofs.blocks.Blocks.remove.Given as goal
 

@@ -1,6 +1,5 @@
 -- One range more is out.
-use Rattle.std.proofs.Common.{◌≡◌, ◌≤◌, ◌<◌, length, get_or, ap, rules, arith, ◌∙◌, sym}
-use Rattle.std.specs.declared.ops.Range.{Range}
+use Rattle.std.proofs.Common.{get_or, rules, arith, ◌∙◌}
 use Rattle.maptree.specs.Blocks.{nodes_in}
 use Rattle.maptree.proofs.Parts.{none_out, next_out, all_out, range_read}
 use Rattle.maptree.proofs.blocks.Blocks.remove_all.Goals as goal

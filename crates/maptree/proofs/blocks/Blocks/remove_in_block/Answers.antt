@@ -1,7 +1,6 @@
 -- One block has fewer nodes.
-use Rattle.std.proofs.Common.{◌≡◌, ◌<◌, ◌≤◌, ◌+◌, ◌-◌, ◌++◌, [], length, set, get_or, take, drop, ap, rules, arith, ◌∙◌, sym, List}
+use Rattle.std.proofs.Common.{◌≡◌, ◌<◌, [], length, get_or, take, drop, ap, arith, ◌∙◌}
 use Rattle.std.proofs.lemmas.List.{length-set, length-append, length-take-le, length-drop}
-use Rattle.maptree.specs.declared.node.Node.{Node}
 use Rattle.maptree.specs.Blocks.{nodes_in}
 use Rattle.maptree.proofs.InBlocks.{read_of, as_read, counts}
 use Rattle.maptree.proofs.BlockChanges.{count_set}

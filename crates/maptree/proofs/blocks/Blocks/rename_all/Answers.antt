@@ -1,5 +1,5 @@
 -- Each block has its new places.
-use Rattle.std.proofs.Common.{◌≡◌, ◌+◌, ◌++◌, ◌≤◌, ◌<◌, length, take, drop, map, sym, ap, ◌∙◌, arith, rules}
+use Rattle.std.proofs.Common.{◌≡◌, length, map, ap, ◌∙◌, arith, rules}
 use Rattle.std.proofs.lemmas.List.{length-map, with_items_is}
 use Rattle.maptree.specs.PlaceMaps.{place_for}
 use Rattle.maptree.specs.Renamings.{nodes_renamed}

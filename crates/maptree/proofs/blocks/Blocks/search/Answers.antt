@@ -1,9 +1,6 @@
 -- The place stands in a block, or in none so far.
-use Rattle.std.proofs.Common.{◌≡◌, ◌≤◌, ◌<◌, ◌+◌, ◌++◌, [], length, take, drop, ap, rules, arith, List, ◌∙◌, get_or, sym, Some, None, option_map, Bool}
-use Rattle.std.specs.Prelude.{position}
-use Rattle.std.proofs.lemmas.List.Quantifiers.{position-Some}
+use Rattle.std.proofs.Common.{◌≡◌, ◌<◌, ◌+◌, length, ap, rules, arith, ◌∙◌, sym, Some}
 use Rattle.space.specs.Place.{same_place}
-use Rattle.maptree.specs.declared.node.Node.{Node}
 use Rattle.maptree.specs.Blocks.{nodes_in}
 use Rattle.maptree.proofs.InBlocks.{counts, read_of, found_in_block, none_in_block, found_within}
 use Rattle.maptree.proofs.blocks.Blocks.search.Goals as goal

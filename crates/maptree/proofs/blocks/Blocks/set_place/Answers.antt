@@ -1,5 +1,5 @@
 -- One node of one block.
-use Rattle.std.proofs.Common.{◌≡◌, ◌<◌, ◌≤◌, ◌+◌, [], length, set, get_or, take, ap, rules, arith, ◌∙◌, sym, List}
+use Rattle.std.proofs.Common.{◌≡◌, ◌<◌, ◌+◌, length, set, get_or, take, ap, arith, ◌∙◌, sym}
 use Rattle.std.proofs.lemmas.List.{length-set}
 use Rattle.maptree.specs.declared.node.Node.{Node}
 use Rattle.maptree.specs.Blocks.{nodes_in}

@@ -1,11 +1,9 @@
 -- What is left of a tree, and the parts.
-use Rattle.std.proofs.Common.{length, List, ℕ, subst, sym, ap, ◌∙◌}
+use Rattle.std.proofs.Common.{length, subst, sym, ap, ◌∙◌}
 use Rattle.std.specs.List.{All}
-use Rattle.maptree.specs.declared.node.Node.{Node}
-use Rattle.maptree.specs.declared.slice.Slice.{Slice}
 use Rattle.maptree.specs.Origins.{Shape, IsRun, AreRising}
 use Rattle.maptree.specs.Nodes.{origins_of}
-use Rattle.maptree.specs.Cuts.{outside, pieces_of, nodes_of, IsCutting, ArePartsOf, IsCut}
+use Rattle.maptree.specs.Cuts.{outside, nodes_of, ArePartsOf, IsCut}
 use Rattle.maptree.proofs.Outside.{IsCutOut, cut_out}
 use Rattle.maptree.proofs.tree.Tree.cut.Goals as goal
 

@@ -1,8 +1,6 @@
 -- The ends of the runs.
-use Rattle.std.proofs.Common.{subst, List}
-use Rattle.maptree.specs.declared.node.Node.{Node}
+use Rattle.std.proofs.Common.{subst}
 use Rattle.maptree.specs.Origins.{Shape, AreRunEnds}
-use Rattle.maptree.specs.Nodes.{AreEnds}
 use Rattle.maptree.proofs.RunEnds.{ends_say}
 use Rattle.maptree.proofs.tree.Tree.ends.Goals as goal
 

@@ -1,7 +1,6 @@
 -- The position of a place.
-use Rattle.std.proofs.Common.{◌≡◌, [], subst, sym, ap, ◌∙◌, position}
+use Rattle.std.proofs.Common.{◌≡◌, [], subst, sym, ◌∙◌, position}
 use Rattle.space.specs.Place.{same_place}
-use Rattle.maptree.specs.declared.node.Node.{Node}
 use Rattle.maptree.specs.Origins.{Shape}
 use Rattle.maptree.proofs.Positions.{position-links}
 use Rattle.maptree.proofs.tree.Tree.find.Goals as goal

@@ -1,12 +1,11 @@
 -- The nodes with the new ones are a forest, and the tree with the new places.
-use Rattle.std.proofs.Common.{List, ap, ◌∙◌}
+use Rattle.std.proofs.Common.{ap, ◌∙◌}
 use Rattle.std.specs.Prelude.{position}
 use Rattle.space.specs.Place.{same_place}
-use Rattle.maptree.specs.declared.node.Node.{Node}
 use Rattle.maptree.specs.Origins.{Shape}
 use Rattle.maptree.specs.Nodes.{is_forest, origins_of}
 use Rattle.maptree.specs.PlaceMaps.{place_for}
-use Rattle.maptree.specs.Growing.{with_below, nodes_below}
+use Rattle.maptree.specs.Growing.{with_below}
 use Rattle.maptree.proofs.Growth.{grown_says, grown_forest}
 use Rattle.maptree.proofs.tree.Tree.insert_all_below.Goals as goal
 

@@ -6,7 +6,7 @@ use Rattle.space.specs.Place.{same_place}
 use Rattle.maptree.specs.Origins.{Shape, place_at}
 use Rattle.maptree.specs.Nodes.{is_forest, origins_of}
 use Rattle.maptree.proofs.Positions.{length-links}
-use Rattle.maptree.proofs.Insertion.{below_says, below_forest, below_node, depth_fits}
+use Rattle.maptree.proofs.Insertion.{below_says, below_forest, depth_fits}
 use Rattle.maptree.proofs.tree.Tree.insert_below.Goals as goal
 
 pub overflow_add-depth : goal.overflow_add-depth

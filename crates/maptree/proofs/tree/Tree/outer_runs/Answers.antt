@@ -1,6 +1,5 @@
 -- The runs by the set are those by the list.
-use Rattle.std.proofs.Common.{subst, List}
-use Rattle.maptree.specs.declared.node.Node.{Node}
+use Rattle.std.proofs.Common.{subst}
 use Rattle.maptree.specs.Origins.{Shape, AreOuterRuns}
 use Rattle.maptree.specs.Nodes.{origins_of}
 use Rattle.maptree.proofs.Outermost.{outer_runs_same}

@@ -1,6 +1,6 @@
 -- A node has another place.
 use Rattle.std.proofs.Common.{◌≡◌, length, [], subst, sym, ap, ◌∙◌, arith, get_or}
-use Rattle.std.specs.Prelude.{position, slice_set}
+use Rattle.std.specs.Prelude.{position}
 use Rattle.space.specs.declared.place.Place.{Place}
 use Rattle.space.specs.Place.{same_place}
 use Rattle.maptree.specs.Origins.{Shape, place_at, renamed}

@@ -1,5 +1,5 @@
 -- The run.
-use Rattle.std.proofs.Common.{◌≡◌, ℕ, ◌<◌, ◌+◌, ◌-◌, ◌&&◌, nat_le, nat_lt, length, take, drop, [], subst, sym, ap, ◌∙◌, arith, rules}
+use Rattle.std.proofs.Common.{◌≡◌, ℕ, ◌<◌, ◌+◌, ◌&&◌, nat_le, nat_lt, length, drop, [], subst, sym, ap, ◌∙◌, arith, rules}
 use Rattle.std.specs.Prelude.{Decides}
 use Rattle.std.proofs.lemmas.List.{take_rest, length-drop}
 use Rattle.space.specs.declared.place.Place.{Place}

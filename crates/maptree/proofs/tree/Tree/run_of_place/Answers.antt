@@ -2,7 +2,6 @@
 use Rattle.std.proofs.Common.{◌≡◌, [], ◌∷◌, ◌++◌, position, Some, sym, ap, ◌∙◌, subst, if◌then◌else◌}
 use Rattle.std.specs.Result.{is_ok}
 use Rattle.space.specs.Place.{same_place}
-use Rattle.maptree.specs.declared.node.Node.{Node}
 use Rattle.maptree.specs.Origins.{Shape, AreOuterRuns}
 use Rattle.maptree.proofs.OneRun.{run_found, one_run, no_runs}
 use Rattle.maptree.proofs.Positions.{position-links}
