@@ -1,9 +1,15 @@
 -- What a list of nodes has, in either form.
-use Rattle.std.specs.Prelude.{◌-◌, vec_capacity, vec_len}
+use Rattle.std.specs.Prelude.{ℕ, ◌+◌, ◌≤◌, List, vec_capacity, vec_len}
+use Rattle.maptree.specs.declared.node.Node.{Node}
 use Rattle.maptree.specs.declared.node_list.Form.{Form}
 use Rattle.maptree.specs.declared.node_list.Form.TheVariants.{Few, Many}
-use Rattle.maptree.specs.Blocks.{Listed, nodes_in}
+use Rattle.maptree.specs.Blocks.{nodes_in}
 
-abbrev pub listed : Form → Listed
-listed (Few nodes) = record { nodes = nodes.items; room = vec_capacity nodes - vec_len nodes }
-listed (Many blocks) = record { nodes = nodes_in blocks.blocks; room = blocks.room }
+abbrev pub nodes_of_form : Form → List Node
+nodes_of_form (Few nodes) = nodes.items
+nodes_of_form (Many blocks) = nodes_in blocks.blocks
+
+-- so many insertions take no memory
+abbrev pub HasRoom : Form → ℕ → Type 0
+HasRoom (Few nodes) room = vec_len nodes + room ≤ vec_capacity nodes
+HasRoom (Many blocks) room = room ≤ blocks.room

@@ -26,6 +26,8 @@ const FEW: usize = 512;
 #[derive(Drop)]
 pub struct NodeList {
     form: Form,
+    /// How many insertions were promised to take no memory.
+    room: usize,
 }
 
 #[derive(Drop)]
@@ -38,11 +40,13 @@ enum Form {
 
 impl Model for NodeList {
     ghost use Rattle.maptree.specs.Blocks.{Listed};
-    ghost use Rattle.maptree.specs.Forms.{listed};
+    ghost use Rattle.maptree.specs.Forms.{nodes_of_form, HasRoom};
 
     ghost Value = { Listed };
 
-    ghost view = { λ l. listed l.form };
+    ghost view = { λ l. record { nodes = nodes_of_form l.form; room = l.room } };
+
+    ghost invariant = { λ l. HasRoom l.form l.room };
 }
 
 impl NodeList {
@@ -64,6 +68,7 @@ impl NodeList {
         let nodes = vec![in alloc; node]?;
         Ok(NodeList {
             form: Form::Few(nodes),
+            room: 0,
         })
     }
 
@@ -134,6 +139,7 @@ impl NodeList {
         ensures nodes { self.new.nodes ≡ insert self.old.nodes i node }
         ensures room { self.new.room + 1 ≡ self.old.room }
     {
+        self.room -= 1;
         match &mut self.form {
             Form::Few(nodes) => {
                 let inserted = nodes.insert(i, node);
@@ -173,28 +179,23 @@ impl NodeList {
         ensures grows { self.old.room ≤ self.new.room }
         ensures err { OnErr result (self.new ≡ self.old) }
     {
+        if n <= self.room {
+            return Ok(());
+        }
         match &mut self.form {
             Form::Few(nodes) => {
-                if nodes.len() < FEW || FEW < n || n <= nodes.capacity() - nodes.len() {
-                    return nodes.reserve(n);
+                if nodes.len() < FEW || FEW < n {
+                    nodes.reserve(n)?;
+                } else {
+                    let mut blocks = Blocks::of(*nodes.allocator(), nodes)?;
+                    blocks.reserve(n)?;
+                    self.form = Form::Many(blocks);
                 }
-                let mut blocks = Blocks::of(*nodes.allocator(), nodes)?;
-                blocks.reserve(n)?;
-                self.form = Form::Many(blocks);
-                Ok(())
             }
-            Form::Many(blocks) => blocks.reserve(n),
+            Form::Many(blocks) => blocks.reserve(n)?,
         }
-    }
-
-    /// For how many more nodes there is room.
-    fn room(&self) -> usize
-        ensures { result ≡ self.now.room }
-    {
-        match &self.form {
-            Form::Few(nodes) => nodes.capacity() - nodes.len(),
-            Form::Many(blocks) => blocks.room(),
-        }
+        self.room = n;
+        Ok(())
     }
 
     /// These nodes, with room for so many more.
@@ -207,7 +208,7 @@ impl NodeList {
         } else {
             Form::Many(Blocks::of(alloc, &nodes)?)
         };
-        let mut list = NodeList { form };
+        let mut list = NodeList { form, room: 0 };
         list.reserve(room)?;
         Ok(list)
     }
@@ -282,13 +283,15 @@ impl NodeList {
         ensures room { OnOk result (self.old.room ≤ self.new.room) }
         ensures err { OnErr result (self.new ≡ self.old) }
     {
-        let room = self.room();
+        let room = self.room;
         match &mut self.form {
             Form::Few(nodes) => {
-                // What is left needs less memory, and the parts find theirs when they are put back.
-                let memory = nodes.capacity().saturating_sub(total_of(ranges));
                 let Cutting { left, gaps, parts } = Cutting::of(
-                    alloc, nodes, memory, ranges, most,
+                    alloc,
+                    nodes,
+                    nodes.capacity(),
+                    ranges,
+                    most,
                 )?;
                 *self = NodeList::of(alloc, left, room)?;
                 Ok((gaps, parts))
@@ -319,13 +322,9 @@ impl NodeList {
         ensures room { OnOk result (self.old.room ≤ self.new.room) }
         ensures err { OnErr result (self.new ≡ self.old) }
     {
-        let room = self.room();
+        let room = self.room;
         let all = match &mut self.form {
-            Form::Few(nodes) => {
-                let kept = kept_up_to(parts, usize::MAX).unwrap_or(0);
-                let memory = nodes.capacity().saturating_add(kept);
-                joined(alloc, nodes, memory, gaps, parts)?
-            }
+            Form::Few(nodes) => joined(alloc, nodes, nodes.capacity(), gaps, parts)?,
             Form::Many(blocks) => {
                 if let Some(kept) = kept_up_to(parts, FEW) {
                     blocks.reserve(blocks.room() + kept)?;
@@ -353,13 +352,4 @@ fn kept_up_to(parts: &[Slice], most: usize) -> Option<usize>
         kept += more;
     }
     Some(kept)
-}
-
-/// How many positions ranges have together.
-fn total_of(ranges: &[Range<usize>]) -> usize {
-    let mut total = 0_usize;
-    for range in ranges {
-        total = total.saturating_add(range.end.saturating_sub(range.start));
-    }
-    total
 }
