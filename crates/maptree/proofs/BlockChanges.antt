@@ -2,7 +2,8 @@
 use Rattle.std.proofs.Common.{◌≡◌, ℕ, zero, suc, ◌+◌, ◌-◌, ◌<◌, ◌≤◌, List, [], ◌∷◌, ◌++◌, length, take, drop, map, get_or, set, Option, refl, sym, ap, ◌∙◌, arith}
 use Rattle.std.specs.Prelude.{insert}
 use Rattle.std.proofs.lemmas.List.{append_assoc, append-nil, length-append, take_at, length-take-le, length-drop, set_split, set-append_right, set-append_left, get_or_at, length-set, take-append-drop, drop-drop, drop_at, map-append, take-append-le, take_all}
-use Rattle.std.proofs.lemmas.List.Edits.{insert-append_left, insert-append_right, length-insert}
+use Rattle.std.proofs.lemmas.List.Edits.{insert-append_left, insert-append_right, length-insert, take-paste}
+use Rattle.std.proofs.Math.Seq.{paste}
 use Rattle.maptree.specs.declared.node.Node.{Node}
 use Rattle.space.specs.declared.place.Place.{Place}
 use Rattle.maptree.specs.Renamings.{nodes_renamed}
@@ -181,3 +182,9 @@ take_on (suc n) m (x ∷ xs) = let one : suc (n + m) ≡ suc n + m = omega arith
 -- some nodes from a seat on
 pub some_behind : (bs : List (List Node)) (k off n : ℕ) → k < length bs → off ≤ length (get_or bs k []) → n ≤ length (drop off (get_or bs k [])) → take n (drop (length (nodes_in (take k bs)) + off) (nodes_in bs)) ≡ take n (drop off (get_or bs k []))
 some_behind bs k off n within inside less = ap (take n) (behind_seat bs k off within inside) ∙ take-append-le n (drop off (get_or bs k [])) (nodes_in (drop (k + 1) bs)) less
+
+-- what stands behind a gap is moved down into it
+pub closed : (ns : List Node) (from to len : ℕ) → from ≤ to → to ≤ length ns → len ≡ length ns → take (from + (len - to)) (paste ns from (drop to ns) (len - to)) ≡ take from ns ++ drop to ns
+closed ns from to len rises within is_len =
+    let rest = length-drop to ns in
+    take-paste ns from (drop to ns) (len - to) (omega (arith, rises, within)) (omega (arith, rest, is_len)) ∙ ap (λ l. take from ns ++ l) (take_all (len - to) (drop to ns) (omega (arith, rest, is_len)))

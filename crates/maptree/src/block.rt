@@ -164,7 +164,9 @@ impl Block {
         requires within { to ≤ length self.old }
         ensures { self.new ≡ take from self.old ++ drop to self.old }
     {
-        drop(self.nodes.drain(from..to));
+        let len = self.nodes.len();
+        self.nodes.copy_within(to..len, from);
+        self.nodes.truncate(from + (len - to));
     }
 
     /// Moves the nodes from a position on to another block.

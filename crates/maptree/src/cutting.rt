@@ -2,81 +2,108 @@
 
 ghost use Rattle.std.specs.Prelude.{◌≡◌, ◌≤◌, IfOk, length, vec_capacity};
 ghost use Rattle.maptree.specs.Origins.{AreRising};
-ghost use Rattle.maptree.specs.Cuts.{AreGaps, joined, nodes_of, outside, pieces_of};
+ghost use Rattle.maptree.specs.Cuts.{AreGaps, joined, nodes_of, outside};
 
 use crate::node::Node;
+use crate::node_list::NodeList;
 use crate::slice::Slice;
 use std::alloc::{AllocError, Global};
 use std::ops::Range;
 
-/// A list of nodes with some runs taken out.
+/// The nodes of some runs of a list: what a cut takes out.
 #[derive(Drop)]
 pub struct Cutting {
-    /// The nodes that are left.
-    pub left: Vec<Node>,
-    /// For each part, behind how many of the nodes that are left it stood.
+    /// How many nodes that are in none of the runs stand before the next part.
+    left: usize,
+    /// For each part, how many nodes that are in none of the runs stand before it.
     pub gaps: Vec<usize>,
-    /// The nodes that were taken out.
+    /// The nodes of the runs.
     pub parts: Vec<Slice>,
 }
 
 impl Cutting {
-    ghost use Rattle.std.specs.Prelude.{◌≡◌, ◌≤◌, ◌++◌, OnOk, IfOk, length, vec_capacity};
+    ghost use Rattle.std.specs.Prelude.{◌≡◌, ◌≤◌, ◌++◌, List, OnOk, IfOk, length};
+    ghost use Rattle.std.specs.List.{slice_range};
+    ghost use Rattle.maptree.specs.declared.node.Node.{Node};
     ghost use Rattle.maptree.specs.Origins.{AreRising};
     ghost use Rattle.maptree.specs.Cuts.{AreGaps, IsCutting, joined, nodes_of, outside, pieces, pieces_of};
 
-    /// Takes ranges out of a list of nodes, in parts of at most so many.
+    /// The nodes of some ranges of a list, in parts of at most so many.
     pub fn of(
         alloc: Global,
-        nodes: &[Node],
-        room: usize,
+        list: &NodeList,
         ranges: &[Range<usize>],
         most: usize,
     ) -> Result<Cutting, AllocError>
-        requires rising { AreRising 0 ranges.now (length nodes.now) }
+        requires rising { AreRising 0 ranges.now (length list.now.nodes) }
         requires most { 1 ≤ most }
-        ensures left { IfOk result (λ c. c.left.items ≡ outside 0 ranges.now nodes.now) }
-        ensures parts { IfOk result (λ c. nodes_of c.parts.items ≡ pieces_of most ranges.now nodes.now) }
-        ensures whole { IfOk result (λ c. IsCutting nodes.now c.left.items c.gaps.items c.parts.items) }
-        ensures room { IfOk result (λ c. room ≤ vec_capacity c.left) }
+        ensures parts { IfOk result (λ c. nodes_of c.parts.items ≡ pieces_of most ranges.now list.now.nodes) }
+        ensures whole { IfOk result (λ c. IsCutting list.now.nodes (outside 0 ranges.now list.now.nodes) c.gaps.items c.parts.items) }
     {
         let mut cutting = Cutting {
-            left: Vec::with_capacity(alloc, room)?,
+            left: 0,
             gaps: Vec::new(alloc),
             parts: Vec::new(alloc),
         };
         let mut from = 0;
         for range in ranges {
-            cutting.left.extend_from_slice(&nodes[from..range.start])?;
-            cutting.take(alloc, &nodes[range.start..range.end], most)?;
+            cutting.left += range.start - from;
+            cutting.take(alloc, list, range.start, range.end, most)?;
             from = range.end;
         }
-        cutting.left.extend_from_slice(&nodes[from..])?;
         Ok(cutting)
     }
 
-    /// Takes out the next nodes, in parts of at most so many.
-    fn take(&mut self, alloc: Global, nodes: &[Node], most: usize) -> Result<(), AllocError>
+    /// The nodes from a position to another too, in parts of at most so many.
+    fn take(
+        &mut self,
+        alloc: Global,
+        list: &NodeList,
+        from: usize,
+        to: usize,
+        most: usize,
+    ) -> Result<(), AllocError>
+        requires rising { from ≤ to }
+        requires within { to ≤ length list.now.nodes }
         requires most { 1 ≤ most }
-        requires gaps { AreGaps 0 self.old.gaps.items (length self.old.left.items) }
+        requires gaps { AreGaps 0 self.old.gaps.items self.old.left }
         requires each_part { length self.old.gaps.items ≡ length self.old.parts.items }
         ensures left { self.new.left ≡ self.old.left }
         ensures parts { OnOk result (nodes_of self.new.parts.items
-            ≡ nodes_of self.old.parts.items ++ pieces (length nodes.now) most nodes.now) }
-        ensures whole { OnOk result (IsCutting
-            (joined 0 self.old.left.items self.old.gaps.items (nodes_of self.old.parts.items) ++ nodes.now)
-            self.new.left.items self.new.gaps.items self.new.parts.items) }
+            ≡ nodes_of self.old.parts.items ++ pieces (length (slice_range list.now.nodes from to)) most (slice_range list.now.nodes from to)) }
+        ensures whole { OnOk result ((left : List Node) → length left ≡ self.old.left → IsCutting
+            (joined 0 left self.old.gaps.items (nodes_of self.old.parts.items) ++ slice_range list.now.nodes from to)
+            left self.new.gaps.items self.new.parts.items) }
     {
-        let mut rest = nodes;
-        while !rest.is_empty() {
-            let (first, others) = rest.split_at(most.min(rest.len()));
-            let nodes = Vec::from_slice(alloc, first)?;
+        let mut at = from;
+        while at < to {
+            let end = at + most.min(to - at);
+            let nodes = list.copy(alloc, at, end)?;
             self.parts.push(Slice { nodes })?;
-            self.gaps.push(self.left.len())?;
-            rest = others;
+            self.gaps.push(self.left)?;
+            at = end;
         }
         Ok(())
     }
+}
+
+/// Takes ranges out of a list of nodes, in one pass. This takes no memory.
+pub fn remove_ranges(nodes: &mut Vec<Node>, ranges: &[Range<usize>])
+    requires { AreRising 0 ranges.now (length nodes.old.items) }
+    ensures items { nodes.new.items ≡ outside 0 ranges.now nodes.old.items }
+    ensures no_longer { length nodes.new.items ≤ length nodes.old.items }
+    ensures capacity { vec_capacity nodes.new ≡ vec_capacity nodes.old }
+{
+    let mut kept = 0;
+    let mut from = 0;
+    for range in ranges {
+        nodes.copy_within(from..range.start, kept);
+        kept += range.start - from;
+        from = range.end;
+    }
+    let len = nodes.len();
+    nodes.copy_within(from..len, kept);
+    nodes.truncate(kept + (len - from));
 }
 
 /// Parts put back between the nodes that were left, with room for so many nodes at least.

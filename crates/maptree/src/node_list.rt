@@ -4,7 +4,7 @@ ghost use Rattle.std.specs.Prelude.{◌≡◌, ◌≤◌, IfSome};
 ghost use Rattle.maptree.specs.Cuts.{count_of, nodes_of};
 
 use crate::blocks::Blocks;
-use crate::cutting::{Cutting, joined};
+use crate::cutting::{Cutting, joined, remove_ranges};
 use crate::ends::ends_of;
 use crate::growing::grown;
 use crate::links::linked;
@@ -283,30 +283,12 @@ impl NodeList {
         ensures room { OnOk result (self.old.room ≤ self.new.room) }
         ensures err { OnErr result (self.new ≡ self.old) }
     {
-        let room = self.room;
+        let Cutting { gaps, parts, .. } = Cutting::of(alloc, self, ranges, most)?;
         match &mut self.form {
-            Form::Few(nodes) => {
-                let Cutting { left, gaps, parts } = Cutting::of(
-                    alloc,
-                    nodes,
-                    nodes.capacity(),
-                    ranges,
-                    most,
-                )?;
-                *self = NodeList::of(alloc, left, room)?;
-                Ok((gaps, parts))
-            }
-            Form::Many(blocks) => {
-                let nodes = blocks.flat(alloc, blocks.len())?;
-                let Cutting { left, gaps, parts } = Cutting::of(alloc, &nodes, 0, ranges, most)?;
-                if ranges.len() <= FEW {
-                    blocks.remove_all(ranges);
-                } else {
-                    *self = NodeList::of(alloc, left, room)?;
-                }
-                Ok((gaps, parts))
-            }
+            Form::Few(nodes) => remove_ranges(nodes, ranges),
+            Form::Many(blocks) => blocks.remove_all(ranges),
         }
+        Ok((gaps, parts))
     }
 
     /// Puts parts into their gaps.

@@ -1,14 +1,29 @@
--- One more part is taken out.
-use Rattle.std.proofs.Common.{refl, ap, ◌∙◌, ◌++◌, ◌∷◌, [], length, arith, rules}
+-- One more part is taken.
+use Rattle.std.proofs.Common.{◌≡◌, ◌≤◌, ◌<◌, ◌+◌, ◌-◌, min, refl, ap, sym, ◌∙◌, ◌++◌, ◌∷◌, [], length, take, drop, arith, rules}
+use Rattle.std.specs.List.{slice_range}
 use Rattle.maptree.specs.declared.slice.Slice.{Slice}
 use Rattle.maptree.specs.Cuts.{nodes_of}
-use Rattle.maptree.proofs.Cuttings.{taken_part, more_parts}
+use Rattle.maptree.proofs.Cuttings.{taken_part, more_parts, range_parts}
 use Rattle.maptree.proofs.cutting.Cutting.take.Goals as goal
 
-pub loop-rest-preserved : goal.loop-rest-preserved
-loop-rest-preserved c =
+pub loop-at-preserved : goal.loop-at-preserved
+loop-at-preserved c =
+    let inv = c.loop-at.invariant in
+    let all = c.args.list.now.nodes in
+    let at = c.loop-at.at in
+    let to = c.args.to in
+    let k = c.min.result in
     let part : Slice = record { nodes = c.in_ok-nodes.nodes } in
-    taken_part c.args.most c.args.self.now c.args.nodes.now c.loop-rest.self _ c.loop-rest.rest.now c.split_at.result.1.now c.in_ok-nodes.nodes.items c.min.result c.requires.most (search (rules, arith)) c.min.ensures
-    (c.in_ok-nodes.ensures.items ∙ c.split_at.ensures.front) c.split_at.ensures.back c.loop-rest.invariant refl
-    (c.in_ok-push-2.ensures.items ∙ ap (λ n. c.loop-rest.self.gaps.items ++ n ∷ []) (c.len.ensures ∙ c.loop-rest.self.left.ok.0))
-    (ap nodes_of c.in_ok-push.ensures.items ∙ (more_parts c.loop-rest.self.parts.items part).0) (ap length c.in_ok-push.ensures.items ∙ (more_parts c.loop-rest.self.parts.items part).1)
+    let within = c.requires.within in
+    let least = c.min.ensures in
+    let less : at < to = c.loop-at-test.true in
+    let some = c.requires.most in
+    let parts = range_parts all at to k inv.within within (search (rules, arith, least)) in
+    let size : k ≡ min c.args.most (length (slice_range all at to)) = least ∙ ap (min c.args.most) (sym parts.0) in
+    record {
+      taken = taken_part c.args.most c.args.self.now (slice_range all c.args.from to) c.loop-at.self _ (slice_range all at to) (slice_range all (at + k) to) c.in_ok-nodes.nodes.items k
+          some (omega (arith, parts.0, less)) size (c.in_ok-nodes.ensures ∙ parts.1) parts.2 inv.taken refl
+          (c.in_ok-push-2.ensures.items) (ap nodes_of c.in_ok-push.ensures.items ∙ (more_parts c.loop-at.self.parts.items part).0) (ap length c.in_ok-push.ensures.items ∙ (more_parts c.loop-at.self.parts.items part).1);
+      rising = search (rules, arith);
+      within = search (rules, arith, least);
+    }
