@@ -1,6 +1,7 @@
 pub mod Nearest
 pub mod Parts
 pub mod BlockChanges
+pub mod Starts
 pub mod Standing
 pub mod InBlocks
 pub mod Searches

@@ -1,5 +1,5 @@
 -- A list of nodes in blocks.
-use Rattle.std.specs.Prelude.{◌≡◌, ℕ, ◌+◌, ◌<◌, ◌≤◌, nat_le, ◌&&◌, Bool, true, List, [], ◌∷◌, length, take, drop, get_or, set, insert}
+use Rattle.std.specs.Prelude.{◌≡◌, ℕ, ◌+◌, ◌<◌, ◌≤◌, nat_le, ◌&&◌, Bool, true, List, [], ◌∷◌, length, take, drop, get_or, set, insert, slice_index}
 use Rattle.std.specs.List.{flat_map}
 use Rattle.maptree.specs.declared.node.Node.{Node}
 use Rattle.maptree.specs.declared.blocks.Seat.{Seat}
@@ -36,3 +36,8 @@ pub record Blocked : Type 0 where
 pub record Listed : Type 0 where
   pub nodes : List Node
   pub room : ℕ
+
+-- for each block how many nodes stand before it
+pub record AreStarts (bs : List (List Node)) (starts : List ℕ) : Type 0 where
+  pub count : length starts ≡ length bs
+  pub each : (k : ℕ) → k < length bs → slice_index starts k ≡ length (nodes_in (take k bs))

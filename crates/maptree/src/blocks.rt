@@ -1,6 +1,7 @@
 //! A list of nodes in blocks, so that a change of it touches the blocks that it changes.
 
-ghost use Rattle.std.specs.Prelude.{◌≡◌, ◌≤◌, OnOk, length, map};
+ghost use Rattle.std.specs.Prelude.{◌≡◌, ◌≤◌, ◌<◌, ◌+◌, ◌^◌, ℕ, OnOk, length, map, slice_index, vec_capacity};
+ghost use Rattle.maptree.specs.Blocks.{AreStarts, nodes_in};
 ghost use Rattle.maptree.specs.PlaceMaps.{place_for};
 ghost use Rattle.maptree.specs.Renamings.{nodes_renamed};
 
@@ -31,6 +32,8 @@ pub struct Seat {
 #[derive(Drop)]
 pub struct Blocks {
     blocks: Vec<Block>,
+    /// For each block, how many nodes stand before it.
+    starts: Vec<usize>,
     /// Blocks for nodes to come: at least as many as insertions were promised, each of which may split a block.
     spare: Vec<Block>,
     /// How many insertions will take no memory.
@@ -42,13 +45,13 @@ pub struct Blocks {
 
 impl Model for Blocks {
     ghost use Rattle.std.specs.Prelude.{◌≡◌, ◌<◌, ◌≤◌, ◌+◌, ◌^◌, length, vec_capacity, vec_len};
-    ghost use Rattle.maptree.specs.Blocks.{Blocked, nodes_in};
+    ghost use Rattle.maptree.specs.Blocks.{AreStarts, Blocked, nodes_in};
 
     ghost Value = { Blocked };
 
     ghost view = { λ b. record { blocks = b.blocks.items; room = b.room } };
 
-    ghost invariant = { λ b. (b.len ≡ length (nodes_in b.blocks.items)) × (0 < length b.blocks.items) × (b.room ≤ length b.spare.items) × (length b.blocks.items + b.room ≤ vec_capacity b.blocks) × (b.len + b.room < 2 ^ 64) };
+    ghost invariant = { λ b. (b.len ≡ length (nodes_in b.blocks.items)) × (0 < length b.blocks.items) × (b.room ≤ length b.spare.items) × (length b.blocks.items + b.room ≤ vec_capacity b.blocks) × (b.len + b.room < 2 ^ 64) × AreStarts b.blocks.items b.starts.items × (length b.blocks.items + b.room ≤ vec_capacity b.starts) };
 }
 
 impl Blocks {
@@ -84,13 +87,21 @@ impl Blocks {
         ensures seat { IsSeat self.now.blocks i result }
         ensures behind { 0 < i → 0 < result.offset }
     {
+        // The block is the last one before which fewer nodes stand.
         let mut block = 0;
-        let mut offset = i;
-        while offset > self.blocks[block].len() {
-            offset -= self.blocks[block].len();
-            block += 1;
+        let mut end = self.starts.len();
+        while end - block > 1 {
+            let middle = block + (end - block) / 2;
+            if self.starts[middle] < i {
+                block = middle;
+            } else {
+                end = middle;
+            }
         }
-        Seat { block, offset }
+        Seat {
+            block,
+            offset: i - self.starts[block],
+        }
     }
 
     /// The seat of the node at a position.
@@ -106,18 +117,6 @@ impl Blocks {
             block,
             offset: offset - 1,
         }
-    }
-
-    /// How many nodes stand before a block.
-    fn before(&self, block: usize) -> usize
-        requires { block ≤ length self.now.blocks }
-        ensures { result ≡ length (nodes_in (take block self.now.blocks)) }
-    {
-        let mut before = 0;
-        for k in 0..block {
-            before += self.blocks[k].len();
-        }
-        before
     }
 
     /// The node at a position.
@@ -138,7 +137,7 @@ impl Blocks {
         if let Some(block) = self.hints.get(place) {
             if block < self.blocks.len() {
                 if let Some(offset) = self.blocks[block].find(place) {
-                    return Some(self.before(block) + offset);
+                    return Some(self.starts[block] + offset);
                 }
             }
         }
@@ -250,6 +249,7 @@ impl Blocks {
         block.insert(seat.offset, node);
         let number = block.number();
         self.len += 1;
+        add_from(&mut self.starts, seat.block + 1, 1);
         self.hints.put(node.place, number);
     }
 
@@ -295,6 +295,7 @@ impl Blocks {
         let inserted = self.blocks.insert(block + 1, back);
         prove!(inserted.is_ok());
         self.room -= 1;
+        count(&mut self.starts, &self.blocks);
         hint_blocks(&mut self.hints, &self.blocks, block + 1);
     }
 
@@ -312,6 +313,7 @@ impl Blocks {
             return Err(AllocError);
         }
         self.blocks.reserve(n)?;
+        self.starts.reserve(n)?;
         self.hints.reserve(n)?;
         fill(&mut self.spare, n)?;
         self.room = n;
@@ -346,8 +348,11 @@ impl Blocks {
             rest = others;
         }
         hint_blocks(&mut hints, &blocks, 0);
+        let mut starts = Vec::with_capacity(alloc, blocks.len())?;
+        count(&mut starts, &blocks);
         Ok(Blocks {
             blocks,
+            starts,
             spare: Vec::new(alloc),
             room: 0,
             len: nodes.len(),
@@ -396,6 +401,7 @@ impl Blocks {
         forget_nodes(&mut self.hints, &removed.nodes()[from..to]);
         removed.remove(from, to);
         self.len -= to - from;
+        subtract_from(&mut self.starts, block + 1, to - from);
     }
 
     /// Takes the nodes from a position to another out.
@@ -438,6 +444,7 @@ impl Blocks {
         }
         free_empty(&mut self.hints, &self.blocks);
         self.blocks.retain(|block| !block.nodes().is_empty());
+        count(&mut self.starts, &self.blocks);
         hint_blocks(&mut self.hints, &self.blocks, 0);
     }
 
@@ -465,6 +472,46 @@ impl Blocks {
         for k in (0..nodes.len()).rev() {
             self.insert(i, nodes[k]);
         }
+    }
+}
+
+/// How many nodes stand before each of some blocks. This takes no memory.
+fn count(starts: &mut Vec<usize>, blocks: &[Block])
+    requires room { length blocks.now ≤ vec_capacity starts.old }
+    requires fits { length (nodes_in blocks.now) < 2 ^ 64 }
+    ensures starts { AreStarts blocks.now starts.new.items }
+    ensures capacity { vec_capacity starts.old ≤ vec_capacity starts.new }
+{
+    starts.clear();
+    let mut before = 0;
+    for block in blocks {
+        let pushed = starts.push(before);
+        prove!(pushed.is_ok());
+        before += block.len();
+    }
+}
+
+/// So many more nodes stand before each block from one on.
+fn add_from(starts: &mut [usize], from: usize, n: usize)
+    requires { (k : ℕ) → from ≤ k → k < length starts.old → slice_index starts.old k + n < 2 ^ 64 }
+    ensures count { length starts.new ≡ length starts.old }
+    ensures before { (k : ℕ) → k < from → slice_index starts.new k ≡ slice_index starts.old k }
+    ensures from { (k : ℕ) → from ≤ k → k < length starts.old → slice_index starts.new k ≡ slice_index starts.old k + n }
+{
+    for k in from..starts.len() {
+        starts[k] += n;
+    }
+}
+
+/// So many nodes less stand before each block from one on.
+fn subtract_from(starts: &mut [usize], from: usize, n: usize)
+    requires { (k : ℕ) → from ≤ k → k < length starts.old → n ≤ slice_index starts.old k }
+    ensures count { length starts.new ≡ length starts.old }
+    ensures before { (k : ℕ) → k < from → slice_index starts.new k ≡ slice_index starts.old k }
+    ensures from { (k : ℕ) → from ≤ k → k < length starts.old → slice_index starts.new k + n ≡ slice_index starts.old k }
+{
+    for k in from..starts.len() {
+        starts[k] -= n;
     }
 }
 

@@ -3,6 +3,7 @@ use Rattle.std.proofs.Common.{◌≡◌, ◌<◌, ◌+◌, length, ap, rules, ar
 use Rattle.space.specs.Place.{same_place}
 use Rattle.maptree.specs.Blocks.{nodes_in}
 use Rattle.maptree.proofs.InBlocks.{read_of, counts, found_within}
+use Rattle.maptree.proofs.Starts.{start_read}
 use Rattle.maptree.proofs.Standing.{stands_in_block}
 use Rattle.maptree.proofs.blocks.Blocks.find.Goals as goal
 
@@ -16,7 +17,8 @@ overflow_add-result c =
     let within : c.in-Some.block < length bs = search (rules, arith, count) in
     let upto = (counts bs c.in-Some.block block within (read_of c.self.inside.blocks.items bs c.in-Some.block block same c.index.ensures)).upto in
     let inside = found_within (λ n. same_place c.args.place n.place) block c.in-Some-find.offset (sym c.find.ensures ∙ c.in-Some-find.is) in
-    search (rules, arith, size, upto, inside)
+    let before = start_read c.self.inside.blocks.items bs c.self.inside.starts.items c.in-Some.block c.index-in-Some-find.result.now same c.self.invariant.5 (search (rules, arith)) c.index-in-Some-find.ensures in
+    search (rules, arith, size, upto, inside, before)
 
 pub returns-in-Some-find : goal.returns-in-Some-find
 returns-in-Some-find c =
@@ -25,6 +27,6 @@ returns-in-Some-find c =
     let same : c.self.inside.blocks.items ≡ bs = ap (λ v. v.blocks) c.self.view_is in
     let count = ap length same in
     let within : c.in-Some.block < length bs = search (rules, arith, count) in
-    ap (λ n. Some (n + c.in-Some-find.offset)) c.before-in-Some-find.ensures
+    ap (λ n. Some (n + c.in-Some-find.offset)) (start_read c.self.inside.blocks.items bs c.self.inside.starts.items c.in-Some.block c.index-in-Some-find.result.now same c.self.invariant.5 (search (rules, arith)) c.index-in-Some-find.ensures)
     ∙ sym (stands_in_block bs c.in-Some.block block c.args.place c.in-Some-find.offset c.requires within (read_of c.self.inside.blocks.items bs c.in-Some.block block same c.index.ensures)
     (sym c.find.ensures ∙ c.in-Some-find.is))

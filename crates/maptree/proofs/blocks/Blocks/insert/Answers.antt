@@ -1,10 +1,13 @@
 -- One node more in one block.
-use Rattle.std.proofs.Common.{◌≡◌, ◌<◌, length, set, ap, rules, arith, ◌∙◌}
+use Rattle.std.proofs.Common.{◌≡◌, ◌<◌, length, set, ap, sym, subst, rules, arith, ◌∙◌}
 use Rattle.std.specs.Prelude.{insert}
 use Rattle.std.proofs.lemmas.List.{length-set}
 use Rattle.std.proofs.lemmas.List.Edits.{length-insert}
 use Rattle.maptree.specs.Blocks.{nodes_in}
+use Rattle.std.proofs.lemmas.List.{with_items_is}
+use Rattle.maptree.specs.Blocks.{AreStarts}
 use Rattle.maptree.proofs.InBlocks.{read_of, as_read}
+use Rattle.maptree.proofs.Starts.{starts_set, before_all}
 use Rattle.maptree.proofs.BlockChanges.{insert_node, count_set}
 use Rattle.maptree.proofs.blocks.Blocks.insert.Goals as goal
 
@@ -24,6 +27,22 @@ returns-clause-nodes c =
     ∙ insert_node bs seat.block block seat.offset c.args.node is.within read (omega (arith, size, upto))
     ∙ ap (λ i. insert (nodes_in bs) i c.args.node) is.before
     ∙ ap (λ l. insert l c.args.i c.args.node) c.seat_with_room-seat.ensures.nodes
+
+-- before each block stand fewer than there are
+pub add_from-requires : goal.add_from-requires
+add_from-requires c j behind less =
+    let inv = c.self.invariant in
+    let items = c.self.inside.blocks.items in
+    let count = inv.5.count in
+    let within : j < length items = search (rules, arith, count) in
+    let is = inv.5.each j within in
+    let most = before_all items j in
+    let all = inv.0 in
+    let fits = inv.4 in
+    let room = ap (λ v. v.room) c.self.view_is in
+    let old = c.seat_with_room-seat.ensures.room in
+    let more = c.requires.room in
+    search (rules, arith, is, most, all, fits, room, old, more)
 
 pub invariant_of-self : goal.invariant_of-self
 invariant_of-self c =
@@ -45,4 +64,15 @@ invariant_of-self c =
     let size = length-set items seat.block new in
     let kept : c.self.inside.room ≡ c.seat_with_room-seat.new.self.room = search rules in
     let inv = c.self.invariant in
-    (omega (arith, inv.0, counted, read, more), omega (arith, inv.1, size), inv.2, omega (arith, inv.3, size), omega (arith, c.seat_with_room-seat.ensures.fits, c.seat_with_room-seat.ensures.room, inv.0, ap (λ l. length (nodes_in l)) same, kept))
+    let starts = c.self.inside.starts.items in
+    let vec = with_items_is c.self.inside.starts c.add_from.new.starts (search (rules, arith)) in
+    let next = c.add_from.new.starts in
+    let same_starts : AreStarts (set items seat.block new) next = starts_set items seat.block new starts next within inv.5 (search (rules, arith)) (λ j less. search rules) (λ j behind less. search (rules, arith)) in (
+      omega (arith, inv.0, counted, read, more),
+      omega (arith, inv.1, size),
+      inv.2,
+      omega (arith, inv.3, size),
+      omega (arith, c.seat_with_room-seat.ensures.fits, c.seat_with_room-seat.ensures.room, inv.0, ap (λ l. length (nodes_in l)) same, kept),
+      subst (AreStarts (set items seat.block new)) (sym vec) same_starts,
+      search (rules, arith, size, inv.6),
+    )

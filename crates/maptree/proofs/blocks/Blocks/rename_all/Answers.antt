@@ -1,10 +1,12 @@
 -- Each block has its new places.
-use Rattle.std.proofs.Common.{◌≡◌, length, map, ap, ◌∙◌, arith, rules}
+use Rattle.std.proofs.Common.{◌≡◌, length, map, ap, sym, subst, ◌∙◌, arith, rules}
 use Rattle.std.proofs.lemmas.List.{length-map, with_items_is}
 use Rattle.maptree.specs.PlaceMaps.{place_for}
 use Rattle.maptree.specs.Renamings.{nodes_renamed}
 use Rattle.maptree.specs.Blocks.{nodes_in}
+use Rattle.maptree.specs.Blocks.{AreStarts}
 use Rattle.maptree.proofs.BlockChanges.{renamed_in}
+use Rattle.maptree.proofs.Starts.{starts_same, renamed_before}
 use Rattle.maptree.proofs.blocks.Blocks.rename_all.Goals as goal
 
 pub invariant_of-self : goal.invariant_of-self
@@ -19,7 +21,15 @@ invariant_of-self c =
     let all = ap (λ l. length (nodes_in l)) (now ∙ is) ∙ ap length (renamed_in (place_for c.args.new.now) items) in
     let kept : length (nodes_renamed (place_for c.args.new.now) (nodes_in items)) ≡ length (nodes_in items) = length-map (nodes_in items) _ in
     let inv = c.self.invariant in
-    (search (rules, arith, inv.0, all, kept), search (rules, arith, inv.1, count, size), inv.2, search (rules, arith, inv.3, count, size), inv.4)
+    let starts = starts_same items (map (nodes_renamed (place_for c.args.new.now)) items) c.self.inside.starts.items inv.5 (length-map items _) (renamed_before (place_for c.args.new.now) items) in (
+      search (rules, arith, inv.0, all, kept),
+      search (rules, arith, inv.1, count, size),
+      inv.2,
+      search (rules, arith, inv.3, count, size),
+      inv.4,
+      subst (λ l. AreStarts l c.self.inside.starts.items) (sym (now ∙ is)) starts,
+      search (rules, arith, inv.6, count, size),
+    )
 
 pub returns-clause-nodes : goal.returns-clause-nodes
 returns-clause-nodes c =

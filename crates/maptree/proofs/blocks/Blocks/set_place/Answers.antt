@@ -1,10 +1,11 @@
 -- One node of one block.
-use Rattle.std.proofs.Common.{◌≡◌, ◌<◌, ◌+◌, length, set, get_or, take, ap, arith, ◌∙◌, sym}
+use Rattle.std.proofs.Common.{◌≡◌, ◌<◌, ◌+◌, length, set, get_or, take, ap, arith, ◌∙◌, sym, refl}
 use Rattle.std.proofs.lemmas.List.{length-set}
 use Rattle.maptree.specs.declared.node.Node.{Node}
 use Rattle.maptree.specs.Blocks.{nodes_in}
 use Rattle.maptree.proofs.InBlocks.{read_of, as_read, at_seat}
 use Rattle.maptree.proofs.BlockChanges.{set_node, count_set}
+use Rattle.maptree.proofs.Starts.{starts_set}
 use Rattle.maptree.proofs.Origin.{blank}
 use Rattle.maptree.proofs.blocks.Blocks.set_place.Goals as goal
 
@@ -43,4 +44,5 @@ invariant_of-self c =
     let counted = count_set items seat.block new within in
     let size = length-set items seat.block new in
     let is = c.self.invariant in
-    (omega (arith, is.0, counted, read, kept), omega (arith, is.1, size), is.2, omega (arith, is.3, size), is.4)
+    let same_starts = starts_set items seat.block new c.self.inside.starts.items c.self.inside.starts.items within is.5 refl (λ j less. refl) (λ j behind less. omega (arith, read, kept)) in
+    (omega (arith, is.0, counted, read, kept), omega (arith, is.1, size), is.2, omega (arith, is.3, size), is.4, same_starts, omega (arith, is.6, size))

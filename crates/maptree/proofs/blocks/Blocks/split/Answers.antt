@@ -1,10 +1,33 @@
 -- The second half of a block stands behind it.
-use Rattle.std.proofs.Common.{◌≡◌, ◌<◌, ◌≤◌, ◌+◌, ◌-◌, [], length, ap, rules, arith, ◌∙◌, sym, vec_capacity, set, take, drop, get_or, if◌then◌else◌}
+use Rattle.std.proofs.Common.{◌≡◌, ℕ, List, ◌<◌, ◌≤◌, ◌+◌, ◌-◌, [], length, ap, rules, arith, ◌∙◌, sym, vec_capacity, set, take, drop, get_or, if◌then◌else◌}
 use Rattle.std.specs.Prelude.{insert}
+use Rattle.maptree.specs.declared.node.Node.{Node}
 use Rattle.maptree.proofs.InBlocks.{as_read}
 use Rattle.maptree.specs.Blocks.{nodes_in, split_at_half}
 use Rattle.maptree.proofs.BlockChanges.{split_nodes, split_length}
 use Rattle.maptree.proofs.blocks.Blocks.split.Goals as goal
+
+-- what becomes of the blocks
+split_is : (items new : List (List Node)) (k : ℕ) (front back : List Node) → new ≡ insert (set items k front) (k + 1) back → front ≡ take 128 (get_or items k []) → back ≡ drop 128 (get_or items k []) → new ≡ split_at_half items k
+split_is items new k front back is first second =
+    is ∙ ap (λ x. insert (set items k x) (k + 1) back) first ∙ ap (λ y. insert (set items k (take 128 (get_or items k []))) (k + 1) y) second
+
+pub count-requires-clause-fits : goal.count-requires-clause-fits
+count-requires-clause-fits c =
+    let items = c.self.inside.blocks.items in
+    let same : items ≡ c.args.self.now.blocks = search rules in
+    let count = ap length same in
+    let within : c.args.block < length items = search (rules, arith, count) in
+    let front = c.split_into.new.self in
+    let back = c.set_number.new.self in
+    let read : c.index_mut.result.now ≡ get_or items c.args.block [] = as_read items c.args.block c.index_mut.result.now within c.index_mut.ensures.value in
+    let is : c.deref.result.now ≡ split_at_half items c.args.block =
+    c.deref.ensures.value ∙ split_is items c.insert-inserted.new.self.items c.args.block front back
+    (c.insert-inserted.ensures.items ∙ ap (λ b. if b then insert (set items c.args.block front) (c.args.block + 1) back else set items c.args.block front) (sym c.is_ok.ensures.value ∙ c.if-prove.false))
+    (c.split_into.ensures.front ∙ ap (take 128) read) (c.set_number.ensures ∙ c.split_into.ensures.back ∙ ap (drop 128) read) in
+    let all = ap (λ l. length (nodes_in l)) is ∙ ap length (split_nodes items c.args.block within) in
+    let inv = c.self.invariant in
+    omega (arith, all, inv.0, inv.4)
 
 pub invariant_of-self : goal.invariant_of-self
 invariant_of-self c =
@@ -17,14 +40,14 @@ invariant_of-self c =
     let back = c.set_number.new.self in
     let read : c.index_mut.result.now ≡ get_or items c.args.block [] = as_read items c.args.block c.index_mut.result.now within c.index_mut.ensures.value in
     let is : new.items ≡ split_at_half items c.args.block =
-    c.insert-inserted.ensures.items
-    ∙ ap (λ b. if b then insert (set items c.args.block front) (c.args.block + 1) back else set items c.args.block front) (sym c.is_ok.ensures.value ∙ c.if-prove.false)
-    ∙ ap (λ x. insert (set items c.args.block x) (c.args.block + 1) back) (c.split_into.ensures.front ∙ ap (take 128) read)
-    ∙ ap (λ y. insert (set items c.args.block (take 128 (get_or items c.args.block []))) (c.args.block + 1) y) (c.set_number.ensures ∙ c.split_into.ensures.back ∙ ap (drop 128) read) in
+    split_is items new.items c.args.block front back
+    (c.insert-inserted.ensures.items ∙ ap (λ b. if b then insert (set items c.args.block front) (c.args.block + 1) back else set items c.args.block front) (sym c.is_ok.ensures.value ∙ c.if-prove.false))
+    (c.split_into.ensures.front ∙ ap (take 128) read) (c.set_number.ensures ∙ c.split_into.ensures.back ∙ ap (drop 128) read) in
     let size : length new.items ≡ length items + 1 = ap length is ∙ split_length items c.args.block within in
     let all = ap (λ l. length (nodes_in l)) is ∙ ap length (split_nodes items c.args.block within) in
     let inv = c.self.invariant in
     let some : 0 < c.self.inside.room = search (rules, arith) in
     let spare : c.self.inside.room - 1 ≤ length c.pop.new.self.items = search (rules, arith) in
     let room : length items + c.self.inside.room ≤ vec_capacity new = search (rules, arith) in
-    (omega (arith, inv.0, all), omega (arith, size), spare, omega (arith, size, room, some), omega (arith, inv.4))
+    let starts : length items + c.self.inside.room ≤ vec_capacity c.count.new.starts = search (rules, arith, inv.6) in
+    (omega (arith, inv.0, all), omega (arith, size), spare, omega (arith, size, room, some), omega (arith, inv.4), search rules, omega (arith, size, starts, some))
