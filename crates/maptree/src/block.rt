@@ -52,7 +52,7 @@ impl Block {
         let nodes = Vec::with_capacity(alloc, BLOCK_SIZE)?;
         Ok(Block {
             nodes,
-            least: 0,
+            least: usize::MAX,
             number: 0,
         })
     }
@@ -176,9 +176,10 @@ impl Block {
         ensures back { other.new ≡ drop at self.old }
     {
         other.nodes.clear();
-        other.least = self.least;
+        other.least = usize::MAX;
         other.extend(&self.nodes[at..]);
         self.nodes.truncate(at);
+        self.least = least_of(&self.nodes);
     }
 }
 
