@@ -53,7 +53,7 @@ pub fn root_trees(alloc: Global, frames: u32) -> Result<Vec<Tree>, NoMemory>
 {
     let mut trees = Vec::with_capacity(alloc, frames as usize)?;
     for frame in 0..frames {
-        let tree = Tree::root(alloc, root_place(frame))?;
+        let tree = Tree::root(alloc, root_place(frame));
         trees.push(tree).map_err(AllocError::from)?;
     }
     Ok(trees)

@@ -263,7 +263,7 @@ all_taken most nodes ranges i from now upto so_far =
           (more_left (take from nodes) so_far.left (drop from nodes) now.gaps.items now.parts.items so_far.whole)),
     )
 
--- what `remove_ranges` has done when this range comes: so many nodes are kept in front
+-- what `close_gaps` has done when this range comes: so many nodes are kept in front
 pub record IsClosedUpTo (nodes : List Node) (ranges : List (Range ℕ)) (i from kept : ℕ) (now : List Node) : Type 0 where
   pub upto : kept ≤ from
   pub rising : AreRising from (drop i ranges) (length nodes)

@@ -1,5 +1,6 @@
 -- What a list of nodes has, in either form.
-use Rattle.std.specs.Prelude.{ℕ, ◌+◌, ◌≤◌, List, vec_capacity, vec_len}
+use Rattle.std.specs.Prelude.{ℕ, ◌+◌, ◌≤◌, List}
+use Rattle.smallvec.specs.SmallVec.{HasRoomFor}
 use Rattle.maptree.specs.declared.node.Node.{Node}
 use Rattle.maptree.specs.declared.node_list.Form.{Form}
 use Rattle.maptree.specs.declared.node_list.Form.TheVariants.{Few, Many}
@@ -11,5 +12,5 @@ nodes_of_form (Many blocks) = nodes_in blocks.blocks
 
 -- so many insertions take no memory
 abbrev pub HasRoom : Form → ℕ → Type 0
-HasRoom (Few nodes) room = vec_len nodes + room ≤ vec_capacity nodes
+HasRoom (Few nodes) room = HasRoomFor nodes room
 HasRoom (Many blocks) room = room ≤ blocks.room

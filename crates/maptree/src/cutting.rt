@@ -1,6 +1,6 @@
 //! Runs taken out of a list of nodes, and put back.
 
-ghost use Rattle.std.specs.Prelude.{◌≡◌, ◌≤◌, IfOk, length, vec_capacity};
+ghost use Rattle.std.specs.Prelude.{◌≡◌, ◌≤◌, IfOk, length, take, vec_capacity};
 ghost use Rattle.maptree.specs.Origins.{AreRising};
 ghost use Rattle.maptree.specs.Cuts.{AreGaps, joined, nodes_of, outside};
 
@@ -87,12 +87,11 @@ impl Cutting {
     }
 }
 
-/// Takes ranges out of a list of nodes, in one pass. This takes no memory.
-pub fn remove_ranges(nodes: &mut Vec<Node>, ranges: &[Range<usize>])
-    requires { AreRising 0 ranges.now (length nodes.old.items) }
-    ensures items { nodes.new.items ≡ outside 0 ranges.now nodes.old.items }
-    ensures no_longer { length nodes.new.items ≤ length nodes.old.items }
-    ensures capacity { vec_capacity nodes.new ≡ vec_capacity nodes.old }
+/// Moves the nodes that are in none of the ranges to the front of a list, in one pass, and says how many they are.
+pub fn close_gaps(nodes: &mut [Node], ranges: &[Range<usize>]) -> usize
+    requires { AreRising 0 ranges.now (length nodes.old) }
+    ensures nodes { take result nodes.new ≡ outside 0 ranges.now nodes.old }
+    ensures most { result ≤ length nodes.old }
 {
     let mut kept = 0;
     let mut from = 0;
@@ -103,7 +102,7 @@ pub fn remove_ranges(nodes: &mut Vec<Node>, ranges: &[Range<usize>])
     }
     let len = nodes.len();
     nodes.copy_within(from..len, kept);
-    nodes.truncate(kept + (len - from));
+    kept + (len - from)
 }
 
 /// Parts put back between the nodes that were left, with room for so many nodes at least.

@@ -4,7 +4,7 @@ ghost use Rattle.std.specs.Prelude.{◌≡◌, ◌≤◌, IfSome};
 ghost use Rattle.maptree.specs.Cuts.{count_of, nodes_of};
 
 use crate::blocks::Blocks;
-use crate::cutting::{Cutting, joined, remove_ranges};
+use crate::cutting::{Cutting, close_gaps, joined};
 use crate::ends::ends_of;
 use crate::growing::grown;
 use crate::links::linked;
@@ -13,6 +13,7 @@ use crate::place_map::PlaceMap;
 use crate::replacing::replace_places;
 use crate::scans::{deeper, last_above, outermost, placed};
 use crate::slice::Slice;
+use smallvec::SmallVec;
 use space::Place;
 use std::alloc::{AllocError, Global};
 use std::collections::BTreeSet;
@@ -32,8 +33,8 @@ pub struct NodeList {
 
 #[derive(Drop)]
 enum Form {
-    /// One vector.
-    Few(Vec<Node>),
+    /// One vector, which takes no memory for a root alone.
+    Few(SmallVec<Node, 1>),
     /// Blocks.
     Many(Blocks),
 }
@@ -61,15 +62,14 @@ impl NodeList {
     ghost use Rattle.maptree.specs.PlaceMaps.{place_for};
     ghost use Rattle.maptree.specs.Renamings.{nodes_renamed};
 
-    /// A list of one node.
-    pub fn one(alloc: Global, node: Node) -> Result<NodeList, AllocError>
-        ensures { IfOk result (λ l. l.nodes ≡ node ∷ []) }
+    /// A list of one node. This takes no memory.
+    pub fn one(alloc: Global, node: Node) -> NodeList
+        ensures { result.nodes ≡ node ∷ [] }
     {
-        let nodes = vec![in alloc; node]?;
-        Ok(NodeList {
-            form: Form::Few(nodes),
+        NodeList {
+            form: Form::Few(SmallVec::from_buf(alloc, [node])),
             room: 0,
-        })
+        }
     }
 
     /// The node at a position.
@@ -204,7 +204,7 @@ impl NodeList {
         ensures room { IfOk result (λ l. room ≤ l.room) }
     {
         let form = if nodes.len() < FEW {
-            Form::Few(nodes)
+            Form::Few(SmallVec::from_vec(nodes))
         } else {
             Form::Many(Blocks::of(alloc, &nodes)?)
         };
@@ -285,7 +285,10 @@ impl NodeList {
     {
         let Cutting { gaps, parts, .. } = Cutting::of(alloc, self, ranges, most)?;
         match &mut self.form {
-            Form::Few(nodes) => remove_ranges(nodes, ranges),
+            Form::Few(nodes) => {
+                let left = close_gaps(nodes, ranges);
+                nodes.truncate(left);
+            }
             Form::Many(blocks) => blocks.remove_all(ranges),
         }
         Ok((gaps, parts))

@@ -48,7 +48,7 @@ fn put_below(rt: &impl Abort, tree: &mut Tree, origin: Place, place: Place)
 fn sample(rt: &impl Abort, alloc: Global) -> Result<Tree, NoMemory>
     ensures { IfOk result (λ tree. length tree.links ≡ 5) }
 {
-    let mut tree = Tree::root(alloc, place(0, 5))?;
+    let mut tree = Tree::root(alloc, place(0, 5));
     tree.reserve(4)?;
     put_below(rt, &mut tree, place(0, 5), place(2, 4));
     put_below(rt, &mut tree, place(0, 5), place(1, 0));

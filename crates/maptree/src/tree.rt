@@ -53,13 +53,13 @@ impl Tree {
     ghost use Rattle.maptree.specs.Renamings.{all_renamed, StayApart};
     ghost use Rattle.maptree.specs.Cuts.{outside, nodes_of, ArePartsOf, IsCut, AreKept};
 
-    /// A tree of one root.
-    pub fn root(alloc: Global, place: Place) -> Result<Tree, NoMemory>
-        ensures { IfOk result (λ t. t.links ≡ (place, None) ∷ []) }
+    /// A tree of one root. This takes no memory.
+    pub fn root(alloc: Global, place: Place) -> Tree
+        ensures { result.links ≡ (place, None) ∷ [] }
     {
-        let nodes = NodeList::one(alloc, Node { place, depth: 0 })?;
+        let nodes = NodeList::one(alloc, Node { place, depth: 0 });
         let gaps = Vec::new(alloc);
-        Ok(Tree { nodes, gaps })
+        Tree { nodes, gaps }
     }
 
     /// Memory for so many more nodes: after it so many insertions take none.

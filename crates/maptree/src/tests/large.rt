@@ -81,13 +81,13 @@ struct Numbered {
 
 impl Numbered {
     /// A tree of the place 0.
-    fn root(alloc: Global) -> Result<Numbered, NoMemory> {
-        let tree = Tree::root(alloc, nth_place(0))?;
-        Ok(Numbered {
+    fn root(alloc: Global) -> Numbered {
+        let tree = Tree::root(alloc, nth_place(0));
+        Numbered {
             tree,
             len: 1,
             next: 1,
-        })
+        }
     }
 
     /// The next place.
@@ -140,7 +140,7 @@ fn large_tree(
     form: Form,
     nodes: u32,
 ) -> Result<Numbered, NoMemory> {
-    let mut made = Numbered::root(alloc)?;
+    let mut made = Numbered::root(alloc);
     for n in 1..nodes {
         match made.tree.find(nth_place(form.origin(n))) {
             Some(at) => made.grow(rt, at)?,

@@ -90,7 +90,7 @@ pub fn tree_of(rt: &impl Abort, alloc: Global, list: &str) -> Result<(Tree, usiz
     let Some(root) = nodes.first() else {
         panic!(rt; "a tree has a root");
     };
-    let mut tree = Tree::root(alloc, root.place)?;
+    let mut tree = Tree::root(alloc, root.place);
     let mut len = 1;
     for depth in 1..nodes.len() {
         for i in (0..nodes.len()).rev() {

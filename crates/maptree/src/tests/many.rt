@@ -292,7 +292,7 @@ fn is_like_a_plain_list_over_thousands_of_calls(rt: HostRuntime) -> Result<(), F
     let alloc = rt.alloc();
     let mut chance = Chance { state: 1 };
     let root = nth_place(0);
-    let mut tree = Tree::root(alloc, root)?;
+    let mut tree = Tree::root(alloc, root);
     let mut list = vec![in alloc;
         Node {
             place: root,
