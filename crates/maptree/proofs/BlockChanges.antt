@@ -1,7 +1,7 @@
 -- A list in blocks of which one block changes.
 use Rattle.std.proofs.Common.{◌≡◌, ℕ, zero, suc, ◌+◌, ◌-◌, ◌<◌, ◌≤◌, List, [], ◌∷◌, ◌++◌, length, take, drop, map, get_or, set, Option, refl, sym, ap, ◌∙◌, arith}
 use Rattle.std.specs.Prelude.{insert}
-use Rattle.std.proofs.lemmas.List.{append_assoc, append-nil, length-append, take_at, length-take-le, length-drop, set_split, set-append_right, set-append_left, get_or_at, length-set, take-append-drop, drop-drop, drop_at, map-append, take-append-le, take_all}
+use Rattle.std.proofs.lemmas.List.{append_assoc, append-nil, length-append, take_at, length-take-le, length-drop, set_split, set-append_right, set-append_left, get_or_at, length-set, take-append-drop, drop-drop, drop_at, map-append, take-append-le, take_all, drop_all, drop-take}
 use Rattle.std.proofs.lemmas.List.Edits.{insert-append_left, insert-append_right, length-insert, take-paste}
 use Rattle.std.proofs.Math.Seq.{paste}
 use Rattle.maptree.specs.declared.node.Node.{Node}
@@ -9,6 +9,13 @@ use Rattle.space.specs.declared.place.Place.{Place}
 use Rattle.maptree.specs.Renamings.{nodes_renamed}
 use Rattle.maptree.specs.Blocks.{nodes_in, IsSeat, split_at_half}
 use Rattle.maptree.proofs.InBlocks.{nodes_of_both, three, before_seat, behind_seat}
+
+-- the first of some from the front
+pub first_of : {X : Type 0} (j k : ℕ) (xs : List X) → j ≤ k → take j (take k xs) ≡ take j xs
+first_of zero k xs less = refl
+first_of (suc j) zero xs less = absurd (omega (arith, less))
+first_of (suc j) (suc k) [] less = refl
+first_of (suc j) (suc k) (x ∷ xs) less = ap (λ l. x ∷ l) (first_of j k xs (omega (arith, less)))
 
 module _ (bs : List (List Node)) (k : ℕ) where
   -- another block in the place of one
@@ -188,3 +195,28 @@ pub closed : (ns : List Node) (from to len : ℕ) → from ≤ to → to ≤ len
 closed ns from to len rises within is_len =
     let rest = length-drop to ns in
     take-paste ns from (drop to ns) (len - to) (omega (arith, rises, within)) (omega (arith, rest, is_len)) ∙ ap (λ l. take from ns ++ l) (take_all (len - to) (drop to ns) (omega (arith, rest, is_len)))
+
+-- a node that is put between others, which move up by one
+pub shifted_in : (ns : List Node) (i : ℕ) (n : Node) (next : List Node) → i < length ns → next ≡ paste ns (i + 1) (drop i ns) (length ns - 1 - i) → set next i n ≡ insert (take (length ns - 1) ns) i n
+shifted_in ns i n next within is =
+    let m = length ns - 1 - i in
+    let moved = take m (drop i ns) in
+    let first = length-take-le (i + 1) ns (omega (arith, within)) in
+    let one : suc i ≡ i + 1 = omega arith in
+    let all : i + 1 + m ≡ length ns = omega (arith, within) in
+    let whole : i + m ≡ length ns - 1 = omega (arith, within) in
+    let rest : drop (i + 1 + m) ns ≡ [] = ap (λ k. drop k ns) all ∙ drop_all (length ns) ns (omega arith) in
+    let shape : next ≡ take (i + 1) ns ++ moved = is ∙ ap (λ l. (take (i + 1) ns ++ moved) ++ l) rest ∙ append-nil (take (i + 1) ns ++ moved) in
+    let longer = ap length shape ∙ length-append (take (i + 1) ns) moved in
+    let front : take i next ≡ take i (take (length ns - 1) ns) =
+    ap (take i) shape ∙ take-append-le i (take (i + 1) ns) moved (omega (arith, first)) ∙ first_of i (i + 1) ns (omega arith) ∙ sym (first_of i (length ns - 1) ns (omega (arith, within))) in
+    let back : drop (suc i) next ≡ drop i (take (length ns - 1) ns) =
+    ap (λ k. drop k next) one ∙ ap (drop (i + 1)) shape ∙ drop_at (take (i + 1) ns) moved (i + 1) first ∙ sym (drop-take i m ns) ∙ ap (λ k. drop i (take k ns)) whole in
+    set_split next i n (omega (arith, longer, first)) ∙ ap (λ l. l ++ n ∷ drop (suc i) next) front ∙ ap (λ l. take i (take (length ns - 1) ns) ++ n ∷ l) back
+
+-- all but the last that was put behind
+pub but_last : (ns now : List Node) (n : Node) → now ≡ ns ++ n ∷ [] → take (length now - 1) now ≡ ns
+but_last ns now n is =
+    let longer = ap length is ∙ length-append ns (n ∷ []) in
+    let count : length now - 1 ≡ length ns = omega (arith, longer) in
+    ap (λ k. take k now) count ∙ ap (take (length ns)) is ∙ take_at ns (n ∷ []) (length ns) refl

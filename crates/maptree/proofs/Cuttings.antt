@@ -13,6 +13,7 @@ use Rattle.maptree.specs.declared.node.Node.{Node}
 use Rattle.maptree.specs.declared.slice.Slice.{Slice}
 use Rattle.maptree.specs.declared.cutting.Cutting.{Cutting}
 use Rattle.maptree.specs.Origins.{AreRising}
+use Rattle.maptree.proofs.BlockChanges.{first_of}
 use Rattle.maptree.specs.Cuts.{outside, pieces, pieces_of, nodes_of, joined, AreGaps, IsCutting}
 
 -- ---- parts of lists
@@ -317,13 +318,6 @@ closed_end nodes ranges i from kept len now next upto is_len so_far is =
     let rest = length-drop from nodes in
     up.0 ∙ ap (λ l. take kept now ++ l) (take_all (len - from) (drop from nodes) (omega (arith, rest, is_len))) ∙ ap (λ rs. take kept now ++ outside from rs nodes) (sym (drop_all i ranges upto)) ∙ so_far.left
 
--- the first of some from the front
-take_first : (k n : ℕ) (ns : List Node) → k ≤ n → take k (take n ns) ≡ take k ns
-take_first zero n ns few = refl
-take_first (suc k) zero ns few = absurd (omega (arith, few))
-take_first (suc k) (suc n) [] few = refl
-take_first (suc k) (suc n) (x ∷ ns) few = ap (λ l. x ∷ l) (take_first k n ns (omega (arith, few)))
-
 -- the first nodes of a range, and the others
 pub range_parts : (nodes : List Node) (at to k : ℕ) → at ≤ to → to ≤ length nodes → k ≤ to - at
     → (length (slice_range nodes at to) ≡ to - at) × (slice_range nodes at (at + k) ≡ take k (slice_range nodes at to)) × (slice_range nodes (at + k) to ≡ drop k (slice_range nodes at to))
@@ -334,6 +328,6 @@ range_parts nodes at to k rises within few =
     let size = length-take-le (to - at) (drop at nodes) (omega (arith, rest, within)) in
     let whole : k + (to - at - k) ≡ to - at = omega (arith, few) in (
       size,
-      ap (λ n. take n (drop at nodes)) first ∙ sym (take_first k (to - at) (drop at nodes) few),
+      ap (λ n. take n (drop at nodes)) first ∙ sym (first_of k (to - at) (drop at nodes) few),
       ap (λ n. take n (drop (at + k) nodes)) others ∙ ap (take (to - at - k)) (sym (drop-drop k at nodes)) ∙ sym (drop-take k (to - at - k) (drop at nodes)) ∙ ap (λ n. drop k (take n (drop at nodes))) whole,
     )

@@ -8,14 +8,7 @@ use Rattle.space.specs.declared.place.Place.{Place}
 use Rattle.maptree.specs.Renamings.{nodes_renamed}
 use Rattle.maptree.specs.Blocks.{nodes_in, AreStarts}
 use Rattle.maptree.proofs.InBlocks.{count_cut, count_to}
-use Rattle.maptree.proofs.BlockChanges.{count_set, renamed_in}
-
--- the first of some from the front
-first_of : {X : Type 0} (j k : ℕ) (xs : List X) → j ≤ k → take j (take k xs) ≡ take j xs
-first_of zero k xs less = refl
-first_of (suc j) zero xs less = absurd (omega (arith, less))
-first_of (suc j) (suc k) [] less = refl
-first_of (suc j) (suc k) (x ∷ xs) less = ap (λ l. x ∷ l) (first_of j k xs (omega (arith, less)))
+use Rattle.maptree.proofs.BlockChanges.{first_of, count_set, renamed_in}
 
 -- before a later block no fewer nodes stand
 pub before_later : (bs : List (List Node)) (j k : ℕ) → j ≤ k → length (nodes_in (take j bs)) ≤ length (nodes_in (take k bs))

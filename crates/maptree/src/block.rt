@@ -7,6 +7,7 @@ use crate::node::Node;
 use crate::place_map::PlaceMap;
 use crate::replacing::replace_places;
 use crate::scans::{deeper, last_above, placed};
+use crate::shifts::shift_in;
 use space::Place;
 use std::alloc::{AllocError, Global};
 use std::marker::Model;
@@ -138,8 +139,10 @@ impl Block {
         ensures { self.new ≡ insert self.old i node }
     {
         self.least = self.least.min(node.depth);
-        let inserted = self.nodes.insert(i, node);
-        prove!(inserted.is_ok());
+        // A push and a move: `insert` of a vector moves node by node.
+        let pushed = self.nodes.push(node);
+        prove!(pushed.is_ok());
+        shift_in(&mut self.nodes, i, node);
     }
 
     /// Another place for the node at a position.

@@ -1,6 +1,6 @@
 //! Runs taken out of a list of nodes, and put back.
 
-ghost use Rattle.std.specs.Prelude.{◌≡◌, ◌≤◌, IfOk, length, take, vec_capacity};
+ghost use Rattle.std.specs.Prelude.{◌≡◌, ◌≤◌, IfOk, length, vec_capacity};
 ghost use Rattle.maptree.specs.Origins.{AreRising};
 ghost use Rattle.maptree.specs.Cuts.{AreGaps, joined, nodes_of, outside};
 
@@ -85,24 +85,6 @@ impl Cutting {
         }
         Ok(())
     }
-}
-
-/// Moves the nodes that are in none of the ranges to the front of a list, in one pass, and says how many they are.
-pub fn close_gaps(nodes: &mut [Node], ranges: &[Range<usize>]) -> usize
-    requires { AreRising 0 ranges.now (length nodes.old) }
-    ensures nodes { take result nodes.new ≡ outside 0 ranges.now nodes.old }
-    ensures most { result ≤ length nodes.old }
-{
-    let mut kept = 0;
-    let mut from = 0;
-    for range in ranges {
-        nodes.copy_within(from..range.start, kept);
-        kept += range.start - from;
-        from = range.end;
-    }
-    let len = nodes.len();
-    nodes.copy_within(from..len, kept);
-    kept + (len - from)
 }
 
 /// Parts put back between the nodes that were left, with room for so many nodes at least.

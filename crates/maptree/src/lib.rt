@@ -13,6 +13,7 @@ mod node_list;
 mod place_map;
 mod replacing;
 mod scans;
+mod shifts;
 mod slice;
 #[cfg(test)]
 mod tests;

@@ -4,7 +4,7 @@ ghost use Rattle.std.specs.Prelude.{◌≡◌, ◌≤◌, IfSome};
 ghost use Rattle.maptree.specs.Cuts.{count_of, nodes_of};
 
 use crate::blocks::Blocks;
-use crate::cutting::{Cutting, close_gaps, joined};
+use crate::cutting::{Cutting, joined};
 use crate::ends::ends_of;
 use crate::growing::grown;
 use crate::links::linked;
@@ -12,6 +12,7 @@ use crate::node::Node;
 use crate::place_map::PlaceMap;
 use crate::replacing::replace_places;
 use crate::scans::{deeper, last_above, outermost, placed};
+use crate::shifts::{close_gaps, shift_in};
 use crate::slice::Slice;
 use smallvec::SmallVec;
 use space::Place;
@@ -142,8 +143,8 @@ impl NodeList {
         self.room -= 1;
         match &mut self.form {
             Form::Few(nodes) => {
-                let inserted = nodes.insert(i, node);
-                prove!(inserted.is_ok());
+                nodes.push_reserved(node);
+                shift_in(nodes, i, node);
             }
             Form::Many(blocks) => blocks.insert(i, node),
         }

@@ -8,7 +8,7 @@ use Rattle.holdings.proofs.start.root_trees.Goals as goal
 pub loop-frame-preserved : goal.loop-frame-preserved
 loop-frame-preserved c =
     let went = sym c.map_err.ensures.variant ∙ ap is_ok c.in_ok-map_err.was in
-    let items : c.push.new.self.items ≡ c.loop-frame.trees.items ++ c.in_ok-tree.tree ∷ [] = c.push.ensures.items ∙ ap (λ b. if b then c.loop-frame.trees.items ++ c.in_ok-tree.tree ∷ [] else c.loop-frame.trees.items) went in
-    let root : c.in_ok-tree.tree.links ≡ (root_place c.loop-frame.frame, None) ∷ [] = c.in_ok-tree.ensures ∙ ap (λ p. (p, None) ∷ []) c.root_place.ensures in
+    let items : c.push.new.self.items ≡ c.loop-frame.trees.items ++ c.root-tree.result ∷ [] = c.push.ensures.items ∙ ap (λ b. if b then c.loop-frame.trees.items ++ c.root-tree.result ∷ [] else c.loop-frame.trees.items) went in
+    let root : c.root-tree.result.links ≡ (root_place c.loop-frame.frame, None) ∷ [] = c.root-tree.ensures ∙ ap (λ p. (p, None) ∷ []) c.root_place.ensures in
     subst (λ trees. record { count : length trees ≡ c.loop-frame.frame + 1; roots : (f : ℕ) → f < c.loop-frame.frame + 1 → links_in trees f ≡ (root_place f, None) ∷ [] }) (sym items)
-    (one_tree_more c.loop-frame.trees.items c.in_ok-tree.tree c.loop-frame.frame c.loop-frame.invariant.count c.loop-frame.invariant.roots root)
+    (one_tree_more c.loop-frame.trees.items c.root-tree.result c.loop-frame.frame c.loop-frame.invariant.count c.loop-frame.invariant.roots root)

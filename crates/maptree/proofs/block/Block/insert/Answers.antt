@@ -1,17 +1,31 @@
 -- No node is less deep than before, or than the new one.
-use Rattle.std.proofs.Common.{◌≡◌, ◌≤◌, ap, ◌∙◌, rules, arith, length}
+use Rattle.std.proofs.Common.{◌≡◌, ◌≤◌, ◌++◌, ◌∷◌, [], ◌-◌, take, ap, ◌∙◌, rules, arith, length}
 use Rattle.std.specs.Prelude.{insert}
+use Rattle.std.proofs.lemmas.List.{length-append, with_items_is}
+use Rattle.std.proofs.lemmas.List.Edits.{length-insert}
 use Rattle.maptree.specs.Blocks.{is_least}
+use Rattle.maptree.proofs.BlockChanges.{but_last}
 use Rattle.maptree.proofs.Depths.{least_less, least_insert}
 use Rattle.maptree.proofs.block.Block.insert.Goals as goal
+
+-- the nodes afterwards
+items : (c : goal.After-self-2-1) → c.shift_in.new.nodes ≡ insert c.self.inside.nodes.items c.args.i c.args.node
+items c =
+    let pushed : c.deref_mut.result.now ≡ c.self.inside.nodes.items ++ c.args.node ∷ [] = search rules in
+    c.shift_in.ensures ∙ ap (λ l. insert l c.args.i c.args.node) (but_last c.self.inside.nodes.items c.deref_mut.result.now c.args.node pushed)
 
 pub invariant_of-self : goal.invariant_of-self
 invariant_of-self c =
     let nodes = c.self.inside.nodes.items in
+    let new = c.shift_in.new.nodes in
     let least = c.min-self-inside.result in
     let low : least ≤ c.self.inside.least = search (rules, arith) in
     let here : least ≤ c.args.node.depth = search (rules, arith) in
-    let items : c.insert-inserted.new.self.items ≡ insert nodes c.args.i c.args.node = search (rules) in
-    let size : length c.insert-inserted.new.self.items ≤ 256 = search (rules, arith) in
-    let room : 256 ≤ c.insert-inserted.new.self.cap = search (rules, arith) in
-    (size, room, ap (is_least least) items ∙ least_insert least c.args.i c.args.node nodes here (least_less least c.self.inside.least nodes low c.self.invariant.2))
+    let is = items c in
+    let longer = ap length is in
+    let one = length-insert nodes c.args.i c.args.node (search (rules, arith)) in
+    let same : length new ≡ c.push-pushed.new.self.len = search (rules, arith, longer, one) in
+    let now = with_items_is c.push-pushed.new.self new same in
+    let size : length new ≤ 256 = search (rules, arith, longer, one) in
+    let room : 256 ≤ c.push-pushed.new.self.cap = search (rules, arith) in
+    (search (rules, arith, now, size), room, ap (is_least least) (now ∙ is) ∙ least_insert least c.args.i c.args.node nodes here (least_less least c.self.inside.least nodes low c.self.invariant.2))

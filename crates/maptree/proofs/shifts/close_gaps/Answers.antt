@@ -1,7 +1,7 @@
 -- One more range is closed up.
 use Rattle.std.proofs.Common.{rules, arith, length}
 use Rattle.maptree.proofs.Cuttings.{next_range, rising_within, closed_range, closed_end}
-use Rattle.maptree.proofs.cutting.close_gaps.Goals as goal
+use Rattle.maptree.proofs.shifts.close_gaps.Goals as goal
 
 pub copy_within-requires-clause-in_bounds : goal.copy_within-requires-clause-in_bounds
 copy_within-requires-clause-in_bounds c =
