@@ -183,9 +183,27 @@ impl NodeList {
         if n <= self.room {
             return Ok(());
         }
+        if let Form::Few(nodes) = &mut self.form {
+            if nodes.len() < FEW || FEW < n {
+                nodes.reserve(n)?;
+                self.room = n;
+                return Ok(());
+            }
+        }
+        self.reserve_in_blocks(n)
+    }
+
+    /// The same for a list that is long, or becomes so: it stands in blocks afterwards. Apart from the other, so that a short
+    /// list does not pay for the larger frame of this function.
+    fn reserve_in_blocks(&mut self, n: usize) -> Result<(), AllocError>
+        requires { self.old.room ≤ n }
+        ensures nodes { self.new.nodes ≡ self.old.nodes }
+        ensures ok { OnOk result (self.new.room ≡ n) }
+        ensures err { OnErr result (self.new ≡ self.old) }
+    {
         match &mut self.form {
             Form::Few(nodes) => {
-                if nodes.len() < FEW || FEW < n {
+                if nodes.is_empty() {
                     nodes.reserve(n)?;
                 } else {
                     let mut blocks = Blocks::of(*nodes.allocator(), nodes)?;
