@@ -1,5 +1,5 @@
 -- For each block, how many nodes stand before it.
-use Rattle.std.proofs.Common.{◌≡◌, ℕ, zero, suc, ◌+◌, ◌-◌, ◌<◌, ◌≤◌, List, [], ◌∷◌, ◌++◌, length, take, drop, get_or, set, map, Option, refl, sym, ap, ◌∙◌, subst, arith, ◌⊎◌, inl, inr}
+use Rattle.std.proofs.Common.{◌≡◌, ℕ, ◌+◌, ◌<◌, ◌≤◌, List, [], ◌∷◌, ◌++◌, length, take, get_or, set, map, Option, sym, ap, ◌∙◌, subst, arith, ◌⊎◌, inl, inr}
 use Rattle.std.specs.List.{slice_index}
 use Rattle.std.proofs.lemmas.List.{get_or_default, get_or-take, get_or_at, get_or_append_left, length-set, length-take-le, length-append, take-set-le, take-map, length-map, take_all}
 use Rattle.std.proofs.Math.Seq.{take-set-lt}
@@ -7,7 +7,7 @@ use Rattle.maptree.specs.declared.node.Node.{Node}
 use Rattle.space.specs.declared.place.Place.{Place}
 use Rattle.maptree.specs.Renamings.{nodes_renamed}
 use Rattle.maptree.specs.Blocks.{nodes_in, AreStarts}
-use Rattle.maptree.proofs.InBlocks.{count_cut, count_to}
+use Rattle.maptree.proofs.InBlocks.{count_cut}
 use Rattle.maptree.proofs.BlockChanges.{first_of, count_set, renamed_in}
 
 -- before a later block no fewer nodes stand

@@ -1,5 +1,5 @@
 -- What a list of nodes has, in either form.
-use Rattle.std.specs.Prelude.{ℕ, ◌+◌, ◌≤◌, List}
+use Rattle.std.specs.Prelude.{ℕ, ◌≤◌, List}
 use Rattle.smallvec.specs.SmallVec.{HasRoomFor}
 use Rattle.maptree.specs.declared.node.Node.{Node}
 use Rattle.maptree.specs.declared.node_list.Form.{Form}

@@ -404,20 +404,23 @@ impl Blocks {
         subtract_from(&mut self.starts, block + 1, to - from);
     }
 
-    /// Takes the nodes from a position to another out.
-    pub fn remove(&mut self, from: usize, to: usize)
+    /// Takes the nodes from a position to another out, and says whether a block has no nodes now.
+    pub fn remove(&mut self, from: usize, to: usize) -> bool
         requires rising { from ≤ to }
         requires within { to ≤ length (nodes_in self.old.blocks) }
         ensures nodes { nodes_in self.new.blocks ≡ take from (nodes_in self.old.blocks) ++ drop to (nodes_in self.old.blocks) }
         ensures room { self.new.room ≡ self.old.room }
     {
+        let mut emptied = false;
         let mut left = to - from;
         while left > 0 {
             let Seat { block, offset } = self.seat_of(from);
             let taken = left.min(self.blocks[block].len() - offset);
             self.remove_in_block(block, offset, offset + taken);
+            emptied |= self.blocks[block].nodes().is_empty();
             left -= taken;
         }
+        emptied
     }
 
     /// Takes ranges out.
@@ -426,12 +429,15 @@ impl Blocks {
         ensures nodes { nodes_in self.new.blocks ≡ outside 0 ranges.now (nodes_in self.old.blocks) }
         ensures room { self.new.room ≡ self.old.room }
     {
+        let mut emptied = false;
         let mut gone = 0;
         for range in ranges {
-            self.remove(range.start - gone, range.end - gone);
+            emptied |= self.remove(range.start - gone, range.end - gone);
             gone += range.end - range.start;
         }
-        self.drop_empty();
+        if emptied {
+            self.drop_empty();
+        }
     }
 
     /// Lets blocks go that have no nodes, if others have some.

@@ -1,5 +1,5 @@
 -- One block more is counted.
-use Rattle.std.proofs.Common.{◌≡◌, ◌+◌, suc, length, get_or, ap, rules, arith, ◌∙◌}
+use Rattle.std.proofs.Common.{get_or, rules, arith}
 use Rattle.maptree.proofs.InBlocks.{Counts, counts}
 use Rattle.maptree.proofs.Starts.{starts_more, starts_all}
 use Rattle.maptree.proofs.blocks.count.Goals as goal

@@ -1,5 +1,4 @@
 -- The nodes behind stand one higher.
-use Rattle.std.proofs.Common.{rules, arith}
 use Rattle.maptree.proofs.BlockChanges.{shifted_in}
 use Rattle.maptree.proofs.shifts.shift_in.Goals as goal
 

@@ -1,5 +1,5 @@
 -- The seat is in one of these blocks.
-use Rattle.std.proofs.Common.{◌≡◌, ◌≤◌, ◌-◌, ◌<◌, length, take}
+use Rattle.std.proofs.Common.{◌≤◌, ◌-◌, ◌<◌, length, take}
 use Rattle.maptree.specs.Blocks.{nodes_in}
 use Rattle.maptree.proofs.blocks.Blocks.seat.Given as goal
 

@@ -1,5 +1,5 @@
 -- One more range is taken.
-use Rattle.std.proofs.Common.{rules, arith, ◌≡◌, ◌+◌, ◌-◌, length, subst, sym, ap, ◌∙◌}
+use Rattle.std.proofs.Common.{rules, arith, length}
 use Rattle.maptree.proofs.Cuttings.{next_range, rising_within, taken_range, gaps_left, all_taken}
 use Rattle.maptree.proofs.cutting.Cutting.of.Goals as goal
 

@@ -1,5 +1,5 @@
 -- One more part is taken.
-use Rattle.std.proofs.Common.{◌≡◌, ◌≤◌, ◌<◌, ◌+◌, ◌-◌, min, refl, ap, sym, ◌∙◌, ◌++◌, ◌∷◌, [], length, take, drop, arith, rules}
+use Rattle.std.proofs.Common.{◌≡◌, ◌<◌, ◌+◌, min, refl, ap, sym, ◌∙◌, length, arith, rules}
 use Rattle.std.specs.List.{slice_range}
 use Rattle.maptree.specs.declared.slice.Slice.{Slice}
 use Rattle.maptree.specs.Cuts.{nodes_of}
