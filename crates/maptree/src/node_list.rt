@@ -22,7 +22,10 @@ use std::marker::Model;
 use std::ops::Range;
 
 /// How many nodes stand in one vector at most, where no more room is asked for at once.
-const FEW: usize = 512;
+const FEW: usize = 128;
+
+/// How many nodes are put back one by one at most. For each of them a block is held ready.
+const PUT_BACK_IN_PLACE: usize = 512;
 
 /// A list of nodes.
 #[derive(Drop)]
@@ -185,7 +188,9 @@ impl NodeList {
         }
         if let Form::Few(nodes) = &mut self.form {
             if nodes.len() < FEW || FEW < n {
-                nodes.reserve(n)?;
+                if nodes.capacity() - nodes.len() < n {
+                    nodes.reserve(n)?;
+                }
                 self.room = n;
                 return Ok(());
             }
@@ -330,7 +335,7 @@ impl NodeList {
         let all = match &mut self.form {
             Form::Few(nodes) => joined(alloc, nodes, nodes.capacity(), gaps, parts)?,
             Form::Many(blocks) => {
-                if let Some(kept) = kept_up_to(parts, FEW) {
+                if let Some(kept) = kept_up_to(parts, PUT_BACK_IN_PLACE) {
                     blocks.reserve(blocks.room() + kept)?;
                     blocks.put_back(gaps, parts);
                     return Ok(());
