@@ -8,9 +8,9 @@ use Rattle.maptree.specs.Blocks.{nodes_in}
 
 abbrev pub nodes_of_form : Form → List Node
 nodes_of_form (Few nodes) = nodes.items
-nodes_of_form (Many blocks) = nodes_in blocks.blocks
+nodes_of_form (Many blocks) = nodes_in blocks.value.blocks
 
 -- so many insertions take no memory
 abbrev pub HasRoom : Form → ℕ → Type 0
 HasRoom (Few nodes) room = HasRoomFor nodes room
-HasRoom (Many blocks) room = room ≤ blocks.room
+HasRoom (Many blocks) room = room ≤ blocks.value.room

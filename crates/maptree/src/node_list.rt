@@ -22,7 +22,7 @@ use std::marker::Model;
 use std::ops::Range;
 
 /// How many nodes stand in one vector at most, where no more room is asked for at once.
-const FEW: usize = 128;
+const FEW: usize = 512;
 
 /// How many nodes are put back one by one at most. For each of them a block is held ready.
 const PUT_BACK_IN_PLACE: usize = 512;
@@ -39,8 +39,8 @@ pub struct NodeList {
 enum Form {
     /// One vector, which takes no memory for a root alone.
     Few(SmallVec<Node, 1>),
-    /// Blocks.
-    Many(Blocks),
+    /// Blocks, in a box since most lists are short.
+    Many(Box<Blocks>),
 }
 
 impl Model for NodeList {
@@ -211,9 +211,10 @@ impl NodeList {
                 if nodes.is_empty() {
                     nodes.reserve(n)?;
                 } else {
-                    let mut blocks = Blocks::of(*nodes.allocator(), nodes)?;
+                    let alloc = *nodes.allocator();
+                    let mut blocks = Blocks::of(alloc, nodes)?;
                     blocks.reserve(n)?;
-                    self.form = Form::Many(blocks);
+                    self.form = Form::Many(Box::new(alloc, blocks)?);
                 }
             }
             Form::Many(blocks) => blocks.reserve(n)?,
@@ -230,7 +231,7 @@ impl NodeList {
         let form = if nodes.len() < FEW {
             Form::Few(SmallVec::from_vec(nodes))
         } else {
-            Form::Many(Blocks::of(alloc, &nodes)?)
+            Form::Many(Box::new(alloc, Blocks::of(alloc, &nodes)?)?)
         };
         let mut list = NodeList { form, room: 0 };
         list.reserve(room)?;
@@ -336,7 +337,8 @@ impl NodeList {
             Form::Few(nodes) => joined(alloc, nodes, nodes.capacity(), gaps, parts)?,
             Form::Many(blocks) => {
                 if let Some(kept) = kept_up_to(parts, PUT_BACK_IN_PLACE) {
-                    blocks.reserve(blocks.room() + kept)?;
+                    let room = blocks.room() + kept;
+                    blocks.reserve(room)?;
                     blocks.put_back(gaps, parts);
                     return Ok(());
                 }
