@@ -1,0 +1,17 @@
+//! The work of a phase in pieces: parts of trees to be stripped, mappings to be linked, pages to be moved, accesses to be
+//! made; and what the pieces found out, gathered.
+#![tactic(auto)]
+
+mod link;
+mod moving;
+mod piece;
+mod strip;
+mod touch;
+mod worked;
+
+pub use link::{Link, Store};
+pub use moving::{Move, Pair};
+pub use piece::Piece;
+pub use strip::Strip;
+pub use touch::{Touch, WordAccess};
+pub use worked::rows_of_pieces;

@@ -1,0 +1,13 @@
+use crate::link::Link;
+use crate::moving::Move;
+use crate::strip::Strip;
+use crate::touch::Touch;
+
+/// A part of the work of a phase, which one worker works at a time.
+#[derive(Drop)]
+pub enum Piece {
+    Strip(Strip),
+    Link(Link),
+    Move(Move),
+    Touch(Touch),
+}
