@@ -1,4 +1,5 @@
 pub mod Distinct
+pub mod DistinctParts
 pub mod Effects
 pub mod Contents
 pub mod Steps

@@ -2,6 +2,7 @@
 //! made; and what the pieces found out, gathered.
 #![tactic(auto)]
 
+mod cutting;
 mod link;
 mod moving;
 mod piece;
@@ -9,6 +10,7 @@ mod strip;
 mod touch;
 mod worked;
 
+pub use cutting::{links, moves, touches};
 pub use link::{Link, Store};
 pub use moving::{Move, Pair};
 pub use piece::Piece;
