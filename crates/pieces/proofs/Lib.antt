@@ -1,1 +1,2 @@
 pub mod CutLists
+pub mod Placed

@@ -4,7 +4,7 @@ use Rattle.std.specs.List.{list_all}
 
 -- whether a number is none of these
 abbrev pub is_none_of : List ℕ → ℕ → Bool
-is_none_of is i = list_all (λ j. not (i == j)) is
+is_none_of is i = list_all (λ j. not (j == i)) is
 
 -- whether no number comes twice
 abbrev pub are_distinct : List ℕ → Bool

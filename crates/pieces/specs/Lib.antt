@@ -7,3 +7,6 @@ pub mod Applied
 pub mod Values
 pub mod Forms
 pub mod Rows
+pub mod Dones
+pub mod Gathering
+pub mod Places

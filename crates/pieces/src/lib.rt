@@ -3,6 +3,8 @@
 #![tactic(auto)]
 
 mod cutting;
+mod done;
+mod gathering;
 mod link;
 mod moving;
 mod piece;
@@ -11,6 +13,8 @@ mod touch;
 mod worked;
 
 pub use cutting::{links, moves, touches};
+pub use done::Done;
+pub use gathering::{GatherError, GatherFault, Gathered, gather};
 pub use link::{Link, Store};
 pub use moving::{Move, Pair};
 pub use piece::Piece;

@@ -1,5 +1,5 @@
 -- A list that is short enough is one piece.
-use Rattle.std.proofs.Common.{rules, arith, ◌∙◌, ap, sym, ◌≡◌, ◌∷◌, ◌++◌, []}
+use Rattle.std.proofs.Common.{rules, arith, ◌∙◌, ap, sym, ◌∷◌, ◌++◌, []}
 use Rattle.pieces.proofs.CutLists.{whole_piece}
 use Rattle.pieces.proofs.cutting.cut.Goals as goal
 

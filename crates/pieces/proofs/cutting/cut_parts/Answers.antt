@@ -1,5 +1,5 @@
 -- One more piece is cut off.
-use Rattle.std.proofs.Common.{rules, arith, ◌∙◌, ap, sym, ◌≡◌, ◌∷◌, ◌++◌, []}
+use Rattle.std.proofs.Common.{rules, arith, ◌∙◌, ap, ◌∷◌, ◌++◌, []}
 use Rattle.pieces.proofs.CutLists.{next_piece}
 use Rattle.pieces.proofs.cutting.cut_parts.Goals as goal
 
