@@ -1,2 +1,4 @@
 pub mod CutLists
 pub mod Placed
+pub mod AllSteps
+pub mod InPieces

@@ -1,9 +1,9 @@
 -- Places of results by their numbers, and what is gathered by them.
-use Rattle.std.proofs.Common.{◌≡◌, ◌≢◌, ℕ, zero, suc, ◌+◌, ◌-◌, ◌<◌, ◌≤◌, ◌⊎◌, inl, inr, Bool, true, false, ◌&&◌, ◌||◌, not, List, [], ◌∷◌, ◌++◌, length, map, set, take, drop, get_or, Option, Some, None, is_none, is_some, replicate, refl, ap, ◌∙◌, sym, subst, arith, length-set, get_or-set_same, get_or-set_other, if◌then◌else◌, append_assoc}
+use Rattle.std.proofs.Common.{◌≡◌, ◌≢◌, ℕ, zero, suc, ◌+◌, ◌-◌, ◌<◌, ◌≤◌, ◌⊎◌, inl, inr, Bool, true, false, ◌&&◌, ◌||◌, not, List, [], ◌∷◌, ◌++◌, length, map, set, take, drop, get_or, Option, Some, None, is_none, is_some, replicate, refl, ap, ◌∙◌, sym, subst, arith, length-set, get_or-set_same, get_or-set_other, if◌then◌else◌, append_assoc, zero-add, true≢false}
 use Rattle.std.specs.List.{list_any, flat_map, range_with_len}
 use Rattle.std.specs.Prelude.{nat_le, ◌==◌}
-use Rattle.std.proofs.lemmas.Bool.{cases_eq, eq-eqb, ne_eqb, leb-false}
-use Rattle.std.proofs.lemmas.List.{drop_more, drop_all, drop_at, take_at, take-append-drop, flat_map_more, map-append, map-set, length-append, length-map, get_or-drop}
+use Rattle.std.proofs.lemmas.Bool.{cases_eq, eq-eqb, eqb-true, ne_eqb, leb-false}
+use Rattle.std.proofs.lemmas.List.{drop_more, drop_all, drop_at, take_at, take-append-drop, flat_map_more, map-append, map-set, length-append, length-map, get_or-drop, get_or-map}
 use Rattle.std.proofs.lemmas.List.FromFn.{fill_by_all, length-map-range_with_len, get_or-map-range_with_len, map-range_with_len_more}
 use Rattle.fpage.specs.Rights.{no_rights, join}
 use Rattle.fpage.specs.declared.rights.Rights.{Rights}
@@ -11,7 +11,12 @@ use Rattle.fpage.proofs.RightSets.{join_assoc}
 use Rattle.maptree.specs.Cuts.{nodes_of}
 use Rattle.maptree.specs.declared.slice.Slice.{Slice}
 use Rattle.pieces.specs.Distinct.{is_none_of, are_distinct}
-use Rattle.pieces.specs.Values.{Value, no_value}
+use Rattle.std.specs.List.{slice_get}
+use Rattle.std.proofs.lemmas.Option.{get_or_from_slice_get}
+use Rattle.pieces.specs.declared.piece.Piece.{Piece}
+use Rattle.pieces.specs.declared.piece.Piece.TheVariants as piece
+use Rattle.pieces.specs.Laws.{AreDone}
+use Rattle.pieces.specs.Values.{Value, no_value, value}
 use Rattle.pieces.specs.Dones.{DoneContent}
 use Rattle.pieces.specs.Gathering.{numbers_of, has_stranger, is_missing, fault_in, found_by, all_found, union_of}
 use Rattle.pieces.specs.declared.gathering.GatherFault.TheVariants as fault
@@ -59,6 +64,7 @@ pub record StandsAt (at k : ℕ) (ds : List DoneContent) (i : ℕ) : Type 0 wher
   pub step : ℕ
   pub is : at + step ≡ i
   pub within : step < length ds
+  pub number : (e : DoneContent) → (get_or ds step e).number ≡ k
   pub found : (e : DoneContent) → found_by k ds ≡ (get_or ds step e).found
 
 pub place_some : (at k : ℕ) (ds : List DoneContent) (i : ℕ) → place_from at k ds ≡ Some i → StandsAt at k ds i
@@ -66,10 +72,10 @@ place_some at k [] i h = absurd (cc)
 place_some at k (d ∷ ds) i h = by (d.number == k) refl (place_some (at + 1) k ds i) h
   where
     by : (t : Bool) → (d.number == k) ≡ t → (place_from (at + 1) k ds ≡ Some i → StandsAt (at + 1) k ds i) → (if t then Some at else place_from (at + 1) k ds) ≡ Some i → StandsAt at k (d ∷ ds) i
-    by true is later h = let same : at ≡ i = cc in record { step = 0; is = omega arith; within = omega arith; found = λ e. rw is refl }
+    by true is later h = let same : at ≡ i = cc in record { step = 0; is = omega arith; within = omega arith; number = λ e. eqb-true d.number k is; found = λ e. rw is refl }
     by false is later h =
         let rest = later h in
-        record { step = suc rest.step; is = omega (arith, rest.is); within = omega (arith, rest.within); found = λ e. rw is (rest.found e) }
+        record { step = suc rest.step; is = omega (arith, rest.is); within = omega (arith, rest.within); number = rest.number; found = λ e. rw is (rest.found e) }
 
 -- one more result in front
 pub places_more : (n at : ℕ) (d : DoneContent) (ds : List DoneContent) → d.number < n → set (places_from n (at + 1) ds) d.number (Some at) ≡ places_from n at (d ∷ ds)
@@ -293,3 +299,54 @@ places_length n ds places are =
 pub slices_length : (n : ℕ) (slices : List Slice) → nodes_of slices ≡ map (λ v. v.kept) (all_found n []) → length slices ≡ n
 slices_length n slices are =
     sym (length-map slices (λ (s : Slice). s.nodes.items)) ∙ ap length are ∙ length-map (all_found n []) (λ (v : Value). v.kept) ∙ length-map-range_with_len (λ k. found_by k []) 0 n
+
+-- ---- values
+
+-- where no number is missing, each has a result
+pub none_missing : (a n : ℕ) (ds : List DoneContent) (k : ℕ) → list_any (is_none_of (numbers_of ds)) (range_with_len a n) ≡ false → k < n → is_none_of (numbers_of ds) (a + k) ≡ false
+none_missing a zero ds k none low = absurd (omega (arith, low))
+none_missing a (suc n) ds zero none low = let same : a + 0 ≡ a = omega arith in rw same (by (is_none_of (numbers_of ds) a) none)
+  where
+    by : (t : Bool) → (t || list_any (is_none_of (numbers_of ds)) (range_with_len (a + 1) n)) ≡ false → t ≡ false
+    by true h = absurd (cc)
+    by false h = refl
+none_missing a (suc n) ds (suc k) none low =
+    let same : a + suc k ≡ (a + 1) + k = omega arith in rw same (none_missing (a + 1) n ds k (by (is_none_of (numbers_of ds) a) none) (omega (arith, low)))
+  where
+    by : (t : Bool) → (t || list_any (is_none_of (numbers_of ds)) (range_with_len (a + 1) n)) ≡ false → list_any (is_none_of (numbers_of ds)) (range_with_len (a + 1) n) ≡ false
+    by true h = absurd (cc)
+    by false h = h
+
+-- where there is no fault, none is missing
+pub all_there : (n : ℕ) (ds : List DoneContent) → fault_in n ds ≡ None → is_missing n ds ≡ false
+all_there n ds h = by (has_stranger n ds) (not (are_distinct (numbers_of ds))) (is_missing n ds) h
+  where
+    by : (s t m : Bool) → (if s then Some fault.Stranger else if t then Some fault.Twice else if m then Some fault.Missing else None) ≡ None → m ≡ false
+    by true t m h = absurd (cc)
+    by false true m h = absurd (cc)
+    by false false true h = absurd (cc)
+    by false false false h = refl
+
+-- the result of a number
+pub result_of : (n : ℕ) (ds : List DoneContent) (k : ℕ) → fault_in n ds ≡ None → k < n → (i : ℕ) × StandsAt 0 k ds i
+result_of n ds k whole low = by (place_from 0 k ds) refl
+  where
+    there : is_none_of (numbers_of ds) k ≡ false
+    there = ap (is_none_of (numbers_of ds)) (sym (zero-add k)) ∙ none_missing 0 n ds k (all_there n ds whole) low
+
+    by : (p : Option ℕ) → place_from 0 k ds ≡ p → (i : ℕ) × StandsAt 0 k ds i
+    by None is = absurd (true≢false (sym (ap is_none is) ∙ place_none 0 k ds ∙ there))
+    by (Some i) is = (i, place_some 0 k ds i is)
+
+-- results of pieces are their values
+pub gathered : (w : List ℕ) (ps : List Piece) (ds : List DoneContent) → AreDone w ps ds → all_found (length ps) ds ≡ map (value w) ps
+gathered w ps ds done = sym (fill_by_all (λ k. found_by k ds) (map (value w) ps) (length ps) no_value (length-map ps (value w)) each)
+  where
+    each : (k : ℕ) → k < length ps → get_or (map (value w) ps) k no_value ≡ found_by k ds
+    each k low =
+        let r = result_of (length ps) ds k done.once low in
+        let at = r.1 in
+        let e : DoneContent = record { number = 0; found = no_value; of = piece.Touch []; words = [] } in
+        let is : slice_get ps k ≡ Some (get_or ds at.step e).of = sym (ap (slice_get ps) (at.number e)) ∙ done.of at.step e at.within in
+        get_or-map (value w) ps k (get_or ds at.step e).of no_value low ∙ ap (value w) (get_or_from_slice_get ps k _ (get_or ds at.step e).of is)
+        ∙ sym (ap (λ v. value v (get_or ds at.step e).of) (done.words at.step e at.within)) ∙ sym (done.values at.step e at.within) ∙ sym (at.found e)

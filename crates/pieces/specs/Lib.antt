@@ -10,3 +10,6 @@ pub mod Rows
 pub mod Dones
 pub mod Gathering
 pub mod Places
+pub mod Masks
+pub mod Phases
+pub mod Laws

@@ -5,6 +5,7 @@
 mod cutting;
 mod done;
 mod gathering;
+mod laws;
 mod link;
 mod moving;
 mod piece;
@@ -15,6 +16,7 @@ mod worked;
 pub use cutting::{links, moves, touches};
 pub use done::Done;
 pub use gathering::{GatherError, GatherFault, Gathered, gather};
+pub use laws::{gathered_values, words_after_steps, work_in_pieces};
 pub use link::{Link, Store};
 pub use moving::{Move, Pair};
 pub use piece::Piece;

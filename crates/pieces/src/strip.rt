@@ -1,5 +1,10 @@
+ghost use Rattle.std.specs.Prelude.{◌≡◌, IfOk};
+ghost use Rattle.pieces.specs.Masks.{masks_of};
+
 use fpage::Rights;
 use maptree::{Node, Slice};
+use space::NoMemory;
+use std::alloc::{AllocError, Global};
 use std::marker::Model;
 
 /// A part of a tree's list whose pages lose rights (L4 X.2, Unmap).
@@ -29,8 +34,10 @@ impl Model for Strip {
 }
 
 impl Strip {
-    ghost use Rattle.std.specs.Prelude.{◌≡◌, ◌<◌, ◌==◌, length, get_or, slice_index};
-    ghost use Rattle.pieces.specs.Contents.{IsStrip};
+    ghost use Rattle.std.specs.Prelude.{◌≡◌, ◌<◌, ◌==◌, true, length, get_or, slice_index, IfOk};
+    ghost use Rattle.pieces.specs.Distinct.{are_distinct};
+    ghost use Rattle.pieces.specs.Masks.{masks_of};
+    ghost use Rattle.pieces.specs.Contents.{IsStrip, is_fold_apart};
     ghost use Rattle.pieces.specs.Forms.{content_of};
 
     /// The nodes of a part, with as many masks and indexes of words, and the index of the fold word.
@@ -44,6 +51,27 @@ impl Strip {
             indexes,
             fold,
         }
+    }
+
+    /// The nodes of a part of a run, which all lose these rights; the first is spared if `spared` says so. It is spared where
+    /// the part begins its run and there is no flush.
+    ///
+    /// Refused, where memory is: `NoMemory`. Then what was given is gone.
+    pub fn of_part(
+        alloc: Global,
+        slice: Slice,
+        indexes: Vec<usize>,
+        fold: Option<usize>,
+        revoked: Rights,
+        spared: bool,
+    ) -> Result<Strip, NoMemory>
+        requires each { length indexes.items ≡ length slice.nodes.items }
+        requires distinct { are_distinct indexes.items ≡ true }
+        requires apart { is_fold_apart fold indexes.items ≡ true }
+        ensures { IfOk result (λ s. s ≡ record { nodes = slice.nodes.items; masks = masks_of spared revoked (length slice.nodes.items); indexes = indexes.items; fold = fold }) }
+    {
+        let masks = masks(alloc, slice.nodes.len(), revoked, spared)?;
+        Ok(Strip::new(slice, masks, indexes, fold))
     }
 
     /// How many nodes it has.
@@ -103,4 +131,20 @@ impl Strip {
         } = self;
         (slice, masks, indexes, fold)
     }
+}
+
+/// The rights that so many nodes of a run lose, of which the first may be spared.
+fn masks(
+    alloc: Global,
+    nodes: usize,
+    revoked: Rights,
+    spared: bool,
+) -> Result<Vec<Rights>, AllocError>
+    ensures { IfOk result (λ masks. masks.items ≡ masks_of spared revoked nodes) }
+{
+    let mut masks = vec![in alloc; revoked; nodes]?;
+    if spared && nodes > 0 {
+        masks[0] = Rights::none();
+    }
+    Ok(masks)
 }
