@@ -9,7 +9,8 @@ use Rattle.fpage.proofs.RightSets.{join_assoc}
 use Rattle.maptree.specs.Cuts.{pieces}
 use Rattle.space.specs.Entries.{status_of}
 use Rattle.pieces.specs.Effects.{words_after}
-use Rattle.pieces.specs.Contents.{StripContent, IsStrip}
+use Rattle.pieces.specs.Contents.{StripContent, IsStrip, puts_of, ends_of}
+use Rattle.pieces.specs.Phases.{changes, held}
 use Rattle.pieces.specs.Steps.{effect, effects, store_step, pair_steps, access_steps, may_access, status_in, entry_in}
 use Rattle.pieces.specs.Applied.{worked}
 use Rattle.pieces.specs.Values.{value, kept_nodes, remains}
@@ -62,6 +63,19 @@ moves_in_pieces w most some xs =
 pub answers_in_pieces : (w : List ℕ) (most : ℕ) → 1 ≤ most → (xs : List WordAccess) → flat_map (λ p. (value w p).answers) (map piece.Touch (pieces (length xs) most xs)) ≡ map (may_access w) xs
 answers_in_pieces w most some xs =
     flat_of_map piece.Touch (λ p. (value w p).answers) (pieces (length xs) most xs) ∙ flat_pieces (map (may_access w)) refl (map-append (may_access w)) (length xs) most xs some (omega arith)
+
+-- where lists in pieces change words, and where these hold pages
+pub links_change : (most : ℕ) → 1 ≤ most → (xs : List Store) → (flat_map changes (map piece.Link (pieces (length xs) most xs)) ≡ puts_of xs) × (flat_map held (map piece.Link (pieces (length xs) most xs)) ≡ map (λ s. s.read) xs)
+links_change most some xs = (
+  flat_of_map piece.Link changes (pieces (length xs) most xs) ∙ flat_pieces puts_of refl (map-append (λ s. s.put)) (length xs) most xs some (omega arith),
+  flat_of_map piece.Link held (pieces (length xs) most xs) ∙ flat_pieces (map (λ s. s.read)) refl (map-append (λ s. s.read)) (length xs) most xs some (omega arith),
+)
+
+pub moves_change : (most : ℕ) → 1 ≤ most → (xs : List Pair) → (flat_map changes (map piece.Move (pieces (length xs) most xs)) ≡ ends_of xs) × (flat_map held (map piece.Move (pieces (length xs) most xs)) ≡ map (λ p. p.taken) xs)
+moves_change most some xs = (
+  flat_of_map piece.Move changes (pieces (length xs) most xs) ∙ flat_pieces ends_of refl (flat_map-append (λ p. p.taken ∷ p.put ∷ [])) (length xs) most xs some (omega arith),
+  flat_of_map piece.Move held (pieces (length xs) most xs) ∙ flat_pieces (map (λ p. p.taken)) refl (map-append (λ p. p.taken)) (length xs) most xs some (omega arith),
+)
 
 -- ---- strips
 

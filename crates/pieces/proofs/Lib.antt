@@ -2,3 +2,4 @@ pub mod CutLists
 pub mod Placed
 pub mod AllSteps
 pub mod InPieces
+pub mod Writers

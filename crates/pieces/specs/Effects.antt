@@ -1,5 +1,6 @@
 -- What steps do to words: each keeps its word, adds bits to it, or writes it. What many of them make of a word is one formula,
 -- which names no order.
+use Rattle.std.specs.List.{flat_map}
 use Rattle.std.specs.Prelude.{ℕ, ◌+◌, ◌==◌, bit_or, List, [], ◌∷◌, ◌++◌, take, Option, Some, None, unwrap_or, if◌then◌else◌}
 
 -- what one step does to the word at an index: it keeps it, adds bits to it, or writes a word in its place
@@ -51,3 +52,23 @@ done_from p counts (es ∷ ess) = take (counts p) es ++ done_from (p + 1) counts
 -- the first steps of all lists, as many of each as are counted for it
 abbrev pub done : (ℕ → ℕ) → List (List Effect) → List Effect
 done counts ess = done_from 0 counts ess
+
+-- the index at which a step writes, if it writes
+abbrev pub write_at : Effect → List ℕ
+write_at (keeps i) = []
+write_at (adds i bits) = []
+write_at (writes i word) = i ∷ []
+
+-- the index at which a step adds bits, if it adds some
+abbrev pub add_at : Effect → List ℕ
+add_at (keeps i) = []
+add_at (adds i bits) = i ∷ []
+add_at (writes i word) = []
+
+-- the indexes at which steps write
+abbrev pub writes_at : List Effect → List ℕ
+writes_at es = flat_map write_at es
+
+-- the indexes at which steps add bits
+abbrev pub adds_at : List Effect → List ℕ
+adds_at es = flat_map add_at es

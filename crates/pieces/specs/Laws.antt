@@ -1,9 +1,11 @@
 -- What is so of all pieces that are worked.
-use Rattle.std.specs.Prelude.{◌≡◌, ℕ, ◌<◌, ◌≤◌, List, [], ◌∷◌, length, map, None, slice_index, slice_get, Some}
-use Rattle.std.specs.List.{All, flat_map}
+use Rattle.std.specs.Prelude.{◌≡◌, ℕ, ◌<◌, ◌≤◌, true, List, [], ◌∷◌, length, map, None, slice_index, slice_get, Some, bit_or}
+use Rattle.std.specs.List.{All, flat_map, list_all}
 use Rattle.maptree.specs.Cuts.{pieces}
-use Rattle.pieces.specs.Effects.{Effect, word_after, words_after}
-use Rattle.pieces.specs.Contents.{StripContent, IsStrip}
+use Rattle.pieces.specs.Effects.{Effect, writes, gained, word_after, words_after, writes_at, adds_at}
+use Rattle.pieces.specs.Contents.{StripContent, IsStrip, puts_of, ends_of}
+use Rattle.pieces.specs.Distinct.{is_none_of, are_distinct}
+use Rattle.pieces.specs.Phases.{IsPiece, changes, held, CanBeWorked}
 use Rattle.pieces.specs.Steps.{status_in, effects}
 use Rattle.pieces.specs.Applied.{applied, step_counts, worked}
 use Rattle.pieces.specs.Values.{value, kept_nodes}
@@ -38,6 +40,27 @@ abbrev pub FullCountsAreWorked : Type 0
 FullCountsAreWorked =
     (w : List ℕ) (ps : List Piece) (counts : ℕ → ℕ) → ((p : ℕ) → p < length ps → slice_index (step_counts w ps) p ≤ counts p) → applied w ps counts ≡ worked w ps
 
+-- ---- steps apart
+
+-- where no two steps write at one index, a word is what the step wrote that did
+abbrev pub OneWriterDecides : Type 0
+OneWriterDecides =
+    (es : List Effect) → are_distinct (writes_at es) ≡ true → (k i word before : ℕ) → slice_get es k ≡ Some (writes i word) → word_after before i es ≡ word
+
+-- where none writes, it gains the bits of those that add
+abbrev pub NoWriterAdds : Type 0
+NoWriterAdds = (es : List Effect) (i before : ℕ) → is_none_of (writes_at es) i ≡ true → word_after before i es ≡ bit_or before (gained i es)
+
+-- the steps of pieces write exactly at the indexes that these narrow, put or take
+abbrev pub StepsWriteWhatChanges : Type 0
+StepsWriteWhatChanges = (w : List ℕ) (ps : List Piece) → All IsPiece ps → writes_at (flat_map (effects w) ps) ≡ flat_map changes ps
+
+-- of pieces that can be worked beside one another no two steps write at one index, and none adds bits where one writes
+abbrev pub StepsAreApart : Type 0
+StepsAreApart =
+    (w : List ℕ) (ps : List Piece) → All IsPiece ps → CanBeWorked w ps → let es = flat_map (effects w) ps in
+    (are_distinct (writes_at es) ≡ true) × (list_all (is_none_of (writes_at es)) (adds_at es) ≡ true)
+
 -- ---- the length of pieces
 
 -- accesses in pieces do to words what they do in one
@@ -53,6 +76,18 @@ LinksInPieces = (w : List ℕ) (most : ℕ) → 1 ≤ most → (xs : List Store)
 -- and pairs
 abbrev pub MovesInPieces : Type 0
 MovesInPieces = (w : List ℕ) (most : ℕ) → 1 ≤ most → (xs : List Pair) → worked w (map piece.Move (pieces (length xs) most xs)) ≡ worked w (piece.Move xs ∷ [])
+
+-- stores in pieces put where the list does, and read where it does
+abbrev pub LinksInPiecesChange : Type 0
+LinksInPiecesChange =
+    (most : ℕ) → 1 ≤ most → (xs : List Store) → let ps = map piece.Link (pieces (length xs) most xs) in
+    (flat_map changes ps ≡ puts_of xs) × (flat_map held ps ≡ map (λ s. s.read) xs)
+
+-- pairs in pieces take and put where the list does
+abbrev pub MovesInPiecesChange : Type 0
+MovesInPiecesChange =
+    (most : ℕ) → 1 ≤ most → (xs : List Pair) → let ps = map piece.Move (pieces (length xs) most xs) in
+    (flat_map changes ps ≡ ends_of xs) × (flat_map held ps ≡ map (λ p. p.taken) xs)
 
 -- ---- strips
 

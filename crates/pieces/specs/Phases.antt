@@ -4,7 +4,7 @@ use Rattle.std.specs.List.{flat_map, list_any, list_all, AllPass}
 use Rattle.std.specs.Option.{option_to_list}
 use Rattle.space.specs.Word.{is_pack}
 use Rattle.pieces.specs.Distinct.{is_none_of, are_distinct}
-use Rattle.pieces.specs.Contents.{puts_of, ends_of}
+use Rattle.pieces.specs.Contents.{IsStrip, puts_of, ends_of}
 use Rattle.pieces.specs.Steps.{entry_in}
 use Rattle.pieces.specs.declared.piece.Piece.{Piece}
 use Rattle.pieces.specs.declared.piece.Piece.TheVariants as piece
@@ -47,6 +47,13 @@ is_touch (piece.Touch list) = true
 -- whether all pieces are touches, or none is
 abbrev pub are_alike : List Piece → Bool
 are_alike ps = list_all is_touch ps || not (list_any is_touch ps)
+
+-- what the type of a piece keeps
+abbrev pub IsPiece : Piece → Type 0
+IsPiece (piece.Strip s) = IsStrip s
+IsPiece (piece.Link stores) = are_distinct (puts_of stores) ≡ true
+IsPiece (piece.Move pairs) = are_distinct (ends_of pairs) ≡ true
+IsPiece (piece.Touch list) = Unit {0}
 
 -- what is asked of words and pieces that are worked beside one another, in any order of steps
 pub record CanBeWorked (w : List ℕ) (ps : List Piece) : Type 0 where

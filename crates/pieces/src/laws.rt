@@ -1,6 +1,6 @@
 //! The laws of pieces. A function here does nothing: its contract is the laws.
 
-ghost use Rattle.pieces.specs.Laws.{WordsAreAsMany, EachWordAfter, NothingDone, WorkedIsAllSteps, FullCountsAreWorked, TouchesInPieces, LinksInPieces, MovesInPieces, StripsJoin, GatheredAreValues};
+ghost use Rattle.pieces.specs.Laws.{WordsAreAsMany, EachWordAfter, NothingDone, WorkedIsAllSteps, FullCountsAreWorked, OneWriterDecides, NoWriterAdds, StepsWriteWhatChanges, StepsAreApart, TouchesInPieces, LinksInPieces, MovesInPieces, LinksInPiecesChange, MovesInPiecesChange, StripsJoin, GatheredAreValues};
 
 /// Words after steps, in whatever order these were done.
 pub fn words_after_steps()
@@ -11,11 +11,21 @@ pub fn words_after_steps()
     ensures full_counts_are_worked { FullCountsAreWorked }
 {}
 
+/// Steps that write, and steps that add bits.
+pub fn steps_apart()
+    ensures one_writer_decides { OneWriterDecides }
+    ensures no_writer_adds { NoWriterAdds }
+    ensures steps_write_what_changes { StepsWriteWhatChanges }
+    ensures steps_are_apart { StepsAreApart }
+{}
+
 /// Work in pieces of any length is the work of the whole.
 pub fn work_in_pieces()
     ensures touches_in_pieces { TouchesInPieces }
     ensures links_in_pieces { LinksInPieces }
     ensures moves_in_pieces { MovesInPieces }
+    ensures links_in_pieces_change { LinksInPiecesChange }
+    ensures moves_in_pieces_change { MovesInPiecesChange }
     ensures strips_join { StripsJoin }
 {}
 

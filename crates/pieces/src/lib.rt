@@ -10,13 +10,15 @@ mod link;
 mod moving;
 mod piece;
 mod strip;
+#[cfg(test)]
+mod tests;
 mod touch;
 mod worked;
 
 pub use cutting::{links, moves, touches};
 pub use done::Done;
 pub use gathering::{GatherError, GatherFault, Gathered, gather};
-pub use laws::{gathered_values, words_after_steps, work_in_pieces};
+pub use laws::{gathered_values, steps_apart, words_after_steps, work_in_pieces};
 pub use link::{Link, Store};
 pub use moving::{Move, Pair};
 pub use piece::Piece;

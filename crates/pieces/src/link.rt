@@ -47,7 +47,8 @@ impl Link {
 
     /// How many stores it has.
     pub fn len(&self) -> usize
-        ensures { result ≡ length self.now }
+        ensures len { result ≡ length self.now }
+        ensures distinct { are_distinct (puts_of self.now) ≡ true }
     {
         self.stores.len()
     }

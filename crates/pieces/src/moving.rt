@@ -43,7 +43,8 @@ impl Move {
 
     /// How many pairs it has.
     pub fn len(&self) -> usize
-        ensures { result ≡ length self.now }
+        ensures len { result ≡ length self.now }
+        ensures distinct { are_distinct (ends_of self.now) ≡ true }
     {
         self.pairs.len()
     }

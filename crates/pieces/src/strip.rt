@@ -76,7 +76,8 @@ impl Strip {
 
     /// How many nodes it has.
     pub fn len(&self) -> usize
-        ensures { result ≡ length self.now.nodes }
+        ensures len { result ≡ length self.now.nodes }
+        ensures strip { IsStrip self.now }
     {
         self.slice.nodes.len()
     }

@@ -1,5 +1,5 @@
 -- Of any words and lists.
-use Rattle.pieces.proofs.InPieces.{touches_in_pieces, answers_in_pieces, links_in_pieces, moves_in_pieces, status_joined, kept_joined}
+use Rattle.pieces.proofs.InPieces.{touches_in_pieces, answers_in_pieces, links_in_pieces, moves_in_pieces, links_change, moves_change, status_joined, kept_joined}
 use Rattle.pieces.proofs.laws.work_in_pieces.Goals as goal
 
 pub returns-clause-touches_in_pieces : goal.returns-clause-touches_in_pieces
@@ -10,6 +10,12 @@ returns-clause-links_in_pieces c = links_in_pieces
 
 pub returns-clause-moves_in_pieces : goal.returns-clause-moves_in_pieces
 returns-clause-moves_in_pieces c = moves_in_pieces
+
+pub returns-clause-links_in_pieces_change : goal.returns-clause-links_in_pieces_change
+returns-clause-links_in_pieces_change c = links_change
+
+pub returns-clause-moves_in_pieces_change : goal.returns-clause-moves_in_pieces_change
+returns-clause-moves_in_pieces_change c = moves_change
 
 pub returns-clause-strips_join : goal.returns-clause-strips_join
 returns-clause-strips_join c = λ w ss each. (status_joined w ss, kept_joined w ss each)
