@@ -23,7 +23,7 @@ done_none : (p : ℕ) (ess : List (List Effect)) → done_from p (λ q. 0) ess �
 done_none p [] = refl
 done_none p (es ∷ ess) = done_none (p + 1) ess
 
-words_none : (j : ℕ) (w : List ℕ) → words_from j w [] ≡ w
+pub words_none : (j : ℕ) (w : List ℕ) → words_from j w [] ≡ w
 words_none j [] = refl
 words_none j (x ∷ w) = rw (or_zero_r x, words_none (j + 1) w) refl
 

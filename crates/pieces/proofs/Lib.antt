@@ -3,3 +3,5 @@ pub mod Placed
 pub mod AllSteps
 pub mod InPieces
 pub mod Writers
+pub mod InOrder
+pub mod Repeats

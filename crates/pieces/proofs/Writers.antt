@@ -113,7 +113,7 @@ one_touch_writes w t = by (may_access w t)
     by true = refl
     by false = refl
 
-touches_write : (w : List ℕ) (ts : List WordAccess) → flat_map write_at (map (effect w) (flat_map (access_steps w) ts)) ≡ []
+pub touches_write : (w : List ℕ) (ts : List WordAccess) → flat_map write_at (map (effect w) (flat_map (access_steps w) ts)) ≡ []
 touches_write w [] = refl
 touches_write w (t ∷ ts) = at_append write_at w (access_steps w t) (flat_map (access_steps w) ts) ∙ ap (λ is. is ++ flat_map write_at (map (effect w) (flat_map (access_steps w) ts))) (one_touch_writes w t) ∙ touches_write w ts
 

@@ -1,12 +1,13 @@
 -- What is so of all pieces that are worked.
-use Rattle.std.specs.Prelude.{◌≡◌, ℕ, ◌<◌, ◌≤◌, true, List, [], ◌∷◌, length, map, None, slice_index, slice_get, Some, bit_or}
-use Rattle.std.specs.List.{All, flat_map, list_all}
+use Rattle.std.specs.Prelude.{◌≡◌, ℕ, ◌<◌, ◌≤◌, Bool, true, List, [], ◌∷◌, length, map, None, slice_index, slice_get, Some, bit_or}
+use Rattle.std.specs.List.{All, AllPass, flat_map, list_all}
 use Rattle.maptree.specs.Cuts.{pieces}
 use Rattle.pieces.specs.Effects.{Effect, writes, gained, word_after, words_after, writes_at, adds_at}
 use Rattle.pieces.specs.Contents.{StripContent, IsStrip, puts_of, ends_of}
 use Rattle.pieces.specs.Distinct.{is_none_of, are_distinct}
 use Rattle.pieces.specs.Phases.{IsPiece, changes, held, CanBeWorked}
-use Rattle.pieces.specs.Steps.{status_in, effects}
+use Rattle.space.specs.Word.{is_pack}
+use Rattle.pieces.specs.Steps.{may_access, status_in, effects}
 use Rattle.pieces.specs.Applied.{applied, step_counts, worked}
 use Rattle.pieces.specs.Values.{value, kept_nodes}
 use Rattle.pieces.specs.Dones.{DoneContent, IsDone}
@@ -88,6 +89,28 @@ abbrev pub MovesInPiecesChange : Type 0
 MovesInPiecesChange =
     (most : ℕ) → 1 ≤ most → (xs : List Pair) → let ps = map piece.Move (pieces (length xs) most xs) in
     (flat_map changes ps ≡ ends_of xs) × (flat_map held ps ≡ map (λ p. p.taken) xs)
+
+-- ---- accesses
+
+-- the words after one access that is made alone
+abbrev pub accessed : List ℕ → WordAccess → List ℕ
+accessed w t = worked w (piece.Touch (t ∷ []) ∷ [])
+
+-- the words after accesses one after another, each made of the words that those before it left
+abbrev pub accessed_in_order : List ℕ → List WordAccess → List ℕ
+accessed_in_order w [] = w
+accessed_in_order w (t ∷ ts) = accessed_in_order (accessed w t) ts
+
+-- what they answer
+abbrev pub answers_in_order : List ℕ → List WordAccess → List Bool
+answers_in_order w [] = []
+answers_in_order w (t ∷ ts) = may_access w t ∷ answers_in_order (accessed w t) ts
+
+-- in whatever order the steps of a touch are done, words and answers are those of its accesses one after another
+abbrev pub AccessesInListOrder : Type 0
+AccessesInListOrder =
+    (w : List ℕ) → AllPass is_pack w → (ts : List WordAccess)
+    → (worked w (piece.Touch ts ∷ []) ≡ accessed_in_order w ts) × ((value w (piece.Touch ts)).answers ≡ answers_in_order w ts)
 
 -- ---- strips
 

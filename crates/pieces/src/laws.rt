@@ -1,6 +1,6 @@
 //! The laws of pieces. A function here does nothing: its contract is the laws.
 
-ghost use Rattle.pieces.specs.Laws.{WordsAreAsMany, EachWordAfter, NothingDone, WorkedIsAllSteps, FullCountsAreWorked, OneWriterDecides, NoWriterAdds, StepsWriteWhatChanges, StepsAreApart, TouchesInPieces, LinksInPieces, MovesInPieces, LinksInPiecesChange, MovesInPiecesChange, StripsJoin, GatheredAreValues};
+ghost use Rattle.pieces.specs.Laws.{WordsAreAsMany, EachWordAfter, NothingDone, WorkedIsAllSteps, FullCountsAreWorked, OneWriterDecides, NoWriterAdds, StepsWriteWhatChanges, StepsAreApart, AccessesInListOrder, TouchesInPieces, LinksInPieces, MovesInPieces, LinksInPiecesChange, MovesInPiecesChange, StripsJoin, GatheredAreValues};
 
 /// Words after steps, in whatever order these were done.
 pub fn words_after_steps()
@@ -21,6 +21,7 @@ pub fn steps_apart()
 
 /// Work in pieces of any length is the work of the whole.
 pub fn work_in_pieces()
+    ensures accesses_in_list_order { AccessesInListOrder }
     ensures touches_in_pieces { TouchesInPieces }
     ensures links_in_pieces { LinksInPieces }
     ensures moves_in_pieces { MovesInPieces }

@@ -3,6 +3,7 @@
 #![tactic(auto)]
 
 mod cutting;
+mod distinct;
 mod done;
 mod gathering;
 mod laws;
@@ -16,6 +17,7 @@ mod touch;
 mod worked;
 
 pub use cutting::{links, moves, touches};
+pub use distinct::are_distinct;
 pub use done::Done;
 pub use gathering::{GatherError, GatherFault, Gathered, gather};
 pub use laws::{gathered_values, steps_apart, words_after_steps, work_in_pieces};

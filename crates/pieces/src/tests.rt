@@ -3,7 +3,8 @@
 ghost use Rattle.std.specs.Prelude.{◌≡◌, ◌<◌, IfOk};
 
 use crate::{
-    Done, GatherFault, Pair, Piece, Store, Strip, Touch, WordAccess, gather, links, moves, touches,
+    Done, GatherFault, Pair, Piece, Store, Strip, Touch, WordAccess, are_distinct, gather, links,
+    moves, touches,
 };
 use fpage::{Access, Rights};
 use maptree::{Node, Slice};
@@ -145,6 +146,16 @@ fn tells_why_nothing_is_gathered(rt: HostRuntime) -> Result<(), Fail> {
             }
         }
     }
+    Ok(())
+}
+
+#[test]
+fn tells_distinct_indexes(rt: HostRuntime) -> Result<(), Fail> {
+    let alloc = rt.alloc();
+    assert!(rt; are_distinct(alloc, &[])?);
+    assert!(rt; are_distinct(alloc, &[7, 0, 3])?);
+    assert!(rt; !are_distinct(alloc, &[7, 0, 3, 7])?);
+    assert!(rt; !are_distinct(alloc, &[3, 7, 7])?);
     Ok(())
 }
 
