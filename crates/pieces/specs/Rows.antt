@@ -1,6 +1,6 @@
 -- Worked rows: what steps make of words, worked out by hand. A word is bit 32, the frame from bit 8 on, status R, W, X as 20, 10, 8
 -- and rights r, w, x as 4, 2, 1, in hexadecimal.
-use Rattle.std.specs.Prelude.{◌≡◌, ℕ, true, false, List, [], ◌∷◌, map, slice_index, Some, None}
+use Rattle.std.specs.Prelude.{Bool, ◌≡◌, ℕ, true, false, List, [], ◌∷◌, ◌++◌, map, slice_index, Some, None}
 use Rattle.fpage.specs.Rights.{no_rights, all_rights}
 use Rattle.fpage.specs.declared.rights.Access.TheVariants.{Read, Write, Execute}
 use Rattle.fpage.specs.declared.rights.Rights.{Rights}
@@ -9,7 +9,14 @@ use Rattle.maptree.specs.declared.node.Node.{Node}
 use Rattle.pieces.specs.Effects.{keeps, adds, writes, words_after}
 use Rattle.pieces.specs.Steps.{narrow, fold, put, take, see, mark, steps}
 use Rattle.pieces.specs.Applied.{applied, step_counts, worked, before, after}
-use Rattle.pieces.specs.Values.{value}
+use Rattle.pieces.specs.Distinct.{are_distinct}
+use Rattle.pieces.specs.Contents.{is_fold_apart}
+use Rattle.pieces.specs.Masks.{masks_of}
+use Rattle.pieces.specs.Phases.{changes, folds, held, named, are_alike}
+use Rattle.pieces.specs.Dones.{DoneContent}
+use Rattle.pieces.specs.Gathering.{fault_in, all_found, union_of}
+use Rattle.pieces.specs.declared.gathering.GatherFault.TheVariants.{Stranger, Twice, Missing}
+use Rattle.pieces.specs.Values.{value, no_value}
 use Rattle.pieces.specs.declared.piece.Piece.{Piece}
 use Rattle.pieces.specs.declared.piece.Piece.TheVariants as piece
 
@@ -229,3 +236,48 @@ NothingMadeOfNothing =
     (worked words (piece.Link (record { read = 0; put = 1; rights = r } ∷ []) ∷ []) ≡ 0 ∷ 0 ∷ [])
     × (worked words (piece.Move (record { taken = 0; put = 1 } ∷ []) ∷ []) ≡ 0 ∷ 0 ∷ [])
     × (words_after (0x100000507 ∷ []) (adds 0 8 ∷ writes 0 0x100000504 ∷ keeps 0 ∷ adds 0 16 ∷ []) ≡ 0x100000504 ∷ [])
+
+-- ---- masks, pieces beside one another, results
+
+-- w is revoked from a run of three nodes: the first keeps it where it is spared
+abbrev pub MasksOfARun : Type 0
+MasksOfARun =
+    (masks_of true w 3 ≡ no_rights ∷ w ∷ w ∷ []) × (masks_of false w 3 ≡ w ∷ w ∷ w ∷ []) × (masks_of true w 1 ≡ no_rights ∷ []) × (masks_of true w 0 ≡ [])
+
+-- the indexes of one piece of each kind: those that it changes, its fold word, those where a page must be held, and all; and
+-- whether they are all touches, or none is
+abbrev pub IndexesOfPieces : Type 0
+IndexesOfPieces =
+    let others : List Piece =
+    piece.Strip (record { nodes = node 1 0 1 ∷ node 2 0 2 ∷ []; masks = w ∷ w ∷ []; indexes = 4 ∷ 7 ∷ []; fold = Some 5 })
+    ∷ piece.Link (record { read = 5; put = 8; rights = w } ∷ [])
+    ∷ piece.Move (record { taken = 1; put = 2 } ∷ []) ∷ [] in
+    let touch : List Piece = piece.Touch (record { index = 3; access = Read } ∷ []) ∷ [] in
+    (map changes (others ++ touch) ≡ (4 ∷ 7 ∷ []) ∷ (8 ∷ []) ∷ (1 ∷ 2 ∷ []) ∷ [] ∷ [])
+    × (map folds (others ++ touch) ≡ (5 ∷ []) ∷ [] ∷ [] ∷ [] ∷ [])
+    × (map held (others ++ touch) ≡ (5 ∷ []) ∷ (5 ∷ []) ∷ (1 ∷ []) ∷ [] ∷ [])
+    × (map named (others ++ touch) ≡ (4 ∷ 7 ∷ 5 ∷ []) ∷ (5 ∷ 8 ∷ []) ∷ (1 ∷ 2 ∷ []) ∷ (3 ∷ []) ∷ [])
+    × (are_alike (others ++ touch) ≡ false)
+    × (are_alike others ≡ true)
+    × (are_alike touch ≡ true)
+    × (are_alike [] ≡ true)
+
+-- a result of this number that answers this
+abbrev pub answered : ℕ → List Bool → DoneContent
+answered number answers = record { number = number; found = record no_value { answers = answers }; of = piece.Touch []; words = [] }
+
+-- why nothing is gathered, the first that fits, and what is gathered of three
+abbrev pub ResultsInOrder : Type 0
+ResultsInOrder =
+    (fault_in 2 (answered 0 [] ∷ answered 2 [] ∷ []) ≡ Some Stranger)
+    × (fault_in 3 (answered 0 [] ∷ answered 0 [] ∷ []) ≡ Some Twice)
+    × (fault_in 2 (answered 0 [] ∷ []) ≡ Some Missing)
+    × (fault_in 2 (answered 2 [] ∷ answered 2 [] ∷ []) ≡ Some Stranger)
+    × (fault_in 0 [] ≡ None)
+    × (fault_in 3 (answered 2 [] ∷ answered 0 [] ∷ answered 1 [] ∷ []) ≡ None)
+    × (map (λ v. v.answers) (all_found 3 (answered 2 (true ∷ []) ∷ answered 0 (false ∷ []) ∷ answered 1 [] ∷ [])) ≡ (false ∷ []) ∷ [] ∷ (true ∷ []) ∷ [])
+    × (union_of (r ∷ no_rights ∷ x ∷ []) ≡ record { read = true; write = false; execute = true })
+
+-- which lists have a number twice
+abbrev pub DistinctNumbers : Type 0
+DistinctNumbers = (are_distinct (7 ∷ 0 ∷ 3 ∷ []) ≡ true) × (are_distinct (7 ∷ 0 ∷ 7 ∷ []) ≡ false) × (are_distinct (3 ∷ 7 ∷ 7 ∷ []) ≡ false) × (is_fold_apart (Some 7) (7 ∷ []) ≡ false) × (is_fold_apart None (7 ∷ []) ≡ true)

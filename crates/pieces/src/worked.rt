@@ -1,8 +1,8 @@
 //! The worked rows: what pieces are, step by step, worked out by hand. The function does nothing: its contract is the rows.
 
-ghost use Rattle.pieces.specs.Rows.{StepsOfTwoStrips, StripsByStep, StripsWorked, ValuesOfTwoStrips, BeforeAndAfterTwoStrips, UnmapOfARoot, UnmapOfANestedPage, NodesLeftWithoutRights, FoldOfNoStatus, TouchByStep, TouchesAddUp, MoveByStep, MovesClearStatus, LinkWidens, LinksReadWordsAtOpening, NothingMadeOfNothing};
+ghost use Rattle.pieces.specs.Rows.{StepsOfTwoStrips, StripsByStep, StripsWorked, ValuesOfTwoStrips, BeforeAndAfterTwoStrips, UnmapOfARoot, UnmapOfANestedPage, NodesLeftWithoutRights, FoldOfNoStatus, TouchByStep, TouchesAddUp, MoveByStep, MovesClearStatus, LinkWidens, LinksReadWordsAtOpening, NothingMadeOfNothing, MasksOfARun, IndexesOfPieces, ResultsInOrder, DistinctNumbers};
 
-/// Pieces by their steps: the words after each, and what each finds out.
+/// Pieces by their steps, the words after each, what each finds out, and what is gathered.
 pub fn rows_of_pieces()
     ensures steps_of_two_strips { StepsOfTwoStrips }
     ensures strips_by_step { StripsByStep }
@@ -20,4 +20,8 @@ pub fn rows_of_pieces()
     ensures link_widens { LinkWidens }
     ensures links_read_words_at_opening { LinksReadWordsAtOpening }
     ensures nothing_made_of_nothing { NothingMadeOfNothing }
+    ensures masks_of_a_run { MasksOfARun }
+    ensures indexes_of_pieces { IndexesOfPieces }
+    ensures results_in_order { ResultsInOrder }
+    ensures distinct_numbers { DistinctNumbers }
 {}
