@@ -8,7 +8,7 @@ use crate::{
 };
 use fpage::{Access, Rights};
 use maptree::{Node, Slice};
-use space::Place;
+use space::{NoMemory, Place};
 use std::alloc::{AllocError, Global};
 use std::snapshot::Snapshot;
 use std::test::Fail;
@@ -102,10 +102,11 @@ fn answered(alloc: Global, number: usize, index: usize) -> Result<Done, AllocErr
 }
 
 /// The results of these numbers, each of which answers whether the number is even.
-fn results(alloc: Global, numbers: &[usize]) -> Result<Vec<Done>, AllocError> {
+fn results(alloc: Global, numbers: &[usize]) -> Result<Vec<Done>, NoMemory> {
     let mut dones = Vec::new(alloc);
     for number in numbers {
-        dones.push(answered(alloc, *number, *number % 2)?)?;
+        let done = answered(alloc, *number, *number % 2)?;
+        dones.push(done).map_err(AllocError::from)?;
     }
     Ok(dones)
 }
@@ -119,7 +120,11 @@ fn gathers_by_number(rt: HostRuntime) -> Result<(), Fail> {
             assert_eq!(rt; gathered.answers.as_slice(), [true, false, true].as_slice());
             assert_eq!(rt; gathered.status, Rights::none());
         }
-        Err(_) => panic!(rt; "nothing was gathered"),
+        Err(error) => {
+            assert_eq!(rt; error.fault, GatherFault::NoMemory);
+            assert_eq!(rt; error.given.len(), 3);
+            Err(NoMemory)?;
+        }
     }
     Ok(())
 }
