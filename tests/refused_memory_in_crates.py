@@ -5,8 +5,9 @@
 
 The tests that `rt ci`, or `rt test` in the crate, builds are run one by one. Each must end as the undisturbed one, or with
 the error `NoMemory`. Where a call is refused memory, the tests themselves look at what it left, and end otherwise if that is
-not what its contract says: a tree that `reserve`, `outer_runs` or `cut` changed, a database that is not halted; or at what no
-contract says: reply lines that are not flushed. Allocations are refused by the preloaded library of support/fail_alloc.c.
+not what its contract says: a tree that `reserve`, `outer_runs` or `cut` changed, results that `gather` does not hand back, a
+database that is not halted; or at what no contract says: reply lines that are not flushed. Allocations are refused by the
+preloaded library of support/fail_alloc.c.
 """
 
 import os
@@ -25,6 +26,7 @@ TESTS = {
         "cuts::stays_as_the_last_cut_left_it_where_nothing_is_put_back",
         "cuts::cuts_runs_and_puts_back_what_is_kept",
     ],
+    "pieces": ["gathers_by_number"],
     "mapdb": [
         "holds_each_frame_once_at_the_start",
         "maps_a_page_on",

@@ -1,0 +1,15 @@
+pub mod Distinct
+pub mod DistinctParts
+pub mod Effects
+pub mod Contents
+pub mod Steps
+pub mod Applied
+pub mod Values
+pub mod Forms
+pub mod Rows
+pub mod Dones
+pub mod Gathering
+pub mod Places
+pub mod Masks
+pub mod Phases
+pub mod Laws

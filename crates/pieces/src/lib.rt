@@ -1,0 +1,29 @@
+//! The work of a phase in pieces: parts of trees to be stripped, mappings to be linked, pages to be moved, accesses to be
+//! made; and what the pieces found out, gathered.
+#![tactic(auto)]
+
+mod cutting;
+mod distinct;
+mod done;
+mod gathering;
+mod laws;
+mod link;
+mod moving;
+mod piece;
+mod strip;
+#[cfg(test)]
+mod tests;
+mod touch;
+mod worked;
+
+pub use cutting::{links, moves, touches};
+pub use distinct::are_distinct;
+pub use done::Done;
+pub use gathering::{GatherError, GatherFault, Gathered, gather};
+pub use laws::{gathered_values, steps_apart, words_after_steps, work_in_pieces};
+pub use link::{Link, Store};
+pub use moving::{Move, Pair};
+pub use piece::Piece;
+pub use strip::Strip;
+pub use touch::{Touch, WordAccess};
+pub use worked::rows_of_pieces;
