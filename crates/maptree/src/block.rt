@@ -139,7 +139,7 @@ impl Block {
         ensures { self.new ≡ insert self.old i node }
     {
         self.least = self.least.min(node.depth);
-        // A push and a move: `insert` of a vector moves node by node.
+        // A push and a shift take fewer steps than `insert` of a vector (DECISIONS).
         let pushed = self.nodes.push(node);
         prove!(pushed.is_ok());
         shift_in(&mut self.nodes, i, node);
