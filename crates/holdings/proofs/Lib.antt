@@ -8,3 +8,4 @@ pub mod Outcomes
 pub mod Links
 pub mod Maps
 pub mod Renamings
+pub mod Phases

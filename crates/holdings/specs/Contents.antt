@@ -1,7 +1,9 @@
 -- Holdings as their callers see them, and what each phase makes of them.
-use Rattle.std.specs.Prelude.{◌≡◌, true, List, Bool, []}
+use Rattle.std.specs.Prelude.{◌≡◌, true, List, Bool, [], ◌∷◌}
 use Rattle.fpage.specs.declared.item.ItemKind.TheVariants.{Map}
+use Rattle.fpage.specs.declared.rights.Access.{Access}
 use Rattle.fpage.specs.declared.rights.Rights.{Rights}
+use Rattle.space.specs.declared.place.Place.{Place}
 use Rattle.space.specs.declared.place.Entry.{Entry}
 use Rattle.model.specs.Calls.{Limits}
 use Rattle.model.specs.Grant.{renamed}
@@ -10,6 +12,7 @@ use Rattle.model.specs.Lawful.{is_lawful}
 use Rattle.model.specs.Records.{are_limits}
 use Rattle.model.specs.Replay.{start}
 use Rattle.model.specs.Strip.{strip, strip_word}
+use Rattle.model.specs.Touch.{can_touch, touch}
 use Rattle.holdings.specs.Places.{listing}
 use Rattle.holdings.specs.Sending.{counts_after_flush, map_transfers, moving_of}
 use Rattle.holdings.specs.declared.transfer.Transfer.{Transfer}
@@ -53,3 +56,13 @@ pub record AreMapped (old : Contents) (ts : List Transfer) (rights : Rights) (r 
 pub record AreMoved (old : Contents) (ts : List Transfer) (r : Contents × TransferCounts) : Type 0 where
   pub left : r.0 ≡ left_with old (renamed (moving_of old.holdings ts) old.holdings)
   pub counted : counts_of r.1 ≡ counts_after_flush old.holdings ts
+
+-- what accesses leave, one after another
+abbrev pub touched_all : Holdings → List (Place × Access) → Holdings
+touched_all h [] = h
+touched_all h (a ∷ rest) = touched_all (touch h a.0 a.1) rest
+
+-- which accesses are made, each of what those before it left
+abbrev pub access_answers : Holdings → List (Place × Access) → List Bool
+access_answers h [] = []
+access_answers h (a ∷ rest) = can_touch h a.0 a.1 ∷ access_answers (touch h a.0 a.1) rest

@@ -5,6 +5,7 @@ pub mod Held
 pub mod Sound
 pub mod Start
 pub mod Stripping
+pub mod Planning
 pub mod Outcomes
 pub mod Spots
 pub mod Links

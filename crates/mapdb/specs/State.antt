@@ -43,16 +43,6 @@ halted s = record s { holdings = []; is_halted = true }
 abbrev pub left_with : State → Holdings → State
 left_with s h = record s { holdings = h }
 
--- what accesses leave, one after another
-abbrev pub touched_all : Holdings → List (Place × Access) → Holdings
-touched_all h [] = h
-touched_all h (a ∷ rest) = touched_all (touch h a.0 a.1) rest
-
--- which accesses are made, each of what those before it left
-abbrev pub access_answers : Holdings → List (Place × Access) → List Bool
-access_answers h [] = []
-access_answers h (a ∷ rest) = can_touch h a.0 a.1 ∷ access_answers (touch h a.0 a.1) rest
-
 -- an answer of a call that changes nothing: that it is halted, or this
 abbrev pub unless_halted : {A : Type 0} → State → A → Result A DbError
 unless_halted s answer = if s.is_halted then Err Halted else Ok answer

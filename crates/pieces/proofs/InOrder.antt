@@ -4,7 +4,7 @@ use Rattle.std.specs.Prelude.{◌==◌}
 use Rattle.std.specs.List.{flat_map, AllPass}
 use Rattle.std.specs.Option.{option_map_or}
 use Rattle.std.specs.Int.Bits.{or_zero_l, or_zero_r}
-use Rattle.std.proofs.lemmas.Bool.{cases_lt, eqb-true}
+use Rattle.std.proofs.lemmas.Bool.{cases_lt, eqb-true, eq-eqb}
 use Rattle.std.proofs.lemmas.Grind.{flat_map-append}
 use Rattle.std.proofs.lemmas.List.{append-nil, map-append, get_or_past, get_or_default}
 use Rattle.std.proofs.lemmas.Nat.Bits.{same_from_bits, bit_at_or}
@@ -30,7 +30,7 @@ or_assoc a b c =
     same_from_bits (bit_or (bit_or a b) c) (bit_or a (bit_or b c))
     (λ i. let l = bit_at_or (bit_or a b) c i in let m = bit_at_or a b i in let n = bit_at_or a (bit_or b c) i in let o = bit_at_or b c i in omega arith)
 
-gained_append : (i : ℕ) (es fs : List Effect) → gained i (es ++ fs) ≡ bit_or (gained i es) (gained i fs)
+pub gained_append : (i : ℕ) (es fs : List Effect) → gained i (es ++ fs) ≡ bit_or (gained i es) (gained i fs)
 gained_append i [] fs = sym (or_zero_l (gained i fs))
 gained_append i (e ∷ es) fs = ap (bit_or (bits_at i e)) (gained_append i es fs) ∙ sym (or_assoc (bits_at i e) (gained i es) (gained i fs))
 
@@ -49,7 +49,7 @@ added_twice j (x ∷ w) es fs none none' =
 -- ---- one access
 
 -- what it does to its word, by whether it may be made
-abbrev one : Bool → WordAccess → List Effect
+abbrev pub one : Bool → WordAccess → List Effect
 one b t = if b then keeps t.index ∷ adds t.index (status_bits (marks t.access)) ∷ [] else keeps t.index ∷ []
 
 one_is : (w : List ℕ) (t : WordAccess) → map (effect w) (access_steps w t) ≡ one (may_access w t) t
@@ -67,6 +67,32 @@ one_alone w t = more_is w t [] ∙ append-nil (one (may_access w t) t)
 
 accessed_is : (w : List ℕ) (t : WordAccess) → accessed w t ≡ words_after w (one (may_access w t) t)
 accessed_is w t = worked_all w (piece.Touch (t ∷ []) ∷ []) ∙ ap (words_after w) (append-nil (effects w (piece.Touch (t ∷ []))) ∙ one_alone w t)
+
+-- the word at an index after an access
+pub accessed_word : (w : List ℕ) (t : WordAccess) (i : ℕ) → i < length w → get_or (accessed w t) i 0 ≡ word_after (get_or w i 0) i (one (may_access w t) t)
+accessed_word w t i within =
+    ap (λ v. get_or v i 0) (accessed_is w t) ∙ word_at 0 w (one (may_access w t) t) i within ∙ ap (λ k. word_after (get_or w i 0) k (one (may_access w t) t)) (zero-add i)
+
+-- at another index it stays
+pub accessed_elsewhere : (word i : ℕ) (b : Bool) (t : WordAccess) → (t.index == i) ≡ false → word_after word i (one b t) ≡ word
+accessed_elsewhere word i false t apart = or_zero_r word
+accessed_elsewhere word i true t apart = by (t.index == i) apart
+  where
+    by : (s : Bool) → s ≡ false → bit_or word (bit_or 0 (bit_or (if s then status_bits (marks t.access) else 0) 0)) ≡ word
+    by false is = or_zero_r word
+    by true is = absurd (cc is)
+
+-- where the access may not be made too
+pub faulted_word : (word i : ℕ) (t : WordAccess) → word_after word i (one false t) ≡ word
+faulted_word word i t = or_zero_r word
+
+-- where it may, the page gains its status
+pub made_word : (word : ℕ) (t : WordAccess) → is_pack word ≡ true → word ≢ 0 → entry_of (word_after word t.index (one true t)) ≡ option_map (λ e. marked e (marks t.access)) (entry_of word)
+made_word word t pack some = by (t.index == t.index) (eq-eqb t.index t.index refl)
+  where
+    by : (s : Bool) → s ≡ true → entry_of (bit_or word (bit_or 0 (bit_or (if s then status_bits (marks t.access) else 0) 0))) ≡ option_map (λ e. marked e (marks t.access)) (entry_of word)
+    by true is = rw (or_zero_l, or_zero_r) (pack_gains_status word (marks t.access) pack some).2
+    by false is = absurd (cc is)
 
 -- words that permit the same accesses have the same effects
 same_effects : (w v : List ℕ) → ((t : WordAccess) → may_access v t ≡ may_access w t) → (ts : List WordAccess) → effects v (piece.Touch ts) ≡ effects w (piece.Touch ts)
@@ -92,7 +118,7 @@ with_marks word b pack some =
     by a (Some e) = refl
 
 -- a page that is held has a word that is not 0
-held_word : (word : ℕ) (a : Access) → option_map_or (λ e. has e.rights a) (entry_of word) false ≡ true → word ≢ 0
+pub held_word : (word : ℕ) (a : Access) → option_map_or (λ e. has e.rights a) (entry_of word) false ≡ true → word ≢ 0
 held_word word a may zeroed = let gone : option_map_or (λ e. has e.rights a) (entry_of 0) false ≡ true = subst (λ x. option_map_or (λ e. has e.rights a) (entry_of x) false ≡ true) zeroed may in cc
 
 one_word : (word : ℕ) (t : WordAccess) (i : ℕ) (b : Bool) → is_pack word ≡ true → (b ≡ true → t.index ≡ i → word ≢ 0) → KeepsRights word (word_after word i (one b t))
@@ -109,10 +135,10 @@ each_word w packs t i within =
     subst (λ x. KeepsRights (get_or w i 0) x) (sym (ap (λ v. get_or v i 0) (accessed_is w t) ∙ word_at 0 w (one (may_access w t) t) i within ∙ ap (λ k. word_after (get_or w i 0) k (one (may_access w t) t)) (zero-add i)))
     (one_word (get_or w i 0) t i (may_access w t) (packs i 0 within) (λ may same. held_word (get_or w i 0) t.access (ap (λ k. option_map_or (λ e. has e.rights t.access) (entry_of (get_or w k 0)) false) (sym same) ∙ may)))
 
-accessed_length : (w : List ℕ) (t : WordAccess) → length (accessed w t) ≡ length w
+pub accessed_length : (w : List ℕ) (t : WordAccess) → length (accessed w t) ≡ length w
 accessed_length w t = ap length (accessed_is w t) ∙ length_words 0 w (one (may_access w t) t)
 
-packs_after : (w : List ℕ) → AllPass is_pack w → (t : WordAccess) → AllPass is_pack (accessed w t)
+pub packs_after : (w : List ℕ) → AllPass is_pack w → (t : WordAccess) → AllPass is_pack (accessed w t)
 packs_after w packs t k d less =
     let l = accessed_length w t in
     let within : k < length w = omega arith in

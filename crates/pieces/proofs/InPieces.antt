@@ -79,7 +79,7 @@ moves_change most some xs = (
 
 -- ---- strips
 
-status_append : (w is js : List ℕ) → status_in w (is ++ js) ≡ join (status_in w is) (status_in w js)
+pub status_append : (w is js : List ℕ) → status_in w (is ++ js) ≡ join (status_in w is) (status_in w js)
 status_append w [] js = refl
 status_append w (i ∷ is) js = ap (join (status_of (entry_in w i))) (status_append w is js) ∙ sym (join_assoc (status_of (entry_in w i)) (status_in w is) (status_in w js))
 
@@ -87,7 +87,7 @@ pub status_joined : (w : List ℕ) (ss : List StripContent) → union_of (map (�
 status_joined w [] = refl
 status_joined w (s ∷ ss) = ap (join (status_in w s.indexes)) (status_joined w ss) ∙ sym (status_append w s.indexes (flat_map (λ (t : StripContent). t.indexes) ss))
 
-zip_append : {A B : Type 0} (xs vs : List A) (ys us : List B) → length xs ≡ length ys → zip (xs ++ vs) (ys ++ us) ≡ zip xs ys ++ zip vs us
+pub zip_append : {A B : Type 0} (xs vs : List A) (ys us : List B) → length xs ≡ length ys → zip (xs ++ vs) (ys ++ us) ≡ zip xs ys ++ zip vs us
 zip_append [] vs [] us same = refl
 zip_append [] vs (y ∷ ys) us same = absurd (omega (arith, same))
 zip_append (x ∷ xs) vs [] us same = absurd (omega (arith, same))

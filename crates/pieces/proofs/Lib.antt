@@ -5,3 +5,4 @@ pub mod InPieces
 pub mod Writers
 pub mod InOrder
 pub mod Repeats
+pub mod WholeStrips

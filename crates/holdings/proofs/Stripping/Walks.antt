@@ -48,7 +48,7 @@ use Rattle.holdings.proofs.Contents.WordChanges.{place_kept}
 -- ---- unions of status
 
 -- over one place more
-over_more : (h : Holdings) (sorted : IsLawful h) (X Y : PlaceSet) (q : Place) → ((p : Place) → Y p ≡ (X p || same_place p q)) → status_over Y h ≡ join (status_over X h) (option_map_or (λ m. m.status) (at h q) no_rights)
+pub over_more : (h : Holdings) (sorted : IsLawful h) (X Y : PlaceSet) (q : Place) → ((p : Place) → Y p ≡ (X p || same_place p q)) → status_over Y h ≡ join (status_over X h) (option_map_or (λ m. m.status) (at h q) no_rights)
 over_more h l X Y q one = same_elements _ _ there back
   where
     there : (b : Access) → has (status_over Y h) b ≡ true → has (join (status_over X h) (option_map_or (λ m. m.status) (at h q) no_rights)) b ≡ true
@@ -80,7 +80,7 @@ over_same h l X Y same = same_elements _ _
     (λ b bit. let s = over_from Y b h l.sorted bit in over_has X b h s.place s.held s.is (same s.place s.held s.is ∙ s.within) s.bit)
 
 -- over nothing
-over_none : (h : Holdings) → IsLawful h → (X : PlaceSet) → ((p : Place) → X p ≡ false) → status_over X h ≡ no_rights
+pub over_none : (h : Holdings) → IsLawful h → (X : PlaceSet) → ((p : Place) → X p ≡ false) → status_over X h ≡ no_rights
 over_none h l X none = same_elements _ _ (λ b bit. let s = over_from X b h l.sorted bit in absurd (cc (s.within, none s.place))) (λ b bit. absurd (cc (bit, has-none b)))
 
 -- ---- one step
@@ -122,7 +122,7 @@ IsWalked old trees frame start c a f i now status = AreTaken old trees c a f (is
 
 module _ (old : Shards) (trees : List Shape) (loose : AreLoose old trees) (c : Place) (a : Rights) (f : Bool) where
   -- what a place within the limits has is what is held there
-  status_held : (q : Place) → IsPlace old q → option_map_or (λ m. m.status) (at (holdings_in old trees) q) no_rights ≡ status_of (entry_at old q)
+  pub status_held : (q : Place) → IsPlace old q → option_map_or (λ m. m.status) (at (holdings_in old trees) q) no_rights ≡ status_of (entry_at old q)
   status_held q place = ap (λ o. option_map_or (λ (m : Held). m.status) o no_rights) (held_within (limits_in old trees) old trees q (record { space = place.space; page = place.page })) ∙ by (entry_at old q)
     where
       by : (o : Option Entry) → option_map_or (λ (m : Held). m.status) (option_map (held_of trees q) o) no_rights ≡ status_of o
@@ -206,7 +206,7 @@ pub record HaveLost (old new : Shards) : Type 0 where
   pub present : IsFalse (is_taken new)
   pub frames : (p : Place) → IsPlace old p → (e : Entry) → entry_at new p ≡ Some e → (k : Entry) × (entry_at old p ≡ Some k) × (k.frame ≡ e.frame)
 
-narrowed_frame : (loses : Bool) (a : Rights) (e k : Entry) → narrowed loses a e ≡ Some k → e.frame ≡ k.frame
+pub narrowed_frame : (loses : Bool) (a : Rights) (e k : Entry) → narrowed loses a e ≡ Some k → e.frame ≡ k.frame
 narrowed_frame loses a e k is = by (loses && is_empty (rights_left loses a e.rights)) is
   where
     by : (b : Bool) → (if b then None else Some (record e { rights = rights_left loses a e.rights; status = no_rights })) ≡ Some k → e.frame ≡ k.frame

@@ -1,0 +1,4 @@
+-- Phases worked on words: what words say is held, before and after.
+pub mod Words
+pub mod Accessed
+pub mod Narrowed
