@@ -25,12 +25,12 @@ use Rattle.pieces.proofs.Writers.{no_writer, touches_write}
 
 -- ---- bits
 
-or_assoc : (a b c : ℕ) → bit_or (bit_or a b) c ≡ bit_or a (bit_or b c)
+pub or_assoc : (a b c : ℕ) → bit_or (bit_or a b) c ≡ bit_or a (bit_or b c)
 or_assoc a b c =
     same_from_bits (bit_or (bit_or a b) c) (bit_or a (bit_or b c))
     (λ i. let l = bit_at_or (bit_or a b) c i in let m = bit_at_or a b i in let n = bit_at_or a (bit_or b c) i in let o = bit_at_or b c i in omega arith)
 
-gained_append : (i : ℕ) (es fs : List Effect) → gained i (es ++ fs) ≡ bit_or (gained i es) (gained i fs)
+pub gained_append : (i : ℕ) (es fs : List Effect) → gained i (es ++ fs) ≡ bit_or (gained i es) (gained i fs)
 gained_append i [] fs = sym (or_zero_l (gained i fs))
 gained_append i (e ∷ es) fs = ap (bit_or (bits_at i e)) (gained_append i es fs) ∙ sym (or_assoc (bits_at i e) (gained i es) (gained i fs))
 
@@ -92,7 +92,7 @@ with_marks word b pack some =
     by a (Some e) = refl
 
 -- a page that is held has a word that is not 0
-held_word : (word : ℕ) (a : Access) → option_map_or (λ e. has e.rights a) (entry_of word) false ≡ true → word ≢ 0
+pub held_word : (word : ℕ) (a : Access) → option_map_or (λ e. has e.rights a) (entry_of word) false ≡ true → word ≢ 0
 held_word word a may zeroed = let gone : option_map_or (λ e. has e.rights a) (entry_of 0) false ≡ true = subst (λ x. option_map_or (λ e. has e.rights a) (entry_of x) false ≡ true) zeroed may in cc
 
 one_word : (word : ℕ) (t : WordAccess) (i : ℕ) (b : Bool) → is_pack word ≡ true → (b ≡ true → t.index ≡ i → word ≢ 0) → KeepsRights word (word_after word i (one b t))

@@ -5,3 +5,6 @@ pub mod InPieces
 pub mod Writers
 pub mod InOrder
 pub mod Repeats
+pub mod InTurn
+pub mod Packs
+pub mod OneByOne

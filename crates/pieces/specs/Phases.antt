@@ -44,6 +44,13 @@ is_touch (piece.Link stores) = false
 is_touch (piece.Move pairs) = false
 is_touch (piece.Touch list) = true
 
+-- whether it is a link
+abbrev pub is_link : Piece → Bool
+is_link (piece.Strip s) = false
+is_link (piece.Link stores) = true
+is_link (piece.Move pairs) = false
+is_link (piece.Touch list) = false
+
 -- whether all pieces are touches, or none is
 abbrev pub are_alike : List Piece → Bool
 are_alike ps = list_all is_touch ps || not (list_any is_touch ps)

@@ -20,7 +20,7 @@ pub use cutting::{links, moves, touches};
 pub use distinct::are_distinct;
 pub use done::Done;
 pub use gathering::{GatherError, GatherFault, Gathered, gather};
-pub use laws::{gathered_values, steps_apart, words_after_steps, work_in_pieces};
+pub use laws::{gathered_values, pieces_in_turn, steps_apart, words_after_steps, work_in_pieces};
 pub use link::{Link, Store};
 pub use moving::{Move, Pair};
 pub use piece::Piece;
