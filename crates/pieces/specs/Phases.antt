@@ -62,6 +62,13 @@ IsPiece (piece.Link stores) = are_distinct (puts_of stores) ≡ true
 IsPiece (piece.Move pairs) = are_distinct (ends_of pairs) ≡ true
 IsPiece (piece.Touch list) = Unit {0}
 
+-- how many nodes, stores, pairs or accesses it has
+abbrev pub length_of : Piece → ℕ
+length_of (piece.Strip s) = length s.nodes
+length_of (piece.Link stores) = length stores
+length_of (piece.Move pairs) = length pairs
+length_of (piece.Touch list) = length list
+
 -- what is asked of words and pieces that are worked beside one another, in any order of steps
 pub record CanBeWorked (w : List ℕ) (ps : List Piece) : Type 0 where
   -- there are words, and they stand for entries

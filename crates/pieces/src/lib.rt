@@ -23,7 +23,7 @@ pub use gathering::{GatherError, GatherFault, Gathered, gather};
 pub use laws::{gathered_values, pieces_in_turn, steps_apart, words_after_steps, work_in_pieces};
 pub use link::{Link, Store};
 pub use moving::{Move, Pair};
-pub use piece::Piece;
+pub use piece::{Piece, are_pieces};
 pub use strip::Strip;
 pub use touch::{Touch, WordAccess};
 pub use worked::rows_of_pieces;
