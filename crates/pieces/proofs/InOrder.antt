@@ -25,7 +25,7 @@ use Rattle.pieces.proofs.Writers.{no_writer, touches_write}
 
 -- ---- bits
 
-or_assoc : (a b c : ℕ) → bit_or (bit_or a b) c ≡ bit_or a (bit_or b c)
+pub or_assoc : (a b c : ℕ) → bit_or (bit_or a b) c ≡ bit_or a (bit_or b c)
 or_assoc a b c =
     same_from_bits (bit_or (bit_or a b) c) (bit_or a (bit_or b c))
     (λ i. let l = bit_at_or (bit_or a b) c i in let m = bit_at_or a b i in let n = bit_at_or a (bit_or b c) i in let o = bit_at_or b c i in omega arith)

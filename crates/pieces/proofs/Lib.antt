@@ -6,3 +6,6 @@ pub mod Writers
 pub mod InOrder
 pub mod Repeats
 pub mod WholeStrips
+pub mod InTurn
+pub mod Packs
+pub mod OneByOne

@@ -52,7 +52,7 @@ written_once (writes m x ∷ es) once (suc k) i word at =
 pub one_writer : (es : List Effect) → are_distinct (writes_at es) ≡ true → (k i word before : ℕ) → slice_get es k ≡ Some (writes i word) → word_after before i es ≡ word
 one_writer es once k i word before at = ap (λ o. unwrap_or o (bit_or before (gained i es))) (written_once es once k i word at)
 
-written_none : (es : List Effect) (i : ℕ) → is_none_of (writes_at es) i ≡ true → written i es ≡ None
+pub written_none : (es : List Effect) (i : ℕ) → is_none_of (writes_at es) i ≡ true → written i es ≡ None
 written_none [] i none = refl
 written_none (keeps m ∷ es) i none = written_none es i none
 written_none (adds m bits ∷ es) i none = written_none es i none
@@ -140,7 +140,7 @@ all_write w (p ∷ ps) each =
     flat_map-append write_at (effects w p) (flat_map (effects w) ps) ∙ ap (λ js. js ++ writes_at (flat_map (effects w) ps)) (piece_writes w p (each 0 p (omega arith)))
     ∙ ap (λ js. changes p ++ js) (all_write w ps (λ k d less. each (suc k) d (omega (arith, less))))
 
-all_add : (w : List ℕ) (ps : List Piece) → list_any is_touch ps ≡ false → adds_at (flat_map (effects w) ps) ≡ flat_map folds ps
+pub all_add : (w : List ℕ) (ps : List Piece) → list_any is_touch ps ≡ false → adds_at (flat_map (effects w) ps) ≡ flat_map folds ps
 all_add w [] untouched = refl
 all_add w (p ∷ ps) untouched =
     let parts = by (is_touch p) (list_any is_touch ps) untouched in
@@ -151,14 +151,14 @@ all_add w (p ∷ ps) untouched =
     by false b h = (refl, h)
 
 -- touches change nothing
-touches_change : (ps : List Piece) → list_all is_touch ps ≡ true → flat_map changes ps ≡ []
+pub touches_change : (ps : List Piece) → list_all is_touch ps ≡ true → flat_map changes ps ≡ []
 touches_change [] all = refl
 touches_change (piece.Strip s ∷ ps) all = absurd (cc)
 touches_change (piece.Link stores ∷ ps) all = absurd (cc)
 touches_change (piece.Move pairs ∷ ps) all = absurd (cc)
 touches_change (piece.Touch list ∷ ps) all = touches_change ps all
 
-none_of_none : (js : List ℕ) → list_all (is_none_of []) js ≡ true
+pub none_of_none : (js : List ℕ) → list_all (is_none_of []) js ≡ true
 none_of_none [] = refl
 none_of_none (j ∷ js) = none_of_none js
 

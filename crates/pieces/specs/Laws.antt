@@ -1,11 +1,11 @@
 -- What is so of all pieces that are worked.
-use Rattle.std.specs.Prelude.{◌≡◌, ℕ, ◌<◌, ◌≤◌, Bool, true, List, [], ◌∷◌, length, map, None, slice_index, slice_get, Some, bit_or}
-use Rattle.std.specs.List.{All, AllPass, flat_map, list_all}
+use Rattle.std.specs.Prelude.{◌≡◌, ℕ, ◌<◌, ◌≤◌, Bool, true, false, List, [], ◌∷◌, ◌++◌, length, map, Option, None, slice_index, slice_get, Some, bit_or}
+use Rattle.std.specs.List.{All, AllPass, flat_map, list_all, list_any}
 use Rattle.maptree.specs.Cuts.{pieces}
 use Rattle.pieces.specs.Effects.{Effect, writes, gained, word_after, words_after, writes_at, adds_at}
 use Rattle.pieces.specs.Contents.{StripContent, IsStrip, puts_of, ends_of}
 use Rattle.pieces.specs.Distinct.{is_none_of, are_distinct}
-use Rattle.pieces.specs.Phases.{IsPiece, changes, held, CanBeWorked}
+use Rattle.pieces.specs.Phases.{IsPiece, changes, held, is_link, CanBeWorked}
 use Rattle.space.specs.Word.{is_pack}
 use Rattle.pieces.specs.Steps.{may_access, status_in, effects}
 use Rattle.pieces.specs.Applied.{applied, step_counts, worked}
@@ -61,6 +61,40 @@ abbrev pub StepsAreApart : Type 0
 StepsAreApart =
     (w : List ℕ) (ps : List Piece) → All IsPiece ps → CanBeWorked w ps → let es = flat_map (effects w) ps in
     (are_distinct (writes_at es) ≡ true) × (list_all (is_none_of (writes_at es)) (adds_at es) ≡ true)
+
+-- ---- one after another
+
+-- of steps of which no two write at one index, and none adds bits where one writes, some may be done before the others
+abbrev pub StepsOneAfterAnother : Type 0
+StepsOneAfterAnother =
+    (w : List ℕ) (es fs : List Effect) → are_distinct (writes_at (es ++ fs)) ≡ true → list_all (is_none_of (writes_at (es ++ fs))) (adds_at (es ++ fs)) ≡ true
+    → words_after w (es ++ fs) ≡ words_after (words_after w es) fs
+
+-- what pieces that can be worked make of words are words again that stand for entries
+abbrev pub WorkedArePacks : Type 0
+WorkedArePacks = (w : List ℕ) (ps : List Piece) → All IsPiece ps → CanBeWorked w ps → AllPass is_pack (worked w ps)
+
+-- whether some pieces change no word at which others need a page: the fold words, and those that are read or taken
+abbrev pub spare_held : List Piece → List Piece → Bool
+spare_held ps qs = list_all (is_none_of (flat_map changes ps)) (flat_map held qs)
+
+-- so it is of pieces that can be worked beside one another, but for links: a store may read what another piece changes
+abbrev pub HeldAreSpared : Type 0
+HeldAreSpared = (w : List ℕ) (ps qs : List Piece) → CanBeWorked w (ps ++ qs) → list_any is_link qs ≡ false → spare_held ps qs ≡ true
+
+-- then the others do the same after the first as beside them
+abbrev pub WorkedOneAfterAnother : Type 0
+WorkedOneAfterAnother =
+    (w : List ℕ) (ps qs : List Piece) → All IsPiece (ps ++ qs) → CanBeWorked w (ps ++ qs) → spare_held ps qs ≡ true → worked w (ps ++ qs) ≡ worked (worked w ps) qs
+
+-- they can still be worked
+abbrev pub OthersCanBeWorked : Type 0
+OthersCanBeWorked =
+    (w : List ℕ) (ps qs : List Piece) → All IsPiece (ps ++ qs) → CanBeWorked w (ps ++ qs) → spare_held ps qs ≡ true → CanBeWorked (worked w ps) qs
+
+-- and, whatever they read, they find the same out
+abbrev pub OthersFindTheSame : Type 0
+OthersFindTheSame = (w : List ℕ) (ps qs : List Piece) → All IsPiece (ps ++ qs) → CanBeWorked w (ps ++ qs) → map (value (worked w ps)) qs ≡ map (value w) qs
 
 -- ---- the length of pieces
 
@@ -124,6 +158,12 @@ StripsJoin =
     (w : List ℕ) (ss : List StripContent) → All IsStrip ss
     → (union_of (map (λ s. (value w (piece.Strip s)).status) ss) ≡ status_in w (joined_strips ss).indexes)
     × (flat_map (λ s. (value w (piece.Strip s)).kept) ss ≡ kept_nodes w (joined_strips ss))
+
+-- strips whose status goes to one fold word, or to none, work as one strip of all their nodes
+abbrev pub StripsInPieces : Type 0
+StripsInPieces =
+    (w : List ℕ) (fold : Option ℕ) (ss : List StripContent) → All IsStrip ss → All (λ s. s.fold ≡ fold) ss
+    → worked w (map piece.Strip ss) ≡ worked w (piece.Strip (record (joined_strips ss) { fold = fold }) ∷ [])
 
 -- ---- results
 

@@ -44,6 +44,13 @@ is_touch (piece.Link stores) = false
 is_touch (piece.Move pairs) = false
 is_touch (piece.Touch list) = true
 
+-- whether it is a link
+abbrev pub is_link : Piece → Bool
+is_link (piece.Strip s) = false
+is_link (piece.Link stores) = true
+is_link (piece.Move pairs) = false
+is_link (piece.Touch list) = false
+
 -- whether all pieces are touches, or none is
 abbrev pub are_alike : List Piece → Bool
 are_alike ps = list_all is_touch ps || not (list_any is_touch ps)
@@ -54,6 +61,13 @@ IsPiece (piece.Strip s) = IsStrip s
 IsPiece (piece.Link stores) = are_distinct (puts_of stores) ≡ true
 IsPiece (piece.Move pairs) = are_distinct (ends_of pairs) ≡ true
 IsPiece (piece.Touch list) = Unit {0}
+
+-- how many nodes, stores, pairs or accesses it has
+abbrev pub length_of : Piece → ℕ
+length_of (piece.Strip s) = length s.nodes
+length_of (piece.Link stores) = length stores
+length_of (piece.Move pairs) = length pairs
+length_of (piece.Touch list) = length list
 
 -- what is asked of words and pieces that are worked beside one another, in any order of steps
 pub record CanBeWorked (w : List ℕ) (ps : List Piece) : Type 0 where

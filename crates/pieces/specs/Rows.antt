@@ -12,9 +12,10 @@ use Rattle.pieces.specs.Applied.{applied, step_counts, worked, before, after}
 use Rattle.pieces.specs.Distinct.{are_distinct}
 use Rattle.pieces.specs.Contents.{is_fold_apart}
 use Rattle.pieces.specs.Masks.{masks_of}
-use Rattle.pieces.specs.Phases.{changes, folds, held, named, are_alike}
+use Rattle.pieces.specs.Phases.{changes, folds, held, named, is_link, are_alike}
 use Rattle.pieces.specs.Dones.{DoneContent}
 use Rattle.pieces.specs.Gathering.{fault_in, all_found, union_of}
+use Rattle.pieces.specs.Laws.{spare_held}
 use Rattle.pieces.specs.declared.gathering.GatherFault.TheVariants.{Stranger, Twice, Missing}
 use Rattle.pieces.specs.Values.{value, no_value}
 use Rattle.pieces.specs.declared.piece.Piece.{Piece}
@@ -227,6 +228,18 @@ LinksReadWordsAtOpening =
     × (applied words pieces (both 0 1) ≡ 0x100000926 ∷ 0 ∷ 0x100000505 ∷ 0x100000505 ∷ [])
     × (worked words pieces ≡ 0x100000926 ∷ 0x100000902 ∷ 0x100000907 ∷ 0x100000505 ∷ [])
 
+-- one after another they do the same only where the second reads nothing that the first puts
+abbrev pub LinksOneAfterAnother : Type 0
+LinksOneAfterAnother =
+    let words : List ℕ = 0x100000926 ∷ 0 ∷ 0x100000505 ∷ 0 ∷ [] in
+    let one : List Piece =
+    piece.Link (record { read = 0; put = 1; rights = record { read = false; write = true; execute = true } } ∷ record { read = 0; put = 2; rights = w } ∷ []) ∷ [] in
+    let other : List Piece = piece.Link (record { read = 2; put = 3; rights = all_rights } ∷ []) ∷ [] in
+    (spare_held other one ≡ true)
+    × (worked (worked words other) one ≡ 0x100000926 ∷ 0x100000902 ∷ 0x100000907 ∷ 0x100000505 ∷ [])
+    × (spare_held one other ≡ false)
+    × (worked (worked words one) other ≡ 0x100000926 ∷ 0x100000902 ∷ 0x100000907 ∷ 0x100000907 ∷ [])
+
 -- ---- what is left open to no caller
 
 -- nothing is put where nothing is read or taken; and where a step writes a word, no added bits stand beside it
@@ -257,6 +270,7 @@ IndexesOfPieces =
     × (map folds (others ++ touch) ≡ (5 ∷ []) ∷ [] ∷ [] ∷ [] ∷ [])
     × (map held (others ++ touch) ≡ (5 ∷ []) ∷ (5 ∷ []) ∷ (1 ∷ []) ∷ [] ∷ [])
     × (map named (others ++ touch) ≡ (4 ∷ 7 ∷ 5 ∷ []) ∷ (5 ∷ 8 ∷ []) ∷ (1 ∷ 2 ∷ []) ∷ (3 ∷ []) ∷ [])
+    × (map is_link (others ++ touch) ≡ false ∷ true ∷ false ∷ false ∷ [])
     × (are_alike (others ++ touch) ≡ false)
     × (are_alike others ≡ true)
     × (are_alike touch ≡ true)

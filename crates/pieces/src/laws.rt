@@ -1,6 +1,6 @@
 //! The laws of pieces. A function here does nothing: its contract is the laws.
 
-ghost use Rattle.pieces.specs.Laws.{WordsAreAsMany, EachWordAfter, NothingDone, WorkedIsAllSteps, FullCountsAreWorked, OneWriterDecides, NoWriterAdds, StepsWriteWhatChanges, StepsAreApart, AccessesInListOrder, TouchesInPieces, LinksInPieces, MovesInPieces, LinksInPiecesChange, MovesInPiecesChange, StripsJoin, GatheredAreValues};
+ghost use Rattle.pieces.specs.Laws.{WordsAreAsMany, EachWordAfter, NothingDone, WorkedIsAllSteps, FullCountsAreWorked, OneWriterDecides, NoWriterAdds, StepsWriteWhatChanges, StepsAreApart, StepsOneAfterAnother, WorkedArePacks, HeldAreSpared, WorkedOneAfterAnother, OthersCanBeWorked, OthersFindTheSame, AccessesInListOrder, TouchesInPieces, LinksInPieces, MovesInPieces, LinksInPiecesChange, MovesInPiecesChange, StripsJoin, StripsInPieces, GatheredAreValues};
 
 /// Words after steps, in whatever order these were done.
 pub fn words_after_steps()
@@ -19,6 +19,16 @@ pub fn steps_apart()
     ensures steps_are_apart { StepsAreApart }
 {}
 
+/// Pieces one after another.
+pub fn pieces_in_turn()
+    ensures steps_one_after_another { StepsOneAfterAnother }
+    ensures worked_are_packs { WorkedArePacks }
+    ensures held_are_spared { HeldAreSpared }
+    ensures worked_one_after_another { WorkedOneAfterAnother }
+    ensures others_can_be_worked { OthersCanBeWorked }
+    ensures others_find_the_same { OthersFindTheSame }
+{}
+
 /// Work in pieces of any length is the work of the whole.
 pub fn work_in_pieces()
     ensures accesses_in_list_order { AccessesInListOrder }
@@ -28,6 +38,7 @@ pub fn work_in_pieces()
     ensures links_in_pieces_change { LinksInPiecesChange }
     ensures moves_in_pieces_change { MovesInPiecesChange }
     ensures strips_join { StripsJoin }
+    ensures strips_in_pieces { StripsInPieces }
 {}
 
 /// What is gathered.

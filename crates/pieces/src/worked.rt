@@ -1,6 +1,6 @@
 //! The worked rows: what pieces are, step by step, worked out by hand. The function does nothing: its contract is the rows.
 
-ghost use Rattle.pieces.specs.Rows.{StepsOfTwoStrips, StripsByStep, StripsWorked, ValuesOfTwoStrips, BeforeAndAfterTwoStrips, UnmapOfARoot, UnmapOfANestedPage, NodesLeftWithoutRights, FoldOfNoStatus, TouchByStep, TouchesAddUp, MoveByStep, MovesClearStatus, LinkWidens, LinksReadWordsAtOpening, NothingMadeOfNothing, MasksOfARun, IndexesOfPieces, ResultsInOrder, DistinctNumbers};
+ghost use Rattle.pieces.specs.Rows.{StepsOfTwoStrips, StripsByStep, StripsWorked, ValuesOfTwoStrips, BeforeAndAfterTwoStrips, UnmapOfARoot, UnmapOfANestedPage, NodesLeftWithoutRights, FoldOfNoStatus, TouchByStep, TouchesAddUp, MoveByStep, MovesClearStatus, LinkWidens, LinksReadWordsAtOpening, LinksOneAfterAnother, NothingMadeOfNothing, MasksOfARun, IndexesOfPieces, ResultsInOrder, DistinctNumbers};
 
 /// Pieces by their steps, the words after each, what each finds out, and what is gathered.
 pub fn rows_of_pieces()
@@ -19,6 +19,7 @@ pub fn rows_of_pieces()
     ensures moves_clear_status { MovesClearStatus }
     ensures link_widens { LinkWidens }
     ensures links_read_words_at_opening { LinksReadWordsAtOpening }
+    ensures links_one_after_another { LinksOneAfterAnother }
     ensures nothing_made_of_nothing { NothingMadeOfNothing }
     ensures masks_of_a_run { MasksOfARun }
     ensures indexes_of_pieces { IndexesOfPieces }
