@@ -2,3 +2,4 @@
 pub mod Words
 pub mod Accessed
 pub mod Narrowed
+pub mod StrippedRun
