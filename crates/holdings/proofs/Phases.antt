@@ -3,3 +3,4 @@ pub mod Words
 pub mod Accessed
 pub mod Narrowed
 pub mod StrippedRun
+pub mod StrippedRuns

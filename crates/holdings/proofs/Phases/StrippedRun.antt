@@ -42,7 +42,7 @@ use Rattle.holdings.proofs.Contents.WordChanges.{place_kept}
 use Rattle.holdings.specs.Places.{any_of}
 use Rattle.holdings.specs.Inner.Held.{links_in, is_listed, limits_in, holdings_in}
 use Rattle.holdings.specs.Inner.Derivation.{IsOriginAt}
-use Rattle.holdings.specs.Inner.Planning.{strip_of, strips_of_run}
+use Rattle.holdings.specs.Inner.Planning.{strip_of, strips_of_run, all_places}
 use Rattle.holdings.specs.Inner.Sound.{AreLoose}
 use Rattle.holdings.proofs.Contents.Holders.{present_within}
 use Rattle.holdings.proofs.Trees.Chains.{is_among, among_at, listed_at, place_at_drop}
@@ -51,10 +51,6 @@ use Rattle.holdings.proofs.Phases.Words.{AreWordsOf, IsWith, with_words}
 use Rattle.holdings.proofs.Phases.Narrowed.{lost_inside, kept_outside, gained_outside}
 
 -- ---- the parts of a run joined
-
--- the places of parts
-abbrev pub all_places : List (List Node) → List Place
-all_places parts = flat_map (λ part. map (λ n. n.place) part) parts
 
 indexes_of_part : (s : Shards) (part : List Node) → map (λ n. index_of s n.place) part ≡ map (index_of s) (map (λ n. n.place) part)
 indexes_of_part s [] = refl
@@ -90,7 +86,7 @@ module _ (s : Shards) (a : Rights) (origin : Option Place) where
       ∙ replicate_more a (length part) (length (all_places parts))
       ∙ ap (λ n. replicate n a) (ap (λ n. n + length (all_places parts)) (sym (length_places part)) ∙ sym (length_joined (map (λ n. n.place) part) (all_places parts)))
 
-  whole_indexes : (f : Bool) (part : List Node) (parts : List (List Node)) → (joined_strips (strips_of_run s a f origin (part ∷ parts))).indexes ≡ map (index_of s) (all_places (part ∷ parts))
+  pub whole_indexes : (f : Bool) (part : List Node) (parts : List (List Node)) → (joined_strips (strips_of_run s a f origin (part ∷ parts))).indexes ≡ map (index_of s) (all_places (part ∷ parts))
   whole_indexes f part parts =
       ap (λ is. is ++ (joined_strips (map (strip_of s false a origin) parts)).indexes) (indexes_of_part s part) ∙ ap (λ is. map (index_of s) (map (λ n. n.place) part) ++ is) (rest_indexes parts)
       ∙ sym (map-append (index_of s) (map (λ n. n.place) part) (all_places parts))
@@ -116,7 +112,7 @@ module _ (s : Shards) (a : Rights) (origin : Option Place) where
 
 -- ---- status
 
-join_turned : (r t : Rights) → join r t ≡ join t r
+pub join_turned : (r t : Rights) → join r t ≡ join t r
 join_turned r t = same_rights (join r t) (join t r) (λ a. has-join r t a ∙ or_turned (has r a) (has t a) ∙ sym (has-join t r a))
   where
     or_turned : (x y : Bool) → (x || y) ≡ (y || x)
@@ -138,7 +134,7 @@ module _ (old : Shards) (trees : List Shape) (loose : AreLoose old trees) (w : L
 
 -- ---- the places of a run
 
-slice_of_map : (os : Origins) (from to : ℕ) → slice_range (map (λ o. o.0) os) from to ≡ map (λ o. o.0) (slice_range os from to)
+pub slice_of_map : (os : Origins) (from to : ℕ) → slice_range (map (λ o. o.0) os) from to ≡ map (λ o. o.0) (slice_range os from to)
 slice_of_map os from to = ap (take (to - from)) (map_drop from os) ∙ map_take (to - from) (drop from os)
   where
     map_drop : (n : ℕ) (os : Origins) → drop n (map (λ o. o.0) os) ≡ map (λ o. o.0) (drop n os)
@@ -151,7 +147,7 @@ slice_of_map os from to = ap (take (to - from)) (map_drop from os) ∙ map_take 
     map_take (suc n) [] = refl
     map_take (suc n) (o ∷ os) = ap (λ ps. o.0 ∷ ps) (map_take n os)
 
-any_of_places : (os : Origins) (p : Place) → any_of (map (λ o. o.0) os) p ≡ list_any (λ o. same_place p o.0) os
+pub any_of_places : (os : Origins) (p : Place) → any_of (map (λ o. o.0) os) p ≡ list_any (λ o. same_place p o.0) os
 any_of_places [] p = refl
 any_of_places (o ∷ os) p = ap (λ b. same_place p o.0 || b) (any_of_places os p)
 

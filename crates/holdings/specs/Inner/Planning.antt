@@ -1,11 +1,16 @@
 -- What is planned before the words of a phase are worked.
-use Rattle.std.specs.Prelude.{Bool, false, not, List, [], ◌∷◌, length, map, Option, option_map}
+use Rattle.std.specs.List.{flat_map, slice_range}
+use Rattle.std.specs.Prelude.{◌≡◌, ℕ, ◌<◌, ◌≤◌, Bool, false, not, List, [], ◌∷◌, ◌++◌, length, map, Option, option_map}
+use Rattle.std.specs.declared.ops.Range.{Range}
 use Rattle.fpage.specs.declared.rights.Rights.{Rights}
 use Rattle.space.specs.declared.place.Place.{Place}
 use Rattle.space.specs.declared.shards.Shards.{Shards}
 use Rattle.space.specs.Shards.{index_of}
 use Rattle.maptree.specs.declared.node.Node.{Node}
+use Rattle.maptree.specs.Origins.{Shape, IsRun, place_at}
 use Rattle.pieces.specs.Contents.{StripContent}
+use Rattle.holdings.specs.Inner.Derivation.{IsOriginAt}
+use Rattle.holdings.specs.Inner.Held.{links_in}
 use Rattle.pieces.specs.Masks.{masks_of}
 
 -- the strip of a part of a run, whose first node may be spared; its status goes to the origin of the run
@@ -21,3 +26,35 @@ strip_of s spared revoked origin nodes = record {
 abbrev pub strips_of_run : Shards → Rights → Bool → Option Place → List (List Node) → List StripContent
 strips_of_run s revoked flush origin [] = []
 strips_of_run s revoked flush origin (part ∷ parts) = strip_of s (not flush) revoked origin part ∷ map (strip_of s false revoked origin) parts
+
+-- a run of a frame's tree that is to be stripped: the origin of its first page, and its nodes in parts
+pub record RunPlan : Type 0 where
+  pub frame : ℕ
+  pub run : Range ℕ
+  pub origin : Option Place
+  pub parts : List (List Node)
+
+-- the places of parts, one part after another
+abbrev pub all_places : List (List Node) → List Place
+all_places parts = flat_map (λ part. map (λ n. n.place) part) parts
+
+-- the nodes are those of the run, the first part has some, and the origin is that of its first page
+pub record IsRunPlan (trees : List Shape) (plan : RunPlan) : Type 0 where
+  pub is_run : IsRun (links_in trees plan.frame) plan.run
+  pub some : plan.run.start < plan.run.end
+  pub within : plan.run.end ≤ length (links_in trees plan.frame)
+  pub origin : IsOriginAt (links_in trees plan.frame) plan.run.start plan.origin
+  pub places : all_places plan.parts ≡ slice_range (map (λ o. o.0) (links_in trees plan.frame)) plan.run.start plan.run.end
+  pub first : Node
+  pub first_part : List Node
+  pub others : List (List Node)
+  pub parts : plan.parts ≡ (first ∷ first_part) ∷ others
+
+-- the strips of some runs, one run after another
+abbrev pub strips_of_runs : Shards → Rights → Bool → List RunPlan → List StripContent
+strips_of_runs s revoked flush [] = []
+strips_of_runs s revoked flush (plan ∷ plans) = strips_of_run s revoked flush plan.origin plan.parts ++ strips_of_runs s revoked flush plans
+
+-- the first page of a run
+abbrev pub first_of : List Shape → RunPlan → Place
+first_of trees plan = place_at (links_in trees plan.frame) plan.run.start (record { space = 0; page = 0 })
