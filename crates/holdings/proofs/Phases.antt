@@ -4,3 +4,4 @@ pub mod Accessed
 pub mod Narrowed
 pub mod StrippedRun
 pub mod StrippedRuns
+pub mod StripPlans

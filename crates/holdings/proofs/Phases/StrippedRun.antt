@@ -73,7 +73,7 @@ length_places [] = refl
 length_places (n ∷ part) = ap suc (length_places part)
 
 module _ (s : Shards) (a : Rights) (origin : Option Place) where
-  rest_indexes : (parts : List (List Node)) → (joined_strips (map (strip_of s false a origin) parts)).indexes ≡ map (index_of s) (all_places parts)
+  pub rest_indexes : (parts : List (List Node)) → (joined_strips (map (strip_of s false a origin) parts)).indexes ≡ map (index_of s) (all_places parts)
   rest_indexes [] = refl
   rest_indexes (part ∷ parts) =
       ap (λ is. is ++ (joined_strips (map (strip_of s false a origin) parts)).indexes) (indexes_of_part s part) ∙ ap (λ is. map (index_of s) (map (λ n. n.place) part) ++ is) (rest_indexes parts)
@@ -152,7 +152,7 @@ any_of_places [] p = refl
 any_of_places (o ∷ os) p = ap (λ b. same_place p o.0 || b) (any_of_places os p)
 
 -- each place of a part of a list is listed
-each_listed : (P : Place → Type 0) (os : Origins) → ((p : Place) → list_any (λ o. same_place p o.0) os ≡ true → P p) → All P (map (λ o. o.0) os)
+pub each_listed : (P : Place → Type 0) (os : Origins) → ((p : Place) → list_any (λ o. same_place p o.0) os ≡ true → P p) → All P (map (λ o. o.0) os)
 each_listed P [] holds = λ k d less. absurd (omega (arith, less))
 each_listed P (o ∷ os) holds = by (each_listed P os (λ p in_rest. holds p (or_right _ _ in_rest)))
   where

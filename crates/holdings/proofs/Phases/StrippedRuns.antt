@@ -152,7 +152,7 @@ none_named s o (p ∷ ps) none =
     by false apart differs rest = rest
     by true same differs rest = absurd (cc (differs, ap not (eq-eqb (index_of s p) (index_of s o) (ap (index_of s) (sym (same_is o p same))))))
 
-changes_of_strips : (ss : List StripContent) → flat_map changes (map piece.Strip ss) ≡ flat_map (λ s. s.indexes) ss
+pub changes_of_strips : (ss : List StripContent) → flat_map changes (map piece.Strip ss) ≡ flat_map (λ s. s.indexes) ss
 changes_of_strips [] = refl
 changes_of_strips (s ∷ ss) = ap (λ is. s.indexes ++ is) (changes_of_strips ss)
 

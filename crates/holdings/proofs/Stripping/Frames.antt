@@ -96,7 +96,7 @@ module _ (test : Place → Bool) (os : Origins) where
 
 module _ (keep : Place → Bool) where
   -- what is kept is listed where it was
-  listed_kept : (os : Origins) (p : Place) → keep p ≡ true → list_any (λ o. same_place p o.0) (filter (λ o. keep o.0) os) ≡ list_any (λ o. same_place p o.0) os
+  pub listed_kept : (os : Origins) (p : Place) → keep p ≡ true → list_any (λ o. same_place p o.0) (filter (λ o. keep o.0) os) ≡ list_any (λ o. same_place p o.0) os
   listed_kept [] p is = refl
   listed_kept (o ∷ os) p is = by (keep o.0) refl (listed_kept os p is)
     where
@@ -106,7 +106,7 @@ module _ (keep : Place → Bool) where
       by false gone rest = rest ∙ ap (λ b. b || list_any (λ o. same_place p o.0) os) (sym (false_from_ne_true _ (λ same. cc (is, gone, ap keep (same_is p o.0 same)))))
 
   -- and has the origin that it had
-  find_kept : (os : Origins) (p : Place) → keep p ≡ true → find place_cmp p (filter (λ o. keep o.0) os) ≡ find place_cmp p os
+  pub find_kept : (os : Origins) (p : Place) → keep p ≡ true → find place_cmp p (filter (λ o. keep o.0) os) ≡ find place_cmp p os
   find_kept [] p is = refl
   find_kept (o ∷ os) p is = by (keep o.0) refl (find_kept os p is)
     where
@@ -118,7 +118,7 @@ module _ (keep : Place → Bool) where
           rw other rest
 
   -- what is listed is kept and was listed
-  kept_listed : (os : Origins) (p : Place) → list_any (λ o. same_place p o.0) (filter (λ o. keep o.0) os) ≡ true → (keep p ≡ true) × (list_any (λ o. same_place p o.0) os ≡ true)
+  pub kept_listed : (os : Origins) (p : Place) → list_any (λ o. same_place p o.0) (filter (λ o. keep o.0) os) ≡ true → (keep p ≡ true) × (list_any (λ o. same_place p o.0) os ≡ true)
   kept_listed [] p listed = absurd (cc listed)
   kept_listed (o ∷ os) p listed = by (keep o.0) refl listed (kept_listed os p)
     where

@@ -1,16 +1,20 @@
 -- What is planned before the words of a phase are worked.
-use Rattle.std.specs.List.{flat_map, slice_range}
-use Rattle.std.specs.Prelude.{◌≡◌, ℕ, ◌<◌, ◌≤◌, Bool, false, not, List, [], ◌∷◌, ◌++◌, length, map, Option, option_map}
+use Rattle.std.specs.List.{All, flat_map, list_all, slice_range}
+use Rattle.std.specs.Prelude.{◌≡◌, ℕ, ◌<◌, ◌≤◌, Bool, true, false, not, ◌&&◌, List, [], ◌∷◌, ◌++◌, length, map, Option, Some, option_map}
 use Rattle.std.specs.declared.ops.Range.{Range}
 use Rattle.fpage.specs.declared.rights.Rights.{Rights}
 use Rattle.space.specs.declared.place.Place.{Place}
 use Rattle.space.specs.declared.shards.Shards.{Shards}
+use Rattle.space.specs.Place.{same_place}
 use Rattle.space.specs.Shards.{index_of}
 use Rattle.maptree.specs.declared.node.Node.{Node}
 use Rattle.maptree.specs.Origins.{Shape, IsRun, place_at}
+use Rattle.model.specs.Derived.{is_below}
+use Rattle.model.specs.Holdings.{PlaceSet, is_held}
 use Rattle.pieces.specs.Contents.{StripContent}
 use Rattle.holdings.specs.Inner.Derivation.{IsOriginAt}
-use Rattle.holdings.specs.Inner.Held.{links_in}
+use Rattle.holdings.specs.Inner.Held.{links_in, holdings_in}
+use Rattle.holdings.specs.Places.{any_of}
 use Rattle.pieces.specs.Masks.{masks_of}
 
 -- the strip of a part of a run, whose first node may be spared; its status goes to the origin of the run
@@ -58,3 +62,23 @@ strips_of_runs s revoked flush (plan ∷ plans) = strips_of_run s revoked flush 
 -- the first page of a run
 abbrev pub first_of : List Shape → RunPlan → Place
 first_of trees plan = place_at (links_in trees plan.frame) plan.run.start (record { space = 0; page = 0 })
+
+-- the places of all runs
+abbrev pub places_of_runs : List RunPlan → List Place
+places_of_runs plans = flat_map (λ plan. all_places plan.parts) plans
+
+-- whether no place comes twice
+abbrev pub come_once : List Place → Bool
+come_once [] = true
+come_once (p ∷ ps) = list_all (λ q. not (same_place p q)) ps && come_once ps
+
+-- the strip of a set of pages, planned: the runs of some of its pages, from which all of it that is held derives
+pub record IsStripPlan (s : Shards) (trees : List Shape) (set : PlaceSet) (plans : List RunPlan) : Type 0 where
+  pub runs : All (IsRunPlan trees) plans
+  -- the first page of each run is one of the set
+  pub named : All (λ plan. set (first_of trees plan) ≡ true) plans
+  -- each held page of the set derives from a first page, or is one
+  pub covers : (p : Place) → is_held (holdings_in s trees) p ≡ true → set p ≡ true → is_below (holdings_in s trees) (any_of (map (first_of trees) plans)) p ≡ true
+  -- no page is in two runs, and the origin of a run is in none
+  pub once : come_once (places_of_runs plans) ≡ true
+  pub outer : All (λ plan. (o : Place) → plan.origin ≡ Some o → any_of (places_of_runs plans) o ≡ false) plans
