@@ -5,3 +5,4 @@ pub mod Narrowed
 pub mod StrippedRun
 pub mod StrippedRuns
 pub mod StripPlans
+pub mod Linked

@@ -156,10 +156,10 @@ module _ (first : Shards) (first_trees : List Shape) (rights : Rights) (ts : Lis
   transfer_within : IsTransferWithin (limits_in shards so_far.trees) t
   transfer_within = subst (λ (limits : Limits). IsTransferWithin limits t) (sym so_far.are.same_limits) (planned.within i no_transfer within)
 
-  source_within : IsWithin (limits_in shards so_far.trees) t.source
+  pub source_within : IsWithin (limits_in shards so_far.trees) t.source
   source_within = record { space = transfer_within.source_space; page = transfer_within.source_page }
 
-  target_within : IsWithin (limits_in shards so_far.trees) t.target
+  pub target_within : IsWithin (limits_in shards so_far.trees) t.target
   target_within = record { space = transfer_within.target_space; page = transfer_within.target_page }
 
   pub source_place : IsPlace shards t.source
@@ -174,11 +174,11 @@ module _ (first : Shards) (first_trees : List Shape) (rights : Rights) (ts : Lis
   agree : (at now t.source ≡ at h t.source) × (at now t.target ≡ at h t.target)
   agree = agree_here (limits_in first first_trees) h rights so_far.from so_far.to so_far.differ ts i no_transfer within shards so_far.trees counts so_far.are
 
-  ready_here : IsReady now rights t
+  pub ready_here : IsReady now rights t
   ready_here = ready_now h now rights t agree (ready i no_transfer within)
 
   -- the source holds what it held
-  stood_first : entry_at first t.source ≡ entry_at shards t.source
+  pub stood_first : entry_at first t.source ≡ entry_at shards t.source
   stood_first =
       let w = planned.within i no_transfer within in
       sym (entry_within (limits_in first first_trees) first first_trees t.source (record { space = w.source_space; page = w.source_page }))

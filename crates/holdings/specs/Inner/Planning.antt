@@ -1,6 +1,6 @@
 -- What is planned before the words of a phase are worked.
 use Rattle.std.specs.List.{All, flat_map, list_all, slice_range}
-use Rattle.std.specs.Prelude.{◌≡◌, ℕ, ◌<◌, ◌≤◌, Bool, true, false, not, ◌&&◌, List, [], ◌∷◌, ◌++◌, length, map, Option, Some, option_map}
+use Rattle.std.specs.Prelude.{◌≡◌, ℕ, ◌<◌, ◌≤◌, Bool, true, false, not, ◌&&◌, List, [], ◌∷◌, ◌++◌, length, map, Option, Some, option_map, if◌then◌else◌}
 use Rattle.std.specs.declared.ops.Range.{Range}
 use Rattle.fpage.specs.declared.rights.Rights.{Rights}
 use Rattle.space.specs.declared.place.Place.{Place}
@@ -13,7 +13,10 @@ use Rattle.model.specs.Derived.{is_below}
 use Rattle.model.specs.Holdings.{PlaceSet, is_held}
 use Rattle.pieces.specs.Contents.{StripContent}
 use Rattle.holdings.specs.Inner.Derivation.{IsOriginAt}
-use Rattle.holdings.specs.Inner.Held.{links_in, holdings_in}
+use Rattle.holdings.specs.Inner.Held.{links_in, holdings_in, has_entry}
+use Rattle.holdings.specs.declared.transfer.Transfer.{Transfer}
+use Rattle.pieces.specs.declared.link.Store.{Store}
+use Rattle.pieces.specs.declared.moving.Pair.{Pair}
 use Rattle.holdings.specs.Places.{any_of}
 use Rattle.pieces.specs.Masks.{masks_of}
 
@@ -82,3 +85,23 @@ pub record IsStripPlan (s : Shards) (trees : List Shape) (set : PlaceSet) (plans
   -- no page is in two runs, and the origin of a run is in none
   pub once : come_once (places_of_runs plans) ≡ true
   pub outer : All (λ plan. (o : Place) → plan.origin ≡ Some o → any_of (places_of_runs plans) o ≡ false) plans
+
+-- ---- links and moves
+
+-- the store of a page that is mapped with these rights at most
+abbrev pub store_of : Shards → Rights → Transfer → Store
+store_of s rights t = record { read = index_of s t.source; put = index_of s t.target; rights = rights }
+
+-- the stores of those pages of an item whose source is held
+abbrev pub stores_of : Shards → Rights → List Transfer → List Store
+stores_of s rights [] = []
+stores_of s rights (t ∷ ts) = if has_entry s t.source then store_of s rights t ∷ stores_of s rights ts else stores_of s rights ts
+
+-- the page that is moved, by its words
+abbrev pub word_pair : Shards → Transfer → Pair
+word_pair s t = record { taken = index_of s t.source; put = index_of s t.target }
+
+-- those of the pages whose source is held
+abbrev pub word_pairs : Shards → List Transfer → List Pair
+word_pairs s [] = []
+word_pairs s (t ∷ ts) = if has_entry s t.source then word_pair s t ∷ word_pairs s ts else word_pairs s ts
