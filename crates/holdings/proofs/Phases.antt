@@ -6,3 +6,4 @@ pub mod StrippedRun
 pub mod StrippedRuns
 pub mod StripPlans
 pub mod Linked
+pub mod Moved

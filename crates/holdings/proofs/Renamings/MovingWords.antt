@@ -235,7 +235,7 @@ module _ (limits : Limits) (old : Shards) (trees : List Shape) (sound : IsSound 
         by None is = is
         by (Some e) is = absurd (cc (absent, ap (entry_at now) (sym source_stays) ∙ words.forth t.source e source_within is))
 
-    source_stood : (e : Entry) → entry_at now t.source ≡ Some e → entry_at old t.source ≡ Some e
+    pub source_stood : (e : Entry) → entry_at now t.source ≡ Some e → entry_at old t.source ≡ Some e
     source_stood e is =
         let c = words.back t.source e source_within is in
         let stood : entry_at old t.source ≡ Some c.entry = ap (entry_at old) (sym (came_source c.place c.to)) ∙ c.stood in
