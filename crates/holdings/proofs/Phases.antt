@@ -7,3 +7,4 @@ pub mod StrippedRuns
 pub mod StripPlans
 pub mod Linked
 pub mod Moved
+pub mod KeptNodes

@@ -93,7 +93,7 @@ zip_append [] vs (y ∷ ys) us same = absurd (omega (arith, same))
 zip_append (x ∷ xs) vs [] us same = absurd (omega (arith, same))
 zip_append (x ∷ xs) vs (y ∷ ys) us same = ap (λ es. (x, y) ∷ es) (zip_append xs vs ys us (omega (arith, same)))
 
-zip_length : {A B : Type 0} (xs : List A) (ys : List B) → length xs ≡ length ys → length (zip xs ys) ≡ length xs
+pub zip_length : {A B : Type 0} (xs : List A) (ys : List B) → length xs ≡ length ys → length (zip xs ys) ≡ length xs
 zip_length [] [] same = refl
 zip_length [] (y ∷ ys) same = refl
 zip_length (x ∷ xs) [] same = absurd (omega (arith, same))

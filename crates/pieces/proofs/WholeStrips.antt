@@ -92,7 +92,7 @@ module _ (w : List ℕ) where
 
   -- ---- all strips
 
-  all_written : (i : ℕ) (ss : List StripContent) → All IsStrip ss → (later : Option ℕ) → over i (flat_map (λ s. effects w (piece.Strip s)) ss) later ≡ over i (narrows (joined_strips ss).indexes (joined_strips ss).masks) later
+  pub all_written : (i : ℕ) (ss : List StripContent) → All IsStrip ss → (later : Option ℕ) → over i (flat_map (λ s. effects w (piece.Strip s)) ss) later ≡ over i (narrows (joined_strips ss).indexes (joined_strips ss).masks) later
   all_written i [] each later = refl
   all_written i (s ∷ ss) each later =
       let is : IsStrip s = each 0 s (omega arith) in

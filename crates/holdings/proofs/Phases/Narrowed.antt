@@ -48,7 +48,7 @@ spared_stays a e some = by (without e.rights no_rights) (same_rights (without e.
     by r same = ap (λ x. if is_empty x then None else Some (record e { rights = x; status = no_rights })) same ∙ ap (λ b. if b then None else Some (record e { status = no_rights })) some
 
 -- what a mask leaves has the frame that was there
-narrowed_fits : (mask : Rights) (o : Option Entry) → FrameFits o → FrameFits (narrowed_by mask o)
+pub narrowed_fits : (mask : Rights) (o : Option Entry) → FrameFits o → FrameFits (narrowed_by mask o)
 narrowed_fits mask None fits = λ e is. absurd (cc is)
 narrowed_fits mask (Some k) fits = λ e is. let same = narrowed_frame true mask k e is in subst (λ n. n < 2 ^ 24) same (fits k refl)
 
