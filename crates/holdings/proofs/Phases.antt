@@ -8,3 +8,4 @@ pub mod StripPlans
 pub mod Linked
 pub mod Moved
 pub mod KeptNodes
+pub mod Beside

@@ -1,0 +1,229 @@
+-- The pieces of accesses, of a MapItem and of a GrantItem can be worked beside one another.
+use Rattle.std.proofs.Common.{◌≡◌, ℕ, zero, suc, ◌+◌, ◌-◌, ◌<◌, ◌≤◌, nat_lt, true, false, Bool, ◌&&◌, ◌||◌, not, List, [], ◌∷◌, ◌++◌, length, map, Option, Some, None, slice_index, get_or, refl, sym, ap, ◌∙◌, subst, arith, ◌⊎◌, inl, inr, if◌then◌else◌, pow_pos}
+use Rattle.std.specs.Prelude.{is_some, ◌==◌}
+use Rattle.std.specs.List.{All, list_any, list_all, flat_map}
+use Rattle.std.proofs.lemmas.Bool.{and_parts, and_from, ne_eqb, eq-eqb, lt-ltb}
+use Rattle.std.proofs.lemmas.Grind.{flat_map-append}
+use Rattle.std.proofs.lemmas.List.{map-append}
+use Rattle.fpage.specs.declared.rights.Rights.{Rights}
+use Rattle.fpage.specs.declared.rights.Access.{Access}
+use Rattle.space.specs.declared.place.Place.{Place}
+use Rattle.space.specs.declared.shards.Shards.{Shards}
+use Rattle.space.specs.Place.{same_place}
+use Rattle.space.specs.Shards.{IsPlace, index_of, entry_at}
+use Rattle.space.proofs.Places.{same_self}
+use Rattle.space.proofs.ShardWords.{places_have_words, words_are_their_own}
+use Rattle.maptree.specs.Cuts.{pieces}
+use Rattle.model.specs.Calls.{Limits}
+use Rattle.pieces.specs.Contents.{puts_of, ends_of}
+use Rattle.pieces.specs.Distinct.{is_none_of, are_distinct}
+use Rattle.pieces.specs.Phases.{CanBeWorked, changes, folds, held, named, is_touch, are_alike}
+use Rattle.pieces.specs.Steps.{entry_in}
+use Rattle.pieces.specs.declared.link.Store.{Store}
+use Rattle.pieces.specs.declared.moving.Pair.{Pair}
+use Rattle.pieces.specs.declared.touch.WordAccess.{WordAccess}
+use Rattle.pieces.specs.declared.piece.Piece.TheVariants as piece
+use Rattle.pieces.specs.declared.piece.Piece.{Piece}
+use Rattle.pieces.proofs.InPieces.{flat_pieces, flat_of_map, links_change, moves_change}
+use Rattle.holdings.specs.declared.transfer.Transfer.{Transfer}
+use Rattle.holdings.specs.Sending.{ArePaired, IsApartFrom}
+use Rattle.holdings.specs.Inner.Held.{has_entry}
+use Rattle.holdings.specs.Inner.Planning.{store_of, stores_of, word_pair, word_pairs}
+use Rattle.holdings.proofs.Phases.Words.{AreWordsOf}
+use Rattle.holdings.proofs.Phases.Accessed.{word_access}
+
+-- ---- lists of one kind
+
+none_folded : {A : Type 0} (make : A → Piece) → ((x : A) → folds (make x) ≡ []) → (xs : List A) → flat_map folds (map make xs) ≡ []
+none_folded make none [] = refl
+none_folded make none (x ∷ xs) = ap (λ is. is ++ flat_map folds (map make xs)) (none x) ∙ none_folded make none xs
+
+none_touch : {A : Type 0} (make : A → Piece) → ((x : A) → is_touch (make x) ≡ false) → (xs : List A) → list_any is_touch (map make xs) ≡ false
+none_touch make none [] = refl
+none_touch make none (x ∷ xs) = ap (λ b. b || list_any is_touch (map make xs)) (none x) ∙ none_touch make none xs
+
+all_touch : (xs : List (List WordAccess)) → list_all is_touch (map piece.Touch xs) ≡ true
+all_touch [] = refl
+all_touch (x ∷ xs) = all_touch xs
+
+not_touches : (ps : List Piece) → list_any is_touch ps ≡ false → are_alike ps ≡ true
+not_touches ps none = ap (λ b. list_all is_touch ps || not b) none ∙ either (list_all is_touch ps)
+  where
+    either : (x : Bool) → (x || not false) ≡ true
+    either x = grind arith
+
+only_touches : (ps : List Piece) → list_all is_touch ps ≡ true → are_alike ps ≡ true
+only_touches ps all = ap (λ b. b || not (list_any is_touch ps)) all
+
+touched_indexes : (xs ys : List WordAccess) → map (λ t. t.index) (xs ++ ys) ≡ map (λ t. t.index) xs ++ map (λ t. t.index) ys
+touched_indexes xs ys = map-append (λ t. t.index) xs ys
+
+none_changed : (xs : List (List WordAccess)) → flat_map changes (map piece.Touch xs) ≡ []
+none_changed [] = refl
+none_changed (x ∷ xs) = none_changed xs
+
+none_held : (xs : List (List WordAccess)) → flat_map held (map piece.Touch xs) ≡ []
+none_held [] = refl
+none_held (x ∷ xs) = none_held xs
+
+module _ (s : Shards) (w : List ℕ) (are : AreWordsOf s w) where
+  some_words : 0 < length w
+  some_words =
+      let first : Place = record { space = 0; page = 0 } in
+      let has = places_have_words s first (record { space = omega (arith, s.limits.some); page = pow_pos (s.bits - 12) }) in
+      omega (arith, has, are.count)
+
+  index_within : (p : Place) → IsPlace s p → nat_lt (index_of s p) (length w) ≡ true
+  index_within p place = let has = places_have_words s p place in lt-ltb (index_of s p) (length w) (omega (arith, has, are.count))
+
+  apart_words : (p q : Place) → IsPlace s p → IsPlace s q → same_place p q ≡ false → (index_of s p == index_of s q) ≡ false
+  apart_words p q p_in q_in apart = ne_eqb (index_of s p) (index_of s q) (λ same. cc (apart, ap (λ x. same_place x q) (words_are_their_own s p q p_in q_in same), same_self q))
+
+  other_words : (p q : Place) → IsPlace s p → IsPlace s q → (p.space ≡ q.space → ⊥) → (index_of s p == index_of s q) ≡ false
+  other_words p q p_in q_in differ = ne_eqb (index_of s p) (index_of s q) (λ same. differ (ap (λ x. x.space) (words_are_their_own s p q p_in q_in same)))
+
+  -- ---- accesses
+
+  accesses_within : (ts : List (Place × Access)) → All (λ t. IsPlace s t.0) ts → list_all (λ i. nat_lt i (length w)) (map (λ x. x.index) (map (word_access s) ts)) ≡ true
+  accesses_within [] places = refl
+  accesses_within (t ∷ ts) places = and_from _ _ (index_within t.0 (places 0 t (omega arith))) (accesses_within ts (λ k d less. places (suc k) d (omega (arith, less))))
+
+  pub touches_can : (ts : List (Place × Access)) → All (λ t. IsPlace s t.0) ts → (most : ℕ) → 1 ≤ most → CanBeWorked w (map piece.Touch (pieces (length (map (word_access s) ts)) most (map (word_access s) ts)))
+  touches_can ts places most some =
+      let xs = map (word_access s) ts in
+      let parts = pieces (length xs) most xs in
+      record {
+        some = some_words;
+        packs = are.packs;
+        within = ap (list_all (λ i. nat_lt i (length w))) (flat_of_map piece.Touch named parts ∙ flat_pieces (map (λ x. x.index)) refl touched_indexes (length xs) most xs some (omega arith)) ∙ accesses_within ts places;
+        entries = ap (list_all (λ i. is_some (entry_in w i))) (none_held parts);
+        distinct = ap are_distinct (none_changed parts);
+        apart = ap (list_all (is_none_of (flat_map changes (map piece.Touch parts)))) (none_folded piece.Touch (λ x. refl) parts);
+        alike = only_touches (map piece.Touch parts) (all_touch parts);
+      }
+
+  -- ---- links
+
+  stores_within : (rights : Rights) (ts : List Transfer) → All (λ t. IsPlace s t.source × IsPlace s t.target) ts → list_all (λ i. nat_lt i (length w)) (flat_map (λ x. x.read ∷ x.put ∷ []) (stores_of s rights ts)) ≡ true
+  stores_within rights [] places = refl
+  stores_within rights (t ∷ ts) places = by (has_entry s t.source) (stores_within rights ts (λ k d less. places (suc k) d (omega (arith, less))))
+    where
+      by : (b : Bool) → list_all (λ i. nat_lt i (length w)) (flat_map (λ x. x.read ∷ x.put ∷ []) (stores_of s rights ts)) ≡ true
+          → list_all (λ i. nat_lt i (length w)) (flat_map (λ x. x.read ∷ x.put ∷ []) (if b then store_of s rights t ∷ stores_of s rights ts else stores_of s rights ts)) ≡ true
+      by false rest = rest
+      by true rest = let both = places 0 t (omega arith) in and_from _ _ (index_within t.source both.0) (and_from _ _ (index_within t.target both.1) rest)
+
+  reads_held : (rights : Rights) (ts : List Transfer) → All (λ t. IsPlace s t.source × IsPlace s t.target) ts → list_all (λ i. is_some (entry_in w i)) (map (λ x. x.read) (stores_of s rights ts)) ≡ true
+  reads_held rights [] places = refl
+  reads_held rights (t ∷ ts) places = by (has_entry s t.source) refl (reads_held rights ts (λ k d less. places (suc k) d (omega (arith, less))))
+    where
+      by : (b : Bool) → has_entry s t.source ≡ b → list_all (λ i. is_some (entry_in w i)) (map (λ x. x.read) (stores_of s rights ts)) ≡ true
+          → list_all (λ i. is_some (entry_in w i)) (map (λ x. x.read) (if b then store_of s rights t ∷ stores_of s rights ts else stores_of s rights ts)) ≡ true
+      by false _ rest = rest
+      by true held rest = and_from _ _ (ap is_some (are.entries t.source (places 0 t (omega arith)).0) ∙ held) rest
+
+  put_apart : (rights : Rights) (p : Place) → IsPlace s p → (ts : List Transfer) → All (λ t. IsPlace s t.source × IsPlace s t.target) ts → All (λ d. same_place d.target p ≡ false) ts → is_none_of (puts_of (stores_of s rights ts)) (index_of s p) ≡ true
+  put_apart rights p place [] places apart = refl
+  put_apart rights p place (t ∷ ts) places apart = by (has_entry s t.source) (put_apart rights p place ts (λ k d less. places (suc k) d (omega (arith, less))) (λ k d less. apart (suc k) d (omega (arith, less))))
+    where
+      by : (b : Bool) → is_none_of (puts_of (stores_of s rights ts)) (index_of s p) ≡ true → is_none_of (puts_of (if b then store_of s rights t ∷ stores_of s rights ts else stores_of s rights ts)) (index_of s p) ≡ true
+      by false rest = rest
+      by true rest = and_from _ _ (ap not (apart_words t.target p (places 0 t (omega arith)).1 place (apart 0 t (omega arith)))) rest
+
+  puts_distinct : (rights : Rights) (from to : ℕ) (ts : List Transfer) → ArePaired from to ts → All (λ t. IsPlace s t.source × IsPlace s t.target) ts → are_distinct (puts_of (stores_of s rights ts)) ≡ true
+  puts_distinct rights from to [] paired places = refl
+  puts_distinct rights from to (t ∷ ts) paired places =
+      by (has_entry s t.source) (put_apart rights t.target (places 0 t (omega arith)).1 ts (λ k d less. places (suc k) d (omega (arith, less))) (λ k d less. (paired.2 k d less).1))
+      (puts_distinct rights from to ts paired.3 (λ k d less. places (suc k) d (omega (arith, less))))
+    where
+      by : (b : Bool) → is_none_of (puts_of (stores_of s rights ts)) (index_of s t.target) ≡ true → are_distinct (puts_of (stores_of s rights ts)) ≡ true
+          → are_distinct (puts_of (if b then store_of s rights t ∷ stores_of s rights ts else stores_of s rights ts)) ≡ true
+      by false _ rest = rest
+      by true none rest = and_from _ _ none rest
+
+  pub links_can : (rights : Rights) (from to : ℕ) (ts : List Transfer) → ArePaired from to ts → All (λ t. IsPlace s t.source × IsPlace s t.target) ts → (most : ℕ) → 1 ≤ most
+      → CanBeWorked w (map piece.Link (pieces (length (stores_of s rights ts)) most (stores_of s rights ts)))
+  links_can rights from to ts paired places most some =
+      let xs = stores_of s rights ts in
+      let parts = pieces (length xs) most xs in
+      let changed = links_change most some xs in
+      record {
+        some = some_words;
+        packs = are.packs;
+        within = ap (list_all (λ i. nat_lt i (length w))) (flat_of_map piece.Link named parts ∙ flat_pieces (flat_map (λ x. x.read ∷ x.put ∷ [])) refl (flat_map-append (λ x. x.read ∷ x.put ∷ [])) (length xs) most xs some (omega arith)) ∙ stores_within rights ts places;
+        entries = ap (list_all (λ i. is_some (entry_in w i))) changed.1 ∙ reads_held rights ts places;
+        distinct = ap are_distinct changed.0 ∙ puts_distinct rights from to ts paired places;
+        apart = ap (list_all (is_none_of (flat_map changes (map piece.Link parts)))) (none_folded piece.Link (λ x. refl) parts);
+        alike = not_touches (map piece.Link parts) (none_touch piece.Link (λ x. refl) parts);
+      }
+
+  -- ---- moves
+
+  pairs_within : (ts : List Transfer) → All (λ t. IsPlace s t.source × IsPlace s t.target) ts → list_all (λ i. nat_lt i (length w)) (ends_of (word_pairs s ts)) ≡ true
+  pairs_within [] places = refl
+  pairs_within (t ∷ ts) places = by (has_entry s t.source) (pairs_within ts (λ k d less. places (suc k) d (omega (arith, less))))
+    where
+      by : (b : Bool) → list_all (λ i. nat_lt i (length w)) (ends_of (word_pairs s ts)) ≡ true → list_all (λ i. nat_lt i (length w)) (ends_of (if b then word_pair s t ∷ word_pairs s ts else word_pairs s ts)) ≡ true
+      by false rest = rest
+      by true rest = let both = places 0 t (omega arith) in and_from _ _ (index_within t.source both.0) (and_from _ _ (index_within t.target both.1) rest)
+
+  takes_held : (ts : List Transfer) → All (λ t. IsPlace s t.source × IsPlace s t.target) ts → list_all (λ i. is_some (entry_in w i)) (map (λ x. x.taken) (word_pairs s ts)) ≡ true
+  takes_held [] places = refl
+  takes_held (t ∷ ts) places = by (has_entry s t.source) refl (takes_held ts (λ k d less. places (suc k) d (omega (arith, less))))
+    where
+      by : (b : Bool) → has_entry s t.source ≡ b → list_all (λ i. is_some (entry_in w i)) (map (λ x. x.taken) (word_pairs s ts)) ≡ true
+          → list_all (λ i. is_some (entry_in w i)) (map (λ x. x.taken) (if b then word_pair s t ∷ word_pairs s ts else word_pairs s ts)) ≡ true
+      by false _ rest = rest
+      by true held rest = and_from _ _ (ap is_some (are.entries t.source (places 0 t (omega arith)).0) ∙ held) rest
+
+  end_apart : (p : Place) → IsPlace s p → (ts : List Transfer) → All (λ t. IsPlace s t.source × IsPlace s t.target) ts → All (λ d. ((index_of s d.source == index_of s p) ≡ false) × ((index_of s d.target == index_of s p) ≡ false)) ts
+      → is_none_of (ends_of (word_pairs s ts)) (index_of s p) ≡ true
+  end_apart p place [] places apart = refl
+  end_apart p place (t ∷ ts) places apart = by (has_entry s t.source) (end_apart p place ts (λ k d less. places (suc k) d (omega (arith, less))) (λ k d less. apart (suc k) d (omega (arith, less))))
+    where
+      by : (b : Bool) → is_none_of (ends_of (word_pairs s ts)) (index_of s p) ≡ true → is_none_of (ends_of (if b then word_pair s t ∷ word_pairs s ts else word_pairs s ts)) (index_of s p) ≡ true
+      by false rest = rest
+      by true rest = let both = apart 0 t (omega arith) in and_from _ _ (ap not both.0) (and_from _ _ (ap not both.1) rest)
+
+  ends_distinct : (from to : ℕ) → (from ≡ to → ⊥) → (ts : List Transfer) → ArePaired from to ts → All (λ t. IsPlace s t.source × IsPlace s t.target) ts → are_distinct (ends_of (word_pairs s ts)) ≡ true
+  ends_distinct from to differ [] paired places = refl
+  ends_distinct from to differ (t ∷ ts) paired places =
+      let both = places 0 t (omega arith) in
+      let others : All (λ t. IsPlace s t.source × IsPlace s t.target) ts = λ k d less. places (suc k) d (omega (arith, less)) in
+      by (has_entry s t.source)
+      (other_words t.target t.source both.1 both.0 (λ same. differ (sym paired.0 ∙ sym same ∙ paired.1)))
+      (end_apart t.source both.0 ts others (λ k d less.
+        let at = others k d less in
+        let spaces = spaces_of_all from to ts paired.3 k d less in
+        (apart_words (get_or ts k d).source t.source at.0 both.0 (paired.2 k d less).0, other_words (get_or ts k d).target t.source at.1 both.0 (λ same. differ (sym paired.0 ∙ sym same ∙ spaces.1)))))
+      (end_apart t.target both.1 ts others (λ k d less.
+        let at = others k d less in
+        let spaces = spaces_of_all from to ts paired.3 k d less in
+        (other_words (get_or ts k d).source t.target at.0 both.1 (λ same. differ (sym spaces.0 ∙ same ∙ paired.1)), apart_words (get_or ts k d).target t.target at.1 both.1 (paired.2 k d less).1)))
+      (ends_distinct from to differ ts paired.3 others)
+    where
+      spaces_of_all : (from to : ℕ) (us : List Transfer) → ArePaired from to us → All (λ u. (u.source.space ≡ from) × (u.target.space ≡ to)) us
+      spaces_of_all from to [] paired k d less = absurd (omega (arith, less))
+      spaces_of_all from to (u ∷ us) paired zero d less = (paired.0, paired.1)
+      spaces_of_all from to (u ∷ us) paired (suc k) d less = spaces_of_all from to us paired.3 k d (omega (arith, less))
+
+      by : (b : Bool) → (index_of s t.target == index_of s t.source) ≡ false → is_none_of (ends_of (word_pairs s ts)) (index_of s t.source) ≡ true → is_none_of (ends_of (word_pairs s ts)) (index_of s t.target) ≡ true
+          → are_distinct (ends_of (word_pairs s ts)) ≡ true → are_distinct (ends_of (if b then word_pair s t ∷ word_pairs s ts else word_pairs s ts)) ≡ true
+      by false _ _ _ rest = rest
+      by true ends source target rest = and_from _ _ (and_from _ _ (ap not ends) source) (and_from _ _ target rest)
+
+  pub moves_can : (from to : ℕ) → (from ≡ to → ⊥) → (ts : List Transfer) → ArePaired from to ts → All (λ t. IsPlace s t.source × IsPlace s t.target) ts → (most : ℕ) → 1 ≤ most
+      → CanBeWorked w (map piece.Move (pieces (length (word_pairs s ts)) most (word_pairs s ts)))
+  moves_can from to differ ts paired places most some =
+      let xs = word_pairs s ts in
+      let parts = pieces (length xs) most xs in
+      let changed = moves_change most some xs in
+      record {
+        some = some_words;
+        packs = are.packs;
+        within = ap (list_all (λ i. nat_lt i (length w))) (flat_of_map piece.Move named parts ∙ flat_pieces ends_of refl (flat_map-append (λ x. x.taken ∷ x.put ∷ [])) (length xs) most xs some (omega arith)) ∙ pairs_within ts places;
+        entries = ap (list_all (λ i. is_some (entry_in w i))) changed.1 ∙ takes_held ts places;
+        distinct = ap are_distinct changed.0 ∙ ends_distinct from to differ ts paired places;
+        apart = ap (list_all (is_none_of (flat_map changes (map piece.Move parts)))) (none_folded piece.Move (λ x. refl) parts);
+        alike = not_touches (map piece.Move parts) (none_touch piece.Move (λ x. refl) parts);
+      }
