@@ -9,3 +9,4 @@ pub mod Linked
 pub mod Moved
 pub mod KeptNodes
 pub mod Beside
+pub mod Whole

@@ -6,6 +6,8 @@ pub mod Sound
 pub mod Start
 pub mod Stripping
 pub mod Planning
+pub mod Words
+pub mod Phases
 pub mod Outcomes
 pub mod Spots
 pub mod Links

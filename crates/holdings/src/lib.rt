@@ -5,6 +5,7 @@
 mod group;
 mod holdings;
 mod item_pages;
+mod laws;
 mod limits;
 mod link;
 mod map;
@@ -24,6 +25,7 @@ mod tree;
 
 pub use holdings::Holdings;
 pub use item_pages::ItemPages;
+pub use laws::phases_in_pieces;
 pub use limits::Limits;
 pub use mapping::Mapping;
 pub use outcome::Outcome;

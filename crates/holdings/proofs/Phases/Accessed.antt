@@ -25,15 +25,13 @@ use Rattle.pieces.specs.declared.touch.WordAccess.{WordAccess}
 use Rattle.holdings.specs.Places.{IsWithin}
 use Rattle.holdings.specs.Contents.{touched_all, access_answers}
 use Rattle.holdings.specs.Inner.Held.{holdings_of}
+use Rattle.holdings.specs.Inner.Planning.{word_access}
 use Rattle.holdings.specs.Inner.Sound.{IsSound}
 use Rattle.holdings.proofs.Contents.Accesses.{can_touch_absent, can_touch_present, touched, touched_sound, marked_entry, touch_fault}
 use Rattle.holdings.proofs.Contents.WordChanges.{IsWordSet, place_kept}
 use Rattle.holdings.proofs.Contents.Holders.{place_within}
-use Rattle.holdings.proofs.Phases.Words.{AreWordsOf, IsWith, with_words, same_holdings, same_sound}
-
--- the word accesses of accesses
-abbrev pub word_access : Shards → Place × Access → WordAccess
-word_access s t = record { index = index_of s t.0; access = t.1 }
+use Rattle.holdings.specs.Inner.Words.{AreWordsOf, IsWith}
+use Rattle.holdings.proofs.Phases.Words.{with_words, same_holdings, same_sound}
 
 -- ---- one access
 
@@ -148,3 +146,18 @@ all_accessed limits trees (t ∷ ts) within s sound w are n with =
       answers = ap (λ b. b ∷ answers_in_order (accessed w x) (map (word_access s) ts)) (may_is limits s trees w are t.0 t.1 place inside)
           ∙ ap (λ bs. can_touch (holdings_of limits s trees) t.0 t.1 ∷ bs) (ap (answers_in_order (accessed w x)) (sym xs) ∙ rest.answers ∙ ap (λ h. access_answers h ts) one.0);
     }
+
+-- what they answer, in shards with whatever words come out
+pub all_answered : (limits : Limits) (trees : List Shape) (ts : List (Place × Access)) → All (λ t. IsWithin limits t.0) ts → (s : Shards) → IsSound limits s trees → (w : List ℕ) → AreWordsOf s w
+    → answers_in_order w (map (word_access s) ts) ≡ access_answers (holdings_of limits s trees) ts
+all_answered limits trees [] within s sound w are = refl
+all_answered limits trees (t ∷ ts) within s sound w are =
+    let x = word_access s t in
+    let inside : IsWithin limits t.0 = within 0 t (omega arith) in
+    let place = place_within limits s trees sound.kept.fits t.0 inside in
+    let middle = with_words s sound.kept.fits.present (accessed w x) (accessed_length w x ∙ are.count) (packs_after w are.packs x) in
+    let one = one_left limits s trees sound w are t.0 t.1 inside middle.0 middle.1 in
+    let xs = same_accesses s middle.0 middle.1.layout.index ts in
+    let rest = all_answered limits trees ts (λ k d less. within (suc k) d (omega (arith, less))) middle.0 one.1 (accessed w x) middle.1.words in
+    ap (λ b. b ∷ answers_in_order (accessed w x) (map (word_access s) ts)) (may_is limits s trees w are t.0 t.1 place inside)
+    ∙ ap (λ bs. can_touch (holdings_of limits s trees) t.0 t.1 ∷ bs) (ap (answers_in_order (accessed w x)) (sym xs) ∙ rest ∙ ap (λ h. access_answers h ts) one.0)

@@ -4,7 +4,7 @@ use Rattle.std.specs.Prelude.{is_some, ◌==◌}
 use Rattle.std.specs.List.{All, list_any, list_all, flat_map}
 use Rattle.std.proofs.lemmas.Bool.{and_parts, and_from, ne_eqb, eq-eqb, lt-ltb}
 use Rattle.std.proofs.lemmas.Grind.{flat_map-append}
-use Rattle.std.proofs.lemmas.List.{map-append}
+use Rattle.std.proofs.lemmas.List.{map-append, append-nil}
 use Rattle.fpage.specs.declared.rights.Rights.{Rights}
 use Rattle.fpage.specs.declared.rights.Access.{Access}
 use Rattle.space.specs.declared.place.Place.{Place}
@@ -28,9 +28,8 @@ use Rattle.pieces.proofs.InPieces.{flat_pieces, flat_of_map, links_change, moves
 use Rattle.holdings.specs.declared.transfer.Transfer.{Transfer}
 use Rattle.holdings.specs.Sending.{ArePaired, IsApartFrom}
 use Rattle.holdings.specs.Inner.Held.{has_entry}
-use Rattle.holdings.specs.Inner.Planning.{store_of, stores_of, word_pair, word_pairs}
-use Rattle.holdings.proofs.Phases.Words.{AreWordsOf}
-use Rattle.holdings.proofs.Phases.Accessed.{word_access}
+use Rattle.holdings.specs.Inner.Planning.{word_access, store_of, stores_of, word_pair, word_pairs}
+use Rattle.holdings.specs.Inner.Words.{AreWordsOf}
 
 -- ---- lists of one kind
 
@@ -226,4 +225,32 @@ module _ (s : Shards) (w : List ℕ) (are : AreWordsOf s w) where
         distinct = ap are_distinct changed.0 ∙ ends_distinct from to differ ts paired places;
         apart = ap (list_all (is_none_of (flat_map changes (map piece.Move parts)))) (none_folded piece.Move (λ x. refl) parts);
         alike = not_touches (map piece.Move parts) (none_touch piece.Move (λ x. refl) parts);
+      }
+
+  -- ---- as one piece
+
+  pub link_can : (rights : Rights) (from to : ℕ) (ts : List Transfer) → ArePaired from to ts → All (λ t. IsPlace s t.source × IsPlace s t.target) ts → CanBeWorked w (piece.Link (stores_of s rights ts) ∷ [])
+  link_can rights from to ts paired places =
+      let xs = stores_of s rights ts in
+      record {
+        some = some_words;
+        packs = are.packs;
+        within = ap (list_all (λ i. nat_lt i (length w))) (append-nil (flat_map (λ x. x.read ∷ x.put ∷ []) xs)) ∙ stores_within rights ts places;
+        entries = ap (list_all (λ i. is_some (entry_in w i))) (append-nil (map (λ x. x.read) xs)) ∙ reads_held rights ts places;
+        distinct = ap are_distinct (append-nil (puts_of xs)) ∙ puts_distinct rights from to ts paired places;
+        apart = refl;
+        alike = refl;
+      }
+
+  pub move_can : (from to : ℕ) → (from ≡ to → ⊥) → (ts : List Transfer) → ArePaired from to ts → All (λ t. IsPlace s t.source × IsPlace s t.target) ts → CanBeWorked w (piece.Move (word_pairs s ts) ∷ [])
+  move_can from to differ ts paired places =
+      let xs = word_pairs s ts in
+      record {
+        some = some_words;
+        packs = are.packs;
+        within = ap (list_all (λ i. nat_lt i (length w))) (append-nil (ends_of xs)) ∙ pairs_within ts places;
+        entries = ap (list_all (λ i. is_some (entry_in w i))) (append-nil (map (λ x. x.taken) xs)) ∙ takes_held ts places;
+        distinct = ap are_distinct (append-nil (ends_of xs)) ∙ ends_distinct from to differ ts paired places;
+        apart = refl;
+        alike = refl;
       }

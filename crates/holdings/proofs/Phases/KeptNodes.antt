@@ -28,7 +28,7 @@ use Rattle.pieces.proofs.WholeStrips.{over, written_over, narrows, all_written}
 use Rattle.holdings.specs.Inner.Held.{has_entry}
 use Rattle.holdings.proofs.Contents.WordChanges.{place_kept}
 use Rattle.holdings.proofs.Phases.Narrowed.{narrowed_fits}
-use Rattle.holdings.proofs.Phases.Words.{AreWordsOf, IsWith}
+use Rattle.holdings.specs.Inner.Words.{AreWordsOf, IsWith}
 
 -- ---- what narrows of distinct indexes write
 

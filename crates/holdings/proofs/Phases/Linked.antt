@@ -54,7 +54,8 @@ use Rattle.holdings.proofs.Trees.Chains.{entry_held}
 use Rattle.holdings.proofs.Stripping.Frames.{loose_from}
 use Rattle.std.proofs.lemmas.Option.{same_Some}
 use Rattle.holdings.proofs.Stripping.Walks.{same_layouts}
-use Rattle.holdings.proofs.Phases.Words.{AreWordsOf, IsWith, with_words, same_holdings, same_sound}
+use Rattle.holdings.specs.Inner.Words.{AreWordsOf, IsWith}
+use Rattle.holdings.proofs.Phases.Words.{with_words, same_holdings, same_sound}
 use Rattle.model.specs.Calls.{Limits}
 use Rattle.fpage.specs.declared.item.ItemKind.TheVariants.{Map}
 

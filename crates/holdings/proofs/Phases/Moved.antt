@@ -51,7 +51,8 @@ use Rattle.holdings.proofs.Renamings.MovedPages.{AreWordsMoved}
 use Rattle.holdings.proofs.Renamings.MovingWords.{AreMoving, none_moved, ends_apart, source_place, target_place, source_lost, source_stood, step, all_moved}
 use Rattle.holdings.proofs.Renamings.MovingTrees.{pairs_within, all_left, all_sound, same_limits}
 use Rattle.holdings.proofs.Stripping.Walks.{same_layouts}
-use Rattle.holdings.proofs.Phases.Words.{AreWordsOf, IsWith, with_words, same_holdings, same_sound}
+use Rattle.holdings.specs.Inner.Words.{AreWordsOf, IsWith}
+use Rattle.holdings.proofs.Phases.Words.{with_words, same_holdings, same_sound}
 
 -- ---- one pair
 

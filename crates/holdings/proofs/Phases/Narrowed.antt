@@ -33,7 +33,7 @@ use Rattle.pieces.proofs.WholeStrips.{over, written_over, over_append, narrows, 
 use Rattle.holdings.specs.Places.{any_of}
 use Rattle.holdings.proofs.Contents.WordChanges.{place_kept}
 use Rattle.holdings.proofs.Stripping.Walks.{walked, narrowed_frame}
-use Rattle.holdings.proofs.Phases.Words.{AreWordsOf, IsWith}
+use Rattle.holdings.specs.Inner.Words.{AreWordsOf, IsWith}
 
 -- ---- entries that lose
 

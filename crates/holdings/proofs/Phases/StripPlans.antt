@@ -35,6 +35,7 @@ use Rattle.pieces.specs.Distinct.{is_none_of, are_distinct}
 use Rattle.pieces.specs.Phases.{CanBeWorked, IsPiece, changes, folds, held, named, is_touch, are_alike}
 use Rattle.pieces.specs.Steps.{entry_in}
 use Rattle.pieces.specs.Applied.{worked}
+use Rattle.pieces.specs.Laws.{joined_strips}
 use Rattle.pieces.specs.declared.piece.Piece.TheVariants as piece
 use Rattle.pieces.specs.declared.piece.Piece.{Piece}
 use Rattle.holdings.specs.Places.{any_of}
@@ -51,7 +52,7 @@ use Rattle.holdings.proofs.Stripping.Frames.{loose_from, listed_kept, find_kept,
 use Rattle.holdings.proofs.Stripping.Outer.{outer_word, outer_strip}
 use Rattle.holdings.proofs.Stripping.Sequences.{AreStripped}
 use Rattle.holdings.proofs.Stripping.Walks.{standing_place}
-use Rattle.holdings.proofs.Phases.Words.{AreWordsOf, IsWith}
+use Rattle.holdings.specs.Inner.Words.{AreWordsOf, IsWith}
 use Rattle.holdings.proofs.Phases.StrippedRun.{slice_of_map, each_listed, rest_indexes, whole_indexes}
 use Rattle.holdings.proofs.Phases.StrippedRuns.{changes_of_strips, runs_stripped, status_found}
 
@@ -228,7 +229,7 @@ module _ (s : Shards) (trees : List Shape) (sound : AreSound s trees) (set : Pla
     -- ---- trees without the pages that are gone
 
     module _ (left : List Shape) (count : length left ≡ length trees) (links : (g : ℕ) → links_in left g ≡ pruned new (links_in trees g)) where
-      limits_left : limits_in new left ≡ limits_in new trees
+      pub limits_left : limits_in new left ≡ limits_in new trees
       limits_left = ap (λ n. (record { spaces = spaces_of new; bits = bits_of new; frames = n })) count
 
       origins_left : (g : ℕ) (p : Place) → has_entry new p ≡ true → (is_listed left g p ≡ is_listed trees g p) × (origin_in (links_in left g) p ≡ origin_in (links_in trees g) p)
@@ -268,3 +269,49 @@ module _ (s : Shards) (trees : List Shape) (sound : AreSound s trees) (set : Pla
           held = λ g p listed. (was_listed g p listed).1;
         };
       }
+
+-- ---- the nodes of planned strips
+
+module _ (s : Shards) (a : Rights) (f : Bool) where
+  rest_have : (origin : Option Place) (parts : List (List Node)) → All (λ k. k.indexes ≡ map (λ n. index_of s n.place) k.nodes) (map (strip_of s false a origin) parts)
+  rest_have origin [] k d less = absurd (omega (arith, less))
+  rest_have origin (part ∷ parts) zero d less = refl
+  rest_have origin (part ∷ parts) (suc k) d less = rest_have origin parts k d (omega (arith, less))
+
+  run_have : (origin : Option Place) (parts : List (List Node)) → All (λ k. k.indexes ≡ map (λ n. index_of s n.place) k.nodes) (strips_of_run s a f origin parts)
+  run_have origin [] k d less = absurd (omega (arith, less))
+  run_have origin (part ∷ parts) zero d less = refl
+  run_have origin (part ∷ parts) (suc k) d less = rest_have origin parts k d (omega (arith, less))
+
+  pub runs_have : (plans : List RunPlan) → All (λ k. k.indexes ≡ map (λ n. index_of s n.place) k.nodes) (strips_of_runs s a f plans)
+  runs_have [] = λ k d less. absurd (omega (arith, less))
+  runs_have (plan ∷ plans) = All-append (λ k. k.indexes ≡ map (λ n. index_of s n.place) k.nodes) (strips_of_run s a f plan.origin plan.parts) (strips_of_runs s a f plans) (run_have plan.origin plan.parts) (runs_have plans)
+
+  rest_nodes : (origin : Option Place) (parts : List (List Node)) → map (λ n. n.place) (joined_strips (map (strip_of s false a origin) parts)).nodes ≡ all_places parts
+  rest_nodes origin [] = refl
+  rest_nodes origin (part ∷ parts) = map-append (λ n. n.place) part (joined_strips (map (strip_of s false a origin) parts)).nodes ∙ ap (λ ps. map (λ n. n.place) part ++ ps) (rest_nodes origin parts)
+
+  run_nodes : (origin : Option Place) (parts : List (List Node)) → map (λ n. n.place) (joined_strips (strips_of_run s a f origin parts)).nodes ≡ all_places parts
+  run_nodes origin [] = refl
+  run_nodes origin (part ∷ parts) = map-append (λ n. n.place) part (joined_strips (map (strip_of s false a origin) parts)).nodes ∙ ap (λ ps. map (λ n. n.place) part ++ ps) (rest_nodes origin parts)
+
+  runs_nodes : (plans : List RunPlan) → map (λ n. n.place) (joined_strips (strips_of_runs s a f plans)).nodes ≡ places_of_runs plans
+  runs_nodes [] = refl
+  runs_nodes (plan ∷ plans) =
+      ap (map (λ n. n.place)) (flat_map-append (λ k. k.nodes) (strips_of_run s a f plan.origin plan.parts) (strips_of_runs s a f plans))
+      ∙ map-append (λ n. n.place) (joined_strips (strips_of_run s a f plan.origin plan.parts)).nodes (joined_strips (strips_of_runs s a f plans)).nodes
+      ∙ ap (λ ps. ps ++ map (λ n. n.place) (joined_strips (strips_of_runs s a f plans)).nodes) (run_nodes plan.origin plan.parts) ∙ ap (λ ps. all_places plan.parts ++ ps) (runs_nodes plans)
+
+nodes_from_places : (P : Place → Type 0) (ns : List Node) → All P (map (λ n. n.place) ns) → All (λ n. P n.place) ns
+nodes_from_places P [] all k d less = absurd (omega (arith, less))
+nodes_from_places P (n ∷ ns) all zero d less = all 0 n.place (omega arith)
+nodes_from_places P (n ∷ ns) all (suc k) d less = nodes_from_places P ns (λ j e l. all (suc j) e (omega (arith, l))) k d (omega (arith, less))
+
+-- what is asked of the nodes of all strips of a plan
+module _ (s : Shards) (trees : List Shape) (sound : AreSound s trees) (set : PlaceSet) (plans : List RunPlan) (planned : IsStripPlan s trees set plans) (a : Rights) (f : Bool) (w : List ℕ) (are : AreWordsOf s w) where
+  pub nodes_have_words : All (λ n. IsPlace s n.place) (joined_strips (strips_of_runs s a f plans)).nodes
+  nodes_have_words = nodes_from_places (IsPlace s) (joined_strips (strips_of_runs s a f plans)).nodes
+      (subst (All (IsPlace s)) (sym (runs_nodes s a f plans)) (places_have s trees sound set plans planned a f w are plans planned.runs))
+
+  pub indexes_once : are_distinct (joined_strips (strips_of_runs s a f plans)).indexes ≡ true
+  indexes_once = ap are_distinct (runs_indexes s a f plans) ∙ distinct_indexes s (places_of_runs plans) (places_have s trees sound set plans planned a f w are plans planned.runs) planned.once

@@ -47,7 +47,8 @@ use Rattle.holdings.specs.Inner.Sound.{AreLoose}
 use Rattle.holdings.proofs.Contents.Holders.{present_within}
 use Rattle.holdings.proofs.Trees.Chains.{is_among, among_at, listed_at, place_at_drop}
 use Rattle.holdings.proofs.Stripping.Walks.{IsStripped, AreTaken, IsWalked, walked, same_taken, over_more, over_none, status_held, place_any, standing_place, run_without_origin, run_with_origin}
-use Rattle.holdings.proofs.Phases.Words.{AreWordsOf, IsWith, with_words}
+use Rattle.holdings.specs.Inner.Words.{AreWordsOf, IsWith}
+use Rattle.holdings.proofs.Phases.Words.{with_words}
 use Rattle.holdings.proofs.Phases.Narrowed.{lost_inside, kept_outside, gained_outside}
 
 -- ---- the parts of a run joined

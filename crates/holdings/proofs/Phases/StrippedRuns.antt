@@ -42,7 +42,8 @@ use Rattle.holdings.proofs.Contents.WordChanges.{place_kept}
 use Rattle.holdings.proofs.Trees.Chains.{is_among}
 use Rattle.holdings.proofs.Stripping.Walks.{IsStripped, HaveLost, loose_after, same_layouts, standing_place}
 use Rattle.holdings.proofs.Stripping.Sequences.{AreStripped, none_stripped, same_back}
-use Rattle.holdings.proofs.Phases.Words.{AreWordsOf, IsWith, with_words, same_holdings}
+use Rattle.holdings.specs.Inner.Words.{AreWordsOf, IsWith}
+use Rattle.holdings.proofs.Phases.Words.{with_words, same_holdings}
 use Rattle.holdings.proofs.Phases.StrippedRun.{run_stripped, slice_of_map, any_of_places, join_turned, whole_indexes}
 
 -- ---- strips as pieces
@@ -54,7 +55,7 @@ no_links : (ss : List StripContent) → list_any is_link (map piece.Strip ss) �
 no_links [] = refl
 no_links (s ∷ ss) = no_links ss
 
-each_strip : (ss : List StripContent) → All IsPiece (map piece.Strip ss) → All IsStrip ss
+pub each_strip : (ss : List StripContent) → All IsPiece (map piece.Strip ss) → All IsStrip ss
 each_strip [] each k d less = absurd (omega (arith, less))
 each_strip (s ∷ ss) each zero d less = each 0 (piece.Strip s) (omega arith)
 each_strip (s ∷ ss) each (suc k) d less = each_strip ss (λ j e l. each (suc j) e (omega (arith, l))) k d (omega (arith, less))

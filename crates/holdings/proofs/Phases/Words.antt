@@ -18,18 +18,7 @@ use Rattle.holdings.specs.Inner.Sound.{IsFitting, IsSound}
 use Rattle.holdings.proofs.Contents.Listing.{listing_same, within_from_place}
 use Rattle.holdings.proofs.Contents.Holders.{place_within}
 use Rattle.space.specs.Shards.{IsPlace, index_of, word_count, words_of, entry_at, is_taken, IsLaidOutAs}
-
--- words of shards: as many, packs, and each place's word says what stands there
-pub record AreWordsOf (s : Shards) (w : List ℕ) : Type 0 where
-  pub count : length w ≡ word_count s
-  pub packs : AllPass is_pack w
-  pub entries : (p : Place) → IsPlace s p → entry_of (slice_index w (index_of s p)) ≡ entry_at s p
-
--- shards with these words, laid out as others
-pub record IsWith (s : Shards) (w : List ℕ) (n : Shards) : Type 0 where
-  pub words : AreWordsOf n w
-  pub present : IsFalse (is_taken n)
-  pub layout : IsLaidOutAs s n
+use Rattle.holdings.specs.Inner.Words.{AreWordsOf, IsWith}
 
 abbrev with_items : (v : Vec ℕ Global) (w : List ℕ) → length w ≡ length v.items → Vec ℕ Global
 with_items v w same = record { ptr = v.ptr; len = v.len; cap = v.cap; alloc = v.alloc; items = w; ok = (v.ok.0 ∙ sym same, v.ok.1); small = v.small }

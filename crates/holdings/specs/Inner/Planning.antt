@@ -15,6 +15,8 @@ use Rattle.pieces.specs.Contents.{StripContent}
 use Rattle.holdings.specs.Inner.Derivation.{IsOriginAt}
 use Rattle.holdings.specs.Inner.Held.{links_in, holdings_in, has_entry}
 use Rattle.holdings.specs.declared.transfer.Transfer.{Transfer}
+use Rattle.fpage.specs.declared.rights.Access.{Access}
+use Rattle.pieces.specs.declared.touch.WordAccess.{WordAccess}
 use Rattle.pieces.specs.declared.link.Store.{Store}
 use Rattle.pieces.specs.declared.moving.Pair.{Pair}
 use Rattle.holdings.specs.Places.{any_of}
@@ -85,6 +87,12 @@ pub record IsStripPlan (s : Shards) (trees : List Shape) (set : PlaceSet) (plans
   -- no page is in two runs, and the origin of a run is in none
   pub once : come_once (places_of_runs plans) ≡ true
   pub outer : All (λ plan. (o : Place) → plan.origin ≡ Some o → any_of (places_of_runs plans) o ≡ false) plans
+
+-- ---- accesses
+
+-- an access by its word
+abbrev pub word_access : Shards → Place × Access → WordAccess
+word_access s t = record { index = index_of s t.0; access = t.1 }
 
 -- ---- links and moves
 

@@ -1,0 +1,80 @@
+-- Whole phases worked in pieces, whatever works them: what the words and trees say afterwards.
+use Rattle.std.specs.Prelude.{◌≡◌, ℕ, ◌≤◌, Bool, List, [], ◌∷◌, length, map, filter, None}
+use Rattle.std.specs.List.{All, flat_map}
+use Rattle.fpage.specs.declared.item.ItemKind.TheVariants.{Map}
+use Rattle.fpage.specs.declared.rights.Access.{Access}
+use Rattle.fpage.specs.declared.rights.Rights.{Rights}
+use Rattle.space.specs.declared.place.Place.{Place}
+use Rattle.space.specs.declared.shards.Shards.{Shards}
+use Rattle.maptree.specs.Cuts.{pieces}
+use Rattle.maptree.specs.Origins.{Shape}
+use Rattle.model.specs.Calls.{Limits}
+use Rattle.model.specs.Grant.{renamed}
+use Rattle.model.specs.Holdings.{PlaceSet, Holdings}
+use Rattle.model.specs.Strip.{strip, strip_word}
+use Rattle.pieces.specs.Applied.{worked}
+use Rattle.pieces.specs.Gathering.{union_of}
+use Rattle.pieces.specs.Phases.{CanBeWorked, IsPiece}
+use Rattle.pieces.specs.Values.{value}
+use Rattle.pieces.specs.declared.piece.Piece.{Piece}
+use Rattle.pieces.specs.declared.piece.Piece.TheVariants as piece
+use Rattle.holdings.specs.Contents.{touched_all, access_answers}
+use Rattle.holdings.specs.Places.{IsWithin}
+use Rattle.holdings.specs.Sending.{AllGo, AreFree, ArePlanned, AreReady, map_transfers, moving_of}
+use Rattle.holdings.specs.Inner.Held.{has_entry, holdings_in, limits_in, links_in}
+use Rattle.holdings.specs.Inner.Links.{AreLinked, last_target, links_of}
+use Rattle.holdings.specs.Inner.Planning.{IsStripPlan, RunPlan, stores_of, strips_of_runs, word_access, word_pairs}
+use Rattle.holdings.specs.Inner.Renamings.{AreRenamed}
+use Rattle.holdings.specs.Inner.Sound.{AreSound}
+use Rattle.holdings.specs.Inner.Stripping.{pruned}
+use Rattle.holdings.specs.Inner.Words.{AreWordsOf, IsWith}
+use Rattle.holdings.specs.declared.transfer.Transfer.{Transfer}
+
+-- words and trees after a phase: they are sound, with the same limits, and this is what they say is held
+pub record IsPhaseLeft (limits : Limits) (holdings : Holdings) (shards : Shards) (trees : List Shape) : Type 0 where
+  pub left : holdings_in shards trees ≡ holdings
+  pub limits_stay : limits_in shards trees ≡ limits
+  pub sound : AreSound shards trees
+
+-- accesses in pieces are those accesses in list order
+abbrev pub TouchesAreAccesses : Type 0
+TouchesAreAccesses =
+    (s : Shards) (trees : List Shape) → AreSound s trees → (w : List ℕ) → AreWordsOf s w → (ts : List (Place × Access)) → All (λ t. IsWithin (limits_in s trees) t.0) ts → (most : ℕ) → 1 ≤ most
+    → let ps = map piece.Touch (pieces (length (map (word_access s) ts)) most (map (word_access s) ts)) in
+    CanBeWorked w ps × (flat_map (λ p. (value w p).answers) ps ≡ access_answers (holdings_in s trees) ts)
+    × ((new : Shards) → IsWith s (worked w ps) new → IsPhaseLeft (limits_in s trees) (touched_all (holdings_in s trees) ts) new trees)
+
+-- a planned strip, worked: what derives from the pages lost rights, their status was found, and what each piece keeps is held;
+-- and so it is with trees that have lost the places that are held no more
+pub record IsSetStripped (s : Shards) (trees : List Shape) (set : PlaceSet) (revoked : Rights) (flush : Bool) (w : List ℕ) (ps : List Piece) (new : Shards) : Type 0 where
+  pub left : holdings_in new trees ≡ strip (holdings_in s trees) set revoked flush
+  pub status : union_of (map (λ p. (value w p).status) ps) ≡ strip_word (holdings_in s trees) set
+  pub pruned_left : (left : List Shape) → length left ≡ length trees → ((g : ℕ) → links_in left g ≡ pruned new (links_in trees g))
+      → IsPhaseLeft (limits_in s trees) (strip (holdings_in s trees) set revoked flush) new left
+
+-- the pieces of the runs from which all of a set derives are the strip of the set
+abbrev pub PlannedStripsAreStrips : Type 0
+PlannedStripsAreStrips =
+    (s : Shards) (trees : List Shape) → AreSound s trees → (set : PlaceSet) (plans : List RunPlan) → IsStripPlan s trees set plans → (revoked : Rights) (flush : Bool) (w : List ℕ) → AreWordsOf s w
+    → let ss = strips_of_runs s revoked flush plans in let ps = map piece.Strip ss in
+    CanBeWorked w ps
+    × (All IsPiece ps → (new : Shards) → IsWith s (worked w ps) new
+      → IsSetStripped s trees set revoked flush w ps new × (map (λ p. (value w p).kept) ps ≡ map (λ k. filter (λ n. has_entry new n.place) k.nodes) ss))
+
+-- the stores of a MapItem, in pieces, are its pages mapped, where the trees have the new mappings
+abbrev pub StoresAreMapped : Type 0
+StoresAreMapped =
+    (s : Shards) (trees : List Shape) → AreSound s trees → (rights : Rights) (ts : List Transfer) → ArePlanned (limits_in s trees) ts → AreReady (holdings_in s trees) rights ts → (w : List ℕ) → AreWordsOf s w → (most : ℕ) → 1 ≤ most
+    → let ps = map piece.Link (pieces (length (stores_of s rights ts)) most (stores_of s rights ts)) in
+    CanBeWorked w ps
+    × ((ahead : List Shape) → AreLinked (links_of s ts) trees ahead → (new : Shards) → IsWith s (worked w ps) new
+      → IsPhaseLeft (limits_in s trees) (map_transfers (holdings_in s trees) (record { kind = Map; rights = rights; pairs = [] }) ts (holdings_in s trees)) new ahead)
+
+-- the pairs of a GrantItem, in pieces, are its pages moved, where the trees have the new places
+abbrev pub PairsAreMoved : Type 0
+PairsAreMoved =
+    (s : Shards) (trees : List Shape) → AreSound s trees → (ts : List Transfer) → ArePlanned (limits_in s trees) ts → AllGo ts → AreFree (holdings_in s trees) ts → (w : List ℕ) → AreWordsOf s w → (most : ℕ) → 1 ≤ most
+    → let ps = map piece.Move (pieces (length (word_pairs s ts)) most (word_pairs s ts)) in
+    CanBeWorked w ps
+    × ((after : List Shape) → AreRenamed (λ p. last_target (links_of s ts) p None) (links_of s ts) trees after → (new : Shards) → IsWith s (worked w ps) new
+      → IsPhaseLeft (limits_in s trees) (renamed (moving_of (holdings_in s trees) ts) (holdings_in s trees)) new after)

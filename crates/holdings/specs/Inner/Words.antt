@@ -1,0 +1,19 @@
+-- Words taken out of shards, and others put in their place.
+use Rattle.std.specs.Prelude.{◌≡◌, ℕ, List, length, slice_index, IsFalse}
+use Rattle.std.specs.List.{AllPass}
+use Rattle.space.specs.declared.place.Place.{Place}
+use Rattle.space.specs.declared.shards.Shards.{Shards}
+use Rattle.space.specs.Shards.{IsPlace, index_of, word_count, entry_at, is_taken, IsLaidOutAs}
+use Rattle.space.specs.Word.{is_pack, entry_of}
+
+-- words of shards: as many, packs, and each place's word says what stands there
+pub record AreWordsOf (s : Shards) (w : List ℕ) : Type 0 where
+  pub count : length w ≡ word_count s
+  pub packs : AllPass is_pack w
+  pub entries : (p : Place) → IsPlace s p → entry_of (slice_index w (index_of s p)) ≡ entry_at s p
+
+-- shards with these words, laid out as others
+pub record IsWith (s : Shards) (w : List ℕ) (n : Shards) : Type 0 where
+  pub words : AreWordsOf n w
+  pub present : IsFalse (is_taken n)
+  pub layout : IsLaidOutAs s n
