@@ -79,7 +79,7 @@ moves_change most some xs = (
 
 -- ---- strips
 
-status_append : (w is js : List ℕ) → status_in w (is ++ js) ≡ join (status_in w is) (status_in w js)
+pub status_append : (w is js : List ℕ) → status_in w (is ++ js) ≡ join (status_in w is) (status_in w js)
 status_append w [] js = refl
 status_append w (i ∷ is) js = ap (join (status_of (entry_in w i))) (status_append w is js) ∙ sym (join_assoc (status_of (entry_in w i)) (status_in w is) (status_in w js))
 
