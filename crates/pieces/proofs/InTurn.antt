@@ -1,13 +1,14 @@
 -- Steps and pieces one after another.
-use Rattle.std.proofs.Common.{◌≡◌, ◌≢◌, ℕ, zero, suc, ◌+◌, ◌<◌, ◌≤◌, ◌⊎◌, inl, inr, Bool, true, false, ◌&&◌, not, List, [], ◌∷◌, ◌++◌, length, map, Option, Some, None, unwrap_or, bit_or, refl, ap, ◌∙◌, sym, subst, arith, if◌then◌else◌}
+use Rattle.std.proofs.Common.{◌≡◌, ◌≢◌, ℕ, zero, suc, ◌+◌, ◌<◌, ◌≤◌, ◌⊎◌, inl, inr, Bool, true, false, ◌&&◌, not, List, [], ◌∷◌, ◌++◌, length, map, get_or, set, Option, Some, None, unwrap_or, bit_or, refl, ap, ◌∙◌, sym, subst, arith, if◌then◌else◌}
 use Rattle.std.specs.Prelude.{◌==◌}
 use Rattle.std.specs.List.{flat_map, list_all}
 use Rattle.std.specs.Int.Bits.{or_zero_r}
-use Rattle.std.proofs.lemmas.Bool.{eq-eqb, eqb-true}
+use Rattle.std.proofs.lemmas.Bool.{eq-eqb, eqb-true, ne_eqb}
 use Rattle.std.proofs.lemmas.Grind.{flat_map-append}
 use Rattle.pieces.specs.Distinct.{is_none_of, are_distinct}
 use Rattle.pieces.specs.DistinctParts.{all_split}
 use Rattle.pieces.specs.Effects.{Effect, keeps, adds, writes, gained, bits_at, written, word_after, words_from, words_after, write_at, add_at, writes_at, adds_at}
+use Rattle.pieces.proofs.AllSteps.{length_words}
 use Rattle.pieces.proofs.InOrder.{or_assoc, gained_append}
 use Rattle.pieces.proofs.Writers.{written_none}
 
@@ -113,3 +114,80 @@ pub steps_in_turn : (j : ℕ) (w : List ℕ) (es fs : List Effect) → are_disti
 steps_in_turn j [] es fs once apart = refl
 steps_in_turn j (x ∷ w) es fs once apart =
     ap (λ y. y ∷ words_from (j + 1) w (es ++ fs)) (word_in_turn j es fs once apart x) ∙ ap (λ ys. word_after (word_after x j es) j fs ∷ ys) (steps_in_turn (j + 1) w es fs once apart)
+
+-- ---- one step more
+
+-- the index of a step
+abbrev pub index_of : Effect → ℕ
+index_of (keeps i) = i
+index_of (adds i bits) = i
+index_of (writes i word) = i
+
+-- a step does nothing elsewhere
+elsewhere : (i : ℕ) (e : Effect) → (index_of e == i) ≡ false → (written i (e ∷ []) ≡ None) × (gained i (e ∷ []) ≡ 0)
+elsewhere i (keeps j) differ = (refl, refl)
+elsewhere i (adds j bits) differ = (refl, rw differ refl)
+elsewhere i (writes j x) differ = (rw differ refl, refl)
+
+word_one_more : (i : ℕ) (es : List Effect) (e : Effect) (x : ℕ) → is_none_of (writes_at es) (index_of e) ≡ true → word_after x i (es ++ e ∷ []) ≡ word_after (word_after x i es) i (e ∷ [])
+word_one_more i es e x none = by (index_of e == i) refl
+  where
+    other : (o : Option ℕ) → written i es ≡ o → (written i (e ∷ []) ≡ None) × (gained i (e ∷ []) ≡ 0) → word_after x i (es ++ e ∷ []) ≡ word_after (word_after x i es) i (e ∷ [])
+    other None is away = unwritten_first i es (e ∷ []) x is
+    other (Some word) is away = untouched_later i es (e ∷ []) x word is away.0 away.1
+
+    by : (t : Bool) → (index_of e == i) ≡ t → word_after x i (es ++ e ∷ []) ≡ word_after (word_after x i es) i (e ∷ [])
+    by true same = unwritten_first i es (e ∷ []) x (written_none es i (ap (is_none_of (writes_at es)) (sym (eqb-true (index_of e) i same)) ∙ none))
+    by false differ = other (written i es) refl (elsewhere i e differ)
+
+pub one_step_more : (j : ℕ) (w : List ℕ) (es : List Effect) (e : Effect) → is_none_of (writes_at es) (index_of e) ≡ true → words_from j w (es ++ e ∷ []) ≡ words_from j (words_from j w es) (e ∷ [])
+one_step_more j [] es e none = refl
+one_step_more j (x ∷ w) es e none =
+    ap (λ y. y ∷ words_from (j + 1) w (es ++ e ∷ [])) (word_one_more j es e x none) ∙ ap (λ ys. word_after (word_after x j es) j (e ∷ []) ∷ ys) (one_step_more (j + 1) w es e none)
+
+-- a word that is set
+differ_above : (i j : ℕ) → i < j → (i == j) ≡ false
+differ_above i j above = ne_eqb i j (λ same. omega (arith, above, same))
+
+-- nothing changes behind the index of a step
+behind : (j : ℕ) (w : List ℕ) (e : Effect) → index_of e < j → words_from j w (e ∷ []) ≡ w
+behind j [] e above = refl
+behind j (x ∷ w) e above =
+    let away = elsewhere j e (differ_above (index_of e) j above) in
+    rw (away.0, away.1, or_zero_r x) (ap (λ ys. x ∷ ys) (behind (j + 1) w e (omega (arith, above))))
+
+pub write_from : (j : ℕ) (w : List ℕ) (i x : ℕ) → i < length w → words_from j w (writes (j + i) x ∷ []) ≡ set w i x
+write_from j [] i x within = absurd (omega (arith, within))
+write_from j (y ∷ w) zero x within =
+    let here : ((j + 0) == j) ≡ true = eq-eqb (j + 0) j (omega arith) in
+    rw here (ap (λ ys. x ∷ ys) (behind (j + 1) w (writes (j + 0) x) (omega arith)))
+write_from j (y ∷ w) (suc i) x within =
+    let away = elsewhere j (writes (j + suc i) x) (ne_eqb (j + suc i) j (λ same. omega (arith, same))) in
+    let next : j + suc i ≡ (j + 1) + i = omega arith in
+    rw (away.0, or_zero_r y) (ap (λ ys. y ∷ ys) (ap (λ k. words_from (j + 1) w (writes k x ∷ [])) next ∙ write_from (j + 1) w i x (omega (arith, within))))
+
+pub add_from : (j : ℕ) (w : List ℕ) (i bits : ℕ) → i < length w → words_from j w (adds (j + i) bits ∷ []) ≡ set w i (bit_or (get_or w i 0) bits)
+add_from j [] i bits within = absurd (omega (arith, within))
+add_from j (y ∷ w) zero bits within =
+    let here : ((j + 0) == j) ≡ true = eq-eqb (j + 0) j (omega arith) in
+    rw (here, or_zero_r bits) (ap (λ ys. bit_or y bits ∷ ys) (behind (j + 1) w (adds (j + 0) bits) (omega arith)))
+add_from j (y ∷ w) (suc i) bits within =
+    let away = elsewhere j (adds (j + suc i) bits) (ne_eqb (j + suc i) j (λ same. omega (arith, same))) in
+    let next : j + suc i ≡ (j + 1) + i = omega arith in
+    rw (away.1, or_zero_r y) (ap (λ ys. y ∷ ys) (ap (λ k. words_from (j + 1) w (adds k bits ∷ [])) next ∙ add_from (j + 1) w i bits (omega (arith, within))))
+
+-- after steps none of which wrote there
+pub write_more : (w : List ℕ) (es : List Effect) (i x : ℕ) → is_none_of (writes_at es) i ≡ true → i < length w → set (words_after w es) i x ≡ words_after w (es ++ writes i x ∷ [])
+write_more w es i x none within =
+    let l = length_words 0 w es in
+    let there : i < length (words_after w es) = omega (arith, within, l) in
+    let same : 0 + i ≡ i = omega arith in
+    sym (one_step_more 0 w es (writes i x) none ∙ ap (λ k. words_after (words_after w es) (writes k x ∷ [])) (sym same) ∙ write_from 0 (words_after w es) i x there)
+
+pub add_more : (w : List ℕ) (es : List Effect) (i bits : ℕ) → is_none_of (writes_at es) i ≡ true → i < length w
+    → set (words_after w es) i (bit_or (get_or (words_after w es) i 0) bits) ≡ words_after w (es ++ adds i bits ∷ [])
+add_more w es i bits none within =
+    let l = length_words 0 w es in
+    let there : i < length (words_after w es) = omega (arith, within, l) in
+    let same : 0 + i ≡ i = omega arith in
+    sym (one_step_more 0 w es (adds i bits) none ∙ ap (λ k. words_after (words_after w es) (adds k bits ∷ [])) (sym same) ∙ add_from 0 (words_after w es) i bits there)

@@ -40,7 +40,7 @@ both false b h = absurd (cc)
 
 -- ---- lists apart
 
-eqb_turned : (a b : ℕ) → (a == b) ≡ (b == a)
+pub eqb_turned : (a b : ℕ) → (a == b) ≡ (b == a)
 eqb_turned a b = by (a == b) refl (b == a) refl
   where
     by : (s : Bool) → (a == b) ≡ s → (t : Bool) → (b == a) ≡ t → s ≡ t

@@ -71,13 +71,13 @@ no_writer es i before none = ap (λ o. unwrap_or o (bit_or before (gained i es))
 at_append : (f : Effect → List ℕ) (w : List ℕ) (ss ts : List Step) → flat_map f (map (effect w) (ss ++ ts)) ≡ flat_map f (map (effect w) ss) ++ flat_map f (map (effect w) ts)
 at_append f w ss ts = ap (flat_map f) (map-append (effect w) ss ts) ∙ flat_map-append f (map (effect w) ss) (map (effect w) ts)
 
-narrows_write : (w is : List ℕ) (masks : List Rights) → length is ≡ length masks → flat_map write_at (map (effect w) (map (λ e. narrow e.0 e.1) (zip is masks))) ≡ is
+pub narrows_write : (w is : List ℕ) (masks : List Rights) → length is ≡ length masks → flat_map write_at (map (effect w) (map (λ e. narrow e.0 e.1) (zip is masks))) ≡ is
 narrows_write w [] [] same = refl
 narrows_write w [] (m ∷ masks) same = refl
 narrows_write w (i ∷ is) [] same = absurd (omega (arith, same))
 narrows_write w (i ∷ is) (m ∷ masks) same = ap (λ js. i ∷ js) (narrows_write w is masks (omega (arith, same)))
 
-narrows_add : (w is : List ℕ) (masks : List Rights) → flat_map add_at (map (effect w) (map (λ e. narrow e.0 e.1) (zip is masks))) ≡ []
+pub narrows_add : (w is : List ℕ) (masks : List Rights) → flat_map add_at (map (effect w) (map (λ e. narrow e.0 e.1) (zip is masks))) ≡ []
 narrows_add w [] masks = refl
 narrows_add w (i ∷ is) [] = refl
 narrows_add w (i ∷ is) (m ∷ masks) = narrows_add w is masks
@@ -90,19 +90,19 @@ fold_adds : (w : List ℕ) (f : Option ℕ) (s : Rights) → flat_map add_at (ma
 fold_adds w None s = refl
 fold_adds w (Some i) s = refl
 
-links_write : (w : List ℕ) (stores : List Store) → flat_map write_at (map (effect w) (map (store_step w) stores)) ≡ puts_of stores
+pub links_write : (w : List ℕ) (stores : List Store) → flat_map write_at (map (effect w) (map (store_step w) stores)) ≡ puts_of stores
 links_write w [] = refl
 links_write w (s ∷ stores) = ap (λ is. s.put ∷ is) (links_write w stores)
 
-links_add : (w : List ℕ) (stores : List Store) → flat_map add_at (map (effect w) (map (store_step w) stores)) ≡ []
+pub links_add : (w : List ℕ) (stores : List Store) → flat_map add_at (map (effect w) (map (store_step w) stores)) ≡ []
 links_add w [] = refl
 links_add w (s ∷ stores) = links_add w stores
 
-moves_write : (w : List ℕ) (pairs : List Pair) → flat_map write_at (map (effect w) (flat_map (pair_steps w) pairs)) ≡ ends_of pairs
+pub moves_write : (w : List ℕ) (pairs : List Pair) → flat_map write_at (map (effect w) (flat_map (pair_steps w) pairs)) ≡ ends_of pairs
 moves_write w [] = refl
 moves_write w (p ∷ pairs) = ap (λ is. p.taken ∷ p.put ∷ is) (moves_write w pairs)
 
-moves_add : (w : List ℕ) (pairs : List Pair) → flat_map add_at (map (effect w) (flat_map (pair_steps w) pairs)) ≡ []
+pub moves_add : (w : List ℕ) (pairs : List Pair) → flat_map add_at (map (effect w) (flat_map (pair_steps w) pairs)) ≡ []
 moves_add w [] = refl
 moves_add w (p ∷ pairs) = moves_add w pairs
 

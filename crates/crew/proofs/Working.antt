@@ -1,0 +1,93 @@
+-- One piece worked in place.
+use Rattle.std.proofs.Common.{◌≡◌, ℕ, zero, suc, ◌<◌, ◌≤◌, Bool, true, false, ◌&&◌, List, [], ◌∷◌, ◌++◌, length, map, Option, Some, None, unwrap_or, refl, ap, ◌∙◌, sym, subst, arith, nat_lt}
+use Rattle.std.specs.Borrow.{Bor}
+use Rattle.std.specs.List.{flat_map, list_all, All}
+use Rattle.std.proofs.lemmas.Bool.{ltb-true}
+use Rattle.std.proofs.lemmas.List.{map-append, append-nil}
+use Rattle.fpage.specs.declared.rights.Rights.{Rights}
+use Rattle.pieces.specs.Contents.{StripContent, IsStrip, is_fold_apart}
+use Rattle.pieces.specs.Distinct.{is_none_of}
+use Rattle.pieces.specs.Effects.{adds, words_after, writes_at}
+use Rattle.pieces.specs.Phases.{length_of, is_link}
+use Rattle.pieces.specs.Steps.{effect, effects, fold_of, status_in, status_bits, narrow}
+use Rattle.std.specs.List.{zip}
+use Rattle.pieces.specs.declared.link.Store.{Store}
+use Rattle.pieces.specs.declared.moving.Pair.{Pair}
+use Rattle.pieces.specs.declared.touch.WordAccess.{WordAccess}
+use Rattle.pieces.specs.declared.piece.Piece.{Piece}
+use Rattle.pieces.specs.declared.piece.Piece.TheVariants as piece
+use Rattle.pieces.proofs.InTurn.{one_step_more}
+use Rattle.pieces.proofs.Writers.{narrows_write}
+use Rattle.crew.specs.Opening.{start, narrows, IsInPlace}
+
+both : (a b : Bool) → (a && b) ≡ true → (a ≡ true) × (b ≡ true)
+both true true h = (refl, refl)
+both true false h = absurd (cc)
+both false b h = absurd (cc)
+
+-- ---- the words that a piece names
+
+module _ (n : ℕ) where
+  pub stores_within : (xs : List Store) → list_all (λ i. nat_lt i n) (flat_map (λ s. s.read ∷ s.put ∷ []) xs) ≡ true → All (λ s. (s.read < n) × (s.put < n)) xs
+  stores_within [] named k d less = absurd (omega (arith, less))
+  stores_within (s ∷ xs) named zero d less =
+      let first = both (nat_lt s.read n) (list_all (λ i. nat_lt i n) (s.put ∷ flat_map (λ (t : Store). t.read ∷ t.put ∷ []) xs)) named in
+      let second = both (nat_lt s.put n) (list_all (λ i. nat_lt i n) (flat_map (λ (t : Store). t.read ∷ t.put ∷ []) xs)) first.1 in
+      (ltb-true s.read n first.0, ltb-true s.put n second.0)
+  stores_within (s ∷ xs) named (suc k) d less =
+      let first = both (nat_lt s.read n) (list_all (λ i. nat_lt i n) (s.put ∷ flat_map (λ (t : Store). t.read ∷ t.put ∷ []) xs)) named in
+      let second = both (nat_lt s.put n) (list_all (λ i. nat_lt i n) (flat_map (λ (t : Store). t.read ∷ t.put ∷ []) xs)) first.1 in
+      stores_within xs second.1 k d (omega (arith, less))
+
+  pub pairs_within : (xs : List Pair) → list_all (λ i. nat_lt i n) (flat_map (λ p. p.taken ∷ p.put ∷ []) xs) ≡ true → All (λ p. (p.taken < n) × (p.put < n)) xs
+  pairs_within [] named k d less = absurd (omega (arith, less))
+  pairs_within (p ∷ xs) named zero d less =
+      let first = both (nat_lt p.taken n) (list_all (λ i. nat_lt i n) (p.put ∷ flat_map (λ (q : Pair). q.taken ∷ q.put ∷ []) xs)) named in
+      let second = both (nat_lt p.put n) (list_all (λ i. nat_lt i n) (flat_map (λ (q : Pair). q.taken ∷ q.put ∷ []) xs)) first.1 in
+      (ltb-true p.taken n first.0, ltb-true p.put n second.0)
+  pairs_within (p ∷ xs) named (suc k) d less =
+      let first = both (nat_lt p.taken n) (list_all (λ i. nat_lt i n) (p.put ∷ flat_map (λ (q : Pair). q.taken ∷ q.put ∷ []) xs)) named in
+      let second = both (nat_lt p.put n) (list_all (λ i. nat_lt i n) (flat_map (λ (q : Pair). q.taken ∷ q.put ∷ []) xs)) first.1 in
+      pairs_within xs second.1 k d (omega (arith, less))
+
+  pub accesses_within : (xs : List WordAccess) → list_all (λ i. nat_lt i n) (map (λ t. t.index) xs) ≡ true → All (λ t. t.index < n) xs
+  accesses_within [] named k d less = absurd (omega (arith, less))
+  accesses_within (t ∷ xs) named zero d less = ltb-true t.index n (both (nat_lt t.index n) (list_all (λ i. nat_lt i n) (map (λ (u : WordAccess). u.index) xs)) named).0
+  accesses_within (t ∷ xs) named (suc k) d less = accesses_within xs (both (nat_lt t.index n) (list_all (λ i. nat_lt i n) (map (λ (u : WordAccess). u.index) xs)) named).1 k d (omega (arith, less))
+
+-- where the words at opening are read before anything changes
+pub read_first : (o : Option (Bor (List ℕ))) (words : Bor (List ℕ)) → (unwrap_or o words).now ≡ start o words.now
+read_first None words = refl
+read_first (Some opening) words = refl
+
+-- ---- a strip
+
+strip_effects : (w : List ℕ) (s : StripContent) → effects w (piece.Strip s) ≡ narrows w s.indexes s.masks ++ map (effect w) (fold_of s.fold (status_in w s.indexes))
+strip_effects w s = map-append (effect w) (map (λ e. narrow e.0 e.1) (zip s.indexes s.masks)) (fold_of s.fold (status_in w s.indexes))
+
+pub strip_unfolded : (w old now : List ℕ) (s : StripContent) → s.fold ≡ None → now ≡ words_after old (narrows w s.indexes s.masks) → now ≡ words_after old (effects w (piece.Strip s))
+strip_unfolded w old now s none is =
+    is ∙ ap (words_after old) (sym (strip_effects w s ∙ ap (λ f. narrows w s.indexes s.masks ++ map (effect w) (fold_of f (status_in w s.indexes))) none ∙ append-nil (narrows w s.indexes s.masks)))
+
+pub strip_folded : (w old now after : List ℕ) (s : StripContent) (i : ℕ) (status : Rights) → IsStrip s → s.fold ≡ Some i → now ≡ words_after old (narrows w s.indexes s.masks) → status ≡ status_in w s.indexes
+    → after ≡ words_after now (adds i (status_bits status) ∷ []) → after ≡ words_after old (effects w (piece.Strip s))
+strip_folded w old now after s i status strip at is found next =
+    let apart : is_none_of s.indexes i ≡ true = subst (λ f. is_fold_apart f s.indexes ≡ true) at strip.apart in
+    let unwritten : is_none_of (writes_at (narrows w s.indexes s.masks)) i ≡ true = ap (λ js. is_none_of js i) (narrows_write w s.indexes s.masks (strip.indexes ∙ sym strip.masks)) ∙ apart in
+    next ∙ ap (λ v. words_after v (adds i (status_bits status) ∷ [])) is ∙ sym (one_step_more 0 old (narrows w s.indexes s.masks) (adds i (status_bits status)) unwritten)
+    ∙ ap (λ t. words_after old (narrows w s.indexes s.masks ++ adds i (status_bits t) ∷ [])) found
+    ∙ ap (words_after old) (sym (strip_effects w s ∙ ap (λ f. narrows w s.indexes s.masks ++ map (effect w) (fold_of f (status_in w s.indexes))) at))
+
+-- ---- one piece
+
+pub only_piece : (before : List Piece) (p : Piece) → IsInPlace (before ++ p ∷ []) → before ≡ []
+only_piece [] p one = refl
+only_piece (q ∷ []) p one = absurd one
+only_piece (q ∷ r ∷ before) p one = absurd one
+
+pub not_empty : (ps : List Piece) → IsInPlace ps → length ps ≡ 0 → ⊥
+not_empty [] one none = one
+not_empty (p ∷ ps) one none = omega (arith, none)
+
+pub few_stores : (p : Piece) → IsInPlace (p ∷ []) → is_link p ≡ true → length_of p ≤ 1
+few_stores p one = one

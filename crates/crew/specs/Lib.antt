@@ -1,0 +1,3 @@
+pub mod Worked
+pub mod Opening
+pub mod Kept

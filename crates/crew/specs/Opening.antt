@@ -1,0 +1,36 @@
+-- Words that change, beside the words at opening.
+use Rattle.std.specs.Prelude.{◌≡◌, ◌≤◌, ℕ, nat_lt, Bool, true, List, [], ◌∷◌, ◌++◌, length, map, Option, Some, None, if◌then◌else◌}
+use Rattle.std.specs.Borrow.{Bor}
+use Rattle.std.specs.List.{zip, list_all}
+use Rattle.fpage.specs.Rights.{marks}
+use Rattle.fpage.specs.declared.rights.Rights.{Rights}
+use Rattle.pieces.specs.Effects.{Effect, keeps, adds}
+use Rattle.pieces.specs.Phases.{named, is_link, length_of}
+use Rattle.pieces.specs.Steps.{narrow, effect, status_bits}
+use Rattle.pieces.specs.declared.piece.Piece.{Piece}
+use Rattle.pieces.specs.declared.touch.WordAccess.{WordAccess}
+
+-- the words at opening: a list of their own, or else the words that change, as they were
+abbrev pub start : Option (Bor (List ℕ)) → List ℕ → List ℕ
+start (Some opening) words = opening.now
+start None words = words
+
+-- what the narrows of a strip do
+abbrev pub narrows : List ℕ → List ℕ → List Rights → List Effect
+narrows w is masks = map (effect w) (map (λ e. narrow e.0 e.1) (zip is masks))
+
+-- what accesses do that are answered like this
+abbrev pub marks_made : List WordAccess → List Bool → List Effect
+marks_made [] answers = []
+marks_made (t ∷ ts) [] = []
+marks_made (t ∷ ts) (b ∷ bs) = (if b then keeps t.index ∷ adds t.index (status_bits (marks t.access)) ∷ [] else keeps t.index ∷ []) ++ marks_made ts bs
+
+-- each index that a piece names has a word
+abbrev pub NamesWords : List ℕ → Piece → Type 0
+NamesWords words p = list_all (λ i. nat_lt i (length words)) (named p) ≡ true
+
+-- there is one piece, and no store that may read what another puts
+abbrev pub IsInPlace : List Piece → Type 0
+IsInPlace [] = ⊥
+IsInPlace (p ∷ []) = is_link p ≡ true → length_of p ≤ 1
+IsInPlace (p ∷ q ∷ ps) = ⊥

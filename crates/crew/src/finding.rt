@@ -1,0 +1,59 @@
+//! What a piece finds out of the words at opening.
+
+ghost use Rattle.std.specs.Prelude.{◌≡◌, ◌<◌, ◌≤◌, true, map, take, length, IfOk};
+ghost use Rattle.std.specs.List.{All, AllPass};
+ghost use Rattle.space.specs.Word.{is_pack};
+ghost use Rattle.pieces.specs.Steps.{status_in, may_access};
+ghost use Rattle.crew.specs.Kept.{nodes_kept};
+
+use crate::steps::{permits, remains, status};
+use fpage::Rights;
+use maptree::Node;
+use pieces::Touch;
+use std::alloc::{AllocError, Global};
+
+/// The union of the status of the words at some indexes.
+pub fn status_at(words: &[u64], indexes: &[usize]) -> Rights
+    requires packs { AllPass is_pack words.now }
+    requires within { All (λ i. i < length words.now) indexes.now }
+    ensures { result ≡ status_in words.now indexes.now }
+{
+    let mut found = Rights::none();
+    for index in indexes {
+        found = found.join(status(words[*index]));
+    }
+    found
+}
+
+/// Moves the nodes that are left with a right to the front, in their order, and returns how many there are.
+pub fn keep(words: &[u64], nodes: &mut [Node], masks: &[Rights], indexes: &[usize]) -> usize
+    requires packs { AllPass is_pack words.now }
+    requires within { All (λ i. i < length words.now) indexes.now }
+    requires masks { length masks.now ≡ length nodes.old }
+    requires indexes { length indexes.now ≡ length nodes.old }
+    ensures most { result ≤ length nodes.old }
+    ensures kept { take result nodes.new ≡ nodes_kept words.now nodes.old indexes.now masks.now }
+{
+    let mut kept = 0;
+    for k in 0..nodes.len() {
+        if remains(words[indexes[k]], masks[k]) {
+            nodes[kept] = nodes[k];
+            kept += 1;
+        }
+    }
+    kept
+}
+
+/// For each access of a touch whether it may be made.
+pub fn answers(alloc: Global, words: &[u64], touch: &Touch) -> Result<Vec<bool>, AllocError>
+    requires packs { AllPass is_pack words.now }
+    requires within { All (λ t. t.index < length words.now) touch.now }
+    ensures { IfOk result (λ answers. answers.items ≡ map (may_access words.now) touch.now) }
+{
+    let mut answers = Vec::with_capacity(alloc, touch.len())?;
+    for k in 0..touch.len() {
+        let access = touch.access(k);
+        answers.push(permits(words[access.index], access.access))?;
+    }
+    Ok(answers)
+}
