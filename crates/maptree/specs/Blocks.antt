@@ -41,3 +41,8 @@ pub record Listed : Type 0 where
 pub record AreStarts (bs : List (List Node)) (starts : List ℕ) : Type 0 where
   pub count : length starts ≡ length bs
   pub each : (k : ℕ) → k < length bs → slice_index starts k ≡ length (nodes_in (take k bs))
+
+-- for each block a depth that none of its nodes goes below
+pub record AreLeasts (bs : List (List Node)) (leasts : List ℕ) : Type 0 where
+  pub count : length leasts ≡ length bs
+  pub each : (k : ℕ) → k < length bs → is_least (slice_index leasts k) (get_or bs k []) ≡ true

@@ -38,10 +38,10 @@ impl Model for Block {
 }
 
 impl Block {
-    ghost use Rattle.std.specs.Prelude.{◌≡◌, ◌+◌, ◌<◌, ◌≤◌, [], ◌++◌, length, take, drop, get_or, set, insert, position, IfOk};
+    ghost use Rattle.std.specs.Prelude.{◌≡◌, ◌+◌, ◌<◌, ◌≤◌, true, [], ◌++◌, length, take, drop, get_or, set, insert, position, IfOk};
     ghost use Rattle.space.specs.Place.{same_place};
     ghost use Rattle.maptree.specs.declared.node.Node.{Node};
-    ghost use Rattle.maptree.specs.Blocks.{block_size};
+    ghost use Rattle.maptree.specs.Blocks.{block_size, is_least};
     ghost use Rattle.maptree.specs.Nodes.{run_len, last_less};
     ghost use Rattle.maptree.specs.PlaceMaps.{place_for};
     ghost use Rattle.maptree.specs.Renamings.{nodes_renamed};
@@ -71,6 +71,13 @@ impl Block {
         ensures { result.now ≡ self.now }
     {
         &self.nodes
+    }
+
+    /// A depth that none of its nodes goes below.
+    pub fn least(&self) -> usize
+        ensures { is_least result self.now ≡ true }
+    {
+        self.least
     }
 
     /// Its number.

@@ -1,7 +1,7 @@
 //! A list of nodes in blocks, so that a change of it touches the blocks that it changes.
 
 ghost use Rattle.std.specs.Prelude.{◌≡◌, ◌≤◌, ◌<◌, ◌+◌, ◌^◌, ℕ, OnOk, length, map, slice_index, vec_capacity};
-ghost use Rattle.maptree.specs.Blocks.{AreStarts, nodes_in};
+ghost use Rattle.maptree.specs.Blocks.{AreLeasts, AreStarts, nodes_in};
 ghost use Rattle.maptree.specs.PlaceMaps.{place_for};
 ghost use Rattle.maptree.specs.Renamings.{nodes_renamed};
 
@@ -34,6 +34,8 @@ pub struct Blocks {
     blocks: Vec<Block>,
     /// For each block, how many nodes stand before it.
     starts: Vec<usize>,
+    /// For each block, a depth that none of its nodes goes below.
+    leasts: Vec<usize>,
     /// Blocks for nodes to come: at least as many as insertions were promised, each of which may split a block.
     spare: Vec<Block>,
     /// How many insertions will take no memory.
@@ -45,13 +47,13 @@ pub struct Blocks {
 
 impl Model for Blocks {
     ghost use Rattle.std.specs.Prelude.{◌≡◌, ◌<◌, ◌≤◌, ◌+◌, ◌^◌, length, vec_capacity, vec_len};
-    ghost use Rattle.maptree.specs.Blocks.{AreStarts, Blocked, nodes_in};
+    ghost use Rattle.maptree.specs.Blocks.{AreLeasts, AreStarts, Blocked, nodes_in};
 
     ghost Value = { Blocked };
 
     ghost view = { λ b. record { blocks = b.blocks.items; room = b.room } };
 
-    ghost invariant = { λ b. (b.len ≡ length (nodes_in b.blocks.items)) × (0 < length b.blocks.items) × (b.room ≤ length b.spare.items) × (length b.blocks.items + b.room ≤ vec_capacity b.blocks) × (b.len + b.room < 2 ^ 64) × AreStarts b.blocks.items b.starts.items × (length b.blocks.items + b.room ≤ vec_capacity b.starts) };
+    ghost invariant = { λ b. (b.len ≡ length (nodes_in b.blocks.items)) × (0 < length b.blocks.items) × (b.room ≤ length b.spare.items) × (length b.blocks.items + b.room ≤ vec_capacity b.blocks) × (b.len + b.room < 2 ^ 64) × AreStarts b.blocks.items b.starts.items × (length b.blocks.items + b.room ≤ vec_capacity b.starts) × AreLeasts b.blocks.items b.leasts.items × (length b.blocks.items + b.room ≤ vec_capacity b.leasts) };
 }
 
 impl Blocks {
@@ -148,13 +150,10 @@ impl Blocks {
     fn search(&self, place: Place) -> Option<usize>
         ensures { result ≡ position (λ n. same_place place n.place) (nodes_in self.now.blocks) }
     {
-        let mut before = 0;
         for k in 0..self.blocks.len() {
-            let block = &self.blocks[k];
-            if let Some(offset) = block.find(place) {
-                return Some(before + offset);
+            if let Some(offset) = self.blocks[k].find(place) {
+                return Some(self.starts[k] + offset);
             }
-            before += block.len();
         }
         None
     }
@@ -171,24 +170,24 @@ impl Blocks {
         if seat.offset + 1 + deeper < len {
             return deeper;
         }
-        deeper + self.deeper_from(seat.block + 1, depth)
+        self.end_from(seat.block + 1, depth) - (i + 1)
     }
 
-    /// How many nodes from a block on are deeper than this, one after another.
-    fn deeper_from(&self, block: usize, depth: usize) -> usize
+    /// The position of the first node from a block on that is not deeper than this; behind the last, where all are.
+    fn end_from(&self, block: usize, depth: usize) -> usize
         requires { block ≤ length self.now.blocks }
-        ensures { result ≡ run_len depth (nodes_in (drop block self.now.blocks)) }
+        ensures { result ≡ length (nodes_in (take block self.now.blocks)) + run_len depth (nodes_in (drop block self.now.blocks)) }
     {
-        let mut deeper = 0;
         for k in block..self.blocks.len() {
-            let block = &self.blocks[k];
-            let here = block.deeper(0, depth);
-            deeper += here;
-            if here < block.len() {
-                return deeper;
+            if self.leasts[k] <= depth {
+                let block = &self.blocks[k];
+                let deeper = block.deeper(0, depth);
+                if deeper < block.len() {
+                    return self.starts[k] + deeper;
+                }
             }
         }
-        deeper
+        self.len
     }
 
     /// The position of the last of the nodes before a position that is less deep than this.
@@ -201,22 +200,20 @@ impl Blocks {
         if let Some(r) = self.blocks[seat.block].last_above(seat.offset, depth) {
             return Some(before + r);
         }
-        self.last_before(seat.block, before, depth)
+        self.last_before(seat.block, depth)
     }
 
-    /// The same of the nodes before a block, of which there are so many.
-    fn last_before(&self, block: usize, nodes: usize, depth: usize) -> Option<usize>
-        requires block { block ≤ length self.now.blocks }
-        requires nodes { nodes ≡ length (nodes_in (take block self.now.blocks)) }
+    /// The same of the nodes before a block.
+    fn last_before(&self, block: usize, depth: usize) -> Option<usize>
+        requires { block ≤ length self.now.blocks }
         ensures { result ≡ last_less depth (nodes_in (take block self.now.blocks)) }
     {
-        let mut before = nodes;
         for k in (0..block).rev() {
-            let block = &self.blocks[k];
-            let len = block.len();
-            before -= len;
-            if let Some(r) = block.last_above(len, depth) {
-                return Some(before + r);
+            if self.leasts[k] < depth {
+                let block = &self.blocks[k];
+                if let Some(r) = block.last_above(block.len(), depth) {
+                    return Some(self.starts[k] + r);
+                }
             }
         }
         None
@@ -248,6 +245,7 @@ impl Blocks {
         let block = &mut self.blocks[seat.block];
         block.insert(seat.offset, node);
         let number = block.number();
+        self.leasts[seat.block] = block.least();
         self.len += 1;
         add_from(&mut self.starts, seat.block + 1, 1);
         self.hints.put(node.place, number);
@@ -288,7 +286,11 @@ impl Blocks {
         ensures room { self.new.room + 1 ≡ self.old.room }
     {
         let mut back = self.spare.pop().unwrap();
-        self.blocks[block].split_into(HALF, &mut back);
+        let front = &mut self.blocks[block];
+        front.split_into(HALF, &mut back);
+        self.leasts[block] = front.least();
+        let noted = self.leasts.insert(block + 1, back.least());
+        prove!(noted.is_ok());
         let number = self.hints.number();
         back.set_number(number);
         hint_nodes(&mut self.hints, &back);
@@ -314,6 +316,7 @@ impl Blocks {
         }
         self.blocks.reserve(n)?;
         self.starts.reserve(n)?;
+        self.leasts.reserve(n)?;
         self.hints.reserve(n)?;
         fill(&mut self.spare, n)?;
         self.room = n;
@@ -350,9 +353,12 @@ impl Blocks {
         hint_blocks(&mut hints, &blocks, 0);
         let mut starts = Vec::with_capacity(alloc, blocks.len())?;
         count(&mut starts, &blocks);
+        let mut leasts = Vec::with_capacity(alloc, blocks.len())?;
+        list_leasts(&mut leasts, &blocks);
         Ok(Blocks {
             blocks,
             starts,
+            leasts,
             spare: Vec::new(alloc),
             room: 0,
             len: nodes.len(),
@@ -451,6 +457,7 @@ impl Blocks {
         free_empty(&mut self.hints, &self.blocks);
         self.blocks.retain(|block| !block.nodes().is_empty());
         count(&mut self.starts, &self.blocks);
+        list_leasts(&mut self.leasts, &self.blocks);
         hint_blocks(&mut self.hints, &self.blocks, 0);
     }
 
@@ -494,6 +501,19 @@ fn count(starts: &mut Vec<usize>, blocks: &[Block])
         let pushed = starts.push(before);
         prove!(pushed.is_ok());
         before += block.len();
+    }
+}
+
+/// For each of some blocks a depth that none of its nodes goes below. This takes no memory.
+fn list_leasts(leasts: &mut Vec<usize>, blocks: &[Block])
+    requires room { length blocks.now ≤ vec_capacity leasts.old }
+    ensures leasts { AreLeasts blocks.now leasts.new.items }
+    ensures capacity { vec_capacity leasts.old ≤ vec_capacity leasts.new }
+{
+    leasts.clear();
+    for block in blocks {
+        let pushed = leasts.push(block.least());
+        prove!(pushed.is_ok());
     }
 }
 

@@ -5,6 +5,7 @@ ghost use Rattle.space.specs.declared.place.Place.{Place};
 ghost use Rattle.maptree.specs.Origins.{origin_in, place_at, AreOuterRuns};
 ghost use Rattle.maptree.specs.Nodes.{is_forest, origins_of, run_len};
 
+use crate::cutting::Cutting;
 use crate::node::Node;
 use crate::node_list::NodeList;
 use crate::place_map::PlaceMap;
@@ -170,6 +171,22 @@ impl Tree {
             runs.push(self.run_of(i)).map_err(AllocError::from)?;
         }
         Ok(runs)
+    }
+
+    /// A copy of the parts that `cut` would give; the tree stays as it is.
+    pub fn parts(
+        &self,
+        alloc: Global,
+        ranges: &[Range<usize>],
+        most: usize,
+    ) -> Result<Vec<Slice>, NoMemory>
+        requires rising { AreRising 0 ranges.now (length self.now.links) }
+        requires runs { All (IsRun self.now.links) ranges.now }
+        requires most { 1 ≤ most }
+        ensures { IfOk result (λ parts. ArePartsOf self.now.links ranges.now most parts.items) }
+    {
+        let Cutting { parts, .. } = Cutting::of(alloc, &self.nodes, ranges, most)?;
+        Ok(parts)
     }
 
     /// Cuts runs out of the tree, in parts of at most so many nodes, each within one run. `splice` puts back what is

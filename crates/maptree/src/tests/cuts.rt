@@ -193,6 +193,26 @@ fn cuts_runs_and_puts_back_what_is_kept(rt: HostRuntime) -> Result<(), Fail> {
     Ok(())
 }
 
+/// The parts of the runs of a case are those of a cut, and the tree has its nodes as before.
+fn copies(rt: &impl Abort, alloc: Global, tree: &Tree, case: &Case) -> Result<(), NoMemory> {
+    let named = places_of(rt, alloc, case.named)?;
+    let runs = tree.outer_runs(alloc, &named)?;
+    assert!(rt; 1 <= case.most);
+    let parts = tree.parts(alloc, &runs, case.most)?;
+    assert_parts(rt, &parts, case.parts);
+    assert_tree(rt, tree, case.tree, case.tree);
+    Ok(())
+}
+
+#[test]
+fn gives_the_parts_of_a_cut_and_stays_as_it_is(rt: HostRuntime) -> Result<(), Fail> {
+    for case in CASES {
+        let (tree, _) = tree_of(&rt, rt.alloc(), case.tree)?;
+        copies(&rt, rt.alloc(), &tree, &case)?;
+    }
+    Ok(())
+}
+
 #[test]
 fn stays_as_the_last_cut_left_it_where_nothing_is_put_back(rt: HostRuntime) -> Result<(), Fail> {
     let alloc = rt.alloc();

@@ -26,4 +26,5 @@ invariant_of-self c =
     let fewer : length c.retain.new.self.items ≤ length items = search (rules, arith) in
     let room : length items + c.self.inside.room ≤ vec_capacity c.retain.new.self = search (rules, arith) in
     let starts : length items + c.self.inside.room ≤ vec_capacity c.count.new.starts = search (rules, arith, inv.6) in
-    (omega (arith, same, inv.0), some_block c.retain.new.self.items some, inv.2, omega (arith, fewer, room), inv.4, search rules, omega (arith, fewer, starts))
+    let leasts : length items + c.self.inside.room ≤ vec_capacity c.list_leasts.new.leasts = search (rules, arith, inv.8) in
+    (omega (arith, same, inv.0), some_block c.retain.new.self.items some, inv.2, omega (arith, fewer, room), inv.4, search rules, omega (arith, fewer, starts), search rules, omega (arith, fewer, leasts))

@@ -8,6 +8,7 @@ use Rattle.std.proofs.lemmas.List.{with_items_is}
 use Rattle.maptree.specs.Blocks.{AreStarts}
 use Rattle.maptree.proofs.InBlocks.{read_of, as_read}
 use Rattle.maptree.proofs.Starts.{starts_set, before_all}
+use Rattle.maptree.proofs.Leasts.{leasts_set}
 use Rattle.maptree.proofs.BlockChanges.{insert_node, count_set}
 use Rattle.maptree.proofs.blocks.Blocks.insert.Goals as goal
 
@@ -75,4 +76,6 @@ invariant_of-self c =
       omega (arith, c.seat_with_room-seat.ensures.fits, c.seat_with_room-seat.ensures.room, inv.0, ap (λ l. length (nodes_in l)) same, kept),
       subst (AreStarts (set items seat.block new)) (sym vec) same_starts,
       search (rules, arith, size, inv.6),
+      leasts_set items seat.block new c.self.inside.leasts.items c.least.result within inv.7 c.least.ensures,
+      search (rules, arith, size, inv.8),
     )

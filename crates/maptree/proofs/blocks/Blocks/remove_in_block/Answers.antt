@@ -4,7 +4,10 @@ use Rattle.std.proofs.lemmas.List.{length-set, length-append, length-take-le, le
 use Rattle.maptree.specs.Blocks.{nodes_in}
 use Rattle.maptree.proofs.InBlocks.{read_of, as_read, counts, count_to}
 use Rattle.maptree.proofs.Starts.{starts_set, before_later}
-use Rattle.maptree.specs.Blocks.{AreStarts}
+use Rattle.std.specs.List.{slice_index}
+use Rattle.maptree.specs.Blocks.{AreStarts, is_least}
+use Rattle.maptree.proofs.Depths.{least_append, least_take, least_drop}
+use Rattle.maptree.proofs.Leasts.{least_of_block, leasts_kept}
 use Rattle.maptree.proofs.BlockChanges.{count_set}
 use Rattle.maptree.proofs.blocks.Blocks.remove_in_block.Goals as goal
 
@@ -61,6 +64,11 @@ invariant_of-self c =
     let starts = c.self.inside.starts.items in
     let vec = with_items_is c.self.inside.starts c.subtract_from.new.starts (search (rules, arith)) in
     let next = c.subtract_from.new.starts in
+    let ls = c.self.inside.leasts.items in
+    let a = slice_index ls c.args.block in
+    let least = least_of_block items ls c.args.block block inv.7 within c.index_mut-removed.ensures.value in
+    let same_leasts = leasts_kept items c.args.block new ls within inv.7
+    (ap (is_least a) c.remove.ensures ∙ least_append a (take c.args.from block) (drop c.args.to block) (least_take a c.args.from block least) (least_drop a c.args.to block least)) in
     let same_starts : AreStarts (set items c.args.block new) next = starts_set items c.args.block new starts next within inv.5 (search (rules, arith)) (λ j less. search rules)
     (λ j behind less. let changed = c.subtract_from.ensures.from j behind (search (rules, arith, less)) in search (rules, arith, changed, read, fewer, front, back, in_block, rising, there)) in (
       omega (arith, inv.0, counted, read, there, fewer, front, back, in_block, rising),
@@ -70,4 +78,6 @@ invariant_of-self c =
       omega (arith, inv.4),
       subst (AreStarts (set items c.args.block new)) (sym vec) same_starts,
       search (rules, arith, size, inv.6),
+      same_leasts,
+      search (rules, arith, size, inv.8),
     )

@@ -4,9 +4,10 @@ use Rattle.std.proofs.lemmas.List.{length-map, with_items_is}
 use Rattle.maptree.specs.PlaceMaps.{place_for}
 use Rattle.maptree.specs.Renamings.{nodes_renamed}
 use Rattle.maptree.specs.Blocks.{nodes_in}
-use Rattle.maptree.specs.Blocks.{AreStarts}
+use Rattle.maptree.specs.Blocks.{AreLeasts, AreStarts}
 use Rattle.maptree.proofs.BlockChanges.{renamed_in}
 use Rattle.maptree.proofs.Starts.{starts_same, renamed_before}
+use Rattle.maptree.proofs.Leasts.{leasts_renamed}
 use Rattle.maptree.proofs.blocks.Blocks.rename_all.Goals as goal
 
 pub invariant_of-self : goal.invariant_of-self
@@ -29,6 +30,8 @@ invariant_of-self c =
       inv.4,
       subst (λ l. AreStarts l c.self.inside.starts.items) (sym (now ∙ is)) starts,
       search (rules, arith, inv.6, count, size),
+      subst (λ l. AreLeasts l c.self.inside.leasts.items) (sym (now ∙ is)) (leasts_renamed (place_for c.args.new.now) items c.self.inside.leasts.items inv.7),
+      search (rules, arith, inv.8, count, size),
     )
 
 pub returns-clause-nodes : goal.returns-clause-nodes

@@ -2,10 +2,13 @@
 use Rattle.std.proofs.Common.{◌≡◌, ◌<◌, ◌+◌, length, set, get_or, take, ap, arith, ◌∙◌, sym, refl}
 use Rattle.std.proofs.lemmas.List.{length-set}
 use Rattle.maptree.specs.declared.node.Node.{Node}
-use Rattle.maptree.specs.Blocks.{nodes_in}
+use Rattle.std.specs.List.{slice_index}
+use Rattle.maptree.specs.Blocks.{nodes_in, is_least}
 use Rattle.maptree.proofs.InBlocks.{read_of, as_read, at_seat}
 use Rattle.maptree.proofs.BlockChanges.{set_node, count_set}
 use Rattle.maptree.proofs.Starts.{starts_set}
+use Rattle.maptree.proofs.Depths.{least_set}
+use Rattle.maptree.proofs.Leasts.{least_of_block, leasts_kept}
 use Rattle.maptree.proofs.Origin.{blank}
 use Rattle.maptree.proofs.blocks.Blocks.set_place.Goals as goal
 
@@ -45,4 +48,10 @@ invariant_of-self c =
     let size = length-set items seat.block new in
     let is = c.self.invariant in
     let same_starts = starts_set items seat.block new c.self.inside.starts.items c.self.inside.starts.items within is.5 refl (λ j less. refl) (λ j behind less. omega (arith, read, kept)) in
-    (omega (arith, is.0, counted, read, kept), omega (arith, is.1, size), is.2, omega (arith, is.3, size), is.4, same_starts, omega (arith, is.6, size))
+    let ls = c.self.inside.leasts.items in
+    let least = least_of_block items ls seat.block block is.7 within c.index_mut-block.ensures.value in
+    let inside = c.seat_of-seat.ensures.inside in
+    let there = ap length (as_read bs seat.block block in_bs (read_of items bs seat.block block same c.index_mut-block.ensures.value)) in
+    let same_leasts = leasts_kept items seat.block new ls within is.7
+    (ap (is_least (slice_index ls seat.block)) (c.set_place.ensures blank) ∙ least_set (slice_index ls seat.block) seat.offset c.args.place blank block (omega (arith, there, inside)) least) in
+    (omega (arith, is.0, counted, read, kept), omega (arith, is.1, size), is.2, omega (arith, is.3, size), is.4, same_starts, omega (arith, is.6, size), same_leasts, omega (arith, is.8, size))

@@ -1,0 +1,118 @@
+-- For each block, a depth that none of its nodes goes below.
+use Rattle.std.proofs.Common.{◌≡◌, ℕ, zero, suc, ◌+◌, ◌<◌, ◌≤◌, true, List, [], ◌∷◌, ◌++◌, length, take, drop, get_or, set, map, Option, sym, ap, ◌∙◌, subst, arith}
+use Rattle.std.specs.Prelude.{insert}
+use Rattle.std.specs.List.{slice_index}
+use Rattle.std.proofs.lemmas.List.{get_or_default, take_more, take_all}
+use Rattle.space.specs.declared.place.Place.{Place}
+use Rattle.maptree.specs.declared.node.Node.{Node}
+use Rattle.maptree.specs.Nodes.{run_len, last_less}
+use Rattle.maptree.specs.Renamings.{nodes_renamed}
+use Rattle.maptree.specs.Blocks.{is_least, nodes_in, AreLeasts, split_at_half}
+use Rattle.maptree.proofs.Depths.{all_deeper, none_less, least_renamed}
+use Rattle.maptree.proofs.LastLess.{later}
+use Rattle.maptree.proofs.InBlocks.{as_read, run_block_on, count_to, last_block}
+
+-- ---- block by block
+
+pub leasts_first : (b : List Node) (bs : List (List Node)) (a : ℕ) (ls : List ℕ) → AreLeasts (b ∷ bs) (a ∷ ls) → is_least a b ≡ true
+leasts_first b bs a ls are = are.each 0 (omega arith)
+
+pub leasts_rest : (b : List Node) (bs : List (List Node)) (a : ℕ) (ls : List ℕ) → AreLeasts (b ∷ bs) (a ∷ ls) → AreLeasts bs ls
+leasts_rest b bs a ls are = record { count = let count = are.count in omega (arith, count); each = λ k less. are.each (suc k) (omega (arith, less)) }
+
+pub leasts_one_more : (b : List Node) (bs : List (List Node)) (a : ℕ) (ls : List ℕ) → is_least a b ≡ true → AreLeasts bs ls → AreLeasts (b ∷ bs) (a ∷ ls)
+leasts_one_more b bs a ls is are = record { count = let count = are.count in omega (arith, count); each = by }
+  where
+    by : (k : ℕ) → k < length (b ∷ bs) → is_least (slice_index (a ∷ ls) k) (get_or (b ∷ bs) k []) ≡ true
+    by zero less = is
+    by (suc k) less = are.each k (omega (arith, less))
+
+pub leasts_none : AreLeasts [] []
+leasts_none = record { count = omega arith; each = λ k less. absurd (omega (arith, less)) }
+
+-- a number as it is read
+pub least_read : (bs : List (List Node)) (ls : List ℕ) (k n : ℕ) → AreLeasts bs ls → k < length bs → n ≡ get_or ls k n → n ≡ slice_index ls k
+least_read bs ls k n are within is = is ∙ get_or_default ls k n 0 (let count = are.count in omega (arith, count, within))
+
+-- and what it says of a block as it is read
+pub least_of_block : (bs : List (List Node)) (ls : List ℕ) (k : ℕ) (b : List Node) → AreLeasts bs ls → k < length bs → b ≡ get_or bs k b → is_least (slice_index ls k) b ≡ true
+least_of_block bs ls k b are within read = ap (is_least (slice_index ls k)) (as_read bs k b within read) ∙ are.each k within
+
+-- ---- changes
+
+-- a block and its number are others
+pub leasts_set : (bs : List (List Node)) (k : ℕ) (b : List Node) (ls : List ℕ) (a : ℕ) → k < length bs → AreLeasts bs ls → is_least a b ≡ true → AreLeasts (set bs k b) (set ls k a)
+leasts_set [] k b ls a within are is = absurd (omega (arith, within))
+leasts_set (x ∷ bs) k b [] a within are is = absurd (let count = are.count in omega (arith, count))
+leasts_set (x ∷ bs) zero b (l ∷ ls) a within are is = leasts_one_more b bs a ls is (leasts_rest x bs l ls are)
+leasts_set (x ∷ bs) (suc k) b (l ∷ ls) a within are is =
+    leasts_one_more x (set bs k b) l (set ls k a) (leasts_first x bs l ls are) (leasts_set bs k b ls a (omega (arith, within)) (leasts_rest x bs l ls are) is)
+
+-- a block is another, and its number serves
+pub leasts_kept : (bs : List (List Node)) (k : ℕ) (b : List Node) (ls : List ℕ) → k < length bs → AreLeasts bs ls → is_least (slice_index ls k) b ≡ true → AreLeasts (set bs k b) ls
+leasts_kept [] k b ls within are is = absurd (omega (arith, within))
+leasts_kept (x ∷ bs) k b [] within are is = absurd (let count = are.count in omega (arith, count))
+leasts_kept (x ∷ bs) zero b (l ∷ ls) within are is = leasts_one_more b bs l ls is (leasts_rest x bs l ls are)
+leasts_kept (x ∷ bs) (suc k) b (l ∷ ls) within are is =
+    leasts_one_more x (set bs k b) l ls (leasts_first x bs l ls are) (leasts_kept bs k b ls (omega (arith, within)) (leasts_rest x bs l ls are) is)
+
+-- a block more
+pub leasts_insert : (bs : List (List Node)) (k : ℕ) (b : List Node) (ls : List ℕ) (a : ℕ) → AreLeasts bs ls → is_least a b ≡ true → AreLeasts (insert bs k b) (insert ls k a)
+leasts_insert bs zero b ls a are is = leasts_one_more b bs a ls is are
+leasts_insert [] (suc k) b [] a are is = leasts_one_more b [] a [] is are
+leasts_insert [] (suc k) b (l ∷ ls) a are is = absurd (let count = are.count in omega (arith, count))
+leasts_insert (x ∷ bs) (suc k) b [] a are is = absurd (let count = are.count in omega (arith, count))
+leasts_insert (x ∷ bs) (suc k) b (l ∷ ls) a are is =
+    leasts_one_more x (insert bs k b) l (insert ls k a) (leasts_first x bs l ls are) (leasts_insert bs k b ls a (leasts_rest x bs l ls are) is)
+
+-- a block is split
+pub leasts_split : (bs : List (List Node)) (k : ℕ) (ls : List ℕ) (a c : ℕ) → k < length bs → AreLeasts bs ls
+    → is_least a (take 128 (get_or bs k [])) ≡ true → is_least c (drop 128 (get_or bs k [])) ≡ true → AreLeasts (split_at_half bs k) (insert (set ls k a) (k + 1) c)
+leasts_split bs k ls a c within are front back =
+    leasts_insert (set bs k (take 128 (get_or bs k []))) (k + 1) (drop 128 (get_or bs k [])) (set ls k a) c (leasts_set bs k (take 128 (get_or bs k [])) ls a within are front) back
+
+-- other places change no depth
+pub leasts_renamed : (new : Place → Option Place) (bs : List (List Node)) (ls : List ℕ) → AreLeasts bs ls → AreLeasts (map (nodes_renamed new) bs) ls
+leasts_renamed new [] ls are = record { count = are.count; each = λ k less. absurd (omega (arith, less)) }
+leasts_renamed new (b ∷ bs) [] are = absurd (let count = are.count in omega (arith, count))
+leasts_renamed new (b ∷ bs) (a ∷ ls) are =
+    leasts_one_more (nodes_renamed new b) (map (nodes_renamed new) bs) a ls (least_renamed new a b ∙ leasts_first b bs a ls are) (leasts_renamed new bs ls (leasts_rest b bs a ls are))
+
+-- ---- one after another
+
+-- one block more is listed
+pub leasts_more : (bs : List (List Node)) (i : ℕ) (b : List Node) (ls next : List ℕ) (a : ℕ) → i < length bs → b ≡ get_or bs i b → AreLeasts (take i bs) ls → is_least a b ≡ true → next ≡ ls ++ a ∷ []
+    → AreLeasts (take (i + 1) bs) next
+leasts_more bs i b ls next a within read are is more =
+    subst (λ l. AreLeasts (take (i + 1) bs) l) (sym more)
+    (subst (λ l. AreLeasts l (ls ++ a ∷ [])) (sym (take_more bs i [] within)) (both (take i bs) ls are (subst (λ x. is_least a x ≡ true) (as_read bs i b within read) is)))
+  where
+    both : (xs : List (List Node)) (ls : List ℕ) → AreLeasts xs ls → is_least a (get_or bs i []) ≡ true → AreLeasts (xs ++ get_or bs i [] ∷ []) (ls ++ a ∷ [])
+    both [] [] are is = leasts_one_more (get_or bs i []) [] a [] is are
+    both [] (l ∷ ls) are is = absurd (let count = are.count in omega (arith, count))
+    both (x ∷ xs) [] are is = absurd (let count = are.count in omega (arith, count))
+    both (x ∷ xs) (l ∷ ls) are is = leasts_one_more x (xs ++ get_or bs i [] ∷ []) l (ls ++ a ∷ []) (leasts_first x xs l ls are) (both xs ls (leasts_rest x xs l ls are) is)
+
+-- all are listed
+pub leasts_all : (bs : List (List Node)) (i : ℕ) (ls : List ℕ) → length bs ≤ i → AreLeasts (take i bs) ls → AreLeasts bs ls
+leasts_all bs i ls upto are = subst (λ l. AreLeasts l ls) (take_all i bs upto) are
+
+-- ---- what they say of runs
+
+module _ (bs : List (List Node)) (ls : List ℕ) (k : ℕ) (are : AreLeasts bs ls) (within : k < length bs) where
+  here : get_or bs k [] ≡ get_or bs k (get_or bs k [])
+  here = get_or_default bs k [] (get_or bs k []) within
+
+  -- a block whose nodes are all deeper is passed
+  pub deeper_block : (depth : ℕ) → depth < slice_index ls k
+      → length (nodes_in (take k bs)) + run_len depth (nodes_in (drop k bs)) ≡ length (nodes_in (take (k + 1) bs)) + run_len depth (nodes_in (drop (k + 1) bs))
+  deeper_block depth deep =
+      let b = get_or bs k [] in
+      let all = all_deeper depth (slice_index ls k) b deep (are.each k within) in
+      let on = run_block_on depth bs k (length b) b within here (sym all) (omega arith) in
+      let next = count_to bs k within in
+      omega (arith, on, next)
+
+  -- and one of which none is less deep
+  pub block_not_above : (depth : ℕ) → depth ≤ slice_index ls k → last_less depth (nodes_in (take (k + 1) bs)) ≡ last_less depth (nodes_in (take k bs))
+  block_not_above depth low = last_block depth bs k (get_or bs k []) within here ∙ ap (λ o. later (length (nodes_in (take k bs))) o (last_less depth (nodes_in (take k bs)))) (none_less depth (slice_index ls k) (get_or bs k []) low (are.each k within))
