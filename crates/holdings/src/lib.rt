@@ -13,6 +13,7 @@ mod mapping;
 mod moves;
 mod outcome;
 mod pages;
+mod phase;
 mod prune;
 mod recursion;
 mod renaming;

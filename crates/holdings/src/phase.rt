@@ -1,0 +1,42 @@
+//! One phase of a call: its pieces are worked on the entry words, and what they find out is gathered.
+
+ghost use Rattle.std.specs.Prelude.{◌≡◌, ◌<◌, None, length, IfOk, OnOk, IsFalse};
+ghost use Rattle.space.specs.Shards.{is_taken};
+ghost use Rattle.pieces.specs.Gathering.{all_found, fault_in, IsGathered};
+ghost use Rattle.holdings.specs.Inner.Words.{CanBeWorkedIn, IsPhaseWorked};
+
+use crew::{CrewError, Workers};
+use pieces::{Done, Gathered, Piece, gather};
+use space::Shards;
+use std::alloc::Global;
+
+/// Works the pieces of a phase on the words of the shards. Without memory or a worker the words are gone.
+pub fn work_phase<W: Workers>(
+    alloc: Global,
+    shards: &mut Shards,
+    pieces: Vec<Piece>,
+    workers: &W,
+) -> Result<Gathered, CrewError>
+    requires some { 0 < length pieces.items }
+    requires present { IsFalse (is_taken shards.old) }
+    requires can { CanBeWorkedIn shards.old pieces.items }
+    ensures { IfOk result (IsPhaseWorked shards.old shards.new pieces.items) }
+{
+    let count = pieces.len();
+    let words = shards.take_words();
+    let (words, dones) = workers.work(alloc, words, pieces)?;
+    shards.put_words(words);
+    gathered(alloc, dones, count)
+}
+
+/// What so many pieces found out, gathered.
+fn gathered(alloc: Global, dones: Vec<Done>, pieces: usize) -> Result<Gathered, CrewError>
+    requires { fault_in pieces dones.items ≡ None }
+    ensures { IfOk result (IsGathered (all_found pieces dones.items)) }
+{
+    // Each piece has one result, so only memory can be refused.
+    match gather(alloc, dones, pieces) {
+        Ok(gathered) => Ok(gathered),
+        Err(_) => Err(CrewError::NoMemory),
+    }
+}
