@@ -10,3 +10,5 @@ pub mod Moved
 pub mod KeptNodes
 pub mod Beside
 pub mod Whole
+pub mod WorkedPhase
+pub mod AccessPhase

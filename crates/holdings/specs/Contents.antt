@@ -1,6 +1,8 @@
 -- Holdings as their callers see them, and what each phase makes of them.
 use Rattle.std.specs.Prelude.{◌≡◌, true, List, Bool, [], ◌∷◌}
 use Rattle.fpage.specs.declared.item.ItemKind.TheVariants.{Map}
+use Rattle.std.specs.declared.vec.Vec.{Vec}
+use Rattle.std.specs.declared.alloc.Global.{Global}
 use Rattle.fpage.specs.declared.rights.Access.{Access}
 use Rattle.fpage.specs.declared.rights.Rights.{Rights}
 use Rattle.space.specs.declared.place.Place.{Place}
@@ -66,3 +68,8 @@ touched_all h (a ∷ rest) = touched_all (touch h a.0 a.1) rest
 abbrev pub access_answers : Holdings → List (Place × Access) → List Bool
 access_answers h [] = []
 access_answers h (a ∷ rest) = can_touch h a.0 a.1 ∷ access_answers (touch h a.0 a.1) rest
+
+-- accesses were made one after another, and answered
+pub record AreAccessed (old : Contents) (accesses : List (Place × Access)) (r : Contents × Vec Bool Global) : Type 0 where
+  pub left : r.0 ≡ left_with old (touched_all old.holdings accesses)
+  pub answers : r.1.items ≡ access_answers old.holdings accesses

@@ -2,6 +2,7 @@
 //! which calls change them.
 #![tactic(auto)]
 
+mod access;
 mod group;
 mod holdings;
 mod item_pages;

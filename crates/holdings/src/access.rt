@@ -1,0 +1,62 @@
+//! Accesses of pages, one phase for all of them.
+
+use crate::holdings::Holdings;
+use crate::phase::work_phase;
+use crew::{CrewError, Workers};
+use fpage::Access;
+use pieces::{WordAccess, touches};
+use space::{Place, Shards};
+use std::alloc::{AllocError, Global};
+
+impl Holdings {
+    ghost use Rattle.std.specs.Prelude.{IfOk};
+    ghost use Rattle.std.specs.List.{All};
+    ghost use Rattle.holdings.specs.Contents.{AreAccessed};
+    ghost use Rattle.holdings.specs.Places.{IsWithin};
+
+    /// Makes accesses one after another, and says of each whether it was made; otherwise it was a fault.
+    ///
+    /// Refused, where memory or a worker is: `NoMemory`, `NoWorker`.
+    pub fn access_all<W: Workers>(
+        self,
+        alloc: Global,
+        accesses: &[(Place, Access)],
+        workers: &W,
+    ) -> Result<(Self, Vec<bool>), CrewError>
+        requires { All (λ access. IsWithin self.limits access.0) accesses.now }
+        ensures { IfOk result (AreAccessed self accesses.now) }
+    {
+        let Holdings { mut shards, trees } = self;
+        let list = word_accesses(alloc, &shards, accesses)?;
+        let pieces = touches(alloc, list, workers.piece_length())?;
+        if pieces.is_empty() {
+            return Ok((Holdings { shards, trees }, Vec::new(alloc)));
+        }
+        let found = work_phase(alloc, &mut shards, pieces, workers)?;
+        Ok((Holdings { shards, trees }, found.answers))
+    }
+}
+
+ghost use Rattle.std.specs.Prelude.{◌≡◌, map, IfOk};
+ghost use Rattle.std.specs.List.{All};
+ghost use Rattle.space.specs.Shards.{IsPlace};
+ghost use Rattle.holdings.specs.Inner.Planning.{word_access};
+
+/// Accesses by the words of their pages.
+fn word_accesses(
+    alloc: Global,
+    shards: &Shards,
+    accesses: &[(Place, Access)],
+) -> Result<Vec<WordAccess>, AllocError>
+    requires { All (λ access. IsPlace shards.now access.0) accesses.now }
+    ensures { IfOk result (λ list. list.items ≡ map (word_access shards.now) accesses.now) }
+{
+    let mut list = Vec::with_capacity(alloc, accesses.len())?;
+    for (place, access) in accesses {
+        list.push(WordAccess {
+            index: shards.index(*place),
+            access: *access,
+        })?;
+    }
+    Ok(list)
+}
