@@ -113,8 +113,8 @@ module _ (w : List ℕ) where
       ∙ ap (bit_or (gained i (effects w (piece.Strip s)))) (all_gained i fold ss (λ k d less. each (suc k) d (omega (arith, less))))
       ∙ ap (λ es. bit_or (gained i es) (gained i (folding fold (status_in w others.indexes)))) (strip_is s)
       ∙ ap (λ b. bit_or b (gained i (folding fold (status_in w others.indexes))))
-        (gained_append i (narrows s.indexes s.masks) (folding s.fold (status_in w s.indexes)) ∙ ap (λ b. bit_or b (gained i (folding s.fold (status_in w s.indexes)))) (narrows_gain_nothing i s.indexes s.masks)
-        ∙ or_zero_l (gained i (folding s.fold (status_in w s.indexes))) ∙ ap (λ f. gained i (folding f (status_in w s.indexes))) (each 0 s (omega arith)))
+      (gained_append i (narrows s.indexes s.masks) (folding s.fold (status_in w s.indexes)) ∙ ap (λ b. bit_or b (gained i (folding s.fold (status_in w s.indexes)))) (narrows_gain_nothing i s.indexes s.masks)
+      ∙ or_zero_l (gained i (folding s.fold (status_in w s.indexes))) ∙ ap (λ f. gained i (folding f (status_in w s.indexes))) (each 0 s (omega arith)))
       ∙ folds_gain_both i fold (status_in w s.indexes) (status_in w others.indexes) ∙ ap (λ r. gained i (folding fold r)) (sym (status_append w s.indexes others.indexes))
 
   pub strips_in_pieces : (fold : Option ℕ) (ss : List StripContent) → All IsStrip ss → All (λ s. s.fold ≡ fold) ss → worked w (map piece.Strip ss) ≡ worked w (piece.Strip (record (joined_strips ss) { fold = fold }) ∷ [])
@@ -125,6 +125,6 @@ module _ (w : List ℕ) where
       let last = folding fold (status_in w whole.indexes) in
       worked_all w (map piece.Strip ss) ∙ ap (words_after w) (flat_of_map piece.Strip (effects w) ss)
       ∙ same_words 0 w apart (parts ++ last)
-        (λ i. written_over i apart ∙ all_written i ss each None ∙ ap (over i parts) (sym (folds_write_nothing i fold (status_in w whole.indexes) None)) ∙ sym (over_append i parts last None) ∙ sym (written_over i (parts ++ last)))
-        (λ i. all_gained i fold ss one_fold ∙ sym (or_zero_l (gained i last)) ∙ ap (λ b. bit_or b (gained i last)) (sym (narrows_gain_nothing i whole.indexes whole.masks)) ∙ sym (gained_append i parts last))
+      (λ i. written_over i apart ∙ all_written i ss each None ∙ ap (over i parts) (sym (folds_write_nothing i fold (status_in w whole.indexes) None)) ∙ sym (over_append i parts last None) ∙ sym (written_over i (parts ++ last)))
+      (λ i. all_gained i fold ss one_fold ∙ sym (or_zero_l (gained i last)) ∙ ap (λ b. bit_or b (gained i last)) (sym (narrows_gain_nothing i whole.indexes whole.masks)) ∙ sym (gained_append i parts last))
       ∙ ap (words_after w) (sym (strip_is whole) ∙ sym (append-nil (effects w (piece.Strip whole)))) ∙ sym (worked_all w (piece.Strip whole ∷ []))

@@ -192,13 +192,13 @@ module _ (s : Shards) (w : List ℕ) (are : AreWordsOf s w) where
       by (has_entry s t.source)
       (other_words t.target t.source both.1 both.0 (λ same. differ (sym paired.0 ∙ sym same ∙ paired.1)))
       (end_apart t.source both.0 ts others (λ k d less.
-        let at = others k d less in
-        let spaces = spaces_of_all from to ts paired.3 k d less in
-        (apart_words (get_or ts k d).source t.source at.0 both.0 (paired.2 k d less).0, other_words (get_or ts k d).target t.source at.1 both.0 (λ same. differ (sym paired.0 ∙ sym same ∙ spaces.1)))))
+      let at = others k d less in
+      let spaces = spaces_of_all from to ts paired.3 k d less in
+      (apart_words (get_or ts k d).source t.source at.0 both.0 (paired.2 k d less).0, other_words (get_or ts k d).target t.source at.1 both.0 (λ same. differ (sym paired.0 ∙ sym same ∙ spaces.1)))))
       (end_apart t.target both.1 ts others (λ k d less.
-        let at = others k d less in
-        let spaces = spaces_of_all from to ts paired.3 k d less in
-        (other_words (get_or ts k d).source t.target at.0 both.1 (λ same. differ (sym spaces.0 ∙ same ∙ paired.1)), apart_words (get_or ts k d).target t.target at.1 both.1 (paired.2 k d less).1)))
+      let at = others k d less in
+      let spaces = spaces_of_all from to ts paired.3 k d less in
+      (other_words (get_or ts k d).source t.target at.0 both.1 (λ same. differ (sym spaces.0 ∙ same ∙ paired.1)), apart_words (get_or ts k d).target t.target at.1 both.1 (paired.2 k d less).1)))
       (ends_distinct from to differ ts paired.3 others)
     where
       spaces_of_all : (from to : ℕ) (us : List Transfer) → ArePaired from to us → All (λ u. (u.source.space ≡ from) × (u.target.space ≡ to)) us

@@ -107,7 +107,7 @@ module _ (s : Shards) (w : List ℕ) (are : AreWordsOf s w) (ss : List StripCont
       let stood = are.entries p place in
       ap (λ o. is_some (narrowed_by m o)) stood
       ∙ sym (ap is_some (entry_after p place ∙ ap (λ o. entry_of (unwrap_or o (bit_or (slice_index w (index_of s p)) (gained (index_of s p) (flat_map (effects w) (map piece.Strip ss)))))) is
-        ∙ ap (λ o. entry_of (word_of (narrowed_by m o))) stood ∙ (unpack_gives_back (narrowed_by m (entry_at s p)) (narrowed_fits m (entry_at s p) (entries_fit s p))).1))
+      ∙ ap (λ o. entry_of (word_of (narrowed_by m o))) stood ∙ (unpack_gives_back (narrowed_by m (entry_at s p)) (narrowed_fits m (entry_at s p) (entries_fit s p))).1))
 
   -- so it is of all nodes
   abbrev Agrees : Node × (ℕ × Rights) → Type 0
@@ -145,7 +145,7 @@ module _ (s : Shards) (w : List ℕ) (are : AreWordsOf s w) (ss : List StripCont
     where
       by : (a b : Bool) → a ≡ b → map (λ e. e.0) (filter (λ e. remains w e.1.0 e.1.1) (zip ns (zip is ms))) ≡ filter (λ k. has_entry new k.place) ns
           → map (λ e. e.0) (if a then (n, (i, m)) ∷ filter (λ e. remains w e.1.0 e.1.1) (zip ns (zip is ms)) else filter (λ e. remains w e.1.0 e.1.1) (zip ns (zip is ms)))
-            ≡ (if b then n ∷ filter (λ k. has_entry new k.place) ns else filter (λ k. has_entry new k.place) ns)
+          ≡ (if b then n ∷ filter (λ k. has_entry new k.place) ns else filter (λ k. has_entry new k.place) ns)
       by true true same rest = ap (λ ks. n ∷ ks) rest
       by false false same rest = rest
       by true false same rest = absurd (cc same)

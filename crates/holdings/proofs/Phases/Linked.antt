@@ -212,8 +212,8 @@ module _ (first : Shards) (trees : List Shape) (sound : AreSound first trees) (r
     mapped_here e is w are next with =
         one_page first trees rights ts i within now ahead counts planned ready so_far next (counts_of (fate_in t) true) (λ none. absurd (cc (none, is)))
         (λ k k_is. subst (λ x. IsPageMapped now next rights t x (counts_of (fate_in t) true)) (same_Some e k (sym is ∙ k_is))
-          (page_stored now w are rights t (source_place first trees rights ts i within now ahead counts planned ready so_far) (target_place first trees rights ts i within now ahead counts planned ready so_far) e is next
-            (subst (λ x. IsWith now (worked w (piece.Link (x ∷ []) ∷ [])) next) (sym (same_store first now layout.index rights t)) with) free_here (wider_here e is)))
+        (page_stored now w are rights t (source_place first trees rights ts i within now ahead counts planned ready so_far) (target_place first trees rights ts i within now ahead counts planned ready so_far) e is next
+        (subst (λ x. IsWith now (worked w (piece.Link (x ∷ []) ∷ [])) next) (sym (same_store first now layout.index rights t)) with) free_here (wider_here e is)))
 
   -- the page at a position
   abbrev page_at : ℕ → Transfer
@@ -258,7 +258,7 @@ module _ (first : Shards) (trees : List Shape) (sound : AreSound first trees) (r
 
       by : (b : Bool) → has_entry first (page_at i).source ≡ b
           → ((i : ℕ) → i + n ≡ length ts → (now : Shards) (counts : Counts) → AreAhead first limits h rights ts i now ahead counts → IsLaidOutAs first now → (w : List ℕ) → AreWordsOf now w
-            → CanBeWorked w (piece.Link (stores_of first rights (drop i ts)) ∷ []) → (new : Shards) → IsWith now (worked w (piece.Link (stores_of first rights (drop i ts)) ∷ [])) new → AreAllMapped new)
+          → CanBeWorked w (piece.Link (stores_of first rights (drop i ts)) ∷ []) → (new : Shards) → IsWith now (worked w (piece.Link (stores_of first rights (drop i ts)) ∷ [])) new → AreAllMapped new)
           → AreAllMapped new
       by false gone go =
           let none = nothing_there (entry_at now (page_at i).source) (ap is_some (sym (stood i within now counts so_far layout)) ∙ gone) in
@@ -277,9 +277,9 @@ module _ (first : Shards) (trees : List Shape) (sound : AreSound first trees) (r
           let paired = subst (ArePaired so_far.from so_far.to) (drop_more ts i no_transfer within) so_far.are.paired in
           let target : IsPlace first (page_at i).target = let t_in = planned.within i no_transfer within in record { space = t_in.target_space; page = t_in.target_page } in
           let spared : spare_held ps qs ≡ true =
-              ap (list_all (is_none_of (index_of first (page_at i).target ∷ []))) (append-nil (map (λ y. y.read) xs))
-              ∙ reads_apart first (page_at i).target target rights so_far.from (λ same. so_far.differ (same ∙ paired.1)) us (sources_in so_far.from so_far.to us paired.3)
-                (λ k d less. let u_in = All-drop (IsTransferWithin limits) (i + 1) ts planned.within k d less in record { space = u_in.source_space; page = u_in.source_page }) in
+          ap (list_all (is_none_of (index_of first (page_at i).target ∷ []))) (append-nil (map (λ y. y.read) xs))
+          ∙ reads_apart first (page_at i).target target rights so_far.from (λ same. so_far.differ (same ∙ paired.1)) us (sources_in so_far.from so_far.to us paired.3)
+          (λ k d less. let u_in = All-drop (IsTransferWithin limits) (i + 1) ts planned.within k d less in record { space = u_in.source_space; page = u_in.source_page }) in
           let can_rest = others_can w ps qs each can_both spared in
           let middle = with_words now so_far.are.sound.kept.fits.present (worked w ps) (ap length (worked_all w ps) ∙ length_words 0 w (flat_map (effects w) ps) ∙ are.count) can_rest.packs in
           go (i + 1) (omega (arith, whole)) middle.0 (add_counts counts (counts_of (fate_in (page_at i)) true)) (mapped_here i within now counts so_far layout e.0 e.1 w are middle.0 middle.1) (same_layouts first now middle.0 layout middle.1.layout)

@@ -166,7 +166,6 @@ module _ (first : Shards) (trees : List Shape) (sound : AreSound first trees) (t
       sym (with.words.entries p (place_kept now new with.layout p place)) ∙ ap (λ v. entry_of (slice_index v (index_of new p))) (worked_all w (piece.Move [] ∷ []) ∙ words_none 0 w)
       ∙ ap (λ i. entry_of (slice_index w i)) (with.layout.index p) ∙ are.entries p place
 
-
   -- words that moved, by other shards with the same entries
   moved_still : (now new : Shards) → AreWordsMoved limits (moving_of h ts) first now → IsFalse (is_taken new) → IsLaidOutAs now new → ((p : Place) → IsPlace now p → entry_at new p ≡ entry_at now p) → AreWordsMoved limits (moving_of h ts) first new
   moved_still now new words present layout same = record {
@@ -204,7 +203,7 @@ module _ (first : Shards) (trees : List Shape) (sound : AreSound first trees) (t
 
       by : (b : Bool) → has_entry first (page_at i).source ≡ b
           → ((i : ℕ) → i + n ≡ length ts → (now : Shards) (counts : Counts) → AreMoving limits h first ts i now counts → IsLaidOutAs first now → (w : List ℕ) → AreWordsOf now w
-            → CanBeWorked w (piece.Move (word_pairs first (drop i ts)) ∷ []) → (new : Shards) → IsWith now (worked w (piece.Move (word_pairs first (drop i ts)) ∷ [])) new → AreWordsMoved limits (moving_of h ts) first new)
+          → CanBeWorked w (piece.Move (word_pairs first (drop i ts)) ∷ []) → (new : Shards) → IsWith now (worked w (piece.Move (word_pairs first (drop i ts)) ∷ [])) new → AreWordsMoved limits (moving_of h ts) first new)
           → AreWordsMoved limits (moving_of h ts) first new
       by false gone go =
           let none = still_gone i within now counts so_far gone in
@@ -224,11 +223,11 @@ module _ (first : Shards) (trees : List Shape) (sound : AreSound first trees) (t
           let can_rest = others_can w ps qs each can_both spared in
           let middle = with_words now so_far.words.present (worked w ps) (ap length (worked_all w ps) ∙ length_words 0 w (flat_map (effects w) ps) ∙ are.count) can_rest.packs in
           let moved = page_of_pair now w are (page_at i) (source_place limits first trees sound ts planned all_go free i no_transfer within now counts so_far) (target_place limits first trees sound ts planned all_go free i no_transfer within now counts so_far)
-              (ends_apart limits first trees sound ts planned all_go free i no_transfer within now counts so_far) e.0 e.1 middle.0
-              (subst (λ y. IsWith now (worked w (piece.Move (y ∷ []) ∷ [])) middle.0) (sym (same_pair first now layout.index (page_at i))) middle.1) in
+          (ends_apart limits first trees sound ts planned all_go free i no_transfer within now counts so_far) e.0 e.1 middle.0
+          (subst (λ y. IsWith now (worked w (piece.Move (y ∷ []) ∷ [])) middle.0) (sym (same_pair first now layout.index (page_at i))) middle.1) in
           go (i + 1) (omega (arith, whole)) middle.0 (add_counts counts (counts_of goes true))
           (step limits first trees sound ts planned all_go free i no_transfer within now counts so_far middle.0 (counts_of goes true) (λ none. absurd (cc (none, e.1)))
-            (λ k k_is. subst (λ y. IsPageMoved now middle.0 (page_at i).source (page_at i).target y (counts_of goes true)) (same_Some e.0 k (sym e.1 ∙ k_is)) moved) (add_counts counts (counts_of goes true)) refl)
+          (λ k k_is. subst (λ y. IsPageMoved now middle.0 (page_at i).source (page_at i).target y (counts_of goes true)) (same_Some e.0 k (sym e.1 ∙ k_is)) moved) (add_counts counts (counts_of goes true)) refl)
           (same_layouts first now middle.0 layout middle.1.layout) (worked w ps) middle.1.words can_rest new
           (record {
             words = subst (AreWordsOf new) (ap (λ ys. worked w (piece.Move ys ∷ [])) (pairs_are true held) ∙ worked_in_turn w x xs ∙ one_after_another w ps qs each can_both spared) with.words;

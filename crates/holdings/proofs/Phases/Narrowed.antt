@@ -64,7 +64,7 @@ module _ (s : Shards) (w : List ℕ) (p : Place) (place : IsPlace s p) where
       by : (p ≡ q) ⊎ (same_place p q ≡ false)
           → over (index_of s p) (narrows w (map (index_of s) qs) (replicate (length qs) a)) later ≡ (if any_of qs p then Some (word_of (narrowed_by a (entry_in w (index_of s p)))) else later)
           → (if index_of s q == index_of s p then Some (word_of (narrowed_by a (entry_in w (index_of s q)))) else over (index_of s p) (narrows w (map (index_of s) qs) (replicate (length qs) a)) later)
-            ≡ (if same_place p q || any_of qs p then Some (word_of (narrowed_by a (entry_in w (index_of s p)))) else later)
+          ≡ (if same_place p q || any_of qs p then Some (word_of (narrowed_by a (entry_in w (index_of s p)))) else later)
       by (inl same) rest = rw (sym same, eq-eqb (index_of s p) (index_of s p) refl, same_self p) refl
       by (inr apart) rest =
           rw (apart, ne_eqb (index_of s q) (index_of s p) (λ same. cc (apart, ap (λ x. same_place x q) (words_are_their_own s p q place (places 0 q (omega arith)) (sym same)), same_self q))) rest
@@ -90,7 +90,7 @@ module _ (s : Shards) (w : List ℕ) (are : AreWordsOf s w) (c : Place) (rest : 
       by : (p ≡ c) ⊎ (same_place p c ≡ false)
           → over (index_of s p) (narrows w (map (index_of s) rest) (replicate (length rest) a)) None ≡ (if any_of rest p then Some (word_of (narrowed_by a (entry_in w (index_of s p)))) else None)
           → (if index_of s c == index_of s p then Some (word_of (narrowed_by (if not f then no_rights else a) (entry_in w (index_of s c)))) else over (index_of s p) (narrows w (map (index_of s) rest) (replicate (length rest) a)) None)
-            ≡ (if same_place p c then Some (word_of (narrowed_by (if not f then no_rights else a) (entry_in w (index_of s p)))) else if any_of rest p then Some (word_of (narrowed_by a (entry_in w (index_of s p)))) else None)
+          ≡ (if same_place p c then Some (word_of (narrowed_by (if not f then no_rights else a) (entry_in w (index_of s p)))) else if any_of rest p then Some (word_of (narrowed_by a (entry_in w (index_of s p)))) else None)
       by (inl same) later = rw (sym same, eq-eqb (index_of s p) (index_of s p) refl, same_self p) refl
       by (inr apart) later =
           rw (apart, ne_eqb (index_of s c) (index_of s p) (λ same. cc (apart, ap (λ x. same_place x c) (words_are_their_own s p c place (places 0 c (omega arith)) (sym same)), same_self c))) later
@@ -120,7 +120,7 @@ module _ (s : Shards) (w : List ℕ) (are : AreWordsOf s w) (c : Place) (rest : 
 
         by : (p ≡ c) ⊎ (same_place p c ≡ false)
             → entry_of (unwrap_or (if same_place p c then Some (word_of (narrowed_by (if not f then no_rights else a) (entry_in w (index_of s p)))) else if any_of rest p then Some (word_of (narrowed_by a (entry_in w (index_of s p)))) else None) (bit_or (slice_index w (index_of s p)) (gained (index_of s p) es)))
-              ≡ option_and_then (narrowed (f || not (same_place p c)) a) (entry_at s p)
+            ≡ option_and_then (narrowed (f || not (same_place p c)) a) (entry_at s p)
         by (inl is) =
             let here : same_place p c ≡ true = subst (λ x. same_place p x ≡ true) is (same_self p) in
             rw here (unpacked (if not f then no_rights else a) p place ∙ first_loses (entry_at s p) (λ e there. rights p e place there))
@@ -183,7 +183,7 @@ module _ (s : Shards) (w : List ℕ) (are : AreWordsOf s w) (c : Place) (rest : 
         let has = places_have_words s p place in
         let word = slice_index w (index_of s p) in
         let gain : gained (index_of s p) after ≡ status_bits found =
-            gains (index_of s p) ∙ ap (λ fold. gained (index_of s p) (folding w fold found)) is ∙ ap (λ b. bit_or (if b then status_bits found else 0) 0) (eq-eqb (index_of s p) (index_of s p) refl) ∙ or_zero_r (status_bits found) in
+        gains (index_of s p) ∙ ap (λ fold. gained (index_of s p) (folding w fold found)) is ∙ ap (λ b. bit_or (if b then status_bits found else 0) 0) (eq-eqb (index_of s p) (index_of s p) refl) ∙ or_zero_r (status_bits found) in
         entry_after p place ∙ ap entry_of (outside after p place (same_written (index_of s p)) none ∙ ap (bit_or word) gain)
         ∙ (pack_gains_status word found (are.packs (index_of s p) 0 (omega (arith, has, are.count))) (λ gone. cc (held, ap is_some (sym (are.entries p place)), ap (λ x. is_some (entry_of x)) gone))).2
         ∙ ap (option_map (with_status found)) (are.entries p place)

@@ -155,8 +155,8 @@ module _ (s : Shards) (trees : List Shape) (sound : AreSound s trees) (set : Pla
   run_places plan is =
       let os = links_in trees plan.frame in
       subst (All (IsPlace s)) (sym (is.places ∙ slice_of_map os plan.run.start plan.run.end)) (each_listed (IsPlace s) (slice_range os plan.run.start plan.run.end) (λ p among.
-          let at = among_at os plan.run.start plan.run.end p p among in
-          standing_place s trees plan.frame (loose_from s trees sound) p (subst (λ q. is_listed trees plan.frame q ≡ true) at.4 (listed_at os at.0 p at.3))))
+      let at = among_at os plan.run.start plan.run.end p p among in
+      standing_place s trees plan.frame (loose_from s trees sound) p (subst (λ q. is_listed trees plan.frame q ≡ true) at.4 (listed_at os at.0 p at.3))))
 
   places_have : (plans : List RunPlan) → All (IsRunPlan trees) plans → All (IsPlace s) (places_of_runs plans)
   places_have [] runs = λ k d less. absurd (omega (arith, less))
@@ -190,12 +190,12 @@ module _ (s : Shards) (trees : List Shape) (sound : AreSound s trees) (set : Pla
         packs = are.packs;
         within = named_pass (λ i. nat_lt i (length w)) strips (ap (list_all (λ i. nat_lt i (length w))) where_changed ∙ indexes_within (places_of_runs plans) places)
             (folds_pass s a f (λ i. nat_lt i (length w)) plans (each_origin (λ i. nat_lt i (length w)) (λ plan o is there _.
-              let has = places_have_words s o (origin_has plan is o there).0 in lt-ltb (index_of s o) (length w) (omega (arith, has, are.count)))));
+            let has = places_have_words s o (origin_has plan is o there).0 in lt-ltb (index_of s o) (length w) (omega (arith, has, are.count)))));
         entries = ap (list_all (λ i. is_some (entry_in w i))) (held_are_folds strips) ∙ folds_pass s a f (λ i. is_some (entry_in w i)) plans (each_origin (λ i. is_some (entry_in w i)) (λ plan o is there _. (origin_has plan is o there).1));
         distinct = ap are_distinct where_changed ∙ distinct_indexes s (places_of_runs plans) places planned.once;
         apart = ap (λ is. list_all (is_none_of is) (flat_map folds (map piece.Strip strips))) where_changed
             ∙ folds_pass s a f (is_none_of (map (index_of s) (places_of_runs plans))) plans (each_origin (is_none_of (map (index_of s) (places_of_runs plans)))
-              (λ plan o is there none. apart_index s o (places_of_runs plans) (origin_has plan is o there).0 places none));
+            (λ plan o is there none. apart_index s o (places_of_runs plans) (origin_has plan is o there).0 places none));
         alike = are_strips strips;
       }
     where

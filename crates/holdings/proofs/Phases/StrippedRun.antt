@@ -96,7 +96,7 @@ module _ (s : Shards) (a : Rights) (origin : Option Place) where
   whole_masks f n part parts =
       ap (λ ms. (if not f then no_rights else a) ∷ (replicate (length part) a ++ ms)) (rest_masks parts)
       ∙ ap (λ ms. (if not f then no_rights else a) ∷ ms) (replicate_more a (length part) (length (all_places parts))
-        ∙ ap (λ m. replicate m a) (ap (λ m. m + length (all_places parts)) (sym (length_places part)) ∙ sym (length_joined (map (λ k. k.place) part) (all_places parts))))
+      ∙ ap (λ m. replicate m a) (ap (λ m. m + length (all_places parts)) (sym (length_places part)) ∙ sym (length_joined (map (λ k. k.place) part) (all_places parts))))
 
   one_fold : (f : Bool) (parts : List (List Node)) → All (λ k. k.fold ≡ option_map (index_of s) origin) (strips_of_run s a f origin parts)
   one_fold f [] = λ k d less. absurd (omega (arith, less))
@@ -281,7 +281,7 @@ module _ (old : Shards) (trees : List Shape) (loose : AreLoose old trees) (frame
             ∙ sym (lost_inside old w are c behind places a f rights (run_strip None) (its_indexes None) (its_masks None) m m_with q q_place among)
         by q_place false none =
             kept_outside old w are c behind places a f rights (run_strip (Some (index_of old o))) (its_indexes (Some (index_of old o))) (its_masks (Some (index_of old o))) new folded q q_place none
-              (λ i i_is same. differ (words_are_their_own old q o q_place o_place (sym same ∙ sym (same_Some (index_of old o) i i_is))))
+            (λ i i_is same. differ (words_are_their_own old q o q_place o_place (sym same ∙ sym (same_Some (index_of old o) i i_is))))
             ∙ sym (kept_outside old w are c behind places a f rights (run_strip None) (its_indexes None) (its_masks None) m m_with q q_place none (λ i nothing. absurd (cc nothing)))
 
     with_origin : IsStripped old trees c a f new status

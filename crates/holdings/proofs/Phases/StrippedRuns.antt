@@ -129,7 +129,7 @@ no_runs : (old : Shards) (trees : List Shape) → AreLoose old trees → (a : Ri
 no_runs old trees loose a f w are new with =
     let nothing = none_stripped old trees loose a f in
     let same : (p : Place) → IsPlace old p → entry_at new p ≡ entry_at old p = λ p place.
-        sym (with.words.entries p (place_kept old new with.layout p place)) ∙ ap (λ i. entry_of (slice_index w i)) (with.layout.index p) ∙ are.entries p place in
+    sym (with.words.entries p (place_kept old new with.layout p place)) ∙ ap (λ i. entry_of (slice_index w i)) (with.layout.index p) ∙ are.entries p place in
     let limits : limits_in new trees ≡ limits_in old trees = λ i. record { spaces = with.layout.spaces i; bits = with.layout.bits i; frames = length trees } in
     let left : holdings_in new trees ≡ holdings_in old trees = ap (λ l. holdings_of l new trees) limits ∙ same_holdings (limits_in old trees) old new trees loose.fits with.present with.layout same in
     let lost : HaveLost old new = record { layout = with.layout; present = with.present; frames = λ p place e is. (e, sym (same p place) ∙ is, refl) } in
@@ -173,7 +173,7 @@ module _ (old : Shards) (trees : List Shape) (loose : AreLoose old trees) (w : L
       → CanBeWorked w (map piece.Strip (strips_of_run old a f plan.origin (part ∷ parts))) → (o : Place) → plan.origin ≡ Some o → is_among (links_in trees plan.frame) plan.run.start plan.run.end o ≡ false
   origin_apart part parts places can o is =
       let none : is_none_of (map (index_of old) (all_places (part ∷ parts))) (index_of old o) ≡ true =
-          ap (λ is. is_none_of is (index_of old o)) (sym (changes_of_strips (strips_of_run old a f plan.origin (part ∷ parts)) ∙ whole_indexes old a plan.origin f part parts)) ∙ by plan.origin is can.apart in
+      ap (λ is. is_none_of is (index_of old o)) (sym (changes_of_strips (strips_of_run old a f plan.origin (part ∷ parts)) ∙ whole_indexes old a plan.origin f part parts)) ∙ by plan.origin is can.apart in
       sym (any_of_places (slice_range (links_in trees plan.frame) plan.run.start plan.run.end) o) ∙ ap (λ ps. any_of ps o) (sym (places ∙ slice_of_map (links_in trees plan.frame) plan.run.start plan.run.end))
       ∙ none_named old o (all_places (part ∷ parts)) none
     where
@@ -191,11 +191,11 @@ module _ (old : Shards) (trees : List Shape) (loose : AreLoose old trees) (w : L
       → IsStripped old trees (first_of trees plan) a f mid (status_found w (strips_of_run old a f plan.origin plan.parts))
   first_stripped mid =
       subst (λ parts. all_places parts ≡ slice_range (map (λ o. o.0) (links_in trees plan.frame)) plan.run.start plan.run.end → All IsStrip (strips_of_run old a f plan.origin parts)
-          → CanBeWorked w (map piece.Strip (strips_of_run old a f plan.origin parts)) → IsWith old (worked w (map piece.Strip (strips_of_run old a f plan.origin parts))) mid
-          → IsStripped old trees (first_of trees plan) a f mid (status_found w (strips_of_run old a f plan.origin parts)))
+      → CanBeWorked w (map piece.Strip (strips_of_run old a f plan.origin parts)) → IsWith old (worked w (map piece.Strip (strips_of_run old a f plan.origin parts))) mid
+      → IsStripped old trees (first_of trees plan) a f mid (status_found w (strips_of_run old a f plan.origin parts)))
       (sym planned.parts)
       (λ places each can with. run_stripped old trees loose plan.frame plan.run planned.is_run planned.some planned.within a f plan.origin planned.origin planned.first planned.first_part planned.others places w are each
-          (origin_held (planned.first ∷ planned.first_part) planned.others can) (origin_apart (planned.first ∷ planned.first_part) planned.others places can) mid with (record { space = 0; page = 0 }))
+      (origin_held (planned.first ∷ planned.first_part) planned.others can) (origin_apart (planned.first ∷ planned.first_part) planned.others places can) mid with (record { space = 0; page = 0 }))
       planned.places
 
 -- ---- all runs
@@ -219,13 +219,13 @@ runs_stripped trees a f (plan ∷ plans) planned old loose w are each can new wi
     let run = first_stripped old trees loose w are a f plan (planned 0 plan (omega arith)) mid (each_strip xs (all_first ps qs each_one)) (first_can w ps qs can_all) middle.1 in
     let same : strips_of_runs mid a f plans ≡ ys = runs_same old mid middle.1.layout.index a f plans in
     let rest = runs_stripped trees a f plans (λ k d less. planned (suc k) d (omega (arith, less))) mid run.loose (worked w ps) middle.1.words
-        (subst (λ ss. All IsPiece (map piece.Strip ss)) (sym same) (all_second ps qs each_one)) (subst (λ ss. CanBeWorked (worked w ps) (map piece.Strip ss)) (sym same) can_others) new
-        (record {
-          words = subst (AreWordsOf new) (ap (worked w) split ∙ one_after_another w ps qs each_one can_all spared ∙ ap (λ ss. worked (worked w ps) (map piece.Strip ss)) (sym same)) with.words;
-          present = with.present;
-          layout = record { spaces = with.layout.spaces ∙ sym middle.1.layout.spaces; bits = with.layout.bits ∙ sym middle.1.layout.bits; count = with.layout.count ∙ sym middle.1.layout.count; index = λ p. with.layout.index p ∙ sym (middle.1.layout.index p) };
-        }) in
+    (subst (λ ss. All IsPiece (map piece.Strip ss)) (sym same) (all_second ps qs each_one)) (subst (λ ss. CanBeWorked (worked w ps) (map piece.Strip ss)) (sym same) can_others) new
+    (record {
+      words = subst (AreWordsOf new) (ap (worked w) split ∙ one_after_another w ps qs each_one can_all spared ∙ ap (λ ss. worked (worked w ps) (map piece.Strip ss)) (sym same)) with.words;
+      present = with.present;
+      layout = record { spaces = with.layout.spaces ∙ sym middle.1.layout.spaces; bits = with.layout.bits ∙ sym middle.1.layout.bits; count = with.layout.count ∙ sym middle.1.layout.count; index = λ p. with.layout.index p ∙ sym (middle.1.layout.index p) };
+    }) in
     let status : status_found w (xs ++ ys) ≡ join (status_found w xs) (status_found (worked w ps) (strips_of_runs mid a f plans)) =
-        found_joined w xs ys ∙ ap (join (status_found w xs)) (sym (ap (status_found (worked w ps)) same ∙ found_same (worked w ps) w ys (others_find_the_same w ps qs each_one can_all))) in
+    found_joined w xs ys ∙ ap (join (status_found w xs)) (sym (ap (status_found (worked w ps)) same ∙ found_same (worked w ps) w ys (others_find_the_same w ps qs each_one can_all))) in
     subst (AreStripped old trees (map (first_of trees) (plan ∷ plans)) a f new) (sym status)
     (then_stripped old trees loose a f (first_of trees plan) (map (first_of trees) plans) mid new (status_found w xs) (status_found (worked w ps) (strips_of_runs mid a f plans)) run rest)

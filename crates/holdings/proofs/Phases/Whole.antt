@@ -47,14 +47,13 @@ pub touches_are_accesses : TouchesAreAccesses
 touches_are_accesses s trees sound w are ts within most some =
     let limits = limits_in s trees in
     let xs = map (word_access s) ts in
-    let whole = touches_in_pieces w most some xs ∙ words_in_order w are.packs xs in
-    (
+    let whole = touches_in_pieces w most some xs ∙ words_in_order w are.packs xs in (
       touches_can s w are ts (λ k d less. place_within limits s trees sound.kept.fits (get_or ts k d).0 (within k d less)) most some,
       answers_in_pieces w most some xs ∙ answers_one_by_one w are.packs xs ∙ all_answered limits trees ts within s sound w are,
       λ new with.
-      let left = all_accessed limits trees ts within s sound w are new (subst (λ v. IsWith s v new) whole with) in
-      let same = same_limits s new trees with.layout in
-      record { left = ap (λ l. holdings_of l new trees) same ∙ left.left; limits_stay = same; sound = subst (λ l. IsSound l new trees) (sym same) left.sound },
+          let left = all_accessed limits trees ts within s sound w are new (subst (λ v. IsWith s v new) whole with) in
+          let same = same_limits s new trees with.layout in
+          record { left = ap (λ l. holdings_of l new trees) same ∙ left.left; limits_stay = same; sound = subst (λ l. IsSound l new trees) (sym same) left.sound },
     )
 
 -- ---- strips
@@ -71,20 +70,19 @@ pub planned_strips_are_strips : PlannedStripsAreStrips
 planned_strips_are_strips s trees sound set plans planned revoked flush w are = (
   plan_can_be_worked s trees sound set plans planned revoked flush w are,
   λ each new with.
-  let ss = strips_of_runs s revoked flush plans in
-  let left = set_left s trees sound set plans planned revoked flush w are each new with in
-  (
-    record {
-      left = left;
-      status = ap union_of (statuses w ss) ∙ set_status s trees sound set plans planned revoked flush w are each new with;
-      pruned_left = λ after count links. record {
-        left = same_left s trees sound set plans planned revoked flush w are each new with after count links ∙ left;
-        limits_stay = limits_left s trees sound set plans planned revoked flush w are each new with after count links ∙ same_limits s new trees with.layout;
-        sound = sound_left s trees sound set plans planned revoked flush w are each new with after count links;
-      };
-    },
-    kept_lists w ss ∙ strips_keep s w are ss (each_strip ss each) (runs_have s revoked flush plans) (nodes_have_words s trees sound set plans planned revoked flush w are) (indexes_once s trees sound set plans planned revoked flush w are) new with,
-  ),
+      let ss = strips_of_runs s revoked flush plans in
+      let left = set_left s trees sound set plans planned revoked flush w are each new with in (
+        record {
+          left = left;
+          status = ap union_of (statuses w ss) ∙ set_status s trees sound set plans planned revoked flush w are each new with;
+          pruned_left = λ after count links. record {
+            left = same_left s trees sound set plans planned revoked flush w are each new with after count links ∙ left;
+            limits_stay = limits_left s trees sound set plans planned revoked flush w are each new with after count links ∙ same_limits s new trees with.layout;
+            sound = sound_left s trees sound set plans planned revoked flush w are each new with after count links;
+          };
+        },
+        kept_lists w ss ∙ strips_keep s w are ss (each_strip ss each) (runs_have s revoked flush plans) (nodes_have_words s trees sound set plans planned revoked flush w are) (indexes_once s trees sound set plans planned revoked flush w are) new with,
+      ),
 )
 
 -- ---- links and moves
@@ -94,8 +92,8 @@ stores_are_mapped s trees sound rights ts planned ready w are most some =
     let ends = both_ends s trees sound ts planned.within in (
       links_can s w are rights planned.from planned.to ts planned.paired ends most some,
       λ ahead linked new with.
-      let all = all_linked s trees sound rights ts planned ready ahead w are linked (link_can s w are rights planned.from planned.to ts planned.paired ends) new (subst (λ v. IsWith s v new) (links_in_pieces w most some (stores_of s rights ts)) with) in
-      record { left = all.left; limits_stay = all.same_limits; sound = all.is_sound },
+          let all = all_linked s trees sound rights ts planned ready ahead w are linked (link_can s w are rights planned.from planned.to ts planned.paired ends) new (subst (λ v. IsWith s v new) (links_in_pieces w most some (stores_of s rights ts)) with) in
+          record { left = all.left; limits_stay = all.same_limits; sound = all.is_sound },
     )
 
 pub pairs_are_moved : PairsAreMoved
@@ -103,6 +101,6 @@ pairs_are_moved s trees sound ts planned all_go free w are most some =
     let ends = both_ends s trees sound ts planned.within in (
       moves_can s w are planned.from planned.to planned.differ ts planned.paired ends most some,
       λ after renamed new with.
-      let all = pairs_moved s trees sound ts planned all_go free w are (move_can s w are planned.from planned.to planned.differ ts planned.paired ends) new (subst (λ v. IsWith s v new) (moves_in_pieces w most some (word_pairs s ts)) with) after renamed in
-      record { left = all.left; limits_stay = all.limits_stay; sound = all.is_sound },
+          let all = pairs_moved s trees sound ts planned all_go free w are (move_can s w are planned.from planned.to planned.differ ts planned.paired ends) new (subst (λ v. IsWith s v new) (moves_in_pieces w most some (word_pairs s ts)) with) after renamed in
+          record { left = all.left; limits_stay = all.limits_stay; sound = all.is_sound },
     )

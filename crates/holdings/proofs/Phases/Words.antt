@@ -32,13 +32,22 @@ with_words s present w count packs = by s.words refl
     by (Some v) is =
         let same : length w ≡ length v.items = count ∙ sym (s.packed v is).count in
         let u = with_items v w same in
-        let n : Shards = record { spaces = s.spaces; bits = s.bits; directory = s.directory; words = Some u; limits = s.limits; found = s.found;
-          packed = λ x x_is. subst (λ (y : Vec ℕ Global). AreWords s.directory.items y.items) (same_Some u x x_is) (record { count = count; packs = packs }) } in
-        (n, record {
-          words = record { count = count; packs = packs; entries = λ p place. refl };
-          present = refl;
-          layout = record { spaces = refl; bits = refl; count = refl; index = λ p. refl };
-        })
+        let n : Shards = record {
+          spaces = s.spaces;
+          bits = s.bits;
+          directory = s.directory;
+          words = Some u;
+          limits = s.limits;
+          found = s.found;
+          packed = λ x x_is. subst (λ (y : Vec ℕ Global). AreWords s.directory.items y.items) (same_Some u x x_is) (record { count = count; packs = packs });
+        } in (
+          n,
+          record {
+            words = record { count = count; packs = packs; entries = λ p place. refl };
+            present = refl;
+            layout = record { spaces = refl; bits = refl; count = refl; index = λ p. refl };
+          },
+        )
 
 -- ---- the same entries
 

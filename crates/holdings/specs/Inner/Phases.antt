@@ -59,7 +59,7 @@ PlannedStripsAreStrips =
     → let ss = strips_of_runs s revoked flush plans in let ps = map piece.Strip ss in
     CanBeWorked w ps
     × (All IsPiece ps → (new : Shards) → IsWith s (worked w ps) new
-      → IsSetStripped s trees set revoked flush w ps new × (map (λ p. (value w p).kept) ps ≡ map (λ k. filter (λ n. has_entry new n.place) k.nodes) ss))
+    → IsSetStripped s trees set revoked flush w ps new × (map (λ p. (value w p).kept) ps ≡ map (λ k. filter (λ n. has_entry new n.place) k.nodes) ss))
 
 -- the stores of a MapItem, in pieces, are its pages mapped, where the trees have the new mappings
 abbrev pub StoresAreMapped : Type 0
@@ -68,7 +68,7 @@ StoresAreMapped =
     → let ps = map piece.Link (pieces (length (stores_of s rights ts)) most (stores_of s rights ts)) in
     CanBeWorked w ps
     × ((ahead : List Shape) → AreLinked (links_of s ts) trees ahead → (new : Shards) → IsWith s (worked w ps) new
-      → IsPhaseLeft (limits_in s trees) (map_transfers (holdings_in s trees) (record { kind = Map; rights = rights; pairs = [] }) ts (holdings_in s trees)) new ahead)
+    → IsPhaseLeft (limits_in s trees) (map_transfers (holdings_in s trees) (record { kind = Map; rights = rights; pairs = [] }) ts (holdings_in s trees)) new ahead)
 
 -- the pairs of a GrantItem, in pieces, are its pages moved, where the trees have the new places
 abbrev pub PairsAreMoved : Type 0
@@ -77,4 +77,4 @@ PairsAreMoved =
     → let ps = map piece.Move (pieces (length (word_pairs s ts)) most (word_pairs s ts)) in
     CanBeWorked w ps
     × ((after : List Shape) → AreRenamed (λ p. last_target (links_of s ts) p None) (links_of s ts) trees after → (new : Shards) → IsWith s (worked w ps) new
-      → IsPhaseLeft (limits_in s trees) (renamed (moving_of (holdings_in s trees) ts) (holdings_in s trees)) new after)
+    → IsPhaseLeft (limits_in s trees) (renamed (moving_of (holdings_in s trees) ts) (holdings_in s trees)) new after)
