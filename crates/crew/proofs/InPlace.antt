@@ -53,13 +53,13 @@ around xs k d within = sym (take-append-drop k xs) ∙ ap (λ ys. take k xs ++ y
 
 -- ---- narrows
 
-narrows_append : (w is : List ℕ) (ms : List Rights) (js : List ℕ) (ns : List Rights) → length is ≡ length ms → narrows w (is ++ js) (ms ++ ns) ≡ narrows w is ms ++ narrows w js ns
+pub narrows_append : (w is : List ℕ) (ms : List Rights) (js : List ℕ) (ns : List Rights) → length is ≡ length ms → narrows w (is ++ js) (ms ++ ns) ≡ narrows w is ms ++ narrows w js ns
 narrows_append w [] [] js ns same = refl
 narrows_append w [] (m ∷ ms) js ns same = absurd (omega (arith, same))
 narrows_append w (i ∷ is) [] js ns same = absurd (omega (arith, same))
 narrows_append w (i ∷ is) (m ∷ ms) js ns same = ap (λ es. effect w (narrow i m) ∷ es) (narrows_append w is ms js ns (omega (arith, same)))
 
-taken_length : {A : Type 0} (xs : List A) (k : ℕ) → k ≤ length xs → length (take k xs) ≡ k
+pub taken_length : {A : Type 0} (xs : List A) (k : ℕ) → k ≤ length xs → length (take k xs) ≡ k
 taken_length xs k within = let l = length-take k xs in omega (arith, l, within)
 
 module _ (o : Option (Bor (List ℕ))) (old now is : List ℕ) (ms : List Rights) (k : ℕ) (m : Rights) (once : are_distinct is ≡ true) (each : length ms ≡ length is) (within : k < length is)
@@ -102,7 +102,7 @@ status_next w is k within =
 -- ---- links
 
 -- one store more
-links_more : (w : List ℕ) (xs : List Store) (k : ℕ) (d : Store) → k < length xs → effects w (piece.Link (take (k + 1) xs)) ≡ effects w (piece.Link (take k xs)) ++ effect w (store_step w (get_or xs k d)) ∷ []
+pub links_more : (w : List ℕ) (xs : List Store) (k : ℕ) (d : Store) → k < length xs → effects w (piece.Link (take (k + 1) xs)) ≡ effects w (piece.Link (take k xs)) ++ effect w (store_step w (get_or xs k d)) ∷ []
 links_more w xs k d within =
     ap (λ ys. map (effect w) (map (store_step w) ys)) (take_more xs k d within) ∙ ap (map (effect w)) (map-append (store_step w) (take k xs) (get_or xs k d ∷ []))
     ∙ map-append (effect w) (map (store_step w) (take k xs)) (store_step w (get_or xs k d) ∷ [])
@@ -153,7 +153,7 @@ put_next_of o old now xs k s is once given within so_far x target source is_word
 
 -- ---- moves
 
-moves_more : (w : List ℕ) (xs : List Pair) (k : ℕ) (d : Pair) → k < length xs → effects w (piece.Move (take (k + 1) xs)) ≡ effects w (piece.Move (take k xs)) ++ map (effect w) (pair_steps w (get_or xs k d))
+pub moves_more : (w : List ℕ) (xs : List Pair) (k : ℕ) (d : Pair) → k < length xs → effects w (piece.Move (take (k + 1) xs)) ≡ effects w (piece.Move (take k xs)) ++ map (effect w) (pair_steps w (get_or xs k d))
 moves_more w xs k d within =
     ap (λ ys. map (effect w) (flat_map (pair_steps w) ys)) (take_more xs k d within) ∙ ap (map (effect w)) (flat_map-append (pair_steps w) (take k xs) (get_or xs k d ∷ []))
     ∙ map-append (effect w) (flat_map (pair_steps w) (take k xs)) (pair_steps w (get_or xs k d))

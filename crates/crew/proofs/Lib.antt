@@ -2,3 +2,6 @@ pub mod InPlace
 pub mod Keeping
 pub mod Results
 pub mod Working
+pub mod EditLists
+pub mod EditsOfPieces
+pub mod Finishing

@@ -1,3 +1,5 @@
 pub mod Worked
 pub mod Opening
 pub mod Kept
+pub mod Edits
+pub mod Parts

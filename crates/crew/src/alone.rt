@@ -1,6 +1,6 @@
 //! The calling thread works the pieces of a phase.
 
-ghost use Rattle.std.specs.Prelude.{◌≡◌, ◌<◌, ◌≤◌, true, false, length, map, IfOk, is_some, []};
+ghost use Rattle.std.specs.Prelude.{◌≡◌, ◌<◌, ◌≤◌, true, false, length, map, IfOk, is_some};
 ghost use Rattle.std.specs.List.{All, AllPass};
 ghost use Rattle.space.specs.Word.{is_pack};
 ghost use Rattle.pieces.specs.Dones.{found_as};
@@ -8,17 +8,16 @@ ghost use Rattle.pieces.specs.Effects.{words_after};
 ghost use Rattle.pieces.specs.Phases.{CanBeWorked, IsPiece, is_link, length_of};
 ghost use Rattle.pieces.specs.Steps.{effects};
 ghost use Rattle.pieces.specs.Contents.{IsStrip};
-ghost use Rattle.pieces.specs.Values.{value, no_value};
+ghost use Rattle.pieces.specs.Values.{value};
 ghost use Rattle.pieces.specs.declared.piece.Piece.TheVariants as piece;
 ghost use Rattle.crew.specs.Opening.{start, NamesWords, IsInPlace};
 ghost use Rattle.crew.specs.Worked.{IsWorked};
 
 use crate::error::CrewError;
-use crate::finding::{answers, keep, status_at};
+use crate::finding::{Found, answers, keep, no_nodes, nothing, status_at};
 use crate::in_place::{fold, mark, narrow, put, transfer};
 use crate::workers::Workers;
 use fpage::Rights;
-use maptree::Slice;
 use pieces::{Done, Piece, Strip, are_pieces};
 use std::alloc::{AllocError, Global};
 use std::snapshot::Snapshot;
@@ -132,14 +131,6 @@ fn work_all(
     Ok((after, dones))
 }
 
-/// What a piece found out.
-#[derive(Drop)]
-struct Found {
-    kept: Slice,
-    status: Rights,
-    answers: Vec<bool>,
-}
-
 /// Works a piece on words, and returns what it finds out of the words at opening. These are given where a store may read what
 /// another piece or store changes; else the words are as at opening where the piece reads them.
 fn work_piece(
@@ -175,26 +166,6 @@ fn work_piece(
                 answers,
             })
         }
-    }
-}
-
-/// No nodes, no status and no answers.
-fn nothing(alloc: Global) -> Found
-    ensures { found_as result.kept result.status result.answers ≡ no_value }
-{
-    Found {
-        kept: no_nodes(alloc),
-        status: Rights::none(),
-        answers: Vec::new(alloc),
-    }
-}
-
-/// No nodes.
-fn no_nodes(alloc: Global) -> Slice
-    ensures { result.nodes.items ≡ [] }
-{
-    Slice {
-        nodes: Vec::new(alloc),
     }
 }
 

@@ -1,16 +1,46 @@
 //! What a piece finds out of the words at opening.
 
-ghost use Rattle.std.specs.Prelude.{◌≡◌, ◌<◌, ◌≤◌, true, map, take, length, IfOk};
+ghost use Rattle.std.specs.Prelude.{◌≡◌, ◌<◌, ◌≤◌, true, map, take, length, IfOk, []};
 ghost use Rattle.std.specs.List.{All, AllPass};
 ghost use Rattle.space.specs.Word.{is_pack};
 ghost use Rattle.pieces.specs.Steps.{status_in, may_access};
+ghost use Rattle.pieces.specs.Dones.{found_as};
+ghost use Rattle.pieces.specs.Values.{no_value};
 ghost use Rattle.crew.specs.Kept.{nodes_kept};
 
 use crate::steps::{permits, remains, status};
 use fpage::Rights;
-use maptree::Node;
+use maptree::{Node, Slice};
 use pieces::Touch;
 use std::alloc::{AllocError, Global};
+
+/// What a piece found out.
+#[derive(Drop)]
+pub struct Found {
+    pub kept: Slice,
+    pub status: Rights,
+    pub answers: Vec<bool>,
+}
+
+/// No nodes, no status and no answers.
+pub fn nothing(alloc: Global) -> Found
+    ensures { found_as result.kept result.status result.answers ≡ no_value }
+{
+    Found {
+        kept: no_nodes(alloc),
+        status: Rights::none(),
+        answers: Vec::new(alloc),
+    }
+}
+
+/// No nodes.
+pub fn no_nodes(alloc: Global) -> Slice
+    ensures { result.nodes.items ≡ [] }
+{
+    Slice {
+        nodes: Vec::new(alloc),
+    }
+}
 
 /// The union of the status of the words at some indexes.
 pub fn status_at(words: &[u64], indexes: &[usize]) -> Rights

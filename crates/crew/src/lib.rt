@@ -2,12 +2,18 @@
 #![tactic(auto)]
 
 mod alone;
+mod beside;
+mod crew;
+mod edits;
 mod error;
 mod finding;
+mod gate;
 mod in_place;
 mod steps;
 mod workers;
 
 pub use alone::Alone;
+pub use crew::Crew;
 pub use error::CrewError;
+pub use gate::{Gate, NoGate};
 pub use workers::Workers;

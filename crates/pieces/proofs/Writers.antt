@@ -117,7 +117,7 @@ pub touches_write : (w : List ℕ) (ts : List WordAccess) → flat_map write_at 
 touches_write w [] = refl
 touches_write w (t ∷ ts) = at_append write_at w (access_steps w t) (flat_map (access_steps w) ts) ∙ ap (λ is. is ++ flat_map write_at (map (effect w) (flat_map (access_steps w) ts))) (one_touch_writes w t) ∙ touches_write w ts
 
-piece_writes : (w : List ℕ) (p : Piece) → IsPiece p → writes_at (effects w p) ≡ changes p
+pub piece_writes : (w : List ℕ) (p : Piece) → IsPiece p → writes_at (effects w p) ≡ changes p
 piece_writes w (piece.Strip s) is =
     at_append write_at w (map (λ e. narrow e.0 e.1) (zip s.indexes s.masks)) (fold_of s.fold (status_in w s.indexes))
     ∙ ap (λ js. js ++ flat_map write_at (map (effect w) (fold_of s.fold (status_in w s.indexes)))) (narrows_write w s.indexes s.masks (is.indexes ∙ sym is.masks)) ∙ ap (λ js. s.indexes ++ js) (fold_writes w s.fold (status_in w s.indexes))
@@ -126,7 +126,7 @@ piece_writes w (piece.Link stores) is = links_write w stores
 piece_writes w (piece.Move pairs) is = moves_write w pairs
 piece_writes w (piece.Touch list) is = touches_write w list
 
-piece_adds : (w : List ℕ) (p : Piece) → is_touch p ≡ false → adds_at (effects w p) ≡ folds p
+pub piece_adds : (w : List ℕ) (p : Piece) → is_touch p ≡ false → adds_at (effects w p) ≡ folds p
 piece_adds w (piece.Strip s) untouched =
     at_append add_at w (map (λ e. narrow e.0 e.1) (zip s.indexes s.masks)) (fold_of s.fold (status_in w s.indexes))
     ∙ ap (λ js. js ++ flat_map add_at (map (effect w) (fold_of s.fold (status_in w s.indexes)))) (narrows_add w s.indexes s.masks) ∙ fold_adds w s.fold (status_in w s.indexes)

@@ -1,0 +1,11 @@
+-- All pairs.
+use Rattle.std.proofs.Common.{◌∙◌, sym, ap, take, length, arith}
+use Rattle.std.proofs.lemmas.List.{take_all}
+use Rattle.pieces.specs.Steps.{effects}
+use Rattle.pieces.specs.declared.piece.Piece.TheVariants as piece
+use Rattle.crew.proofs.EditLists.{moves_change}
+use Rattle.crew.proofs.edits.move_edits.Goals as goal
+
+pub returns : goal.returns
+returns c =
+    c.loop-k.invariant ∙ ap (λ xs. effects c.args.words.now (piece.Move xs)) (take_all c.loop-k.k c.args.pairs.now (omega (arith, c.len-k-end.ensures.len, c.loop-k-test.false))) ∙ sym (moves_change c.args.words.now c.args.pairs.now)

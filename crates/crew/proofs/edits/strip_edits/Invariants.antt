@@ -1,0 +1,11 @@
+-- The narrows so far.
+use Rattle.std.proofs.Common.{◌≡◌, map, take, filter}
+use Rattle.pieces.specs.Effects.{words_after}
+use Rattle.pieces.specs.Steps.{effects}
+use Rattle.pieces.specs.declared.piece.Piece.TheVariants as piece
+use Rattle.crew.specs.Opening.{narrows}
+use Rattle.crew.specs.Edits.{effect_of, is_change}
+use Rattle.crew.proofs.edits.strip_edits.Given as goal
+
+abbrev pub invariant-loop-k : goal.invariant-loop-k
+invariant-loop-k l = map effect_of l.edits.items ≡ narrows l.words (take l.k l.indexes) (take l.k l.masks)
