@@ -8,8 +8,8 @@ mod large;
 mod lists;
 mod many;
 
-use crate::{PlaceMap, Tree};
-use lists::tree_of;
+use crate::{Node, PlaceMap, Tree};
+use lists::{assert_runs, places_of, tree_of};
 use space::{NoMemory, Place};
 use std::alloc::Global;
 use std::process::Abort;
@@ -57,22 +57,21 @@ fn sample(rt: &impl Abort, alloc: Global) -> Result<Tree, NoMemory>
     Ok(tree)
 }
 
+/// A place stands at a position, with so many origins.
+fn stands(rt: &impl Abort, tree: &Tree, i: usize, place: Place, depth: usize) {
+    let at = position(rt, tree, place);
+    assert_eq!(rt; at, i);
+    assert_eq!(rt; tree.node(at), Node { place, depth });
+}
+
 #[test]
 fn stands_in_preorder(rt: HostRuntime) -> Result<(), Fail> {
     let tree = sample(&rt, rt.alloc())?;
-    for (i, (space, page), depth) in [
-        (0, (0, 5), 0),
-        (1, (1, 0), 1),
-        (2, (2, 0), 2),
-        (3, (1, 3), 3),
-        (4, (2, 4), 1),
-    ] {
-        let at = position(&rt, &tree, place(space, page));
-        assert_eq!(rt; at, i);
-        let node = tree.node(at);
-        assert_eq!(rt; node.place, place(space, page));
-        assert_eq!(rt; node.depth, depth);
-    }
+    stands(&rt, &tree, 0, place(0, 5), 0);
+    stands(&rt, &tree, 1, place(1, 0), 1);
+    stands(&rt, &tree, 2, place(2, 0), 2);
+    stands(&rt, &tree, 3, place(1, 3), 3);
+    stands(&rt, &tree, 4, place(2, 4), 1);
     assert_eq!(rt; tree.find(place(2, 5)), None);
     Ok(())
 }
@@ -134,19 +133,28 @@ fn tells_origins_at_any_distance(rt: HostRuntime) -> Result<(), Fail> {
     Ok(())
 }
 
+/// The outermost runs of the places that a text lists are those that another lists.
+fn have_runs(
+    rt: &impl Abort,
+    alloc: Global,
+    tree: &Tree,
+    named: &str,
+    runs: &str,
+) -> Result<(), NoMemory> {
+    let named = places_of(rt, alloc, named)?;
+    assert_runs(rt, &tree.outer_runs(alloc, &named)?, runs);
+    Ok(())
+}
+
 #[test]
 fn has_outer_runs(rt: HostRuntime) -> Result<(), Fail> {
-    let tree = sample(&rt, rt.alloc())?;
-    let nested = tree.outer_runs(rt.alloc(), &[place(1, 3), place(1, 0)])?;
-    assert_eq!(rt; nested.as_slice(), [1..4].as_slice());
-    let apart = tree.outer_runs(rt.alloc(), &[place(2, 4), place(2, 0)])?;
-    assert_eq!(rt; apart.as_slice(), [2..4, 4..5].as_slice());
-    let root = tree.outer_runs(rt.alloc(), &[place(2, 0), place(0, 5), place(2, 0)])?;
-    assert_eq!(rt; root.as_slice(), [0..5].as_slice());
-    let unknown = tree.outer_runs(rt.alloc(), &[place(2, 5), place(1, 3)])?;
-    assert_eq!(rt; unknown.as_slice(), [3..4].as_slice());
-    let none = tree.outer_runs(rt.alloc(), &[])?;
-    assert_eq!(rt; none.len(), 0);
+    let alloc = rt.alloc();
+    let tree = sample(&rt, alloc)?;
+    have_runs(&rt, alloc, &tree, "1:3 1:0", "1..4")?;
+    have_runs(&rt, alloc, &tree, "2:4 2:0", "2..4 4..5")?;
+    have_runs(&rt, alloc, &tree, "2:0 0:5 2:0", "0..5")?;
+    have_runs(&rt, alloc, &tree, "2:5 1:3", "3..4")?;
+    have_runs(&rt, alloc, &tree, "", "")?;
     Ok(())
 }
 

@@ -7,7 +7,7 @@ ghost use Rattle.space.specs.Place.{same_place};
 ghost use Rattle.maptree.specs.Origins.{origin_in, AreRising, IsRun};
 ghost use Rattle.maptree.specs.Cuts.{kept_of, nodes_of};
 
-use super::cases::{CASES, Case, SAMPLE};
+use super::cases::{BETWEEN, CASES, Case, SAMPLE, case_of};
 use super::lists::{assert_parts, assert_runs, assert_tree, places_of, tree_of};
 use super::{place, sample};
 use crate::{Node, Slice, Tree};
@@ -175,24 +175,6 @@ pub fn put_back(
     Ok(count)
 }
 
-#[test]
-fn puts_back_one_node_of_a_run_of_three(rt: HostRuntime) -> Result<(), Fail> {
-    let mut tree = sample(&rt, rt.alloc())?;
-    reserves(&rt, &mut tree, &SAMPLE)?;
-    works(&rt, rt.alloc(), &mut tree, 5, &SAMPLE)?;
-    Ok(())
-}
-
-#[test]
-fn cuts_runs_and_puts_back_what_is_kept(rt: HostRuntime) -> Result<(), Fail> {
-    for case in CASES {
-        let (mut tree, len) = tree_of(&rt, rt.alloc(), case.tree)?;
-        reserves(&rt, &mut tree, &case)?;
-        works(&rt, rt.alloc(), &mut tree, len, &case)?;
-    }
-    Ok(())
-}
-
 /// The parts of the runs of a case are those of a cut, and the tree has its nodes as before.
 fn copies(rt: &impl Abort, alloc: Global, tree: &Tree, case: &Case) -> Result<(), NoMemory> {
     let named = places_of(rt, alloc, case.named)?;
@@ -204,11 +186,49 @@ fn copies(rt: &impl Abort, alloc: Global, tree: &Tree, case: &Case) -> Result<()
     Ok(())
 }
 
+/// Makes the tree of a case, copies its parts, and works the case.
+fn works_on_a_tree(rt: &impl Abort, alloc: Global, case: &Case) -> Result<(), NoMemory> {
+    let (mut tree, len) = tree_of(rt, alloc, case.tree)?;
+    copies(rt, alloc, &tree, case)?;
+    reserves(rt, &mut tree, case)?;
+    works(rt, alloc, &mut tree, len, case)
+}
+
+/// Cuts the run of a place out: so many parts of one node come, and the tree has these nodes then. The runs of 1:0 and 2:4,
+/// cut out and put back, have so many nodes.
+fn cuts_and_leaves(
+    rt: &impl Abort,
+    alloc: Global,
+    tree: &mut Tree,
+    named: Place,
+    parts: usize,
+    left: &str,
+    all: &str,
+    nodes_then: usize,
+) -> Result<(), NoMemory> {
+    let runs = tree.outer_runs(alloc, &[named])?;
+    assert_eq!(rt; tree.cut(alloc, &runs, 1)?.len(), parts, "{left}");
+    assert_tree(rt, tree, left, all);
+    let rest = tree.outer_runs(alloc, &[place(1, 0), place(2, 4)])?;
+    assert_eq!(rt; put_back(alloc, tree, &rest, 2)?, nodes_then, "{left}");
+    assert_tree(rt, tree, left, all);
+    Ok(())
+}
+
 #[test]
-fn gives_the_parts_of_a_cut_and_stays_as_it_is(rt: HostRuntime) -> Result<(), Fail> {
-    for case in CASES {
-        let (tree, _) = tree_of(&rt, rt.alloc(), case.tree)?;
-        copies(&rt, rt.alloc(), &tree, &case)?;
+fn puts_back_one_node_of_a_run_of_three(rt: HostRuntime) -> Result<(), Fail> {
+    let mut tree = sample(&rt, rt.alloc())?;
+    let case = case_of(&rt, SAMPLE);
+    reserves(&rt, &mut tree, &case)?;
+    works(&rt, rt.alloc(), &mut tree, 5, &case)?;
+    Ok(())
+}
+
+#[test]
+fn cuts_runs_and_puts_back_what_is_kept(rt: HostRuntime) -> Result<(), Fail> {
+    works_on_a_tree(&rt, rt.alloc(), &case_of(&rt, SAMPLE))?;
+    for text in CASES.split(BETWEEN) {
+        works_on_a_tree(&rt, rt.alloc(), &case_of(&rt, text))?;
     }
     Ok(())
 }
@@ -217,19 +237,12 @@ fn gives_the_parts_of_a_cut_and_stays_as_it_is(rt: HostRuntime) -> Result<(), Fa
 fn stays_as_the_last_cut_left_it_where_nothing_is_put_back(rt: HostRuntime) -> Result<(), Fail> {
     let alloc = rt.alloc();
     let mut tree = sample(&rt, alloc)?;
-    for (named, parts, left, nodes_then) in [
-        (place(2, 0), 2, "0:5/0 1:0/1 2:4/1", 2),
-        (place(2, 4), 1, "0:5/0 1:0/1", 1),
-        (place(2, 4), 0, "0:5/0 1:0/1", 1),
-        (place(0, 5), 2, "", 0),
-        (place(0, 5), 0, "", 0),
-    ] {
-        let runs = tree.outer_runs(alloc, &[named])?;
-        assert_eq!(rt; tree.cut(alloc, &runs, 1)?.len(), parts, "{left}");
-        assert_tree(&rt, &tree, left, SAMPLE.tree);
-        let rest = tree.outer_runs(alloc, &[place(1, 0), place(2, 4)])?;
-        assert_eq!(rt; put_back(alloc, &mut tree, &rest, 2)?, nodes_then, "{left}");
-        assert_tree(&rt, &tree, left, SAMPLE.tree);
-    }
+    let all = case_of(&rt, SAMPLE).tree;
+    let (inner, leaf, root) = (place(2, 0), place(2, 4), place(0, 5));
+    cuts_and_leaves(&rt, alloc, &mut tree, inner, 2, "0:5/0 1:0/1 2:4/1", all, 2)?;
+    cuts_and_leaves(&rt, alloc, &mut tree, leaf, 1, "0:5/0 1:0/1", all, 1)?;
+    cuts_and_leaves(&rt, alloc, &mut tree, leaf, 0, "0:5/0 1:0/1", all, 1)?;
+    cuts_and_leaves(&rt, alloc, &mut tree, root, 2, "", all, 0)?;
+    cuts_and_leaves(&rt, alloc, &mut tree, root, 0, "", all, 0)?;
     Ok(())
 }

@@ -353,42 +353,69 @@ fn times_links(rt: &impl Runtime, alloc: Global, tree: &Tree) -> Result<Told, Fa
     Ok(Told::since(rt, start, 1, sum)?)
 }
 
-/// Makes each call on a tree of this form.
+/// Asks what changes no tree.
+fn asks(
+    rt: &impl Runtime,
+    alloc: Global,
+    made: &Numbered,
+    nodes: u32,
+    named: &[Place],
+    told: &mut Vec<Told>,
+) -> Result<(), Fail> {
+    told.push(times_find(rt, made, nodes)?)?;
+    told.push(times_run_of(rt, made)?)?;
+    told.push(times_origin_of(rt, made)?)?;
+    told.push(times_is_origin(rt, made)?)?;
+    told.push(times_outer_runs(rt, alloc, made, named)?)?;
+    Ok(())
+}
+
+/// Gives nodes other places, and puts new ones below them; the number of the first new place.
+fn changes(
+    rt: &(impl Runtime + Abort),
+    made: &mut Numbered,
+    nodes: u32,
+    told: &mut Vec<Told>,
+) -> Result<u32, Fail> {
+    let renamed = made.next;
+    told.push(times_rename(rt, made, nodes)?)?;
+    let inserted = made.next;
+    told.push(times_insert_below(rt, made, renamed)?)?;
+    Ok(inserted)
+}
+
+/// Cuts out single nodes, and lists all places.
+fn cuts(
+    rt: &impl Runtime,
+    alloc: Global,
+    tree: &mut Tree,
+    first: u32,
+    told: &mut Vec<Told>,
+) -> Result<(), Fail> {
+    told.push(times_cut_and_splice_one(rt, alloc, tree, first)?)?;
+    told.push(times_cut_one(rt, alloc, tree, first)?)?;
+    told.push(times_links(rt, alloc, tree)?)?;
+    Ok(())
+}
+
+/// Makes each call on a tree of this form: what each of `MADE` took and answered.
 fn works(
     rt: &(impl Runtime + Abort),
     alloc: Global,
     form: Form,
     nodes: u32,
-) -> Result<[Told; 12], Fail> {
+) -> Result<Vec<Told>, Fail> {
+    let mut told = Vec::new(alloc);
     let start = Instant::now(rt)?;
     let mut made = large_tree(rt, alloc, form, nodes)?;
-    let make = Told::since(rt, start, nodes, made.tree.run_of(0).end)?;
+    told.push(Told::since(rt, start, nodes, made.tree.run_of(0).end)?)?;
     let named = every_tenth(alloc, nodes)?;
-    let find = times_find(rt, &made, nodes)?;
-    let run_of = times_run_of(rt, &made)?;
-    let origin_of = times_origin_of(rt, &made)?;
-    let is_origin = times_is_origin(rt, &made)?;
-    let outer_runs = times_outer_runs(rt, alloc, &made, &named)?;
-    let cut_and_splice = times_cut_and_splice(rt, alloc, &mut made.tree, &named)?;
-    let renamed = made.next;
-    let rename = times_rename(rt, &mut made, nodes)?;
-    let inserted = made.next;
-    let insert_below = times_insert_below(rt, &mut made, renamed)?;
+    asks(rt, alloc, &made, nodes, &named, &mut told)?;
+    told.push(times_cut_and_splice(rt, alloc, &mut made.tree, &named)?)?;
+    let first = changes(rt, &mut made, nodes, &mut told)?;
     let Numbered { mut tree, .. } = made;
-    Ok([
-        make,
-        find,
-        run_of,
-        origin_of,
-        is_origin,
-        outer_runs,
-        cut_and_splice,
-        rename,
-        insert_below,
-        times_cut_and_splice_one(rt, alloc, &mut tree, inserted)?,
-        times_cut_one(rt, alloc, &mut tree, inserted)?,
-        times_links(rt, alloc, &tree)?,
-    ])
+    cuts(rt, alloc, &mut tree, first, &mut told)?;
+    Ok(told)
 }
 
 /// Makes each call on trees of every form, and writes what it took and answered.
@@ -402,37 +429,49 @@ fn tells(rt: &(impl Runtime + Abort), alloc: Global, nodes: u32) -> Result<(), F
     Ok(())
 }
 
-/// Sums on trees of a thousand nodes: 1,000 calls are about each position or place once, and those on runs 20 times about
-/// the same 99 places.
-fn has_sums(rt: &(impl Runtime + Abort), alloc: Global) -> Result<(), Fail> {
-    for (form, sums) in [
-        // Each run ends behind the last node, and the 99 places have one outermost run, of 990 nodes.
-        (Form::Chain, [500_500, 498_501, 20, 19_800]),
-        // Each run but the root's is one node, and each of the 99 places has a run of its own.
-        (Form::Fan, [1_999, 0, 1_980, 1_980]),
-    ] {
-        let [
-            make,
-            find,
-            run_of,
-            origin_of,
-            _,
-            outer_runs,
-            cut,
-            rename,
-            insert,
-            cut_and_put_back,
-            cut_out,
-            _,
-        ] = works(rt, alloc, form, 1_000)?;
-        let got = [run_of.sum, origin_of.sum, outer_runs.sum, cut.sum];
-        assert_eq!(rt; got, sums, "{}", form.name());
-        // 0 + 1 + .. + 999
-        assert_eq!(rt; find.sum, 499_500, "{}", form.name());
-        for told in [make, rename, insert, cut_and_put_back, cut_out] {
-            assert_eq!(rt; told.sum, 1_000, "{}", form.name());
-        }
+/// The sum of the answers of the nth of `MADE`.
+fn sum_of(rt: &impl Abort, told: &[Told], n: usize) -> usize {
+    match told.get(n) {
+        Some(told) => told.sum,
+        None => panic!(rt; "there are {} calls", told.len()),
     }
+}
+
+/// Sums on a tree of a thousand nodes: those of `run_of`, `origin_of`, `outer_runs` and `cut+splice`, as they are given, and
+/// those of the calls that are about each node or place once.
+fn has_sums(
+    rt: &(impl Runtime + Abort),
+    alloc: Global,
+    form: Form,
+    [run_of, origin_of, outer_runs, cut]: [usize; 4],
+) -> Result<(), Fail> {
+    let told = works(rt, alloc, form, 1_000)?;
+    for (n, sum) in [
+        (0, 1_000),
+        // 0 + 1 + .. + 999
+        (1, 499_500),
+        (2, run_of),
+        (3, origin_of),
+        (5, outer_runs),
+        (6, cut),
+        (7, 1_000),
+        (8, 1_000),
+        (9, 1_000),
+        (10, 1_000),
+    ] {
+        assert_eq!(rt; sum_of(rt, &told, n), sum, "{n} {}", form.name());
+    }
+    assert_eq!(rt; told.len(), MADE.len());
+    Ok(())
+}
+
+/// The sums on a chain and on a fan: 1,000 calls are about each position or place once, and those on runs 20 times about the
+/// same 99 places.
+fn have_sums(rt: &(impl Runtime + Abort), alloc: Global) -> Result<(), Fail> {
+    // Each run ends behind the last node, and the 99 places have one outermost run, of 990 nodes.
+    has_sums(rt, alloc, Form::Chain, [500_500, 498_501, 20, 19_800])?;
+    // Each run but the root's is one node, and each of the 99 places has a run of its own.
+    has_sums(rt, alloc, Form::Fan, [1_999, 0, 1_980, 1_980])?;
     Ok(())
 }
 
@@ -442,6 +481,6 @@ fn makes_each_call_on_a_thousand_nodes_or_as_many_as_are_asked_for(
 ) -> Result<(), Fail> {
     match env::args(&rt)?.nth(2) {
         Some(nodes) => tells(&rt, rt.alloc(), nodes.parse()?),
-        None => has_sums(&rt, rt.alloc()),
+        None => have_sums(&rt, rt.alloc()),
     }
 }

@@ -106,19 +106,31 @@ fn asks(rt: &impl Abort, tree: &Tree, list: &[Node], i: usize, j: usize)
     assert_eq!(rt; tree.is_origin(a, b), i < j && j < end);
 }
 
+/// The place of a node's origin.
+fn origin_at(list: &[Node], i: usize) -> Option<Place>
+    requires { i < length list.now }
+{
+    match origin_of(list, i) {
+        Some(above) => Some(list[above].place),
+        None => None,
+    }
+}
+
 /// The tree has the nodes of the list, with their origins and the ends of their runs, and no others.
 fn assert_all(rt: &impl Abort, alloc: Global, tree: &Tree, list: &[Node]) -> Result<(), Fail> {
     let links = tree.links(alloc)?;
     let ends = tree.ends(alloc)?;
     assert_eq!(rt; (links.len(), ends.len()), (list.len(), list.len()));
     for i in 0..list.len() {
-        let origin = match origin_of(list, i) {
-            Some(above) => Some(list[above].place),
-            None => None,
-        };
-        assert_eq!(rt; tree.node(i), list[i], "{i}");
-        assert_eq!(rt; links[i], (list[i].place, origin), "{i}");
-        assert_eq!(rt; ends[i], end_of(list, i), "{i}");
+        assert_eq!(rt;
+            (tree.node(i), links[i], ends[i]),
+            (
+                list[i],
+                (list[i].place, origin_at(list, i)),
+                end_of(list, i)
+            ),
+            "{i}"
+        );
     }
     Ok(())
 }
@@ -233,6 +245,33 @@ fn left_out(
     Ok(out)
 }
 
+/// The places of a few nodes, or of many.
+fn some_places(alloc: Global, list: &[Node], chance: &mut Chance) -> Result<Vec<Place>, Fail> {
+    let mut named = Vec::new(alloc);
+    let few_or_many = [2, 5, 200][chance.below(3)];
+    for _ in 0..1 + chance.below(few_or_many) {
+        if let Some(node) = list.get(chance.below(list.len())) {
+            named.push(node.place)?;
+        }
+    }
+    Ok(named)
+}
+
+/// The places of the nodes within some ranges.
+fn places_within(
+    alloc: Global,
+    list: &[Node],
+    ranges: &[Range<usize>],
+) -> Result<Vec<Place>, Fail> {
+    let mut places = Vec::new(alloc);
+    for i in 0..list.len() {
+        if ranges.iter().any(|range| range.contains(&i)) {
+            places.push(list[i].place)?;
+        }
+    }
+    Ok(places)
+}
+
 /// Cuts the outermost runs of a few places, or of many, out, and puts back what is not left out.
 fn thins(
     rt: &impl Abort,
@@ -241,23 +280,12 @@ fn thins(
     list: &mut Vec<Node>,
     chance: &mut Chance,
 ) -> Result<(), Fail> {
-    let mut named = Vec::new(alloc);
-    let few_or_many = [2, 5, 200][chance.below(3)];
-    for _ in 0..1 + chance.below(few_or_many) {
-        if let Some(node) = list.get(chance.below(list.len())) {
-            named.push(node.place)?;
-        }
-    }
+    let named = some_places(alloc, list, chance)?;
     let runs = tree.outer_runs(alloc, &named)?;
     let wanted = outer_runs(alloc, list, &named)?;
     assert_eq!(rt; runs.as_slice(), wanted.as_slice());
     let out = left_out(alloc, list, &runs, chance)?;
-    let mut gone = Vec::new(alloc);
-    for i in 0..list.len() {
-        if out.iter().any(|range| range.contains(&i)) {
-            gone.push(list[i].place)?;
-        }
-    }
+    let gone = places_within(alloc, list, &out)?;
     cuts(rt, alloc, tree, list, &runs, 1 + chance.below(300), &gone)?;
     *list = outside(alloc, list, &out)?;
     Ok(())
@@ -287,27 +315,38 @@ fn changes(
     }
 }
 
+/// Makes the nth call that changes the tree, and asks of two nodes.
+fn step(
+    rt: &impl Abort,
+    alloc: Global,
+    tree: &mut Tree,
+    list: &mut Vec<Node>,
+    n: u32,
+    chance: &mut Chance,
+) -> Result<(), Fail> {
+    changes(rt, alloc, tree, list, nth_place(n), chance)?;
+    let (i, j) = (chance.below(list.len()), chance.below(list.len()));
+    assert!(rt; i < list.len() && j < list.len());
+    asks(rt, tree, list, i, j);
+    assert_eq!(rt; tree.find(nth_place(CHANGES)), None);
+    if n % BETWEEN == 0 {
+        assert_all(rt, alloc, tree, list)?;
+    }
+    Ok(())
+}
+
 #[test]
 fn is_like_a_plain_list_over_thousands_of_calls(rt: HostRuntime) -> Result<(), Fail> {
     let alloc = rt.alloc();
     let mut chance = Chance { state: 1 };
-    let root = nth_place(0);
-    let mut tree = Tree::root(alloc, root);
-    let mut list = vec![in alloc;
-        Node {
-            place: root,
-            depth: 0
-        },
-    ]?;
+    let mut tree = Tree::root(alloc, nth_place(0));
+    let mut list = Vec::new(alloc);
+    list.push(Node {
+        place: nth_place(0),
+        depth: 0,
+    })?;
     for n in 1..CHANGES {
-        changes(&rt, alloc, &mut tree, &mut list, nth_place(n), &mut chance)?;
-        let (i, j) = (chance.below(list.len()), chance.below(list.len()));
-        assert!(rt; i < list.len() && j < list.len());
-        asks(&rt, &tree, &list, i, j);
-        assert_eq!(rt; tree.find(nth_place(CHANGES)), None);
-        if n % BETWEEN == 0 {
-            assert_all(&rt, alloc, &tree, &list)?;
-        }
+        step(&rt, alloc, &mut tree, &mut list, n, &mut chance)?;
     }
     assert!(rt; LARGE < list.len(), "{} nodes", list.len());
     Ok(())

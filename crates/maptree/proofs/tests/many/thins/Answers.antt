@@ -6,4 +6,4 @@ use Rattle.maptree.proofs.tests.many.thins.Goals as goal
 
 pub cuts-requires-clause-runs : goal.cuts-requires-clause-runs
 cuts-requires-clause-runs g c =
-    subst (λ rs. All (IsRun c.args.tree.now.links) rs) (sym c.deref-8.ensures.value) c.in_ok-runs.ensures.whole
+    subst (λ rs. All (IsRun c.args.tree.now.links) rs) (sym c.deref-10.ensures.value) c.in_ok-runs.ensures.whole

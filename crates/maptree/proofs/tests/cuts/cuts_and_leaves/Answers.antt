@@ -2,12 +2,12 @@
 use Rattle.std.proofs.Common.{sym, subst}
 use Rattle.std.specs.List.{All}
 use Rattle.maptree.specs.Origins.{IsRun}
-use Rattle.maptree.proofs.tests.cuts.stays_as_the_last_cut_left_it_where_nothing_is_put_back.Goals as goal
+use Rattle.maptree.proofs.tests.cuts.cuts_and_leaves.Goals as goal
 
 pub cut-requires-clause-runs : goal.cut-requires-clause-runs
 cut-requires-clause-runs g c =
-    subst (λ rs. All (IsRun c.loop-named.tree.links) rs) (sym c.deref.ensures.value) c.in_ok-runs.ensures.whole
+    subst (λ rs. All (IsRun c.args.tree.now.links) rs) (sym c.deref.ensures.value) c.in_ok-runs.ensures.whole
 
 pub put_back-requires-clause-runs : goal.put_back-requires-clause-runs
 put_back-requires-clause-runs g c =
-    subst (λ rs. All (IsRun c.cut.new.self.links) rs) (sym c.deref-in-loop-named.ensures.value) c.in_ok-rest.ensures.whole
+    subst (λ rs. All (IsRun c.cut.new.self.links) rs) (sym c.deref-2.ensures.value) c.in_ok-rest.ensures.whole
