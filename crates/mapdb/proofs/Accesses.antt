@@ -5,7 +5,7 @@ use Rattle.fpage.specs.declared.rights.Access.{Access}
 use Rattle.space.specs.declared.place.Place.{Place}
 use Rattle.model.specs.Holdings.{Holdings}
 use Rattle.model.specs.Touch.{can_touch, touch}
-use Rattle.mapdb.specs.State.{touched_all, access_answers}
+use Rattle.holdings.specs.Contents.{touched_all, access_answers}
 
 -- one access more
 pub touched_more : (h : Holdings) (done : List (Place × Access)) (a : Place × Access) → touched_all h (done ++ a ∷ []) ≡ touch (touched_all h done) a.0 a.1

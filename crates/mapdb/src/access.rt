@@ -3,8 +3,7 @@
 ghost use Rattle.std.specs.Prelude.{◌≡◌, IfOk};
 ghost use Rattle.std.specs.List.{All};
 ghost use Rattle.holdings.specs.Places.{IsWithin};
-ghost use Rattle.holdings.specs.Contents.{left_with};
-ghost use Rattle.mapdb.specs.State.{touched_all, access_answers};
+ghost use Rattle.holdings.specs.Contents.{left_with, touched_all, access_answers};
 
 use fpage::Access;
 use holdings::Holdings;

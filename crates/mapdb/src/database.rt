@@ -46,7 +46,8 @@ impl Database {
     ghost use Rattle.holdings.specs.Contents.{entry_of};
     ghost use Rattle.mapdb.specs.Meaning.{counts_of};
     ghost use Rattle.mapdb.specs.State.{new_state, halted, left_with, unless_halted, refusal, IsRefused};
-    ghost use Rattle.mapdb.specs.State.{touched_all, access_answers, unmap_status, unmap_left, plain_status, plain_left};
+    ghost use Rattle.holdings.specs.Contents.{touched_all, access_answers};
+    ghost use Rattle.mapdb.specs.State.{unmap_status, unmap_left, plain_status, plain_left};
     ghost use Rattle.mapdb.specs.declared.error.DbError.TheVariants.{BadLimits, NoSuchSpace, NoMemory, Halted};
 
     /// The database at the start: page `i` of space 0 holds frame `i` with all rights, for each frame.

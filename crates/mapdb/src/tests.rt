@@ -6,6 +6,7 @@ ghost use Rattle.fpage.specs.Fpage.{IsSpaceBits};
 
 mod chains;
 mod frames;
+mod phases;
 mod unmaps;
 
 use crate::{Database, DbError, Limits, SendReply};

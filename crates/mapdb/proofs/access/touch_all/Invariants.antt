@@ -1,7 +1,7 @@
 -- The accesses so far were made.
 use Rattle.std.proofs.Common.{◌≡◌, take}
 use Rattle.holdings.specs.Contents.{left_with}
-use Rattle.mapdb.specs.State.{touched_all, access_answers}
+use Rattle.holdings.specs.Contents.{touched_all, access_answers}
 use Rattle.mapdb.proofs.access.touch_all.Given as goal
 
 abbrev pub invariant-loop-place : goal.invariant-loop-place
