@@ -116,3 +116,24 @@ module _ (bs : List (List Node)) (ls : List ℕ) (k : ℕ) (are : AreLeasts bs l
   -- and one of which none is less deep
   pub block_not_above : (depth : ℕ) → depth ≤ slice_index ls k → last_less depth (nodes_in (take (k + 1) bs)) ≡ last_less depth (nodes_in (take k bs))
   block_not_above depth low = last_block depth bs k (get_or bs k []) within here ∙ ap (λ o. later (length (nodes_in (take k bs))) o (last_less depth (nodes_in (take k bs)))) (none_less depth (slice_index ls k) (get_or bs k []) low (are.each k within))
+
+-- blocks one after another are passed so
+pub deeper_blocks : (bs : List (List Node)) (ls : List ℕ) → AreLeasts bs ls → (depth from n : ℕ) → from + n ≤ length bs → ((k : ℕ) → from ≤ k → k < from + n → depth < slice_index ls k)
+    → length (nodes_in (take from bs)) + run_len depth (nodes_in (drop from bs)) ≡ length (nodes_in (take (from + n) bs)) + run_len depth (nodes_in (drop (from + n) bs))
+deeper_blocks bs ls are depth from zero within deep =
+    let same : from ≡ from + 0 = omega arith in ap (λ k. length (nodes_in (take k bs)) + run_len depth (nodes_in (drop k bs))) same
+deeper_blocks bs ls are depth from (suc n) within deep =
+    let next : from + n + 1 ≡ from + suc n = omega arith in
+    deeper_blocks bs ls are depth from n (omega (arith, within)) (λ k low less. deep k low (omega (arith, less)))
+    ∙ deeper_block bs ls (from + n) are (omega (arith, within)) depth (deep (from + n) (omega arith) (omega arith))
+    ∙ ap (λ k. length (nodes_in (take k bs)) + run_len depth (nodes_in (drop k bs))) next
+
+pub blocks_not_above : (bs : List (List Node)) (ls : List ℕ) → AreLeasts bs ls → (depth from n : ℕ) → from + n ≤ length bs → ((k : ℕ) → from ≤ k → k < from + n → depth ≤ slice_index ls k)
+    → last_less depth (nodes_in (take (from + n) bs)) ≡ last_less depth (nodes_in (take from bs))
+blocks_not_above bs ls are depth from zero within low =
+    let same : from + 0 ≡ from = omega arith in ap (λ k. last_less depth (nodes_in (take k bs))) same
+blocks_not_above bs ls are depth from (suc n) within low =
+    let next : from + suc n ≡ from + n + 1 = omega arith in
+    ap (λ k. last_less depth (nodes_in (take k bs))) next
+    ∙ block_not_above bs ls (from + n) are (omega (arith, within)) depth (low (from + n) (omega arith) (omega arith))
+    ∙ blocks_not_above bs ls are depth from n (omega (arith, within)) (λ k under less. low k under (omega (arith, less)))

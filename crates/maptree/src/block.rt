@@ -74,10 +74,10 @@ impl Block {
     }
 
     /// A depth that none of its nodes goes below.
-    pub fn least(&self) -> usize
+    pub fn least(&self) -> u32
         ensures { is_least result self.now ≡ true }
     {
-        self.least
+        self.least.min(u32::MAX as usize) as u32
     }
 
     /// Its number.

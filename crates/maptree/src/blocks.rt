@@ -6,6 +6,7 @@ ghost use Rattle.maptree.specs.PlaceMaps.{place_for};
 ghost use Rattle.maptree.specs.Renamings.{nodes_renamed};
 
 use crate::block::{BLOCK_SIZE, Block};
+use crate::eights::{pass_above, pass_back};
 use crate::hints::Hints;
 use crate::node::Node;
 use crate::place_map::PlaceMap;
@@ -35,7 +36,7 @@ pub struct Blocks {
     /// For each block, how many nodes stand before it.
     starts: Vec<usize>,
     /// For each block, a depth that none of its nodes goes below.
-    leasts: Vec<usize>,
+    leasts: Vec<u32>,
     /// Blocks for nodes to come: at least as many as insertions were promised, each of which may split a block.
     spare: Vec<Block>,
     /// How many insertions will take no memory.
@@ -178,8 +179,9 @@ impl Blocks {
         requires { block ≤ length self.now.blocks }
         ensures { result ≡ length (nodes_in (take block self.now.blocks)) + run_len depth (nodes_in (drop block self.now.blocks)) }
     {
-        for k in block..self.blocks.len() {
-            if self.leasts[k] <= depth {
+        let first = pass_above(&self.leasts, block, depth);
+        for k in first..self.blocks.len() {
+            if self.leasts[k] as usize <= depth {
                 let block = &self.blocks[k];
                 let deeper = block.deeper(0, depth);
                 if deeper < block.len() {
@@ -208,8 +210,9 @@ impl Blocks {
         requires { block ≤ length self.now.blocks }
         ensures { result ≡ last_less depth (nodes_in (take block self.now.blocks)) }
     {
-        for k in (0..block).rev() {
-            if self.leasts[k] < depth {
+        let end = pass_back(&self.leasts, block, depth);
+        for k in (0..end).rev() {
+            if (self.leasts[k] as usize) < depth {
                 let block = &self.blocks[k];
                 if let Some(r) = block.last_above(block.len(), depth) {
                     return Some(self.starts[k] + r);
@@ -505,7 +508,7 @@ fn count(starts: &mut Vec<usize>, blocks: &[Block])
 }
 
 /// For each of some blocks a depth that none of its nodes goes below. This takes no memory.
-fn list_leasts(leasts: &mut Vec<usize>, blocks: &[Block])
+fn list_leasts(leasts: &mut Vec<u32>, blocks: &[Block])
     requires room { length blocks.now ≤ vec_capacity leasts.old }
     ensures leasts { AreLeasts blocks.now leasts.new.items }
     ensures capacity { vec_capacity leasts.old ≤ vec_capacity leasts.new }

@@ -4,6 +4,7 @@
 mod block;
 mod blocks;
 mod cutting;
+mod eights;
 mod ends;
 mod growing;
 mod hints;

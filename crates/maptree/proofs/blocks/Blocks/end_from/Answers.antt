@@ -1,12 +1,29 @@
 -- A block is passed, or the run ends in it.
-use Rattle.std.proofs.Common.{◌≡◌, ◌≤◌, ◌<◌, length, subst, ap, rules, arith, ◌∙◌}
+use Rattle.std.proofs.Common.{◌≡◌, ℕ, ◌≤◌, ◌<◌, ◌+◌, ◌-◌, length, take, drop, subst, ap, rules, arith, ◌∙◌}
 use Rattle.maptree.specs.Blocks.{nodes_in, AreLeasts}
+use Rattle.std.specs.List.{slice_index}
+use Rattle.maptree.specs.Nodes.{run_len}
 use Rattle.maptree.proofs.Positions.{run_len-le}
 use Rattle.maptree.proofs.InBlocks.{counts, run_block_on, run_block_ends, read_of}
 use Rattle.maptree.proofs.Starts.{start_read}
-use Rattle.maptree.proofs.Leasts.{deeper_block, least_read}
+use Rattle.maptree.proofs.Leasts.{deeper_block, deeper_blocks, least_read}
 use Rattle.maptree.proofs.blocks.Blocks.end_from.Goals as goal
 use Rattle.maptree.proofs.blocks.Blocks.end_from.Goals.{then-index-depth+else-deeper-len, else-index-depth}
+
+pub loop-k-init : goal.loop-k-init
+loop-k-init c =
+    let bs = c.args.self.now.blocks in
+    let ls = c.self.inside.leasts.items in
+    let same : c.self.inside.blocks.items ≡ bs = ap (λ v. v.blocks) c.self.view_is in
+    let leasts = subst (λ l. AreLeasts l ls) same c.self.invariant.7 in
+    let to = c.pass_above-first.result in
+    let from = c.pass_above-first.ensures.from in
+    let end : c.args.block + (to - c.args.block) ≡ to = omega (arith, from) in
+    let size = ap length c.deref.ensures.value in
+    let within : to ≤ length bs = let count = leasts.count in let upto = c.pass_above-first.ensures.within in omega (arith, count, upto, size) in
+    let above = subst (λ l. (k : ℕ) → c.args.block ≤ k → k < to → c.args.depth < slice_index l k) c.deref.ensures.value c.pass_above-first.ensures.above in
+    deeper_blocks bs ls leasts c.args.depth c.args.block (to - c.args.block) (omega (arith, end, within)) (λ k low less. above k low (omega (arith, less, end)))
+    ∙ ap (λ k. length (nodes_in (take k bs)) + run_len c.args.depth (nodes_in (drop k bs))) end
 
 pub overflow_add-result : goal.overflow_add-result
 overflow_add-result c =

@@ -1,13 +1,28 @@
 -- A block of which no node is less deep is passed, or the last one stands in it.
-use Rattle.std.proofs.Common.{◌≡◌, ◌≤◌, ◌<◌, ◌+◌, ◌-◌, length, take, subst, ap, rules, arith, ◌∙◌, sym, Some, None}
+use Rattle.std.proofs.Common.{◌≡◌, ℕ, ◌≤◌, ◌<◌, ◌+◌, ◌-◌, length, take, subst, ap, rules, arith, ◌∙◌, sym, Some, None}
+use Rattle.std.specs.List.{slice_index}
 use Rattle.std.proofs.lemmas.List.{take_all}
 use Rattle.maptree.specs.Nodes.{last_less}
 use Rattle.maptree.specs.Blocks.{nodes_in, AreLeasts}
 use Rattle.maptree.proofs.LastLess.{later}
 use Rattle.maptree.proofs.InBlocks.{read_of, last_within, one_back}
 use Rattle.maptree.proofs.Starts.{start_read}
-use Rattle.maptree.proofs.Leasts.{least_read, block_not_above}
+use Rattle.maptree.proofs.Leasts.{block_not_above, blocks_not_above, least_read}
 use Rattle.maptree.proofs.blocks.Blocks.last_before.Goals as goal
+
+pub loop-k-init : goal.loop-k-init
+loop-k-init c =
+    let bs = c.args.self.now.blocks in
+    let ls = c.self.inside.leasts.items in
+    let same : c.self.inside.blocks.items ≡ bs = ap (λ v. v.blocks) c.self.view_is in
+    let leasts = subst (λ l. AreLeasts l ls) same c.self.invariant.7 in
+    let from = c.pass_back-end.result in
+    let upto = c.pass_back-end.ensures.within in
+    let end : from + (c.args.block - from) ≡ c.args.block = omega (arith, upto) in
+    let within = c.requires in
+    let low = subst (λ l. (k : ℕ) → from ≤ k → k < c.args.block → c.args.depth ≤ slice_index l k) c.deref.ensures.value c.pass_back-end.ensures.not_below in
+    ap (λ k. last_less c.args.depth (nodes_in (take k bs))) (sym end)
+    ∙ blocks_not_above bs ls leasts c.args.depth from (c.args.block - from) (omega (arith, end, within)) (λ k under less. low k under (omega (arith, less, end)))
 
 pub overflow_add-result : goal.overflow_add-result
 overflow_add-result c =

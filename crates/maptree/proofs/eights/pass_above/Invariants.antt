@@ -1,0 +1,14 @@
+-- The numbers so far are above.
+use Rattle.std.proofs.Common.{◌<◌, ◌≤◌, ◌-◌, ℕ, length}
+use Rattle.std.specs.List.{slice_index}
+use Rattle.maptree.proofs.eights.pass_above.Given as goal
+
+abbrev pub invariant-loop-at : goal.invariant-loop-at
+invariant-loop-at l = record {
+  from : l.from ≤ l.at;
+  within : l.at ≤ length l.numbers;
+  above : (k : ℕ) → l.from ≤ k → k < l.at → l.bound < slice_index l.numbers k;
+}
+
+abbrev pub decreases-loop-at : goal.decreases-loop-at
+decreases-loop-at l = length l.numbers - l.at
