@@ -1,8 +1,7 @@
 -- Lists of edits, and what they do.
-use Rattle.std.proofs.Common.{◌≡◌, ℕ, zero, suc, ◌+◌, ◌<◌, ◌≤◌, Bool, true, false, ◌&&◌, List, [], ◌∷◌, ◌++◌, length, map, filter, take, drop, not, get_or, set, Option, Some, None, bit_or, refl, ap, ◌∙◌, sym, subst, arith, cond, if◌then◌else◌, nat_lt}
+use Rattle.std.proofs.Common.{◌≡◌, ℕ, ◌+◌, ◌<◌, Bool, true, false, ◌&&◌, List, [], ◌∷◌, ◌++◌, length, map, filter, take, drop, not, get_or, set, Option, Some, None, bit_or, refl, ap, ◌∙◌, sym, arith, if◌then◌else◌}
 use Rattle.std.specs.Prelude.{◌==◌}
-use Rattle.std.specs.List.{flat_map, list_all, zip, All}
-use Rattle.std.specs.Option.{option_map, option_to_list}
+use Rattle.std.specs.List.{flat_map, list_all, zip}
 use Rattle.std.specs.Int.Bits.{or_zero_l}
 use Rattle.std.proofs.lemmas.List.{take_more, map-append, append-nil}
 use Rattle.std.proofs.lemmas.List.Elements.{filter-append}
@@ -16,10 +15,9 @@ use Rattle.pieces.specs.Steps.{effect, effects, entry_in, narrowed_by, narrow, f
 use Rattle.pieces.specs.declared.link.Store.{Store}
 use Rattle.pieces.specs.declared.moving.Pair.{Pair}
 use Rattle.pieces.specs.declared.touch.WordAccess.{WordAccess}
-use Rattle.pieces.specs.declared.piece.Piece.{Piece}
 use Rattle.pieces.specs.declared.piece.Piece.TheVariants as piece
 use Rattle.crew.specs.Opening.{narrows}
-use Rattle.crew.specs.Edits.{effect_of, is_change, AreEditsOf}
+use Rattle.crew.specs.Edits.{effect_of, is_change}
 use Rattle.crew.specs.declared.edits.Edit.{Edit}
 use Rattle.crew.specs.declared.edits.Edit.TheVariants.{Write, Add}
 use Rattle.pieces.specs.DistinctParts.{all_split}

@@ -1,5 +1,5 @@
 -- The edits of one piece.
-use Rattle.std.proofs.Common.{◌≡◌, ℕ, zero, suc, ◌+◌, ◌<◌, ◌≤◌, Bool, true, false, ◌&&◌, List, [], ◌∷◌, ◌++◌, length, map, filter, get_or, Option, Some, None, refl, ap, ◌∙◌, sym, subst, arith, nat_lt, if◌then◌else◌}
+use Rattle.std.proofs.Common.{◌≡◌, ℕ, zero, suc, ◌<◌, Bool, true, false, ◌&&◌, List, [], ◌∷◌, ◌++◌, length, map, filter, get_or, Option, Some, None, refl, ap, ◌∙◌, arith, nat_lt, if◌then◌else◌}
 use Rattle.std.specs.List.{flat_map, list_all, zip, All, AllZip}
 use Rattle.std.specs.Option.{option_to_list}
 use Rattle.std.proofs.lemmas.Bool.{ltb-true}
@@ -10,7 +10,7 @@ use Rattle.pieces.specs.DistinctParts.{all_split}
 use Rattle.pieces.specs.Contents.{is_fold_apart}
 use Rattle.pieces.specs.Effects.{Effect, keeps, adds, writes, words_after, writes_at, adds_at}
 use Rattle.pieces.specs.Phases.{IsPiece, named}
-use Rattle.pieces.specs.Steps.{Step, effect, effects, narrow, fold_of, status_in, store_step, pair_steps, may_access, access_steps, see, mark}
+use Rattle.pieces.specs.Steps.{effect, effects, narrow, fold_of, status_in, may_access, access_steps, see, mark}
 use Rattle.pieces.specs.declared.link.Store.{Store}
 use Rattle.pieces.specs.declared.moving.Pair.{Pair}
 use Rattle.pieces.specs.declared.touch.WordAccess.{WordAccess}

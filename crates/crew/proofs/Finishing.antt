@@ -1,5 +1,5 @@
 -- The parts of pieces, whose edits are made in order.
-use Rattle.std.proofs.Common.{◌≡◌, ℕ, zero, suc, ◌+◌, ◌<◌, Bool, true, List, [], ◌∷◌, length, map, get_or, Result, Ok, Err, refl, ap, ◌∙◌, sym, subst, arith, nat_lt}
+use Rattle.std.proofs.Common.{◌≡◌, ℕ, zero, suc, ◌<◌, true, List, [], ◌∷◌, length, map, get_or, Result, Ok, Err, refl, sym, subst, arith, nat_lt}
 use Rattle.std.specs.List.{flat_map, list_all, All, AllZip}
 use Rattle.std.specs.Result.{IfOk, MatchResult}
 use Rattle.std.specs.declared.alloc.Global.{Global}
@@ -9,7 +9,6 @@ use Rattle.pieces.specs.DistinctParts.{all_split}
 use Rattle.pieces.specs.Dones.{DoneContent}
 use Rattle.pieces.specs.Phases.{IsPiece, CanBeWorked, named}
 use Rattle.pieces.specs.declared.piece.Piece.{Piece}
-use Rattle.crew.specs.Opening.{NamesWords}
 use Rattle.crew.specs.Parts.{IsPartOf}
 use Rattle.crew.specs.declared.beside.Part.{Part}
 use Rattle.crew.proofs.EditsOfPieces.{CanBeMade, can_be_made, zip_at, zip_length}

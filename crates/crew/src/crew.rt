@@ -12,6 +12,7 @@ use std::thread::Threads;
 
 /// Worker threads, who work the pieces of a phase beside one another. With one worker, or of one piece, the calling thread works
 /// alone.
+#[derive(Drop)]
 pub struct Crew<'a, R, G> {
     rt: &'a R,
     gate: &'a G,

@@ -10,6 +10,8 @@ mod finding;
 mod gate;
 mod in_place;
 mod steps;
+#[cfg(test)]
+mod tests;
 mod workers;
 
 pub use alone::Alone;

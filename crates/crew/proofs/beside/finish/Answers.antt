@@ -1,11 +1,10 @@
 -- The edits of one part more; at the end all are made.
-use Rattle.std.proofs.Common.{rules, ◌≡◌, ◌+◌, ◌<◌, ◌++◌, ◌∷◌, [], length, map, get_or, ◌∙◌, sym, ap, subst, refl, arith}
+use Rattle.std.proofs.Common.{rules, ◌≡◌, ◌+◌, ◌<◌, ◌++◌, ◌∷◌, [], length, map, ◌∙◌, sym, ap, subst, refl, arith}
 use Rattle.std.specs.List.{All, list_all}
 use Rattle.std.proofs.lemmas.Iterator.Adapters.{YieldsList-from_vec}
 use Rattle.std.proofs.lemmas.Iterator.Consumers.{YieldsList-turn, YieldsList-end}
 use Rattle.std.proofs.lemmas.List.{length-append}
 use Rattle.pieces.specs.Distinct.{are_distinct, is_none_of}
-use Rattle.pieces.specs.Dones.{found_as}
 use Rattle.pieces.specs.Effects.{words_after, writes_at, adds_at}
 use Rattle.pieces.specs.Steps.{effects}
 use Rattle.pieces.specs.Values.{value}

@@ -1,10 +1,8 @@
 -- The puts so far.
-use Rattle.std.proofs.Common.{◌≡◌, map, take, filter}
-use Rattle.pieces.specs.Effects.{words_after}
+use Rattle.std.proofs.Common.{◌≡◌, map, take}
 use Rattle.pieces.specs.Steps.{effects}
 use Rattle.pieces.specs.declared.piece.Piece.TheVariants as piece
-use Rattle.crew.specs.Opening.{narrows}
-use Rattle.crew.specs.Edits.{effect_of, is_change}
+use Rattle.crew.specs.Edits.{effect_of}
 use Rattle.crew.proofs.edits.link_edits.Given as goal
 
 abbrev pub invariant-loop-k : goal.invariant-loop-k

@@ -1,5 +1,5 @@
 -- All pairs.
-use Rattle.std.proofs.Common.{◌∙◌, sym, ap, take, length, arith}
+use Rattle.std.proofs.Common.{◌∙◌, sym, ap, arith}
 use Rattle.std.proofs.lemmas.List.{take_all}
 use Rattle.pieces.specs.Steps.{effects}
 use Rattle.pieces.specs.declared.piece.Piece.TheVariants as piece

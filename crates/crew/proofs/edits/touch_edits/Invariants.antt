@@ -1,9 +1,7 @@
 -- The marks so far.
 use Rattle.std.proofs.Common.{◌≡◌, map, take, filter}
-use Rattle.pieces.specs.Effects.{words_after}
 use Rattle.pieces.specs.Steps.{effects}
 use Rattle.pieces.specs.declared.piece.Piece.TheVariants as piece
-use Rattle.crew.specs.Opening.{narrows}
 use Rattle.crew.specs.Edits.{effect_of, is_change}
 use Rattle.crew.proofs.edits.touch_edits.Given as goal
 
