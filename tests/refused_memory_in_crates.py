@@ -4,7 +4,7 @@
     tests/refused_memory_in_crates.py [CRATE..]
 
 The tests that `rt ci`, or `rt test` in the crate, builds are run one by one. Each must end as the undisturbed one, or with
-the error `NoMemory`. Where a call is refused memory, the tests themselves look at what it left, and end otherwise if that is
+the error `NoMemory`, or `AllocFailed` where a list of its own was refused. Where a call is refused memory, the tests themselves look at what it left, and end otherwise if that is
 not what its contract says: a tree that `reserve`, `outer_runs` or `cut` changed, results that `gather` does not hand back, a
 database that is not halted; or at what no contract says: reply lines that are not flushed. Allocations are refused by the
 preloaded library of support/fail_alloc.c.
@@ -26,16 +26,29 @@ TESTS = {
         "cuts::stays_as_the_last_cut_left_it_where_nothing_is_put_back",
         "cuts::cuts_runs_and_puts_back_what_is_kept",
     ],
-    "pieces": ["gathers_by_number"],
+    "pieces": [
+        "masks_spare_the_first_node_of_a_run",
+        "cuts_lists_in_their_order",
+        "gathers_by_number",
+        "tells_distinct_indexes",
+        "links_and_moves_in_pieces",
+    ],
+    "crew": [
+        "crews_read_words_at_opening_and_add_marks_up",
+        "one_thread_links_and_moves",
+        "one_thread_strips_and_marks",
+    ],
     "mapdb": [
         "holds_each_frame_once_at_the_start",
         "maps_a_page_on",
         "unmaps::revokes_what_derives",
         "unmaps::revokes_by_recursion",
+        "phases::makes_accesses_in_pieces",
     ],
     "replay": ["flushes_what_it_has_written_where_memory_runs_out"],
 }
-OUT_OF_MEMORY = b"error: NoMemory\n"
+# What a test ends with that was refused memory: by a call, or for a list of its own.
+OUT_OF_MEMORY = [b"error: NoMemory\n", b"error: AllocFailed { .. }\n"]
 
 
 def built_tests(crate):
@@ -48,9 +61,10 @@ def built_tests(crate):
 
 def what_is_wrong(undisturbed, got):
     """What is wrong with how a run ended in which an allocation was refused, or an empty text."""
-    if got == undisturbed or (got.status != 0 and OUT_OF_MEMORY in got.stdout + got.stderr):
+    said = got.stdout + got.stderr
+    if got == undisturbed or (got.status != 0 and any(text in said for text in OUT_OF_MEMORY)):
         return ""
-    return f"neither the undisturbed run nor out of memory: status {got.status}, {(got.stdout + got.stderr)[:200]!r}"
+    return f"neither the undisturbed run nor out of memory: status {got.status}, {said[:200]!r}"
 
 
 def check_test(cases, name, words, library):
