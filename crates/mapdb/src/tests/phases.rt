@@ -34,11 +34,31 @@ fn access_six(rt: &impl Abort, alloc: Global, most: usize) -> Result<(), Fail>
         Err(CrewError::NoMemory) => panic!(rt; "no memory"),
         Err(CrewError::NoWorker) => panic!(rt; "no worker"),
     };
-    assert_eq!(rt; answers.as_slice(), [true, false, true, false, true, true].as_slice(), "{most}");
-    assert_eq!(rt; made.entry(place(0, 0)), held(0, rights(true, false, true)), "{most}");
-    assert_eq!(rt; made.entry(place(0, 1)), held(1, rights(true, true, false)), "{most}");
-    assert_eq!(rt; made.entry(place(0, 2)), held(2, rights(true, false, true)), "{most}");
-    assert_eq!(rt; made.entry(place(0, 3)), held(3, rights(false, false, false)), "{most}");
+    assert_eq!(rt;
+        answers.as_slice(),
+        [true, false, true, false, true, true].as_slice(),
+        "{most}"
+    );
+    assert_eq!(rt;
+        made.entry(place(0, 0)),
+        held(0, rights(true, false, true)),
+        "{most}"
+    );
+    assert_eq!(rt;
+        made.entry(place(0, 1)),
+        held(1, rights(true, true, false)),
+        "{most}"
+    );
+    assert_eq!(rt;
+        made.entry(place(0, 2)),
+        held(2, rights(true, false, true)),
+        "{most}"
+    );
+    assert_eq!(rt;
+        made.entry(place(0, 3)),
+        held(3, rights(false, false, false)),
+        "{most}"
+    );
     assert_eq!(rt; made.entry(place(0, 4)), None, "{most}");
     Ok(())
 }
