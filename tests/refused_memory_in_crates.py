@@ -43,7 +43,6 @@ TESTS = {
         "maps_a_page_on",
         "unmaps::revokes_what_derives",
         "unmaps::revokes_by_recursion",
-        "phases::makes_accesses_in_pieces",
     ],
     "replay": ["flushes_what_it_has_written_where_memory_runs_out"],
 }
