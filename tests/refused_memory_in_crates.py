@@ -41,6 +41,7 @@ TESTS = {
     "mapdb": [
         "holds_each_frame_once_at_the_start",
         "maps_a_page_on",
+        "accesses::marks_the_same_with_a_crew",
         "unmaps::revokes_what_derives",
         "unmaps::revokes_by_recursion",
     ],

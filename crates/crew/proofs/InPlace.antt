@@ -1,7 +1,6 @@
 -- Steps made in place, one after another.
-use Rattle.std.proofs.Common.{◌≡◌, ℕ, zero, suc, ◌+◌, ◌<◌, ◌≤◌, Bool, true, false, ◌&&◌, not, List, [], ◌∷◌, ◌++◌, length, map, take, drop, get_or, set, Option, Some, None, is_some, bit_or, refl, ap, ◌∙◌, sym, subst, arith, append_assoc, add-one, if◌then◌else◌, zero-add}
+use Rattle.std.proofs.Common.{◌≡◌, ℕ, zero, suc, ◌+◌, ◌<◌, ◌≤◌, Bool, true, false, ◌&&◌, not, List, [], ◌∷◌, ◌++◌, length, map, take, drop, get_or, set, bit_or, refl, ap, ◌∙◌, sym, subst, arith, append_assoc, add-one, if◌then◌else◌, zero-add}
 use Rattle.std.specs.Prelude.{◌==◌}
-use Rattle.std.specs.Borrow.{Bor}
 use Rattle.std.specs.List.{flat_map, list_all}
 use Rattle.std.specs.Option.{option_map}
 use Rattle.std.specs.Int.Bits.{or_zero_r}
@@ -28,24 +27,14 @@ use Rattle.pieces.proofs.InTurn.{one_step_more, write_more, add_more, add_from}
 use Rattle.pieces.proofs.OneByOne.{distinct_apart, eqb_turned}
 use Rattle.pieces.proofs.Packs.{same_word_after}
 use Rattle.pieces.proofs.Writers.{narrows_write, narrows_add, links_write, moves_write, moves_add}
-use Rattle.crew.specs.Opening.{start, narrows, marks_made}
+use Rattle.crew.specs.Opening.{narrows, marks_made}
 
 both : (a b : Bool) → (a && b) ≡ true → (a ≡ true) × (b ≡ true)
 both true true h = (refl, refl)
 both true false h = absurd (cc)
 both false b h = absurd (cc)
 
--- ---- reading
-
--- a word that has not changed is read as it was at opening
-pub reads_start : (o : Option (Bor (List ℕ))) (old now : List ℕ) (i : ℕ) → get_or now i 0 ≡ get_or old i 0 → get_or (start o now) i 0 ≡ get_or (start o old) i 0
-reads_start None old now i same = same
-reads_start (Some opening) old now i same = refl
-
--- there are as many words to read as there were
-pub start_length : (o : Option (Bor (List ℕ))) (old now : List ℕ) → length (start o old) ≡ length old → length now ≡ length old → length (start o now) ≡ length old
-start_length None old now many same = same
-start_length (Some opening) old now many same = many
+-- ---- lists
 
 -- a list around one of its elements
 pub around : {A : Type 0} (xs : List A) (k : ℕ) (d : A) → k < length xs → xs ≡ take k xs ++ get_or xs k d ∷ drop (k + 1) xs
@@ -62,31 +51,30 @@ narrows_append w (i ∷ is) (m ∷ ms) js ns same = ap (λ es. effect w (narrow 
 pub taken_length : {A : Type 0} (xs : List A) (k : ℕ) → k ≤ length xs → length (take k xs) ≡ k
 taken_length xs k within = let l = length-take k xs in omega (arith, l, within)
 
-module _ (o : Option (Bor (List ℕ))) (old now is : List ℕ) (ms : List Rights) (k : ℕ) (m : Rights) (once : are_distinct is ≡ true) (each : length ms ≡ length is) (within : k < length is)
-    (so_far : now ≡ words_after old (narrows (start o old) (take k is) (take k ms))) where
+module _ (old now is : List ℕ) (ms : List Rights) (k : ℕ) (m : Rights) (once : are_distinct is ≡ true) (each : length ms ≡ length is) (within : k < length is)
+    (so_far : now ≡ words_after old (narrows old (take k is) (take k ms))) where
   narrow_fresh : is_none_of (take k is) (get_or is k 0) ≡ true
   narrow_fresh = (both (is_none_of (take k is) (get_or is k 0)) (list_all (is_none_of (take k is)) (drop (k + 1) is)) (distinct_apart (take k is) (get_or is k 0 ∷ drop (k + 1) is) (ap are_distinct (sym (around is k 0 within)) ∙ once))).0
 
   same_lengths : length (take k is) ≡ length (take k ms)
   same_lengths = taken_length is k (omega (arith, within)) ∙ sym (taken_length ms k (omega (arith, within, each)))
 
-  narrow_unwritten : is_none_of (writes_at (narrows (start o old) (take k is) (take k ms))) (get_or is k 0) ≡ true
-  narrow_unwritten = ap (λ js. is_none_of js (get_or is k 0)) (narrows_write (start o old) (take k is) (take k ms) same_lengths) ∙ narrow_fresh
+  narrow_unwritten : is_none_of (writes_at (narrows old (take k is) (take k ms))) (get_or is k 0) ≡ true
+  narrow_unwritten = ap (λ js. is_none_of js (get_or is k 0)) (narrows_write old (take k is) (take k ms) same_lengths) ∙ narrow_fresh
 
-  pub narrow_reads : get_or (start o now) (get_or is k 0) 0 ≡ get_or (start o old) (get_or is k 0) 0
+  pub narrow_reads : get_or now (get_or is k 0) 0 ≡ get_or old (get_or is k 0) 0
   narrow_reads =
-      reads_start o old now (get_or is k 0)
-      (ap (λ v. get_or v (get_or is k 0) 0) so_far
-      ∙ same_word_after old (narrows (start o old) (take k is) (take k ms)) (get_or is k 0) narrow_unwritten (ap (λ js. is_none_of js (get_or is k 0)) (narrows_add (start o old) (take k is) (take k ms))))
+      ap (λ v. get_or v (get_or is k 0) 0) so_far
+      ∙ same_word_after old (narrows old (take k is) (take k ms)) (get_or is k 0) narrow_unwritten (ap (λ js. is_none_of js (get_or is k 0)) (narrows_add old (take k is) (take k ms)))
 
-  pub narrow_next : (x : ℕ) → x ≡ word_of (narrowed_by (get_or ms k m) (entry_of (get_or (start o now) (get_or is k 0) 0))) → get_or is k 0 < length old
-      → set now (get_or is k 0) x ≡ words_after old (narrows (start o old) (take (k + 1) is) (take (k + 1) ms))
+  pub narrow_next : (x : ℕ) → x ≡ word_of (narrowed_by (get_or ms k m) (entry_of (get_or now (get_or is k 0) 0))) → get_or is k 0 < length old
+      → set now (get_or is k 0) x ≡ words_after old (narrows old (take (k + 1) is) (take (k + 1) ms))
   narrow_next x is_word there =
-      ap (λ v. set v (get_or is k 0) x) so_far ∙ write_more old (narrows (start o old) (take k is) (take k ms)) (get_or is k 0) x narrow_unwritten there
+      ap (λ v. set v (get_or is k 0) x) so_far ∙ write_more old (narrows old (take k is) (take k ms)) (get_or is k 0) x narrow_unwritten there
       ∙ ap (words_after old)
-      (ap (λ y. narrows (start o old) (take k is) (take k ms) ++ writes (get_or is k 0) y ∷ []) (is_word ∙ ap (λ y. word_of (narrowed_by (get_or ms k m) (entry_of y))) narrow_reads)
-      ∙ sym (narrows_append (start o old) (take k is) (take k ms) (get_or is k 0 ∷ []) (get_or ms k m ∷ []) same_lengths)
-      ∙ sym (ap (λ js. narrows (start o old) js (take (k + 1) ms)) (take_more is k 0 within) ∙ ap (narrows (start o old) (take k is ++ get_or is k 0 ∷ [])) (take_more ms k m (omega (arith, within, each)))))
+      (ap (λ y. narrows old (take k is) (take k ms) ++ writes (get_or is k 0) y ∷ []) (is_word ∙ ap (λ y. word_of (narrowed_by (get_or ms k m) (entry_of y))) narrow_reads)
+      ∙ sym (narrows_append old (take k is) (take k ms) (get_or is k 0 ∷ []) (get_or ms k m ∷ []) same_lengths)
+      ∙ sym (ap (λ js. narrows old js (take (k + 1) ms)) (take_more is k 0 within) ∙ ap (narrows old (take k is ++ get_or is k 0 ∷ [])) (take_more ms k m (omega (arith, within, each)))))
 
 -- ---- a fold
 
@@ -107,48 +95,43 @@ links_more w xs k d within =
     ap (λ ys. map (effect w) (map (store_step w) ys)) (take_more xs k d within) ∙ ap (map (effect w)) (map-append (store_step w) (take k xs) (get_or xs k d ∷ []))
     ∙ map-append (effect w) (map (store_step w) (take k xs)) (store_step w (get_or xs k d) ∷ [])
 
-module _ (o : Option (Bor (List ℕ))) (old now : List ℕ) (xs : List Store) (k : ℕ) (d : Store) (once : are_distinct (puts_of xs) ≡ true) (given : is_some o ≡ false → length xs ≤ 1) (within : k < length xs)
-    (so_far : now ≡ words_after old (effects (start o old) (piece.Link (take k xs)))) where
+module _ (old now : List ℕ) (xs : List Store) (k : ℕ) (d : Store) (once : are_distinct (puts_of xs) ≡ true) (few : length xs ≤ 1) (within : k < length xs)
+    (so_far : now ≡ words_after old (effects old (piece.Link (take k xs)))) where
   put_fresh : is_none_of (puts_of (take k xs)) (get_or xs k d).put ≡ true
   put_fresh =
       (both (is_none_of (puts_of (take k xs)) (get_or xs k d).put) (list_all (is_none_of (puts_of (take k xs))) (puts_of (drop (k + 1) xs)))
       (distinct_apart (puts_of (take k xs)) (puts_of (get_or xs k d ∷ drop (k + 1) xs))
       (ap are_distinct (sym (ap puts_of (around xs k d within) ∙ map-append (λ (s : Store). s.put) (take k xs) (get_or xs k d ∷ drop (k + 1) xs))) ∙ once))).0
 
-  put_unwritten : is_none_of (writes_at (effects (start o old) (piece.Link (take k xs)))) (get_or xs k d).put ≡ true
-  put_unwritten = ap (λ js. is_none_of js (get_or xs k d).put) (links_write (start o old) (take k xs)) ∙ put_fresh
+  put_unwritten : is_none_of (writes_at (effects old (piece.Link (take k xs)))) (get_or xs k d).put ≡ true
+  put_unwritten = ap (λ js. is_none_of js (get_or xs k d).put) (links_write old (take k xs)) ∙ put_fresh
 
-  -- whatever is read is as it was: where no list of the words at opening is given, nothing was put yet
-  pub put_reads : (i : ℕ) → get_or (start o now) i 0 ≡ get_or (start o old) i 0
-  put_reads i = by o given so_far
-    where
-      by : (p : Option (Bor (List ℕ))) → (is_some p ≡ false → length xs ≤ 1) → now ≡ words_after old (effects (start p old) (piece.Link (take k xs))) → get_or (start p now) i 0 ≡ get_or (start p old) i 0
-      by (Some opening) few is = refl
-      by None few is =
-          let one = few refl in
-          let first : k ≡ 0 = omega (arith, one, within) in
-          ap (λ v. get_or v i 0) (is ∙ ap (λ n. words_after old (effects old (piece.Link (take n xs)))) first ∙ words_none 0 old)
+  -- whatever is read is as it was: nothing was put yet
+  pub put_reads : (i : ℕ) → get_or now i 0 ≡ get_or old i 0
+  put_reads i =
+      let first : k ≡ 0 = omega (arith, few, within) in
+      ap (λ v. get_or v i 0) (so_far ∙ ap (λ n. words_after old (effects old (piece.Link (take n xs)))) first ∙ words_none 0 old)
 
   pub put_next : (x : ℕ)
-      → x ≡ word_of (option_map (linked (get_or xs k d).rights (entry_of (get_or (start o now) (get_or xs k d).put 0))) (entry_of (get_or (start o now) (get_or xs k d).read 0)))
-      → (get_or xs k d).put < length old → set now (get_or xs k d).put x ≡ words_after old (effects (start o old) (piece.Link (take (k + 1) xs)))
+      → x ≡ word_of (option_map (linked (get_or xs k d).rights (entry_of (get_or now (get_or xs k d).put 0))) (entry_of (get_or now (get_or xs k d).read 0)))
+      → (get_or xs k d).put < length old → set now (get_or xs k d).put x ≡ words_after old (effects old (piece.Link (take (k + 1) xs)))
   put_next x is_word there =
-      ap (λ v. set v (get_or xs k d).put x) so_far ∙ write_more old (effects (start o old) (piece.Link (take k xs))) (get_or xs k d).put x put_unwritten there
+      ap (λ v. set v (get_or xs k d).put x) so_far ∙ write_more old (effects old (piece.Link (take k xs))) (get_or xs k d).put x put_unwritten there
       ∙ ap (words_after old)
-      (ap (λ y. effects (start o old) (piece.Link (take k xs)) ++ writes (get_or xs k d).put y ∷ [])
-      (is_word ∙ ap (λ t. word_of (option_map (linked (get_or xs k d).rights (entry_of t)) (entry_of (get_or (start o now) (get_or xs k d).read 0)))) (put_reads (get_or xs k d).put)
-      ∙ ap (λ t. word_of (option_map (linked (get_or xs k d).rights (entry_of (get_or (start o old) (get_or xs k d).put 0))) (entry_of t))) (put_reads (get_or xs k d).read))
-      ∙ sym (links_more (start o old) xs k d within))
+      (ap (λ y. effects old (piece.Link (take k xs)) ++ writes (get_or xs k d).put y ∷ [])
+      (is_word ∙ ap (λ t. word_of (option_map (linked (get_or xs k d).rights (entry_of t)) (entry_of (get_or now (get_or xs k d).read 0)))) (put_reads (get_or xs k d).put)
+      ∙ ap (λ t. word_of (option_map (linked (get_or xs k d).rights (entry_of (get_or old (get_or xs k d).put 0))) (entry_of t))) (put_reads (get_or xs k d).read))
+      ∙ sym (links_more old xs k d within))
 
 -- the same of the store that was read from the list
-pub put_next_of : (o : Option (Bor (List ℕ))) (old now : List ℕ) (xs : List Store) (k : ℕ) (s : Store) → s ≡ get_or xs k s → are_distinct (puts_of xs) ≡ true → (is_some o ≡ false → length xs ≤ 1) → k < length xs
-    → now ≡ words_after old (effects (start o old) (piece.Link (take k xs))) → (x target source : ℕ) → x ≡ word_of (option_map (linked s.rights (entry_of target)) (entry_of source)) → target ≡ get_or (start o now) s.put 0
-    → source ≡ get_or (start o now) s.read 0 → s.put < length old → set now s.put x ≡ words_after old (effects (start o old) (piece.Link (take (k + 1) xs)))
-put_next_of o old now xs k s is once given within so_far x target source is_word at_target at_source there =
-    subst (λ (t : Store). set now t.put x ≡ words_after old (effects (start o old) (piece.Link (take (k + 1) xs)))) (sym is)
-    (put_next o old now xs k s once given within so_far x
-    (subst (λ (t : Store). x ≡ word_of (option_map (linked t.rights (entry_of (get_or (start o now) t.put 0))) (entry_of (get_or (start o now) t.read 0)))) is
-    (is_word ∙ ap (λ y. word_of (option_map (linked s.rights (entry_of y)) (entry_of source))) at_target ∙ ap (λ y. word_of (option_map (linked s.rights (entry_of (get_or (start o now) s.put 0))) (entry_of y))) at_source))
+pub put_next_of : (old now : List ℕ) (xs : List Store) (k : ℕ) (s : Store) → s ≡ get_or xs k s → are_distinct (puts_of xs) ≡ true → length xs ≤ 1 → k < length xs
+    → now ≡ words_after old (effects old (piece.Link (take k xs))) → (x target source : ℕ) → x ≡ word_of (option_map (linked s.rights (entry_of target)) (entry_of source)) → target ≡ get_or now s.put 0
+    → source ≡ get_or now s.read 0 → s.put < length old → set now s.put x ≡ words_after old (effects old (piece.Link (take (k + 1) xs)))
+put_next_of old now xs k s is once few within so_far x target source is_word at_target at_source there =
+    subst (λ (t : Store). set now t.put x ≡ words_after old (effects old (piece.Link (take (k + 1) xs)))) (sym is)
+    (put_next old now xs k s once few within so_far x
+    (subst (λ (t : Store). x ≡ word_of (option_map (linked t.rights (entry_of (get_or now t.put 0))) (entry_of (get_or now t.read 0)))) is
+    (is_word ∙ ap (λ y. word_of (option_map (linked s.rights (entry_of y)) (entry_of source))) at_target ∙ ap (λ y. word_of (option_map (linked s.rights (entry_of (get_or now s.put 0))) (entry_of y))) at_source))
     (subst (λ (t : Store). t.put < length old) is there))
 
 -- ---- moves
@@ -162,8 +145,8 @@ none_of_joined : (is js : List ℕ) (i : ℕ) → is_none_of is i ≡ true → i
 none_of_joined [] js i p q = q
 none_of_joined (j ∷ is) js i p q = let parts = both (not (j == i)) (is_none_of is i) p in rw parts.0 (none_of_joined is js i parts.1 q)
 
-module _ (o : Option (Bor (List ℕ))) (old now : List ℕ) (xs : List Pair) (k : ℕ) (d : Pair) (once : are_distinct (ends_of xs) ≡ true) (within : k < length xs)
-    (so_far : now ≡ words_after old (effects (start o old) (piece.Move (take k xs)))) where
+module _ (old now : List ℕ) (xs : List Pair) (k : ℕ) (d : Pair) (once : are_distinct (ends_of xs) ≡ true) (within : k < length xs)
+    (so_far : now ≡ words_after old (effects old (piece.Move (take k xs)))) where
   ends_around : ends_of xs ≡ ends_of (take k xs) ++ (get_or xs k d).taken ∷ (get_or xs k d).put ∷ ends_of (drop (k + 1) xs)
   ends_around = ap ends_of (around xs k d within) ∙ flat_map-append (λ (p : Pair). p.taken ∷ p.put ∷ []) (take k xs) (get_or xs k d ∷ drop (k + 1) xs)
 
@@ -179,19 +162,18 @@ module _ (o : Option (Bor (List ℕ))) (old now : List ℕ) (xs : List Pair) (k 
       let head = both (is_none_of ((get_or xs k d).put ∷ ends_of (drop (k + 1) xs)) (get_or xs k d).taken) (are_distinct ((get_or xs k d).put ∷ ends_of (drop (k + 1) xs))) two in
       (both (not ((get_or xs k d).put == (get_or xs k d).taken)) (is_none_of (ends_of (drop (k + 1) xs)) (get_or xs k d).taken) head.0).0
 
-  pub take_reads : get_or (start o now) (get_or xs k d).taken 0 ≡ get_or (start o old) (get_or xs k d).taken 0
+  pub take_reads : get_or now (get_or xs k d).taken 0 ≡ get_or old (get_or xs k d).taken 0
   take_reads =
-      reads_start o old now (get_or xs k d).taken
-      (ap (λ v. get_or v (get_or xs k d).taken 0) so_far
-      ∙ same_word_after old (effects (start o old) (piece.Move (take k xs))) (get_or xs k d).taken (ap (λ js. is_none_of js (get_or xs k d).taken) (moves_write (start o old) (take k xs)) ∙ ends_fresh.0)
-      (ap (λ js. is_none_of js (get_or xs k d).taken) (moves_add (start o old) (take k xs))))
+      ap (λ v. get_or v (get_or xs k d).taken 0) so_far
+      ∙ same_word_after old (effects old (piece.Move (take k xs))) (get_or xs k d).taken (ap (λ js. is_none_of js (get_or xs k d).taken) (moves_write old (take k xs)) ∙ ends_fresh.0)
+      (ap (λ js. is_none_of js (get_or xs k d).taken) (moves_add old (take k xs)))
 
-  pub transfer_next : (x : ℕ) → x ≡ word_of (option_map without_status (entry_of (get_or (start o now) (get_or xs k d).taken 0))) → (get_or xs k d).taken < length old → (get_or xs k d).put < length old
-      → set (set now (get_or xs k d).taken 0) (get_or xs k d).put x ≡ words_after old (effects (start o old) (piece.Move (take (k + 1) xs)))
+  pub transfer_next : (x : ℕ) → x ≡ word_of (option_map without_status (entry_of (get_or now (get_or xs k d).taken 0))) → (get_or xs k d).taken < length old → (get_or xs k d).put < length old
+      → set (set now (get_or xs k d).taken 0) (get_or xs k d).put x ≡ words_after old (effects old (piece.Move (take (k + 1) xs)))
   transfer_next x is_word there here =
-      let es = effects (start o old) (piece.Move (take k xs)) in
+      let es = effects old (piece.Move (take k xs)) in
       let p = get_or xs k d in
-      let written : writes_at es ≡ ends_of (take k xs) = moves_write (start o old) (take k xs) in
+      let written : writes_at es ≡ ends_of (take k xs) = moves_write old (take k xs) in
       let first : set now p.taken 0 ≡ words_after old (es ++ writes p.taken 0 ∷ []) = ap (λ v. set v p.taken 0) so_far ∙ write_more old es p.taken 0 (ap (λ js. is_none_of js p.taken) written ∙ ends_fresh.0) there in
       let fresh : is_none_of (writes_at (es ++ writes p.taken 0 ∷ [])) p.put ≡ true =
       ap (λ js. is_none_of js p.put) (flat_map-append write_at es (writes p.taken 0 ∷ []) ∙ ap (λ js. js ++ p.taken ∷ []) written)
@@ -200,19 +182,19 @@ module _ (o : Option (Bor (List ℕ))) (old now : List ℕ) (xs : List Pair) (k 
       ∙ ap (words_after old)
       (append_assoc es (writes p.taken 0 ∷ []) (writes p.put x ∷ [])
       ∙ ap (λ y. es ++ writes p.taken 0 ∷ writes p.put y ∷ []) (is_word ∙ ap (λ t. word_of (option_map without_status (entry_of t))) take_reads)
-      ∙ sym (moves_more (start o old) xs k d within))
+      ∙ sym (moves_more old xs k d within))
 
-pub take_reads_of : (o : Option (Bor (List ℕ))) (old now : List ℕ) (xs : List Pair) (k : ℕ) (p : Pair) → p ≡ get_or xs k p → are_distinct (ends_of xs) ≡ true → k < length xs
-    → now ≡ words_after old (effects (start o old) (piece.Move (take k xs))) → get_or (start o now) p.taken 0 ≡ get_or (start o old) p.taken 0
-take_reads_of o old now xs k p is once within so_far = subst (λ (t : Pair). get_or (start o now) t.taken 0 ≡ get_or (start o old) t.taken 0) (sym is) (take_reads o old now xs k p once within so_far)
+pub take_reads_of : (old now : List ℕ) (xs : List Pair) (k : ℕ) (p : Pair) → p ≡ get_or xs k p → are_distinct (ends_of xs) ≡ true → k < length xs
+    → now ≡ words_after old (effects old (piece.Move (take k xs))) → get_or now p.taken 0 ≡ get_or old p.taken 0
+take_reads_of old now xs k p is once within so_far = subst (λ (t : Pair). get_or now t.taken 0 ≡ get_or old t.taken 0) (sym is) (take_reads old now xs k p once within so_far)
 
-pub transfer_next_of : (o : Option (Bor (List ℕ))) (old now : List ℕ) (xs : List Pair) (k : ℕ) (p : Pair) → p ≡ get_or xs k p → are_distinct (ends_of xs) ≡ true → k < length xs
-    → now ≡ words_after old (effects (start o old) (piece.Move (take k xs))) → (x source : ℕ) → x ≡ word_of (option_map without_status (entry_of source)) → source ≡ get_or (start o now) p.taken 0 → p.taken < length old → p.put < length old
-    → set (set now p.taken 0) p.put x ≡ words_after old (effects (start o old) (piece.Move (take (k + 1) xs)))
-transfer_next_of o old now xs k p is once within so_far x source is_word at_source there here =
-    subst (λ (t : Pair). set (set now t.taken 0) t.put x ≡ words_after old (effects (start o old) (piece.Move (take (k + 1) xs)))) (sym is)
-    (transfer_next o old now xs k p once within so_far x
-    (subst (λ (t : Pair). x ≡ word_of (option_map without_status (entry_of (get_or (start o now) t.taken 0)))) is (is_word ∙ ap (λ y. word_of (option_map without_status (entry_of y))) at_source))
+pub transfer_next_of : (old now : List ℕ) (xs : List Pair) (k : ℕ) (p : Pair) → p ≡ get_or xs k p → are_distinct (ends_of xs) ≡ true → k < length xs
+    → now ≡ words_after old (effects old (piece.Move (take k xs))) → (x source : ℕ) → x ≡ word_of (option_map without_status (entry_of source)) → source ≡ get_or now p.taken 0 → p.taken < length old → p.put < length old
+    → set (set now p.taken 0) p.put x ≡ words_after old (effects old (piece.Move (take (k + 1) xs)))
+transfer_next_of old now xs k p is once within so_far x source is_word at_source there here =
+    subst (λ (t : Pair). set (set now t.taken 0) t.put x ≡ words_after old (effects old (piece.Move (take (k + 1) xs)))) (sym is)
+    (transfer_next old now xs k p once within so_far x
+    (subst (λ (t : Pair). x ≡ word_of (option_map without_status (entry_of (get_or now t.taken 0)))) is (is_word ∙ ap (λ y. word_of (option_map without_status (entry_of y))) at_source))
     (subst (λ (t : Pair). t.taken < length old) is there) (subst (λ (t : Pair). t.put < length old) is here))
 
 -- ---- touches

@@ -5,3 +5,4 @@ pub mod Working
 pub mod EditLists
 pub mod EditsOfPieces
 pub mod Finishing
+pub mod PiecesInPlace

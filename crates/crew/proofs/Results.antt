@@ -95,6 +95,14 @@ results_append m w (p ∷ ps) q =
     let next : (m + 1) + length ps ≡ m + suc (length ps) = omega arith in
     ap (λ ds. record { number = m; found = value w p; of = p; words = w } ∷ ds) (results_append (m + 1) w ps q ∙ ap (λ n. results_from (m + 1) w ps ++ record { number = n; found = value w q; of = q; words = w } ∷ []) next)
 
+-- the result of one piece more
+pub dones_more : (w : List ℕ) (ps : List Piece) (n : ℕ) (ds : List DoneContent) (p : Piece) → ds ≡ results_from 0 w (take n ps) → n < length ps → p ≡ get_or ps n p
+    → ds ++ record { number = length ds; found = value w p; of = p; words = w } ∷ [] ≡ results_from 0 w (take (n + 1) ps)
+dones_more w ps n ds p so_far less is =
+    let more : take (n + 1) ps ≡ take n ps ++ p ∷ [] = take_more ps n p less ∙ ap (λ q. take n ps ++ q ∷ []) (sym is) in
+    ap (λ k. ds ++ record { number = k; found = value w p; of = p; words = w } ∷ []) (ap length so_far ∙ results_length 0 w (take n ps) ∙ sym (zero-add (length (take n ps))))
+    ∙ ap (λ es. es ++ record { number = 0 + length (take n ps); found = value w p; of = p; words = w } ∷ []) so_far ∙ sym (ap (results_from 0 w) more ∙ results_append 0 w (take n ps) p)
+
 -- ---- the first pieces
 
 -- the first of some pieces are worked
@@ -133,9 +141,7 @@ one_worked w ps n before after ds p each can are less is next =
           next ∙ ap (λ v. words_after v (effects w p)) are.words
           ∙ sym (ap (words_after w) two
           ∙ steps_in_turn 0 w (flat_map (effects w) (take n ps)) (effects w p) (ap (λ es. are_distinct (writes_at es)) (sym two) ∙ apart.0) (ap (λ es. list_all (is_none_of (writes_at es)) (adds_at es)) (sym two) ∙ apart.1));
-      dones =
-          ap (λ k. ds ++ record { number = k; found = value w p; of = p; words = w } ∷ []) (ap length are.dones ∙ results_length 0 w (take n ps) ∙ sym (zero-add (length (take n ps))))
-          ∙ ap (λ es. es ++ record { number = 0 + length (take n ps); found = value w p; of = p; words = w } ∷ []) are.dones ∙ sym (ap (results_from 0 w) more ∙ results_append 0 w (take n ps) p);
+      dones = dones_more w ps n ds p are.dones less is;
     }
 
 -- a list that is written over its own place

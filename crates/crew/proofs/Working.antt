@@ -1,6 +1,5 @@
 -- One piece worked in place.
-use Rattle.std.proofs.Common.{◌≡◌, ℕ, zero, suc, ◌<◌, ◌≤◌, Bool, true, false, ◌&&◌, List, [], ◌∷◌, ◌++◌, length, map, Option, Some, None, unwrap_or, refl, ap, ◌∙◌, sym, subst, arith, nat_lt}
-use Rattle.std.specs.Borrow.{Bor}
+use Rattle.std.proofs.Common.{◌≡◌, ℕ, zero, suc, ◌<◌, Bool, true, false, ◌&&◌, List, [], ◌∷◌, ◌++◌, map, Some, None, refl, ap, ◌∙◌, sym, subst, arith, nat_lt}
 use Rattle.std.specs.List.{flat_map, list_all, All}
 use Rattle.std.proofs.lemmas.Bool.{ltb-true}
 use Rattle.std.proofs.lemmas.List.{map-append, append-nil}
@@ -8,17 +7,15 @@ use Rattle.fpage.specs.declared.rights.Rights.{Rights}
 use Rattle.pieces.specs.Contents.{StripContent, IsStrip, is_fold_apart}
 use Rattle.pieces.specs.Distinct.{is_none_of}
 use Rattle.pieces.specs.Effects.{adds, words_after, writes_at}
-use Rattle.pieces.specs.Phases.{length_of, is_link}
 use Rattle.pieces.specs.Steps.{effect, effects, fold_of, status_in, status_bits, narrow}
 use Rattle.std.specs.List.{zip}
 use Rattle.pieces.specs.declared.link.Store.{Store}
 use Rattle.pieces.specs.declared.moving.Pair.{Pair}
 use Rattle.pieces.specs.declared.touch.WordAccess.{WordAccess}
-use Rattle.pieces.specs.declared.piece.Piece.{Piece}
 use Rattle.pieces.specs.declared.piece.Piece.TheVariants as piece
 use Rattle.pieces.proofs.InTurn.{one_step_more}
 use Rattle.pieces.proofs.Writers.{narrows_write}
-use Rattle.crew.specs.Opening.{start, narrows, IsInPlace}
+use Rattle.crew.specs.Opening.{narrows}
 
 both : (a b : Bool) → (a && b) ≡ true → (a ≡ true) × (b ≡ true)
 both true true h = (refl, refl)
@@ -55,11 +52,6 @@ module _ (n : ℕ) where
   accesses_within (t ∷ xs) named zero d less = ltb-true t.index n (both (nat_lt t.index n) (list_all (λ i. nat_lt i n) (map (λ (u : WordAccess). u.index) xs)) named).0
   accesses_within (t ∷ xs) named (suc k) d less = accesses_within xs (both (nat_lt t.index n) (list_all (λ i. nat_lt i n) (map (λ (u : WordAccess). u.index) xs)) named).1 k d (omega (arith, less))
 
--- where the words at opening are read before anything changes
-pub read_first : (o : Option (Bor (List ℕ))) (words : Bor (List ℕ)) → (unwrap_or o words).now ≡ start o words.now
-read_first None words = refl
-read_first (Some opening) words = refl
-
 -- ---- a strip
 
 strip_effects : (w : List ℕ) (s : StripContent) → effects w (piece.Strip s) ≡ narrows w s.indexes s.masks ++ map (effect w) (fold_of s.fold (status_in w s.indexes))
@@ -77,17 +69,3 @@ strip_folded w old now after s i status strip at is found next =
     next ∙ ap (λ v. words_after v (adds i (status_bits status) ∷ [])) is ∙ sym (one_step_more 0 old (narrows w s.indexes s.masks) (adds i (status_bits status)) unwritten)
     ∙ ap (λ t. words_after old (narrows w s.indexes s.masks ++ adds i (status_bits t) ∷ [])) found
     ∙ ap (words_after old) (sym (strip_effects w s ∙ ap (λ f. narrows w s.indexes s.masks ++ map (effect w) (fold_of f (status_in w s.indexes))) at))
-
--- ---- one piece
-
-pub only_piece : (before : List Piece) (p : Piece) → IsInPlace (before ++ p ∷ []) → before ≡ []
-only_piece [] p one = refl
-only_piece (q ∷ []) p one = absurd one
-only_piece (q ∷ r ∷ before) p one = absurd one
-
-pub not_empty : (ps : List Piece) → IsInPlace ps → length ps ≡ 0 → ⊥
-not_empty [] one none = one
-not_empty (p ∷ ps) one none = omega (arith, none)
-
-pub few_stores : (p : Piece) → IsInPlace (p ∷ []) → is_link p ≡ true → length_of p ≤ 1
-few_stores p one = one

@@ -1,7 +1,6 @@
--- Words that change, beside the words at opening.
-use Rattle.std.specs.Prelude.{◌≡◌, ◌≤◌, ℕ, nat_lt, Bool, true, List, [], ◌∷◌, ◌++◌, length, map, Option, Some, None, if◌then◌else◌}
-use Rattle.std.specs.Borrow.{Bor}
-use Rattle.std.specs.List.{zip, list_all}
+-- Pieces worked in place, on the words as they stand.
+use Rattle.std.specs.Prelude.{◌≡◌, ◌≤◌, ℕ, nat_lt, Bool, true, false, List, [], ◌∷◌, ◌++◌, length, map, if◌then◌else◌}
+use Rattle.std.specs.List.{zip, list_all, list_any}
 use Rattle.fpage.specs.Rights.{marks}
 use Rattle.fpage.specs.declared.rights.Rights.{Rights}
 use Rattle.pieces.specs.Effects.{Effect, keeps, adds}
@@ -9,11 +8,6 @@ use Rattle.pieces.specs.Phases.{named, is_link, length_of}
 use Rattle.pieces.specs.Steps.{narrow, effect, status_bits}
 use Rattle.pieces.specs.declared.piece.Piece.{Piece}
 use Rattle.pieces.specs.declared.touch.WordAccess.{WordAccess}
-
--- the words at opening: a list of their own, or else the words that change, as they were
-abbrev pub start : Option (Bor (List ℕ)) → List ℕ → List ℕ
-start (Some opening) words = opening.now
-start None words = words
 
 -- what the narrows of a strip do
 abbrev pub narrows : List ℕ → List ℕ → List Rights → List Effect
@@ -29,8 +23,7 @@ marks_made (t ∷ ts) (b ∷ bs) = (if b then keeps t.index ∷ adds t.index (st
 abbrev pub NamesWords : List ℕ → Piece → Type 0
 NamesWords words p = list_all (λ i. nat_lt i (length words)) (named p) ≡ true
 
--- there is one piece, and no store that may read what another puts
+-- no piece reads a word that a piece or store before it has changed: only the first piece may be a link, and that of one store
 abbrev pub IsInPlace : List Piece → Type 0
-IsInPlace [] = ⊥
-IsInPlace (p ∷ []) = is_link p ≡ true → length_of p ≤ 1
-IsInPlace (p ∷ q ∷ ps) = ⊥
+IsInPlace [] = Unit {0}
+IsInPlace (p ∷ ps) = (is_link p ≡ true → length_of p ≤ 1) × (list_any is_link ps ≡ false)

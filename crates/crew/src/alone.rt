@@ -1,7 +1,7 @@
 //! The calling thread works the pieces of a phase.
 
-ghost use Rattle.std.specs.Prelude.{◌≡◌, ◌<◌, ◌≤◌, true, false, length, map, IfOk, is_some};
-ghost use Rattle.std.specs.List.{All, AllPass};
+ghost use Rattle.std.specs.Prelude.{◌≡◌, ◌≤◌, true, IfOk};
+ghost use Rattle.std.specs.List.{All, AllPass, AllZip, list_any};
 ghost use Rattle.space.specs.Word.{is_pack};
 ghost use Rattle.pieces.specs.Dones.{found_as};
 ghost use Rattle.pieces.specs.Effects.{words_after};
@@ -10,12 +10,14 @@ ghost use Rattle.pieces.specs.Steps.{effects};
 ghost use Rattle.pieces.specs.Contents.{IsStrip};
 ghost use Rattle.pieces.specs.Values.{value};
 ghost use Rattle.pieces.specs.declared.piece.Piece.TheVariants as piece;
-ghost use Rattle.crew.specs.Opening.{start, NamesWords, IsInPlace};
-ghost use Rattle.crew.specs.Worked.{IsWorked};
+ghost use Rattle.crew.specs.Opening.{NamesWords, IsInPlace};
+ghost use Rattle.crew.specs.Parts.{IsPartOf};
+ghost use Rattle.crew.specs.Worked.{IsOpened, IsWorked};
 
+use crate::beside::{Part, finish, part_of};
 use crate::error::CrewError;
-use crate::finding::{Found, answers, keep, no_nodes, nothing, status_at};
-use crate::in_place::{fold, mark, narrow, put, transfer};
+use crate::finding::{Found, answers, no_nodes, nothing};
+use crate::in_place::{fold, mark, narrow_and_keep, put, transfer};
 use crate::workers::Workers;
 use fpage::Rights;
 use pieces::{Done, Piece, Strip, are_pieces};
@@ -40,6 +42,8 @@ impl Alone {
 }
 
 impl Workers for Alone {
+    ghost ready = { λ _. Unit {0} };
+
     fn piece_length(&self) -> usize {
         self.piece_length
     }
@@ -61,23 +65,32 @@ pub fn work_alone(
     words: Vec<u64>,
     pieces: Vec<Piece>,
 ) -> Result<(Vec<u64>, Vec<Done>), AllocError>
-    requires some { 0 < length pieces.items }
-    requires can { CanBeWorked words.items pieces.items }
+    requires { CanBeWorked words.items pieces.items }
     ensures { IfOk result (λ r. IsWorked words.items pieces.items r.0.items r.1.items) }
 {
     are_pieces(&pieces);
     if is_in_place(&pieces) {
-        work_one(alloc, words, pieces)
+        work_in_place(alloc, words, pieces)
     } else {
-        work_all(alloc, words, pieces)
+        work_by_edits(alloc, words, pieces)
     }
 }
 
-/// Whether there is one piece, which reads no word after it has changed it. Only a store may read what another puts.
+/// Whether no piece reads a word that a piece or store before it has changed. Only a store may read what another puts.
 fn is_in_place(pieces: &[Piece]) -> bool
     ensures { result ≡ true → IsInPlace pieces.now }
 {
-    pieces.len() == 1 && (pieces[0].len() <= 1 || !is_link(&pieces[0]))
+    match pieces {
+        [] => true,
+        [first, others @ ..] => (first.len() <= 1 || !is_link(first)) && !has_link(others),
+    }
+}
+
+/// Whether one of these is a link.
+fn has_link(pieces: &[Piece]) -> bool
+    ensures { result ≡ list_any is_link pieces.now }
+{
+    pieces.iter().any(|piece| is_link(piece))
 }
 
 /// Whether a piece is a link.
@@ -87,30 +100,60 @@ fn is_link(piece: &Piece) -> bool
     matches!(piece, Piece::Link(_))
 }
 
-/// Works one piece in place.
-fn work_one(
+/// A piece that is to be worked in place. For contracts alone it has the words at opening.
+#[derive(Drop)]
+pub struct Opened {
+    piece: Piece,
+    words: Snapshot<Vec<u64>>,
+}
+
+/// The pieces, each with the words.
+fn opened_pieces(
+    alloc: Global,
+    words: &Vec<u64>,
+    pieces: Vec<Piece>,
+) -> Result<Vec<Opened>, AllocError>
+    ensures { IfOk result (λ opened. AllZip (IsOpened words.now.items) pieces.items opened.items) }
+{
+    let mut list = Vec::with_capacity(alloc, pieces.len())?;
+    for piece in pieces {
+        let opening = Snapshot::of(words);
+        list.push(Opened {
+            piece,
+            words: opening,
+        })?;
+    }
+    Ok(list)
+}
+
+/// Works pieces one after another on the words themselves.
+fn work_in_place(
     alloc: Global,
     mut words: Vec<u64>,
-    mut pieces: Vec<Piece>,
+    pieces: Vec<Piece>,
 ) -> Result<(Vec<u64>, Vec<Done>), AllocError>
     requires in_place { IsInPlace pieces.items }
     requires each { All IsPiece pieces.items }
     requires can { CanBeWorked words.items pieces.items }
     ensures { IfOk result (λ r. IsWorked words.items pieces.items r.0.items r.1.items) }
 {
-    let mut dones = Vec::with_capacity(alloc, 1)?;
-    if let Some(piece) = pieces.pop() {
+    let mut dones = Vec::with_capacity(alloc, pieces.len())?;
+    for next in opened_pieces(alloc, &words, pieces)? {
+        let Opened {
+            piece,
+            words: opening,
+        } = next;
         let of = Snapshot::of(&piece);
-        let opening = Snapshot::of(&words);
-        let found = work_piece(alloc, &mut words, None, piece)?;
-        dones.push(Done::new(0, found.kept, found.status, found.answers, of, opening))?;
+        let found = work_piece(alloc, &mut words, piece)?;
+        let number = dones.len();
+        dones.push(Done::new(number, found.kept, found.status, found.answers, of, opening))?;
     }
     Ok((words, dones))
 }
 
-/// Works pieces one after another on a copy of the words, beside the words at opening: a store may read what another piece
-/// changes.
-fn work_all(
+/// Works pieces one after another, of which one may read what another changes: the edits of all are made of the words at
+/// opening, and then done.
+fn work_by_edits(
     alloc: Global,
     words: Vec<u64>,
     pieces: Vec<Piece>,
@@ -119,46 +162,49 @@ fn work_all(
     requires can { CanBeWorked words.items pieces.items }
     ensures { IfOk result (λ r. IsWorked words.items pieces.items r.0.items r.1.items) }
 {
-    let mut after = Vec::from_slice(alloc, &words)?;
-    let mut dones = Vec::with_capacity(alloc, pieces.len())?;
-    for piece in pieces {
-        let of = Snapshot::of(&piece);
-        let opening = Snapshot::of(&words);
-        let found = work_piece(alloc, &mut after, Some(&words), piece)?;
-        let number = dones.len();
-        dones.push(Done::new(number, found.kept, found.status, found.answers, of, opening))?;
-    }
-    Ok((after, dones))
+    let opening = Snapshot::of(&pieces);
+    let parts = parts_in_turn(alloc, &words, pieces)?;
+    finish(alloc, words, parts, opening)
 }
 
-/// Works a piece on words, and returns what it finds out of the words at opening. These are given where a store may read what
-/// another piece or store changes; else the words are as at opening where the piece reads them.
-fn work_piece(
+/// The parts of all pieces, in their order.
+fn parts_in_turn(
     alloc: Global,
-    words: &mut [u64],
-    opening: Option<&[u64]>,
-    piece: Piece,
-) -> Result<Found, AllocError>
-    requires packs { AllPass is_pack (start opening words.old) }
-    requires many { length (start opening words.old) ≡ length words.old }
+    words: &Vec<u64>,
+    pieces: Vec<Piece>,
+) -> Result<Vec<Part>, AllocError>
+    requires each { All IsPiece pieces.items }
+    requires can { CanBeWorked words.now.items pieces.items }
+    ensures { IfOk result (λ parts. AllZip (IsPartOf words.now.items) pieces.items parts.items) }
+{
+    let mut parts = Vec::with_capacity(alloc, pieces.len())?;
+    for piece in pieces {
+        parts.push(part_of(alloc, words, piece)?)?;
+    }
+    Ok(parts)
+}
+
+/// Works a piece on words, and returns what it finds out of them.
+fn work_piece(alloc: Global, words: &mut [u64], piece: Piece) -> Result<Found, AllocError>
+    requires packs { AllPass is_pack words.old }
     requires piece { IsPiece piece }
     requires names { NamesWords words.old piece }
-    requires given { is_some opening ≡ false → is_link piece ≡ true → length_of piece ≤ 1 }
-    ensures words { IfOk result (λ _. words.new ≡ words_after words.old (effects (start opening.entry words.old) piece)) }
-    ensures value { IfOk result (λ f. found_as f.kept f.status f.answers ≡ value (start opening.entry words.old) piece) }
+    requires few { is_link piece ≡ true → length_of piece ≤ 1 }
+    ensures words { IfOk result (λ _. words.new ≡ words_after words.old (effects words.old piece)) }
+    ensures value { IfOk result (λ f. found_as f.kept f.status f.answers ≡ value words.old piece) }
 {
     match piece {
-        Piece::Strip(strip) => Ok(work_strip(alloc, words, opening, strip)),
+        Piece::Strip(strip) => Ok(work_strip(alloc, words, strip)),
         Piece::Link(link) => {
-            put(words, opening, &link);
+            put(words, &link);
             Ok(nothing(alloc))
         }
         Piece::Move(pairs) => {
-            transfer(words, opening, &pairs);
+            transfer(words, &pairs);
             Ok(nothing(alloc))
         }
         Piece::Touch(touch) => {
-            let answers = answers(alloc, opening.unwrap_or(words), &touch)?;
+            let answers = answers(alloc, words, &touch)?;
             mark(words, &touch, &answers);
             Ok(Found {
                 kept: no_nodes(alloc),
@@ -170,20 +216,16 @@ fn work_piece(
 }
 
 /// Works a strip, and cuts its nodes down to those that are kept.
-fn work_strip(alloc: Global, words: &mut [u64], opening: Option<&[u64]>, strip: Strip) -> Found
-    requires packs { AllPass is_pack (start opening words.old) }
-    requires many { length (start opening words.old) ≡ length words.old }
+fn work_strip(alloc: Global, words: &mut [u64], strip: Strip) -> Found
+    requires packs { AllPass is_pack words.old }
     requires strip { IsStrip strip }
     requires names { NamesWords words.old (piece.Strip strip) }
-    ensures words { words.new ≡ words_after words.old (effects (start opening.entry words.old) (piece.Strip strip)) }
-    ensures value { found_as result.kept result.status result.answers ≡ value (start opening.entry words.old) (piece.Strip strip) }
+    ensures words { words.new ≡ words_after words.old (effects words.old (piece.Strip strip)) }
+    ensures value { found_as result.kept result.status result.answers ≡ value words.old (piece.Strip strip) }
 {
     let (mut slice, masks, indexes, at) = strip.into_parts();
-    let before: &[u64] = opening.unwrap_or(words);
-    let status = status_at(before, &indexes);
-    let kept = keep(before, &mut slice.nodes, &masks, &indexes);
+    let (kept, status) = narrow_and_keep(words, &mut slice.nodes, &masks, &indexes);
     slice.nodes.truncate(kept);
-    narrow(words, opening, &indexes, &masks);
     if let Some(at) = at {
         fold(words, at, status);
     }

@@ -71,7 +71,7 @@ fn parts_of(
 }
 
 /// The part of one piece.
-fn part_of(alloc: Global, words: &Vec<u64>, piece: Piece) -> Result<Part, AllocError>
+pub fn part_of(alloc: Global, words: &Vec<u64>, piece: Piece) -> Result<Part, AllocError>
     requires packs { AllPass is_pack words.now.items }
     requires names { NamesWords words.now.items piece }
     requires piece { IsPiece piece }
@@ -144,7 +144,7 @@ fn find_in_strip(
 }
 
 /// Makes the edits of all parts, in their order, and hands over what each piece found out.
-fn finish(
+pub fn finish(
     alloc: Global,
     mut words: Vec<u64>,
     parts: Vec<Part>,

@@ -1,17 +1,19 @@
-ghost use Rattle.std.specs.Prelude.{◌≡◌, ◌<◌, ◌≤◌, length, IfOk};
-ghost use Rattle.pieces.specs.Phases.{CanBeWorked};
-ghost use Rattle.crew.specs.Worked.{IsWorked};
+ghost use Rattle.std.specs.Prelude.{◌≡◌, ◌≤◌};
 
 use crate::alone::work_alone;
 use crate::beside::work_beside;
 use crate::error::CrewError;
 use crate::gate::Gate;
+use crate::workers::Workers;
 use pieces::{Done, Piece};
 use std::alloc::Global;
 use std::thread::Threads;
 
-/// Worker threads, who work the pieces of a phase beside one another. With one worker, or of one piece, the calling thread works
-/// alone.
+/// A thread is started where the work comes to so many pieces of full length. With less, to start it takes longer than to do
+/// the work.
+const ENOUGH_PIECES: usize = 16;
+
+/// Worker threads, who work the pieces of a phase beside one another.
 #[derive(Drop)]
 pub struct Crew<'a, R, G> {
     rt: &'a R,
@@ -37,34 +39,43 @@ impl<'a, R: Threads + Sync, G: Gate> Crew<'a, R, G> {
             piece_length,
         }
     }
+}
 
-    /// The most nodes, stores, pairs or accesses that a piece is to have.
-    pub fn piece_length(&self) -> usize
-        ensures some { 1 ≤ result }
-        ensures length { result ≡ self.now.piece_length }
-    {
+impl<'a, R: Threads + Sync, G: Gate> Workers for Crew<'a, R, G> {
+    ghost use denote.Param.Send.{IsSync};
+
+    ghost ready = { λ _. IsSync R.row };
+
+    fn piece_length(&self) -> usize {
         self.piece_length
     }
 
-    /// Works all pieces of a phase, and returns what `Workers::work` does. Where a thread cannot be started, others work its
-    /// pieces.
-    ///
-    /// Refused, where memory is: `NoMemory`. Then what was given is gone.
-    pub fn work(
+    /// Works all pieces of a phase. With one worker, of one piece, and of little work, the calling thread works alone. Where a
+    /// thread cannot be started, others work its pieces.
+    fn work(
         &self,
         alloc: Global,
         words: Vec<u64>,
         pieces: Vec<Piece>,
-    ) -> Result<(Vec<u64>, Vec<Done>), CrewError>
-        requires some { 0 < length pieces.items }
-        requires can { CanBeWorked words.items pieces.items }
-        ensures { IfOk result (λ r. IsWorked words.items pieces.items r.0.items r.1.items) }
-    {
-        let worked = if self.workers == 1 || pieces.len() == 1 {
+    ) -> Result<(Vec<u64>, Vec<Done>), CrewError> {
+        let enough = self.piece_length.saturating_mul(ENOUGH_PIECES);
+        let worked = if self.workers == 1 || pieces.len() == 1 || !have(&pieces, enough) {
             work_alone(alloc, words, pieces)?
         } else {
             work_beside(self.rt, alloc, words, pieces)?
         };
         Ok(worked)
     }
+}
+
+/// Whether pieces have so many nodes, stores, pairs and accesses.
+fn have(pieces: &[Piece], enough: usize) -> bool {
+    let mut count: usize = 0;
+    for piece in pieces {
+        count = count.saturating_add(piece.len());
+        if count >= enough {
+            return true;
+        }
+    }
+    false
 }

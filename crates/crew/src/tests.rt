@@ -3,6 +3,7 @@
 ghost use Rattle.std.specs.Prelude.{◌≡◌, ◌<◌, ◌≤◌, length, IfOk, ◌∷◌, []};
 ghost use Rattle.pieces.specs.Phases.{CanBeWorked};
 
+use crate::beside::work_beside;
 use crate::{Alone, Crew, CrewError, NoGate, Workers};
 use fpage::{Access, Rights};
 use maptree::{Node, Slice};
@@ -66,14 +67,14 @@ fn touch_case(alloc: Global) -> Result<(Vec<u64>, Vec<Piece>), NoMemory>
     Ok((words, pieces))
 }
 
-/// Two pairs, in one piece.
+/// Two pairs, in pieces of one.
 fn move_case(alloc: Global) -> Result<(Vec<u64>, Vec<Piece>), NoMemory>
     ensures { IfOk result (λ r. (0 < length r.1.items) × CanBeWorked r.0.items r.1.items) }
 {
     let words = Vec::from_slice(alloc, &[0x1_0000_0536, 0, 0x1_0000_090c, 0])?;
     let first = Pair { taken: 0, put: 3 };
     let second = Pair { taken: 2, put: 1 };
-    let pieces = moves(alloc, Vec::from_slice(alloc, &[first, second])?, 2)?;
+    let pieces = moves(alloc, Vec::from_slice(alloc, &[first, second])?, 1)?;
     Ok((words, pieces))
 }
 
@@ -121,6 +122,7 @@ fn worked_by<T: Workers>(
     words: Vec<u64>,
     pieces: Vec<Piece>,
 ) -> Result<(Vec<u64>, Vec<Done>), CrewError>
+    requires ready { T.ready workers.now }
     requires some { 0 < length pieces.items }
     requires can { CanBeWorked words.items pieces.items }
 {
@@ -135,7 +137,20 @@ fn found(alloc: Global, dones: Vec<Done>, pieces: usize) -> Result<Gathered, NoM
     }
 }
 
-/// The words of a link after a crew of so many workers, and the words and answers of a touch.
+/// The words of a link after worker threads, however little there is to do, and the words and answers of a touch.
+fn by_threads<R: Threads + Sync>(
+    rt: &R,
+    alloc: Global,
+) -> Result<(Vec<u64>, Vec<u64>, Vec<bool>), CrewError> {
+    let (words, pieces) = link_case(alloc)?;
+    let (linked, _) = work_beside(rt, alloc, words, pieces)?;
+    let (words, pieces) = touch_case(alloc)?;
+    let (touched, dones) = work_beside(rt, alloc, words, pieces)?;
+    let gathered = found(alloc, dones, 3)?;
+    Ok((linked, touched, gathered.answers))
+}
+
+/// The same after a crew of so many workers.
 fn by_crew<R: Threads + Sync>(
     rt: &R,
     alloc: Global,
@@ -160,6 +175,7 @@ fn crews_read_words_at_opening_and_add_marks_up(rt: HostRuntime) -> Result<(), F
         by_crew(&rt, alloc, 1)?,
         by_crew(&rt, alloc, 4)?,
         by_crew(&rt, alloc, 64)?,
+        by_threads(&rt, alloc)?,
     ] {
         assert_eq!(rt;
             linked.as_slice(),
@@ -191,7 +207,7 @@ fn one_thread_links_and_moves(rt: HostRuntime) -> Result<(), Fail> {
         after.as_slice(),
         [0, 0x1_0000_0904, 0, 0x1_0000_0506].as_slice()
     );
-    assert_eq!(rt; dones.len(), 1);
+    assert_eq!(rt; dones.len(), 2);
     Ok(())
 }
 

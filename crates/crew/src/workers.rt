@@ -11,6 +11,9 @@ pub trait Workers {
     ghost use Rattle.pieces.specs.Phases.{CanBeWorked};
     ghost use Rattle.crew.specs.Worked.{IsWorked};
 
+    /// What there must be, so that there can be work: for worker threads, that the threads may share the right to start others.
+    ghost ready: { Self → Type 0 };
+
     /// The most nodes, stores, pairs or accesses that a piece is to have.
     fn piece_length(&self) -> usize
         ensures { 1 ≤ result };
@@ -25,6 +28,7 @@ pub trait Workers {
         words: Vec<u64>,
         pieces: Vec<Piece>,
     ) -> Result<(Vec<u64>, Vec<Done>), CrewError>
+        requires ready { ready self.now }
         requires some { 0 < length pieces.items }
         requires can { CanBeWorked words.items pieces.items }
         ensures { IfOk result (λ r. IsWorked words.items pieces.items r.0.items r.1.items) };

@@ -9,3 +9,4 @@ pub mod Links
 pub mod Maps
 pub mod Renamings
 pub mod Phases
+pub mod Planned

@@ -12,3 +12,7 @@ pub mod Beside
 pub mod Whole
 pub mod WorkedPhase
 pub mod AccessPhase
+pub mod WrittenPhase
+pub mod Counted
+pub mod MapPhase
+pub mod MovePhase

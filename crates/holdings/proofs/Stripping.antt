@@ -4,4 +4,3 @@ pub mod Sequences
 pub mod Outer
 pub mod Frames
 pub mod HeldPages
-pub mod Named

@@ -9,7 +9,7 @@ use space::{Place, Shards};
 use std::alloc::{AllocError, Global};
 
 impl Holdings {
-    ghost use Rattle.std.specs.Prelude.{IfOk};
+    ghost use Rattle.std.specs.Prelude.{◌∷◌, [], IfOk};
     ghost use Rattle.std.specs.List.{All};
     ghost use Rattle.holdings.specs.Contents.{AreAccessed};
     ghost use Rattle.holdings.specs.Places.{IsWithin};
@@ -23,9 +23,15 @@ impl Holdings {
         accesses: &[(Place, Access)],
         workers: &W,
     ) -> Result<(Self, Vec<bool>), CrewError>
-        requires { All (λ access. IsWithin self.limits access.0) accesses.now }
+        requires workers { W.ready workers.now }
+        requires within { All (λ access. IsWithin self.limits access.0) accesses.now }
         ensures { IfOk result (AreAccessed self accesses.now) }
     {
+        // Of one access a list of pieces would cost more than the access.
+        if let [(place, access)] = accesses {
+            let made = self.access_page(alloc, *place, *access)?;
+            return Ok(made);
+        }
         let Holdings { mut shards, trees } = self;
         let list = word_accesses(alloc, &shards, accesses)?;
         let pieces = touches(alloc, list, workers.piece_length())?;
@@ -34,6 +40,22 @@ impl Holdings {
         }
         let found = work_phase(alloc, &mut shards, pieces, workers)?;
         Ok((Holdings { shards, trees }, found.answers))
+    }
+
+    /// Makes one access, and says whether it was made.
+    fn access_page(
+        self,
+        alloc: Global,
+        place: Place,
+        access: Access,
+    ) -> Result<(Self, Vec<bool>), AllocError>
+        requires { IsWithin self.limits place }
+        ensures { IfOk result (AreAccessed self ((place, access) ∷ [])) }
+    {
+        let mut held = self;
+        let mut answers = Vec::with_capacity(alloc, 1)?;
+        answers.push(held.touch(place, access))?;
+        Ok((held, answers))
     }
 }
 

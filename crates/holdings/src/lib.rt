@@ -15,6 +15,7 @@ mod moves;
 mod outcome;
 mod pages;
 mod phase;
+mod planning;
 mod prune;
 mod recursion;
 mod renaming;
@@ -24,6 +25,7 @@ mod strip;
 mod transfer;
 mod transfer_counts;
 mod tree;
+mod writes;
 
 pub use holdings::Holdings;
 pub use item_pages::ItemPages;

@@ -4,10 +4,13 @@ use crate::holdings::Holdings;
 use crate::link::{insert_links, new_links};
 use crate::transfer::Transfer;
 use crate::transfer_counts::TransferCounts;
+use crate::writes::write_phase;
+use crew::{CrewError, Workers};
 use fpage::Rights;
 use maptree::Tree;
-use space::{Entry, NoMemory, Place, Shards};
-use std::alloc::Global;
+use pieces::{Store, links};
+use space::{Place, Shards};
+use std::alloc::{AllocError, Global};
 
 impl Holdings {
     ghost use Rattle.std.specs.Prelude.{IfOk};
@@ -17,13 +20,15 @@ impl Holdings {
     /// Maps pages on: the target of each transfer becomes a new mapping of what its source holds, with these rights as far as
     /// the source has them; or the mapping there gains them. A transfer whose source is not held is lost.
     ///
-    /// Refused, where memory is: `NoMemory`.
-    pub fn map(
+    /// Refused, where memory or a worker is: `NoMemory`, `NoWorker`.
+    pub fn map<W: Workers>(
         self,
         alloc: Global,
         transfers: &[Transfer],
         rights: Rights,
-    ) -> Result<(Self, TransferCounts), NoMemory>
+        workers: &W,
+    ) -> Result<(Self, TransferCounts), CrewError>
+        requires workers { W.ready workers.now }
         requires planned { ArePlanned self.limits transfers.now }
         requires ready { AreReady self.holdings rights transfers.now }
         ensures { IfOk result (AreMapped self transfers.now rights) }
@@ -32,46 +37,39 @@ impl Holdings {
             mut shards,
             mut trees,
         } = self;
-        let links = new_links(alloc, &shards, transfers)?;
-        insert_links(alloc, &mut trees, links)?;
-        let mut worked = TransferCounts::none();
-        for transfer in transfers {
-            let one = map_page(&mut shards, *transfer, rights);
-            worked = worked.plus(one);
-        }
-        Ok((Holdings { shards, trees }, worked))
+        let counts = TransferCounts::of_all(&shards, transfers);
+        let stores = stores(alloc, &shards, transfers, rights)?;
+        let pieces = links(alloc, stores, workers.piece_length())?;
+        let new_mappings = new_links(alloc, &shards, transfers)?;
+        insert_links(alloc, &mut trees, new_mappings)?;
+        write_phase(alloc, &mut shards, pieces, workers)?;
+        Ok((Holdings { shards, trees }, counts))
     }
 }
 
-ghost use Rattle.std.specs.Prelude.{◌≡◌, None, Some};
-ghost use Rattle.holdings.specs.Meaning.{counts_of};
-ghost use Rattle.std.specs.Prelude.{IsFalse};
-ghost use Rattle.space.specs.declared.place.Entry.{Entry};
-ghost use Rattle.space.specs.Shards.{IsPlace, entry_at, is_taken};
-ghost use Rattle.holdings.specs.Inner.Links.{IsPageLost, IsPageMapped};
+ghost use Rattle.std.specs.Prelude.{◌≡◌, IfOk, IsFalse};
+ghost use Rattle.std.specs.List.{All};
+ghost use Rattle.space.specs.Shards.{IsPlace, is_taken};
+ghost use Rattle.holdings.specs.Inner.Planning.{stores_of};
 
-/// Works one page of a MapItem, whose new mapping stands in the tree already.
-fn map_page(shards: &mut Shards, transfer: Transfer, rights: Rights) -> TransferCounts
-    requires source { IsPlace shards.old transfer.source }
-    requires target { IsPlace shards.old transfer.target }
-    requires present { IsFalse (is_taken shards.old) }
-    ensures lost { entry_at shards.old transfer.source ≡ None → IsPageLost shards.old shards.new (counts_of result) }
-    ensures mapped { (e : Entry) → entry_at shards.old transfer.source ≡ Some e → IsPageMapped shards.old shards.new rights transfer e (counts_of result) }
+/// The stores of the transfers whose source is held, by the words of their pages.
+fn stores(
+    alloc: Global,
+    shards: &Shards,
+    transfers: &[Transfer],
+    rights: Rights,
+) -> Result<Vec<Store>, AllocError>
+    requires present { IsFalse (is_taken shards.now) }
+    requires places { All (λ t. IsPlace shards.now t.source × IsPlace shards.now t.target) transfers.now }
+    ensures { IfOk result (λ stores. stores.items ≡ stores_of shards.now rights transfers.now) }
 {
-    let Some(source) = shards.get(transfer.source) else {
-        return TransferCounts::one_lost();
-    };
-    let rights = source.rights.meet(rights);
-    if transfer.extends {
-        shards.extend(transfer.target, rights);
-        return TransferCounts::one_extended();
+    let mut stores = Vec::new(alloc);
+    for transfer in transfers {
+        if shards.get(transfer.source).is_some() {
+            let read = shards.index(transfer.source);
+            let put = shards.index(transfer.target);
+            stores.push(Store { read, put, rights })?;
+        }
     }
-    let status = Rights::none();
-    let entry = Entry {
-        rights,
-        status,
-        ..source
-    };
-    shards.set(transfer.target, Some(entry));
-    TransferCounts::one_linked()
+    Ok(stores)
 }

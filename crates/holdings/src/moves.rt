@@ -5,10 +5,12 @@ use crate::link::new_links;
 use crate::renaming::rename_links;
 use crate::transfer::Transfer;
 use crate::transfer_counts::TransferCounts;
-use fpage::Rights;
+use crate::writes::write_phase;
+use crew::{CrewError, Workers};
 use maptree::Tree;
-use space::{Entry, NoMemory, Place, Shards};
-use std::alloc::Global;
+use pieces::{Pair, moves};
+use space::{Place, Shards};
+use std::alloc::{AllocError, Global};
 
 impl Holdings {
     ghost use Rattle.std.specs.Prelude.{IfOk};
@@ -18,12 +20,14 @@ impl Holdings {
     /// Moves pages: what the source of each transfer holds stands at its target instead, without status, and what derives
     /// from the source derives from the target. A transfer whose source is not held is lost.
     ///
-    /// Refused, where memory is: `NoMemory`.
-    pub fn rename(
+    /// Refused, where memory or a worker is: `NoMemory`, `NoWorker`.
+    pub fn rename<W: Workers>(
         self,
         alloc: Global,
         transfers: &[Transfer],
-    ) -> Result<(Self, TransferCounts), NoMemory>
+        workers: &W,
+    ) -> Result<(Self, TransferCounts), CrewError>
+        requires workers { W.ready workers.now }
         requires planned { ArePlanned self.limits transfers.now }
         requires all_go { AllGo transfers.now }
         requires free { AreFree self.holdings transfers.now }
@@ -33,40 +37,34 @@ impl Holdings {
             mut shards,
             mut trees,
         } = self;
+        let counts = TransferCounts::of_all(&shards, transfers);
+        let pairs = pairs(alloc, &shards, transfers)?;
+        let pieces = moves(alloc, pairs, workers.piece_length())?;
         let links = new_links(alloc, &shards, transfers)?;
         rename_links(alloc, &mut trees, links)?;
-        let mut worked = TransferCounts::none();
-        for transfer in transfers {
-            let one = move_page(&mut shards, transfer.source, transfer.target);
-            worked = worked.plus(one);
-        }
-        Ok((Holdings { shards, trees }, worked))
+        write_phase(alloc, &mut shards, pieces, workers)?;
+        Ok((Holdings { shards, trees }, counts))
     }
 }
 
-ghost use Rattle.std.specs.Prelude.{◌≡◌, None, Some};
-ghost use Rattle.holdings.specs.Meaning.{counts_of};
-ghost use Rattle.std.specs.Prelude.{false, IsFalse};
-ghost use Rattle.space.specs.declared.place.Entry.{Entry};
-ghost use Rattle.space.specs.Place.{same_place};
-ghost use Rattle.space.specs.Shards.{IsPlace, entry_at, is_taken};
-ghost use Rattle.holdings.specs.Inner.Links.{IsPageLost};
-ghost use Rattle.holdings.specs.Inner.Renamings.{IsPageMoved};
+ghost use Rattle.std.specs.Prelude.{◌≡◌, IfOk, IsFalse};
+ghost use Rattle.std.specs.List.{All};
+ghost use Rattle.space.specs.Shards.{IsPlace, is_taken};
+ghost use Rattle.holdings.specs.Inner.Planning.{word_pairs};
 
-/// Moves what a page holds, without its status, to the target, which stands in its place in the tree already.
-fn move_page(shards: &mut Shards, source: Place, target: Place) -> TransferCounts
-    requires source { IsPlace shards.old source }
-    requires target { IsPlace shards.old target }
-    requires apart { same_place source target ≡ false }
-    requires present { IsFalse (is_taken shards.old) }
-    ensures lost { entry_at shards.old source ≡ None → IsPageLost shards.old shards.new (counts_of result) }
-    ensures moved { (e : Entry) → entry_at shards.old source ≡ Some e → IsPageMoved shards.old shards.new source target e (counts_of result) }
+/// The transfers whose source is held, by the words of their pages.
+fn pairs(alloc: Global, shards: &Shards, transfers: &[Transfer]) -> Result<Vec<Pair>, AllocError>
+    requires present { IsFalse (is_taken shards.now) }
+    requires places { All (λ t. IsPlace shards.now t.source × IsPlace shards.now t.target) transfers.now }
+    ensures { IfOk result (λ pairs. pairs.items ≡ word_pairs shards.now transfers.now) }
 {
-    let Some(entry) = shards.get(source) else {
-        return TransferCounts::one_lost();
-    };
-    shards.set(source, None);
-    let status = Rights::none();
-    shards.set(target, Some(Entry { status, ..entry }));
-    TransferCounts::one_linked()
+    let mut pairs = Vec::new(alloc);
+    for transfer in transfers {
+        if shards.get(transfer.source).is_some() {
+            let taken = shards.index(transfer.source);
+            let put = shards.index(transfer.target);
+            pairs.push(Pair { taken, put })?;
+        }
+    }
+    Ok(pairs)
 }

@@ -47,6 +47,24 @@ pub fn held_pages(
     Ok(pages)
 }
 
+ghost use Rattle.std.specs.List.Sorted.{IsNonDecreasingBy};
+
+/// The same, sorted by frame.
+pub fn sorted_pages(
+    alloc: Global,
+    shards: &Shards,
+    places: &[Place],
+) -> Result<Vec<HeldPage>, AllocError>
+    requires present { IsFalse (is_taken shards.now) }
+    requires places { All (IsPlace shards.now) places.now }
+    ensures held { IfOk result (λ pages. AreHeldPages shards.now (any_of places.now) pages.items) }
+    ensures sorted { IfOk result (λ pages. IsNonDecreasingBy (λ h. h.frame) pages.items) }
+{
+    let mut pages = held_pages(alloc, shards, places)?;
+    pages.sort_unstable_by_key(|page| page.frame);
+    Ok(pages)
+}
+
 /// The places of pages.
 pub fn places_of(alloc: Global, pages: &[HeldPage]) -> Result<Vec<Place>, AllocError>
     ensures { IfOk result (λ places. places.items ≡ places_in pages.now) }

@@ -17,6 +17,7 @@ pub fn work_phase<W: Workers>(
     pieces: Vec<Piece>,
     workers: &W,
 ) -> Result<Gathered, CrewError>
+    requires workers { W.ready workers.now }
     requires some { 0 < length pieces.items }
     requires present { IsFalse (is_taken shards.old) }
     requires can { CanBeWorkedIn shards.old pieces.items }

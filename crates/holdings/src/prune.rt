@@ -8,6 +8,7 @@ ghost use Rattle.maptree.specs.Cuts.{outside, nodes_of, kept_of};
 ghost use Rattle.holdings.specs.Inner.Held.{has_entry};
 ghost use Rattle.holdings.specs.Inner.Stripping.{pruned, OriginsHaveEntries};
 
+use crate::planning::FrameRuns;
 use maptree::{Node, Slice, Tree};
 use space::{NoMemory, Shards};
 use std::alloc::{AllocError, Global};
@@ -38,6 +39,100 @@ pub fn prune(
     let parts = tree.cut(alloc, runs, usize::MAX)?;
     let kept = held_parts(alloc, shards, &parts)?;
     tree.splice(kept)
+}
+
+ghost use Rattle.holdings.specs.Inner.StripPlans.{AllCanBePruned, ArePruned};
+
+/// Takes the places without an entry out of the trees of these frames. They lie in the runs of these.
+///
+/// Refused, where memory is: `NoMemory`.
+pub fn prune_all(
+    alloc: Global,
+    shards: &Shards,
+    trees: &mut [Tree],
+    frames: &[FrameRuns],
+) -> Result<(), NoMemory>
+    requires present { IsFalse (is_taken shards.now) }
+    requires can { AllCanBePruned shards.now trees.old frames.now }
+    ensures { OnOk result (ArePruned shards.now frames.now trees.old trees.new) }
+{
+    for frame in frames {
+        prune(alloc, shards, &mut trees[frame.frame as usize], &frame.runs)?;
+    }
+    Ok(())
+}
+
+ghost use Rattle.holdings.specs.Inner.StripPlans.{AreKeptNodes};
+
+/// The same, where these of the nodes of the runs were kept, in parts. Where all were kept, the trees stay as they are, and no
+/// entry is read.
+pub fn prune_gone(
+    alloc: Global,
+    shards: &Shards,
+    trees: &mut [Tree],
+    frames: &[FrameRuns],
+    kept: &[Slice],
+) -> Result<(), NoMemory>
+    requires present { IsFalse (is_taken shards.now) }
+    requires can { AllCanBePruned shards.now trees.old frames.now }
+    requires kept { AreKeptNodes shards.now trees.old frames.now (nodes_of kept.now) }
+    ensures { OnOk result (ArePruned shards.now frames.now trees.old trees.new) }
+{
+    if are_all_kept(frames, kept) {
+        return Ok(());
+    }
+    prune_all(alloc, shards, trees, frames)
+}
+
+ghost use Rattle.maptree.specs.Cuts.{count_of};
+ghost use Rattle.holdings.specs.Inner.StripPlans.{count_in_runs, count_in_frames};
+
+/// Whether as many nodes were kept as these runs have.
+fn are_all_kept(frames: &[FrameRuns], kept: &[Slice]) -> bool
+    requires { All (λ f. All (λ r. r.start ≤ r.end) f.runs.items) frames.now }
+    ensures { result ≡ true → count_of (nodes_of kept.now) ≡ count_in_frames frames.now }
+{
+    match (count_in_frames(frames), count_in_slices(kept)) {
+        (Some(all), Some(kept)) => kept == all,
+        _ => false,
+    }
+}
+
+ghost use Rattle.std.specs.Prelude.{IfSome};
+
+/// How many nodes some slices have, if the machine has such a number.
+fn count_in_slices(slices: &[Slice]) -> Option<usize>
+    ensures { IfSome result (λ count. count ≡ count_of (nodes_of slices.now)) }
+{
+    let mut count: usize = 0;
+    for slice in slices {
+        count = count.checked_add(slice.nodes.len())?;
+    }
+    Some(count)
+}
+
+/// The same of the runs of frames.
+fn count_in_frames(frames: &[FrameRuns]) -> Option<usize>
+    requires { All (λ f. All (λ r. r.start ≤ r.end) f.runs.items) frames.now }
+    ensures { IfSome result (λ count. count ≡ count_in_frames frames.now) }
+{
+    let mut count: usize = 0;
+    for frame in frames {
+        count = count.checked_add(count_in_runs(&frame.runs)?)?;
+    }
+    Some(count)
+}
+
+/// The same of the runs of one frame.
+fn count_in_runs(runs: &[Range<usize>]) -> Option<usize>
+    requires { All (λ r. r.start ≤ r.end) runs.now }
+    ensures { IfSome result (λ count. count ≡ count_in_runs runs.now) }
+{
+    let mut count: usize = 0;
+    for run in runs {
+        count = count.checked_add(run.end - run.start)?;
+    }
+    Some(count)
 }
 
 /// Whether each place of these runs has an entry.

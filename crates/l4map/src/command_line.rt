@@ -23,7 +23,7 @@ const EXAMPLE: &str =
   1,3,0,rw-,R--,0:0
   end 2 0
 
-Exit status: 0 done; 1 command line refused; 2 bad header or limits; 3 out of memory; 4 a read or a write failed.";
+Exit status: 0 done; 1 command line refused; 2 bad header or limits; 3 out of memory, or no thread could be started; 4 a read or a write failed.";
 
 /// What is said below the refusal of a word that is no option.
 const TIP: &str = "  tip: a trace is read from standard input, as in 'l4map < trace.csv'";
@@ -52,17 +52,17 @@ fn command<'a>(alloc: Global) -> Result<Command<'a>, AllocError> {
         .value_name("N")
         .value_parser(value_parser!(u32).range(1..=64))
         .default_value("4")
-        .help("How many workers work a call, 1 to 64; no effect yet, one works");
+        .help("How many workers work a call, 1 to 64");
     let piece = Arg::new(alloc, "piece")
         .long("piece")
         .value_name("N")
         .value_parser(value_parser!(u32).range(1..=65536))
         .default_value("256")
-        .help("How many parts of a call a worker takes at once, 1 to 65536; no effect yet");
+        .help("How many parts of a call a piece of its work has at most, 1 to 65536");
     let plain = Arg::new(alloc, "plain")
         .long("plain")
         .action(ArgAction::SetTrue)
-        .help("Work every unmap by recursion, page by page");
+        .help("Work every unmap by recursion, page by page, and all else with one worker");
     Command::new(alloc, "l4map")
         .version("0.1.0")
         .about(ABOUT)

@@ -1,12 +1,16 @@
 //! l4map: replays a trace of calls on a mapping database, and prints the replies and an audit.
 #![tactic(auto)]
 
+ghost use Rattle.std.specs.Prelude.{IfOk};
+ghost use Rattle.replay.specs.Options.{AreServed};
+
 mod command_line;
 mod error;
 #[cfg(test)]
 mod tests;
 
 use command_line::{OptionsError, parse};
+use crew::NoGate;
 use error::{status, tell};
 use replay::{Options, RunError, run};
 use std::alloc::AllocError;
@@ -21,7 +25,9 @@ use trace::{Sink, Std};
 const OUTPUT_BUFFER: usize = 65536;
 
 /// Reads the program's command line.
-fn read_command_line(rt: &(impl AllocGlobal + Env)) -> Result<Options, OptionsError> {
+fn read_command_line(rt: &(impl AllocGlobal + Env)) -> Result<Options, OptionsError>
+    ensures { IfOk result AreServed }
+{
     let alloc = rt.alloc();
     let arguments = match env::args(rt) {
         Ok(arguments) => arguments,
@@ -45,12 +51,14 @@ fn read_command_line(rt: &(impl AllocGlobal + Env)) -> Result<Options, OptionsEr
 fn replay_input(
     rt: &(impl AllocGlobal + Input + Print + Threads + Sync),
     options: &Options,
-) -> Result<(), RunError> {
+) -> Result<(), RunError>
+    requires { AreServed options.now }
+{
     let Ok(output) = BufWriter::with_capacity(rt.alloc(), OUTPUT_BUFFER, io::writer(rt)) else {
         return Err(RunError::NoMemory(0));
     };
     let mut reader = Std::new(rt.reader());
-    run(rt, &mut reader, &mut Std::new(output), options)?;
+    run(rt, &mut reader, &mut Std::new(output), options, &NoGate)?;
     Ok(())
 }
 

@@ -22,7 +22,7 @@ use Rattle.model.proofs.StripUnions.{strip_same}
 use Rattle.model.proofs.Flushes.{strip_absent}
 use Rattle.model.proofs.Grants.{without_withheld}
 use Rattle.fpage.specs.declared.item.ItemKind.TheVariants.{Grant}
-use Rattle.space.specs.declared.error.NoMemory.{NoMemory}
+use Rattle.crew.specs.declared.error.CrewError.{CrewError}
 use Rattle.holdings.specs.declared.transfer.Transfer.{Transfer}
 use Rattle.holdings.specs.declared.transfer_counts.TransferCounts.{TransferCounts}
 use Rattle.holdings.specs.Contents.{Contents, left_with, IsStripped, AreMoved}
@@ -118,7 +118,7 @@ module _ (old : Contents) (lawful : is_lawful old.holdings ≡ true) (rights : R
       (after_strip_free old.holdings (lawful_parts old.holdings lawful) rights (sources_of (moving_of old.holdings ts)) ts go ready)
 
   -- what was moved then is what the definition moves
-  pub moved_after : All (IsReady old.holdings rights) ts → (r : Result (Contents × TransferCounts) NoMemory) → IfOk r (AreMoved now ts) → IfOk r (AreWorkedBy old Grant rights ts)
+  pub moved_after : All (IsReady old.holdings rights) ts → (r : Result (Contents × TransferCounts) CrewError) → IfOk r (AreMoved now ts) → IfOk r (AreWorkedBy old Grant rights ts)
   moved_after ready (Err e) moved = tt
   moved_after ready (Ok r) moved =
       let h = old.holdings in

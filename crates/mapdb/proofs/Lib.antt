@@ -1,4 +1,3 @@
-pub mod Accesses
 pub mod Ends
 pub mod Plans
 pub mod Phases

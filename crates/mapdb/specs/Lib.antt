@@ -1,3 +1,4 @@
 pub mod Meaning
 pub mod State
 pub mod Sending
+pub mod Error

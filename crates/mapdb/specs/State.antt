@@ -1,21 +1,18 @@
 -- A database as its callers see it.
-use Rattle.std.specs.Prelude.{◌≡◌, ℕ, Bool, false, true, Result, Ok, Err, IfErr, Option, Some, None, option_map, if◌then◌else◌, List, [], ◌∷◌}
+use Rattle.std.specs.Prelude.{◌≡◌, ◌⊎◌, ℕ, Bool, false, true, Result, Ok, Err, IfErr, Option, Some, None, option_map, if◌then◌else◌, List, [], ◌∷◌}
 use Rattle.fpage.specs.Fpage.{Flexpage}
-use Rattle.fpage.specs.declared.rights.Access.{Access}
 use Rattle.fpage.specs.declared.rights.Rights.{Rights}
-use Rattle.space.specs.declared.place.Place.{Place}
 use Rattle.model.specs.Answers.{pages_in, call_refusal}
 use Rattle.model.specs.Calls.{Limits, Call, Refusal, same_space, no_window}
 use Rattle.model.specs.Holdings.{Holdings}
 use Rattle.model.specs.Recursion.{recur}
 use Rattle.model.specs.Replay.{start}
 use Rattle.model.specs.Strip.{strip, strip_word}
-use Rattle.model.specs.Touch.{can_touch, touch}
 use Rattle.holdings.specs.Contents.{Contents}
 use Rattle.mapdb.specs.declared.error.DbError.{DbError}
-use Rattle.mapdb.specs.declared.error.DbError.TheVariants.{NoSuchSpace, SameSpace, NoWindow, NoMemory, Halted}
+use Rattle.mapdb.specs.declared.error.DbError.TheVariants.{NoSuchSpace, SameSpace, NoWindow, NoMemory, NoWorker, Halted}
 
--- its limits, what is held, and whether it was halted by a call that ran out of memory; then nothing is held
+-- its limits, what is held, and whether it was halted by a call that ran out of memory, or that had no worker; then nothing is held
 pub record State : Type 0 where
   pub limits : Limits
   pub holdings : Holdings
@@ -35,7 +32,7 @@ AreLimitsOf limits (Some c) = c.limits ≡ limits
 abbrev pub new_state : Limits → State
 new_state limits = record { limits = limits; holdings = start limits; is_halted = false }
 
--- after a call that ran out of memory
+-- after a call that ran out of memory, or that had no worker
 abbrev pub halted : State → State
 halted s = record s { holdings = []; is_halted = true }
 
@@ -53,14 +50,14 @@ error_of same_space = SameSpace
 error_of no_window = NoWindow
 error_of other = NoSuchSpace
 
--- why a call is refused, if not for want of memory: the first that fits
+-- why a call is refused, if not for want of memory or of a worker: the first that fits
 abbrev pub refusal : State → Call → Option DbError
 refusal s call = if s.is_halted then Some Halted else option_map error_of (call_refusal s.limits call)
 
--- a call that is refused for this answers so and changes nothing; any other may run out of memory, and has no other error
+-- a call that is refused for this answers so and changes nothing; any other may run out of memory or have no worker, and has no other error
 abbrev pub IsRefused : {A : Type 0} → Option DbError → State → State → Result A DbError → Type 0
 IsRefused (Some why) old new result = (result ≡ Err why) × (new ≡ old)
-IsRefused None old new result = IfErr result (λ e. e ≡ NoMemory)
+IsRefused None old new result = IfErr result (λ e. (e ≡ NoMemory) ⊎ (e ≡ NoWorker))
 
 -- the status that each word of an unmap gives back, one word after another
 abbrev pub unmap_status : ℕ → Bool → List Flexpage → Holdings → List Rights

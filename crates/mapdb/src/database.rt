@@ -1,8 +1,8 @@
-use crate::access::touch_all;
 use crate::error::DbError;
 use crate::item::work_items;
 use crate::reply::SendReply;
-use crate::unmap::{Way, unmap_words};
+use crate::unmap::{unmap_words, unmap_words_by_recursion};
+use crew::Workers;
 use fpage::{Access, Control, Fpage, Item, Rights};
 use holdings::{Holdings, Limits, Mapping};
 use space::{Entry, Place};
@@ -11,11 +11,12 @@ use std::marker::Model;
 
 /// A mapping database. A contract sees its limits, its holdings, and whether it is halted.
 ///
-/// A call that runs out of memory halts the database: what it held is gone, and every later call is refused.
+/// A call that runs out of memory, or that cannot start a thread, halts the database: what it held is gone, and every later
+/// call is refused.
 #[derive(Drop)]
 pub struct Database {
     limits: Limits,
-    /// None once a call has run out of memory.
+    /// None once a call has halted the database.
     held: Option<Holdings>,
 }
 
@@ -48,7 +49,7 @@ impl Database {
     ghost use Rattle.mapdb.specs.State.{new_state, halted, left_with, unless_halted, refusal, IsRefused};
     ghost use Rattle.holdings.specs.Contents.{touched_all, access_answers};
     ghost use Rattle.mapdb.specs.State.{unmap_status, unmap_left, plain_status, plain_left};
-    ghost use Rattle.mapdb.specs.declared.error.DbError.TheVariants.{BadLimits, NoSuchSpace, NoMemory, Halted};
+    ghost use Rattle.mapdb.specs.declared.error.DbError.TheVariants.{BadLimits, NoSuchSpace, NoMemory, NoWorker, Halted};
 
     /// The database at the start: page `i` of space 0 holds frame `i` with all rights, for each frame.
     ///
@@ -88,7 +89,7 @@ impl Database {
         }
     }
 
-    /// Whether a call ran out of memory: every later call is then refused.
+    /// Whether a call ran out of memory, or could not start a thread: every later call is then refused.
     pub fn is_halted(&self) -> bool
         ensures { result ≡ self.now.is_halted }
     {
@@ -139,15 +140,18 @@ impl Database {
 
     /// Makes accesses one after another, and says of each whether it was made; otherwise it was a fault.
     ///
-    /// Refused where the database is halted, `Halted`, and where memory is, `NoMemory`: then the database is halted.
-    pub fn access_all(
+    /// Refused where the database is halted, `Halted`, and where memory or a worker is, `NoMemory`, `NoWorker`: then the
+    /// database is halted.
+    pub fn access_all<W: Workers>(
         &mut self,
         alloc: Global,
         accesses: &[(Place, Access)],
+        workers: &W,
     ) -> Result<Vec<bool>, DbError>
-        requires { All (λ access. IsWithin self.old.limits access.0) accesses.now }
+        requires workers { W.ready workers.now }
+        requires within { All (λ access. IsWithin self.old.limits access.0) accesses.now }
         ensures halted { IsErrOf result Halted ↔ (self.old.is_halted ≡ true) }
-        ensures errors { IfErr result (λ e. (e ≡ Halted) ⊎ (e ≡ NoMemory)) }
+        ensures errors { IfErr result (λ e. (e ≡ Halted) ⊎ (e ≡ NoMemory) ⊎ (e ≡ NoWorker)) }
         ensures err { OnErr result (self.new ≡ halted self.old) }
         ensures answers { IfOk result (λ answers.
             answers.items ≡ access_answers self.old.holdings accesses.now) }
@@ -156,7 +160,7 @@ impl Database {
         let Some(held) = self.held.take() else {
             return Err(DbError::Halted);
         };
-        let (held, answers) = touch_all(alloc, held, accesses)?;
+        let (held, answers) = held.access_all(alloc, accesses, workers)?;
         self.held = Some(held);
         Ok(answers)
     }
@@ -166,19 +170,22 @@ impl Database {
     /// with all that derives from them; then pages are mapped, or moved (profile).
     ///
     /// Refused, the first that fits: `Halted`; `NoSuchSpace`; `SameSpace`; `NoWindow`, for a nil window; and where memory
-    /// is, `NoMemory`: then the database is halted.
-    pub fn send(
+    /// or a worker is, `NoMemory`, `NoWorker`: then the database is halted.
+    pub fn send<W: Workers>(
         &mut self,
         alloc: Global,
         from: u16,
         to: u16,
         window: &Fpage,
         items: &[Item],
+        workers: &W,
     ) -> Result<SendReply, DbError>
+        requires workers { W.ready workers.now }
         requires window { IsFpageOf self.old.limits.bits window.now }
         requires items { All (λ item. IsFpageOf self.old.limits.bits item.sent) items.now }
         ensures refused { IsRefused (refusal self.old (send from to window.now items.now)) self.old self.new result }
         ensures no_memory { IsErrOf result NoMemory → self.new ≡ halted self.old }
+        ensures no_worker { IsErrOf result NoWorker → self.new ≡ halted self.old }
         ensures limits { self.new.limits ≡ self.old.limits }
         ensures counts { IfOk result (λ reply.
             counts_of reply ≡ (send_answer from to window.now items.now self.old.holdings).counts) }
@@ -198,7 +205,7 @@ impl Database {
             return Err(DbError::NoWindow);
         }
         let held = self.held.take().unwrap();
-        let (held, reply) = work_items(alloc, held, from, to, window, items)?;
+        let (held, reply) = work_items(alloc, held, from, to, window, items, workers)?;
         self.held = Some(held);
         Ok(reply)
     }
@@ -208,22 +215,25 @@ impl Database {
     /// of all that derives from them; theirs is cleared, and what it was is added to that of the page from which they
     /// come. A page that has no rights left is no longer held (L4 X.2, Unmap).
     ///
-    /// Refused, the first that fits: `Halted`; `NoSuchSpace`, where nothing changes; and where memory is, `NoMemory`:
-    /// then the database is halted.
-    pub fn unmap(
+    /// Refused, the first that fits: `Halted`; `NoSuchSpace`, where nothing changes; and where memory or a worker is,
+    /// `NoMemory`, `NoWorker`: then the database is halted.
+    pub fn unmap<W: Workers>(
         &mut self,
         alloc: Global,
         space: u16,
         control: Control,
         fpages: &[Fpage],
+        workers: &W,
     ) -> Result<Vec<Rights>, DbError>
+        requires workers { W.ready workers.now }
         requires bits { All (IsFpageOf self.old.limits.bits) fpages.now }
         ensures halted { IsErrOf result Halted ↔ (self.old.is_halted ≡ true) }
         ensures no_such_space { IsErrOf result NoSuchSpace ↔ ((self.old.is_halted ≡ false) × (self.old.limits.spaces ≤ space)) }
-        ensures errors { IfErr result (λ e. (e ≡ Halted) ⊎ (e ≡ NoSuchSpace) ⊎ (e ≡ NoMemory)) }
+        ensures errors { IfErr result (λ e. (e ≡ Halted) ⊎ (e ≡ NoSuchSpace) ⊎ (e ≡ NoMemory) ⊎ (e ≡ NoWorker)) }
         ensures refused { IsErrOf result NoSuchSpace → self.new ≡ self.old }
         ensures stays_halted { IsErrOf result Halted → self.new ≡ self.old }
         ensures no_memory { IsErrOf result NoMemory → (self.new.is_halted ≡ true) × (self.new.limits ≡ self.old.limits) }
+        ensures no_worker { IsErrOf result NoWorker → (self.new.is_halted ≡ true) × (self.new.limits ≡ self.old.limits) }
         ensures status { IfOk result (λ status.
             status.items ≡ unmap_status space control.flush fpages.now self.old.holdings) }
         ensures left { OnOk result (self.new ≡
@@ -237,15 +247,15 @@ impl Database {
         }
         let held = self.held.take().unwrap();
         let flush = control.is_flush();
-        let (held, status) = unmap_words(alloc, held, space, flush, fpages, Way::Runs)?;
+        let (held, status) = unmap_words(alloc, held, space, flush, fpages, workers)?;
         self.held = Some(held);
         Ok(status)
     }
 
-    /// The same as `unmap`, by recursion: page by page of those that an fpage names and that are still held, first what
-    /// derives from the page, and then the page itself. It takes longer.
+    /// The same as `unmap`, by recursion on the calling thread: page by page of those that an fpage names and that are still
+    /// held, first what derives from the page, and then the page itself. It takes longer.
     ///
-    /// Refused as `unmap` is.
+    /// Refused as `unmap` is, but that it needs no worker.
     pub fn unmap_plain(
         &mut self,
         alloc: Global,
@@ -277,7 +287,7 @@ impl Database {
         }
         let held = self.held.take().unwrap();
         let flush = control.is_flush();
-        let (held, status) = unmap_words(alloc, held, space, flush, fpages, Way::Recursion)?;
+        let (held, status) = unmap_words_by_recursion(alloc, held, space, flush, fpages)?;
         self.held = Some(held);
         Ok(status)
     }

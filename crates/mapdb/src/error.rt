@@ -1,3 +1,4 @@
+use crew::CrewError;
 use space::NoMemory;
 use std::alloc::AllocError;
 use thiserror::Error;
@@ -20,6 +21,9 @@ pub enum DbError {
     /// The call ran out of memory. A call that changes a database leaves it halted.
     #[error("NoMemory")]
     NoMemory,
+    /// A thread could not be started. The database is left halted.
+    #[error("NoWorker")]
+    NoWorker,
     /// The database was halted by a call before.
     #[error("Halted")]
     Halted,
@@ -44,5 +48,18 @@ impl From<AllocError> for DbError {
 
     fn from(_: AllocError) -> Self {
         DbError::NoMemory
+    }
+}
+
+impl From<CrewError> for DbError {
+    ghost use Rattle.mapdb.specs.Error.{IsOfCrew};
+
+    ghost from_gives = { IsOfCrew };
+
+    fn from(error: CrewError) -> Self {
+        match error {
+            CrewError::NoMemory => DbError::NoMemory,
+            CrewError::NoWorker => DbError::NoWorker,
+        }
     }
 }

@@ -7,20 +7,22 @@ ghost use Rattle.holdings.specs.Sending.{ArePlanned, AreReady, AllGo};
 ghost use Rattle.mapdb.specs.Sending.{AreWorkedBy};
 
 use crate::plan::{End, ends};
+use crew::{CrewError, Workers};
 use fpage::Rights;
 use holdings::{Holdings, Transfer, TransferCounts};
-use space::NoMemory;
 use std::alloc::Global;
 
 /// Works the pages of a GrantItem that go, as their sources and targets stand after the flush.
 ///
-/// Refused, where memory is: `NoMemory`.
-pub fn grant_pages(
+/// Refused, where memory or a worker is: `NoMemory`, `NoWorker`.
+pub fn grant_pages<W: Workers>(
     alloc: Global,
     held: Holdings,
     transfers: &[Transfer],
     rights: Rights,
-) -> Result<(Holdings, TransferCounts), NoMemory>
+    workers: &W,
+) -> Result<(Holdings, TransferCounts), CrewError>
+    requires workers { W.ready workers.now }
     requires lawful { is_lawful held.holdings ≡ true }
     requires planned { ArePlanned held.limits transfers.now }
     requires all_go { AllGo transfers.now }
@@ -29,6 +31,6 @@ pub fn grant_pages(
 {
     let sources = ends(alloc, transfers, End::Source)?;
     let withheld = Rights::all().without(rights);
-    let (held, _) = held.strip(alloc, &sources, withheld, true)?;
-    held.rename(alloc, transfers)
+    let (held, _) = held.strip(alloc, &sources, withheld, true, workers)?;
+    held.rename(alloc, transfers, workers)
 }

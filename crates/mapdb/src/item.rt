@@ -11,22 +11,24 @@ use crate::grant::grant_pages;
 use crate::item_pages::item_pages;
 use crate::plan::{End, ends, plan_item};
 use crate::reply::SendReply;
+use crew::{CrewError, Workers};
 use fpage::{Fpage, Item, ItemKind, Rights};
 use holdings::{Holdings, ItemPages, Transfer, TransferCounts};
-use space::NoMemory;
 use std::alloc::Global;
 
 /// Works items from one space to the window of another, one after another, and adds their counts.
 ///
-/// Refused, where memory is: `NoMemory`.
-pub fn work_items(
+/// Refused, where memory or a worker is: `NoMemory`, `NoWorker`.
+pub fn work_items<W: Workers>(
     alloc: Global,
     held: Holdings,
     from: u16,
     to: u16,
     window: &Fpage,
     items: &[Item],
-) -> Result<(Holdings, SendReply), NoMemory>
+    workers: &W,
+) -> Result<(Holdings, SendReply), CrewError>
+    requires workers { W.ready workers.now }
     requires from { from < held.limits.spaces }
     requires to { to < held.limits.spaces }
     requires differ { from ≡ to → ⊥ }
@@ -39,7 +41,7 @@ pub fn work_items(
     let mut reply = SendReply::none();
     for item in items {
         let pages = item_pages(from, to, window, item);
-        let (left, worked) = work_item(alloc, held, &pages)?;
+        let (left, worked) = work_item(alloc, held, &pages, workers)?;
         held = left;
         reply = reply.plus(worked);
     }
@@ -53,20 +55,22 @@ ghost use Rattle.mapdb.specs.Meaning.{counts_of};
 /// Works one item: the outcome of each page from the start; the flush of the targets that are replaced; then the pages
 /// whose sources are still held (profile).
 ///
-/// Refused, where memory is: `NoMemory`.
-fn work_item(
+/// Refused, where memory or a worker is: `NoMemory`, `NoWorker`.
+fn work_item<W: Workers>(
     alloc: Global,
     held: Holdings,
     pages: &ItemPages,
-) -> Result<(Holdings, SendReply), NoMemory>
-    requires { AreItemPages held.limits pages.now }
+    workers: &W,
+) -> Result<(Holdings, SendReply), CrewError>
+    requires workers { W.ready workers.now }
+    requires pages { AreItemPages held.limits pages.now }
     ensures sent { IfOk result (IsSent held (item_answer held.holdings (job_of_pages pages.now)).left (item_answer held.holdings (job_of_pages pages.now)).counts) }
     ensures few { IfOk result (λ r. total (counts_of r.1) < 2 ^ 32) }
 {
     let plan = plan_item(alloc, &held, pages)?;
     let replaced = ends(alloc, &plan.transfers, End::Target)?;
-    let (held, _) = held.strip(alloc, &replaced, Rights::all(), true)?;
-    let (held, worked) = map_or_grant(alloc, held, pages, &plan.transfers)?;
+    let (held, _) = held.strip(alloc, &replaced, Rights::all(), true, workers)?;
+    let (held, worked) = map_or_grant(alloc, held, pages, &plan.transfers, workers)?;
     Ok((held, plan.decided.plus(SendReply::of_transfers(worked))))
 }
 
@@ -78,13 +82,15 @@ ghost use Rattle.mapdb.specs.Sending.{AreWorkedBy};
 
 /// Works the pages whose sources are still held after the flush.
 ///
-/// Refused, where memory is: `NoMemory`.
-fn map_or_grant(
+/// Refused, where memory or a worker is: `NoMemory`, `NoWorker`.
+fn map_or_grant<W: Workers>(
     alloc: Global,
     held: Holdings,
     pages: &ItemPages,
     transfers: &[Transfer],
-) -> Result<(Holdings, TransferCounts), NoMemory>
+    workers: &W,
+) -> Result<(Holdings, TransferCounts), CrewError>
+    requires workers { W.ready workers.now }
     requires lawful { is_lawful held.holdings ≡ true }
     requires planned { ArePlanned held.limits transfers.now }
     requires all_go { pages.now.kind ≡ Grant → AllGo transfers.now }
@@ -92,7 +98,7 @@ fn map_or_grant(
     ensures { IfOk result (AreWorkedBy held pages.now.kind pages.now.rights transfers.now) }
 {
     match pages.kind {
-        ItemKind::Map => held.map(alloc, transfers, pages.rights),
-        ItemKind::Grant => grant_pages(alloc, held, transfers, pages.rights),
+        ItemKind::Map => held.map(alloc, transfers, pages.rights, workers),
+        ItemKind::Grant => grant_pages(alloc, held, transfers, pages.rights, workers),
     }
 }

@@ -1,7 +1,6 @@
 //! The mapping database: which space holds which page, with which rights, and from whom the page came.
 #![tactic(auto)]
 
-mod access;
 mod database;
 mod error;
 mod grant;

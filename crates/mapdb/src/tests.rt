@@ -4,13 +4,14 @@ ghost use Rattle.std.specs.Prelude.{◌≡◌, ◌<◌};
 ghost use Rattle.space.specs.Directory.{pages_of};
 ghost use Rattle.fpage.specs.Fpage.{IsSpaceBits};
 
+mod accesses;
 mod chains;
 mod frames;
-mod phases;
 mod unmaps;
 
 use crate::{Database, DbError, Limits, SendReply};
-use fpage::{Access, Fpage, Item, Rights};
+use crew::{Alone, Workers};
+use fpage::{Fpage, Item, Rights};
 use space::{Entry, Place};
 use std::alloc::Global;
 use std::process::Abort;
@@ -64,15 +65,17 @@ fn page_word(page: u32, rights: Rights) -> u32
 }
 
 /// Maps a page to a page of another space, with its rights as far as these go.
-fn send_page(
+fn send_page<T: Workers>(
     rt: &impl Abort,
     database: &mut Database,
     alloc: Global,
+    workers: &T,
     bits: u32,
     source: Place,
     target: Place,
     rights: Rights,
 ) -> Result<SendReply, DbError>
+    requires workers { T.ready workers.now }
     requires bits { IsSpaceBits bits }
     requires limits { database.old.limits.bits ≡ bits }
     requires source { source.page < 4096 }
@@ -85,7 +88,7 @@ fn send_page(
     let Ok(item) = Item::read(8, page_word(source.page, rights), bits) else {
         panic!(rt; "{source} is no page");
     };
-    database.send(alloc, source.space, target.space, &window, &[item])
+    database.send(alloc, source.space, target.space, &window, &[item], workers)
 }
 
 /// Maps a page to a page of the other space, and looks at the reply.
@@ -103,7 +106,16 @@ fn expect_map(
     requires target { target.page < pages_of 18 }
     ensures { database.new.limits ≡ database.old.limits }
 {
-    let answer = send_page(rt, database, alloc, 18, source, target, given)?;
+    let answer = send_page(
+        rt,
+        database,
+        alloc,
+        &Alone::new(256),
+        18,
+        source,
+        target,
+        given,
+    )?;
     assert_eq!(rt; answer, reply, "{target}");
     Ok(())
 }
@@ -173,6 +185,7 @@ fn tells_its_errors_by_name(rt: HostRuntime) -> Result<(), Fail> {
         (DbError::SameSpace, "SameSpace"),
         (DbError::NoWindow, "NoWindow"),
         (DbError::NoMemory, "NoMemory"),
+        (DbError::NoWorker, "NoWorker"),
         (DbError::Halted, "Halted"),
     ] {
         let told = format!(in rt.alloc(); "{error}")?;
@@ -190,64 +203,6 @@ fn holds_each_frame_once_at_the_start(rt: HostRuntime) -> Result<(), Fail> {
         expect_page(&rt, &database, 0, page, entry, None)?;
         expect_page(&rt, &database, 1, page, None, None)?;
     }
-    Ok(())
-}
-
-#[test]
-fn marks_the_status_of_accesses_in_turn(rt: HostRuntime) -> Result<(), Fail> {
-    let mut database = Database::new(rt.alloc(), 2, 18, 4)?;
-    let answers = database.access_all(
-        rt.alloc(),
-        &[
-            (place(0, 0), Access::Read),
-            (place(0, 4), Access::Read),
-            (place(0, 1), Access::Write),
-            (place(1, 0), Access::Execute),
-            (place(0, 2), Access::Execute),
-            (place(0, 0), Access::Execute),
-        ],
-    )?;
-    assert_eq!(rt;
-        answers.as_slice(),
-        [true, false, true, false, true, true].as_slice()
-    );
-    expect_page(
-        &rt,
-        &database,
-        0,
-        0,
-        held(0, rights(true, false, true)),
-        None,
-    )?;
-    expect_page(
-        &rt,
-        &database,
-        0,
-        1,
-        held(1, rights(true, true, false)),
-        None,
-    )?;
-    expect_page(
-        &rt,
-        &database,
-        0,
-        2,
-        held(2, rights(true, false, true)),
-        None,
-    )?;
-    expect_page(
-        &rt,
-        &database,
-        0,
-        3,
-        held(3, rights(false, false, false)),
-        None,
-    )?;
-    expect_page(&rt, &database, 0, 4, None, None)?;
-    expect_page(&rt, &database, 1, 0, None, None)?;
-    let none = database.access_all(rt.alloc(), &[])?;
-    assert_eq!(rt; none.len(), 0);
-    assert!(rt; !database.is_halted());
     Ok(())
 }
 

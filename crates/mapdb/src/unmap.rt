@@ -6,31 +6,49 @@ ghost use Rattle.fpage.specs.Fpage.{IsFpageOf};
 ghost use Rattle.holdings.specs.Contents.{left_with};
 ghost use Rattle.mapdb.specs.State.{unmap_status, unmap_left};
 
+use crew::{CrewError, Workers};
 use fpage::{Fpage, Rights};
 use holdings::Holdings;
 use space::{NoMemory, Place};
 use std::alloc::{AllocError, Global};
 
-/// How the pages of a word are revoked. Both ways give and leave the same.
-#[derive(Clone, Copy, Debug, PartialEq, Eq)]
-pub enum Way {
-    /// Run by run of each tree.
-    Runs,
-    /// By recursion, page by page.
-    Recursion,
-}
-
 /// Works the words of an unmap one after another. Each gives back the status of its pages and of all that derives from
 /// them, and these lose its rights; with `flush` the pages themselves do.
 ///
-/// Refused, where memory is: `NoMemory`.
-pub fn unmap_words(
+/// Refused, where memory or a worker is: `NoMemory`, `NoWorker`.
+pub fn unmap_words<W: Workers>(
     alloc: Global,
     held: Holdings,
     space: u16,
     flush: bool,
     fpages: &[Fpage],
-    way: Way,
+    workers: &W,
+) -> Result<(Holdings, Vec<Rights>), CrewError>
+    requires workers { W.ready workers.now }
+    requires space { space < held.limits.spaces }
+    requires fpages { All (IsFpageOf held.limits.bits) fpages.now }
+    ensures left { IfOk result (λ r. r.0 ≡ left_with held (unmap_left space flush fpages.now held.holdings)) }
+    ensures status { IfOk result (λ r. r.1.items ≡ unmap_status space flush fpages.now held.holdings) }
+{
+    let mut held = held;
+    let mut status = Vec::with_capacity(alloc, fpages.len())?;
+    for fpage in fpages {
+        let (left, word) = unmap_word(alloc, held, space, flush, fpage, workers)?;
+        held = left;
+        status.push(word).map_err(AllocError::from)?;
+    }
+    Ok((held, status))
+}
+
+/// The same, each word by recursion, on the calling thread.
+///
+/// Refused, where memory is: `NoMemory`.
+pub fn unmap_words_by_recursion(
+    alloc: Global,
+    held: Holdings,
+    space: u16,
+    flush: bool,
+    fpages: &[Fpage],
 ) -> Result<(Holdings, Vec<Rights>), NoMemory>
     requires space { space < held.limits.spaces }
     requires fpages { All (IsFpageOf held.limits.bits) fpages.now }
@@ -40,7 +58,7 @@ pub fn unmap_words(
     let mut held = held;
     let mut status = Vec::with_capacity(alloc, fpages.len())?;
     for fpage in fpages {
-        let (left, word) = unmap_word(alloc, held, space, flush, fpage, way)?;
+        let (left, word) = unmap_word_by_recursion(alloc, held, space, flush, fpage)?;
         held = left;
         status.push(word).map_err(AllocError::from)?;
     }
@@ -52,24 +70,40 @@ ghost use Rattle.holdings.specs.Contents.{IsStripped};
 
 /// Works one word of an unmap.
 ///
-/// Refused, where memory is: `NoMemory`.
-fn unmap_word(
+/// Refused, where memory or a worker is: `NoMemory`, `NoWorker`.
+fn unmap_word<W: Workers>(
     alloc: Global,
     held: Holdings,
     space: u16,
     flush: bool,
     fpage: &Fpage,
-    way: Way,
+    workers: &W,
+) -> Result<(Holdings, Rights), CrewError>
+    requires workers { W.ready workers.now }
+    requires space { space < held.limits.spaces }
+    requires fpage { IsFpageOf held.limits.bits fpage.now }
+    ensures { IfOk result (IsStripped held (pages_in space fpage.now) fpage.now.rights flush) }
+{
+    let places = named_places(alloc, space, fpage)?;
+    held.strip(alloc, &places, fpage.rights(), flush, workers)
+}
+
+/// Works one word of an unmap by recursion.
+///
+/// Refused, where memory is: `NoMemory`.
+fn unmap_word_by_recursion(
+    alloc: Global,
+    held: Holdings,
+    space: u16,
+    flush: bool,
+    fpage: &Fpage,
 ) -> Result<(Holdings, Rights), NoMemory>
     requires space { space < held.limits.spaces }
     requires fpage { IsFpageOf held.limits.bits fpage.now }
     ensures { IfOk result (IsStripped held (pages_in space fpage.now) fpage.now.rights flush) }
 {
     let places = named_places(alloc, space, fpage)?;
-    match way {
-        Way::Runs => held.strip(alloc, &places, fpage.rights(), flush),
-        Way::Recursion => held.strip_by_recursion(alloc, &places, fpage.rights(), flush),
-    }
+    held.strip_by_recursion(alloc, &places, fpage.rights(), flush)
 }
 
 ghost use Rattle.holdings.specs.Places.{pages_from};

@@ -183,7 +183,8 @@ impl Tree {
         requires rising { AreRising 0 ranges.now (length self.now.links) }
         requires runs { All (IsRun self.now.links) ranges.now }
         requires most { 1 ≤ most }
-        ensures { IfOk result (λ parts. ArePartsOf self.now.links ranges.now most parts.items) }
+        ensures parts { IfOk result (λ parts. ArePartsOf self.now.links ranges.now most parts.items) }
+        ensures once { OnOk result (are_once self.now.links ≡ true) }
     {
         let Cutting { parts, .. } = Cutting::of(alloc, &self.nodes, ranges, most)?;
         Ok(parts)

@@ -37,7 +37,8 @@ ended (Some input) t old new was failed (Err BadHeader) is limits w = absurd w
 ended (Some input) t old new was failed (Err BadLimits) is limits w = absurd w
 ended (Some input) t old new was failed (Err (NoMemory zero)) is limits w = tt
 ended (Some input) t old new was failed (Err (NoMemory (suc k))) is limits w = record { trace = trace_from t; is_trace = served input t is limits; stopped = w.0 }
-ended (Some input) t old new was failed (Err (NoWorker n)) is limits w = absurd w
+ended (Some input) t old new was failed (Err (NoWorker zero)) is limits w = absurd w
+ended (Some input) t old new was failed (Err (NoWorker (suc k))) is limits w = record { trace = trace_from t; is_trace = served input t is limits; stopped = w.0 }
 ended (Some input) t old new was failed (Err Unreadable) is limits w = absurd w
 ended (Some input) t old new was failed (Err WriteFailed) is limits w = record { trace = trace_from t; is_trace = served input t is limits }
 
@@ -53,5 +54,9 @@ stopped t old mid new was is failed k (NoMemory (suc n)) before same stop =
 stopped t old mid new was is failed k WriteFailed before same stop = stop
 stopped t old mid new was is failed k BadHeader before same stop = stop
 stopped t old mid new was is failed k BadLimits before same stop = stop
-stopped t old mid new was is failed k (NoWorker n) before same stop = stop
+stopped t old mid new was is failed k (NoWorker zero) before same stop = absurd (omega (arith, stop.0))
+stopped t old mid new was is failed k (NoWorker (suc n)) before same stop =
+    let number : n ≡ k = omega (arith, stop.0) in
+    let written = Appends-kept old mid new _ before.written stop.1 in
+    (rw number (record { within = before.within; written = written }), stop.2 ∙ same)
 stopped t old mid new was is failed k Unreadable before same stop = stop

@@ -31,19 +31,20 @@ pub record StopsBefore (t : Told) (old new : Option (List ℕ)) (k : ℕ) : Type
 abbrev pub StopsEarly : Told → Option (List ℕ) → Option (List ℕ) → Bool → Bool → RunError → Type 0
 StopsEarly t old new was is (NoMemory zero) = ⊥
 StopsEarly t old new was is (NoMemory (suc k)) = StopsBefore t old new k × (is ≡ was)
+StopsEarly t old new was is (NoWorker zero) = ⊥
+StopsEarly t old new was is (NoWorker (suc k)) = StopsBefore t old new k × (is ≡ was)
 StopsEarly t old new was is WriteFailed = is ≡ true
 StopsEarly t old new was is BadHeader = ⊥
 StopsEarly t old new was is BadLimits = ⊥
-StopsEarly t old new was is (NoWorker n) = ⊥
 StopsEarly t old new was is Unreadable = ⊥
 
 -- why a run ends at a record, once what was written before it is flushed; whether the writer had failed, and has
 abbrev pub StopsAt : ℕ → Option (List ℕ) → Option (List ℕ) → Bool → Bool → RunError → Type 0
 StopsAt number old new was is (NoMemory n) = (n ≡ number) × Keeps old new × (is ≡ was)
+StopsAt number old new was is (NoWorker n) = (n ≡ number) × Keeps old new × (is ≡ was)
 StopsAt number old new was is WriteFailed = is ≡ true
 StopsAt number old new was is BadHeader = ⊥
 StopsAt number old new was is BadLimits = ⊥
-StopsAt number old new was is (NoWorker n) = ⊥
 StopsAt number old new was is Unreadable = ⊥
 
 -- the whole text was written, and its last numbers are told
@@ -91,7 +92,8 @@ EndsEarly input old new BadHeader = trace_of input ≡ Err bad_header
 EndsEarly input old new BadLimits = trace_of input ≡ Err bad_limits
 EndsEarly input old new (NoMemory zero) = ⊤
 EndsEarly input old new (NoMemory (suc k)) = StopsInReplay input old new k
-EndsEarly input old new (NoWorker n) = ⊥
+EndsEarly input old new (NoWorker zero) = ⊥
+EndsEarly input old new (NoWorker (suc k)) = StopsInReplay input old new k
 EndsEarly input old new Unreadable = ⊤
 EndsEarly input old new WriteFailed = IsTrace input
 
@@ -101,7 +103,8 @@ WritesNothing old new BadHeader = Keeps old new
 WritesNothing old new BadLimits = Keeps old new
 WritesNothing old new (NoMemory zero) = Keeps old new
 WritesNothing old new (NoMemory (suc k)) = ⊤
-WritesNothing old new (NoWorker n) = ⊥
+WritesNothing old new (NoWorker zero) = ⊥
+WritesNothing old new (NoWorker (suc k)) = ⊤
 WritesNothing old new Unreadable = Keeps old new
 WritesNothing old new WriteFailed = ⊤
 
@@ -112,4 +115,4 @@ TellsStreams reader writer WriteFailed = (reader ≡ false) × (writer ≡ true)
 TellsStreams reader writer BadHeader = (reader ≡ false) × (writer ≡ false)
 TellsStreams reader writer BadLimits = (reader ≡ false) × (writer ≡ false)
 TellsStreams reader writer (NoMemory n) = (reader ≡ false) × (writer ≡ false)
-TellsStreams reader writer (NoWorker n) = ⊥
+TellsStreams reader writer (NoWorker n) = (reader ≡ false) × (writer ≡ false)

@@ -16,7 +16,8 @@ pub enum RunError {
     /// record, and one more than the number of records in the audit. The reply lines before it were written.
     #[error("record {0}: NoMemory")]
     NoMemory(u64),
-    /// A thread could not be started. The number is as for `NoMemory`.
+    /// A thread could not be started. The number is that of the first record whose reply line was not written. The reply
+    /// lines before it were written.
     #[error("record {0}: NoWorker")]
     NoWorker(u64),
     /// A read failed. Nothing was written.

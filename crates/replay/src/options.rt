@@ -3,10 +3,10 @@
 /// How a trace is replayed.
 #[derive(Clone, Copy, Debug, PartialEq, Eq)]
 pub struct Options {
-    /// How many workers there are, 1 to 64. It has no effect yet.
+    /// How many workers work the pieces of a call, 1 to 64; with `plain` one does.
     pub workers: u32,
-    /// How many parts of a call go to a worker at once, 1 to 65536. It has no effect yet.
+    /// How many parts of a call a piece has at most, 1 to 65536.
     pub piece_length: u32,
-    /// Whether every unmap is worked by recursion, page by page.
+    /// Whether every unmap is worked by recursion, page by page, and all else by one worker.
     pub plain: bool,
 }

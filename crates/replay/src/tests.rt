@@ -1,15 +1,18 @@
 //! Whole runs over memory, and streams that fail.
 
 ghost use Rattle.std.specs.Prelude.{◌≡◌, false, true, OnOk, OnErr};
+ghost use Rattle.replay.specs.Options.{AreServed};
 
 mod worked;
 
 use crate::answer::answer;
 use crate::error::RunError;
 use crate::options::Options;
-use crate::replay::{Summary, run};
+use crate::replay::{Summary, replay_records, run};
 use audit::{Line, check, lines};
+use crew::{Alone, CrewError, NoGate, Workers};
 use mapdb::Database;
+use pieces::{Done, Piece};
 use space::NoMemory;
 use std::alloc::Global;
 use std::test::Fail;
@@ -27,6 +30,18 @@ const OPTIONS: Options = Options {
     plain: false,
 };
 
+const LEAST_PIECES: Options = Options {
+    workers: 64,
+    piece_length: 1,
+    plain: false,
+};
+
+const ONE_WORKER: Options = Options {
+    workers: 1,
+    piece_length: 65536,
+    plain: false,
+};
+
 const PLAIN: Options = Options {
     workers: 4,
     piece_length: 256,
@@ -38,9 +53,17 @@ fn outcome_of(
     rt: &(impl AllocGlobal + Threads + Sync),
     input: &str,
     options: &Options,
-) -> (Result<Summary, RunError>, Vec<u8>) {
+) -> (Result<Summary, RunError>, Vec<u8>)
+    requires { AreServed options.now }
+{
     let mut output = Std::new(Vec::new(rt.alloc()));
-    let outcome = run(rt, &mut Std::new(input.as_bytes()), &mut output, options);
+    let outcome = run(
+        rt,
+        &mut Std::new(input.as_bytes()),
+        &mut output,
+        options,
+        &NoGate,
+    );
     (outcome, output.into_inner())
 }
 
@@ -101,8 +124,12 @@ fn writes_the_replies_and_the_audit(rt: HostRuntime) -> Result<(), Fail> {
     for (records, replies, mappings, end) in cases {
         let input = format!(in rt.alloc(); "l4map,1,3,18,16\n{records}")?;
         let expected = format!(in rt.alloc(); "{replies}{ROOTS}{mappings}{end}")?;
-        for options in [OPTIONS, PLAIN] {
-            let (outcome, written) = outcome_of(&rt, input.as_str(), &options);
+        for (outcome, written) in [
+            outcome_of(&rt, input.as_str(), &OPTIONS),
+            outcome_of(&rt, input.as_str(), &LEAST_PIECES),
+            outcome_of(&rt, input.as_str(), &ONE_WORKER),
+            outcome_of(&rt, input.as_str(), &PLAIN),
+        ] {
             assert!(rt; outcome.is_ok(), "{records}");
             assert_eq!(rt; written.as_slice(), expected.as_bytes(), "{records}");
         }
@@ -121,7 +148,7 @@ fn lines_after(alloc: Global, input: &str) -> Result<Vec<Line>, Fail> {
         }
         let limits = database.limits();
         let request = asked.call(alloc, &limits)?;
-        answer(alloc, &mut database, &request, false)?;
+        answer(alloc, &mut database, &request, &Alone::new(256), false)?;
     }
     Ok(lines(alloc, &database)?)
 }
@@ -241,7 +268,8 @@ fn a_sink_that_fails_at_any_call_is_write_failed(rt: HostRuntime) {
             &rt,
             &mut Std::new(SHORT.as_bytes()),
             &mut undisturbed,
-            &OPTIONS
+            &OPTIONS,
+            &NoGate
         ),
         Ok(summary)
     );
@@ -251,7 +279,13 @@ fn a_sink_that_fails_at_any_call_is_write_failed(rt: HostRuntime) {
     assert_eq!(rt; undisturbed.calls, 4);
     for fails_at in 1..undisturbed.calls.saturating_add(1) {
         let mut output = sink(&rt, fails_at);
-        let outcome = run(&rt, &mut Std::new(SHORT.as_bytes()), &mut output, &OPTIONS);
+        let outcome = run(
+            &rt,
+            &mut Std::new(SHORT.as_bytes()),
+            &mut output,
+            &OPTIONS,
+            &NoGate,
+        );
         assert_eq!(rt; outcome, Err(RunError::WriteFailed), "{fails_at}");
         assert_eq!(rt; output.calls, fails_at);
         assert!(rt;
@@ -266,7 +300,13 @@ fn a_sink_that_fails_at_any_call_is_write_failed(rt: HostRuntime) {
 #[test]
 fn flushes_what_it_has_written_where_memory_runs_out(rt: HostRuntime) -> Result<(), Fail> {
     let mut output = sink(&rt, 0);
-    let outcome = run(&rt, &mut Std::new(SHORT.as_bytes()), &mut output, &OPTIONS);
+    let outcome = run(
+        &rt,
+        &mut Std::new(SHORT.as_bytes()),
+        &mut output,
+        &OPTIONS,
+        &NoGate,
+    );
     match outcome {
         Ok(_) | Err(RunError::WriteFailed) => Ok(()),
         Err(RunError::NoMemory(_)) => {
@@ -275,4 +315,49 @@ fn flushes_what_it_has_written_where_memory_runs_out(rt: HostRuntime) -> Result<
         }
         Err(error) => Err(error)?,
     }
+}
+
+/// Workers for whom no thread can be started.
+struct NoneStarts;
+
+impl Workers for NoneStarts {
+    ghost ready = { λ _. Unit {0} };
+
+    fn piece_length(&self) -> usize {
+        1
+    }
+
+    fn work(
+        &self,
+        alloc: Global,
+        words: Vec<u64>,
+        pieces: Vec<Piece>,
+    ) -> Result<(Vec<u64>, Vec<Done>), CrewError> {
+        Err(CrewError::NoWorker)
+    }
+}
+
+#[test]
+fn flushes_what_it_has_written_where_no_thread_starts(rt: HostRuntime) -> Result<(), Fail> {
+    let alloc = rt.alloc();
+    let input = "l4map,1,2,18,1\naccess,2,0,r\nsend,0,1,10,3008,c6\n";
+    let trace = read_all(alloc, &mut Std::new(input.as_bytes()))?;
+    let mut database = Database::new(alloc, 2, 18, 1)?;
+    let mut output = sink(&rt, 0);
+    let outcome = replay_records(
+        &rt,
+        &mut database,
+        &trace.records,
+        &NoneStarts,
+        false,
+        &mut output,
+    );
+    assert_eq!(rt; outcome, Err(RunError::NoWorker(2)));
+    assert_eq!(rt;
+        output.kept.as_slice(),
+        "1 refused NoSuchSpace\n".as_bytes()
+    );
+    assert_eq!(rt; output.flushed, output.kept.len());
+    assert!(rt; database.is_halted());
+    Ok(())
 }

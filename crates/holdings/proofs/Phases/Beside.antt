@@ -129,7 +129,7 @@ module _ (s : Shards) (w : List ℕ) (are : AreWordsOf s w) where
       by false rest = rest
       by true rest = and_from _ _ (ap not (apart_words t.target p (places 0 t (omega arith)).1 place (apart 0 t (omega arith)))) rest
 
-  puts_distinct : (rights : Rights) (from to : ℕ) (ts : List Transfer) → ArePaired from to ts → All (λ t. IsPlace s t.source × IsPlace s t.target) ts → are_distinct (puts_of (stores_of s rights ts)) ≡ true
+  pub puts_distinct : (rights : Rights) (from to : ℕ) (ts : List Transfer) → ArePaired from to ts → All (λ t. IsPlace s t.source × IsPlace s t.target) ts → are_distinct (puts_of (stores_of s rights ts)) ≡ true
   puts_distinct rights from to [] paired places = refl
   puts_distinct rights from to (t ∷ ts) paired places =
       by (has_entry s t.source) (put_apart rights t.target (places 0 t (omega arith)).1 ts (λ k d less. places (suc k) d (omega (arith, less))) (λ k d less. (paired.2 k d less).1))
@@ -184,7 +184,7 @@ module _ (s : Shards) (w : List ℕ) (are : AreWordsOf s w) where
       by false rest = rest
       by true rest = let both = apart 0 t (omega arith) in and_from _ _ (ap not both.0) (and_from _ _ (ap not both.1) rest)
 
-  ends_distinct : (from to : ℕ) → (from ≡ to → ⊥) → (ts : List Transfer) → ArePaired from to ts → All (λ t. IsPlace s t.source × IsPlace s t.target) ts → are_distinct (ends_of (word_pairs s ts)) ≡ true
+  pub ends_distinct : (from to : ℕ) → (from ≡ to → ⊥) → (ts : List Transfer) → ArePaired from to ts → All (λ t. IsPlace s t.source × IsPlace s t.target) ts → are_distinct (ends_of (word_pairs s ts)) ≡ true
   ends_distinct from to differ [] paired places = refl
   ends_distinct from to differ (t ∷ ts) paired places =
       let both = places 0 t (omega arith) in

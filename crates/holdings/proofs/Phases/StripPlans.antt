@@ -60,7 +60,7 @@ use Rattle.holdings.proofs.Phases.StrippedRuns.{changes_of_strips, runs_stripped
 
 -- distinct places have distinct indexes
 module _ (s : Shards) where
-  apart_index : (p : Place) (ps : List Place) → IsPlace s p → All (IsPlace s) ps → any_of ps p ≡ false → is_none_of (map (index_of s) ps) (index_of s p) ≡ true
+  pub apart_index : (p : Place) (ps : List Place) → IsPlace s p → All (IsPlace s) ps → any_of ps p ≡ false → is_none_of (map (index_of s) ps) (index_of s p) ≡ true
   apart_index p [] place places none = refl
   apart_index p (q ∷ ps) place places none = by (same_place p q) refl none (apart_index p ps place (λ k d less. places (suc k) d (omega (arith, less))))
     where
@@ -70,7 +70,7 @@ module _ (s : Shards) where
       by false apart none rest =
           rw (ne_eqb (index_of s q) (index_of s p) (λ same. cc (apart, ap (λ x. same_place x q) (words_are_their_own s p q place (places 0 q (omega arith)) (sym same)), same_self q))) (rest none)
 
-  distinct_indexes : (ps : List Place) → All (IsPlace s) ps → come_once ps ≡ true → are_distinct (map (index_of s) ps) ≡ true
+  pub distinct_indexes : (ps : List Place) → All (IsPlace s) ps → come_once ps ≡ true → are_distinct (map (index_of s) ps) ≡ true
   distinct_indexes [] places once = refl
   distinct_indexes (p ∷ ps) places once =
       let parts = and_parts (list_all (λ q. not (same_place p q)) ps) (come_once ps) once in
@@ -207,7 +207,7 @@ module _ (s : Shards) (trees : List Shape) (sound : AreSound s trees) (set : Pla
 
   -- worked, they are the strip of the set
   module _ (each : All IsPiece (map piece.Strip strips)) (new : Shards) (with : IsWith s (worked w (map piece.Strip strips)) new) where
-    stripped_runs : AreStripped s trees (map (first_of trees) plans) a f new (status_found w strips)
+    pub stripped_runs : AreStripped s trees (map (first_of trees) plans) a f new (status_found w strips)
     stripped_runs = runs_stripped trees a f plans planned.runs s (loose_from s trees sound) w are each plan_can_be_worked new with
 
     firsts_named : (plans : List RunPlan) → All (λ plan. set (first_of trees plan) ≡ true) plans → (q : Place) → any_of (map (first_of trees) plans) q ≡ true → set q ≡ true

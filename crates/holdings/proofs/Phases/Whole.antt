@@ -38,7 +38,7 @@ same_limits : (s n : Shards) (trees : List Shape) → IsLaidOutAs s n → limits
 same_limits s n trees layout = λ i. record { spaces = layout.spaces i; bits = layout.bits i; frames = length trees }
 
 -- both ends of each transfer have words
-both_ends : (s : Shards) (trees : List Shape) → AreSound s trees → (ts : List Transfer) → All (IsTransferWithin (limits_in s trees)) ts → All (λ t. IsPlace s t.source × IsPlace s t.target) ts
+pub both_ends : (s : Shards) (trees : List Shape) → AreSound s trees → (ts : List Transfer) → All (IsTransferWithin (limits_in s trees)) ts → All (λ t. IsPlace s t.source × IsPlace s t.target) ts
 both_ends s trees sound ts within k d less = let t = within k d less in (record { space = t.source_space; page = t.source_page }, record { space = t.target_space; page = t.target_page })
 
 -- ---- accesses

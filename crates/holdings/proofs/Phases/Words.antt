@@ -1,11 +1,10 @@
 -- Shards with other words in the place of their own.
-use Rattle.std.proofs.Common.{◌≡◌, ℕ, ◌<◌, true, List, length, Option, Some, None, Vec, Global, slice_index, refl, sym, ap, ◌∙◌, subst, arith}
+use Rattle.std.proofs.Common.{◌≡◌, ℕ, List, [], length, Option, Some, None, Vec, Global, slice_index, refl, sym, ap, ◌∙◌, subst}
 use Rattle.std.specs.Prelude.{IsFalse, is_none}
 use Rattle.std.specs.List.{AllPass}
 use Rattle.std.specs.Option.{option_map, option_map_or}
 use Rattle.std.proofs.lemmas.Option.{same_Some}
 use Rattle.space.specs.declared.place.Place.{Place}
-use Rattle.space.specs.declared.place.Entry.{Entry}
 use Rattle.space.specs.declared.shards.Shards.{Shards}
 use Rattle.space.specs.Word.{is_pack, entry_of}
 use Rattle.space.specs.Directory.{AreWords}
@@ -17,7 +16,7 @@ use Rattle.holdings.specs.Inner.Held.{held_of, held_at, has_frame, holdings_of}
 use Rattle.holdings.specs.Inner.Sound.{IsFitting, IsSound}
 use Rattle.holdings.proofs.Contents.Listing.{listing_same, within_from_place}
 use Rattle.holdings.proofs.Contents.Holders.{place_within}
-use Rattle.space.specs.Shards.{IsPlace, index_of, word_count, words_of, entry_at, is_taken, IsLaidOutAs}
+use Rattle.space.specs.Shards.{IsPlace, index_of, word_count, entry_at, is_taken, IsLaidOutAs}
 use Rattle.holdings.specs.Inner.Words.{AreWordsOf, IsWith}
 
 abbrev with_items : (v : Vec ℕ Global) (w : List ℕ) → length w ≡ length v.items → Vec ℕ Global
@@ -48,6 +47,21 @@ with_words s present w count packs = by s.words refl
             layout = record { spaces = refl; bits = refl; count = refl; index = λ p. refl };
           },
         )
+
+-- shards that have words have some of their own
+pub own_words : (s : Shards) → IsFalse (is_taken s) → (w : List ℕ) × AreWordsOf s w
+own_words s present = by s.words refl
+  where
+    by : (o : Option (Vec ℕ Global)) → s.words ≡ o → (w : List ℕ) × AreWordsOf s w
+    by None is = absurd (cc (present, ap is_none is))
+    by (Some v) is = (
+      v.items,
+      record {
+        count = (s.packed v is).count;
+        packs = (s.packed v is).packs;
+        entries = λ p place. ap (λ o. entry_of (slice_index (option_map_or (λ (u : Vec ℕ Global). u.items) o []) (index_of s p))) (sym is);
+      },
+    )
 
 -- ---- the same entries
 

@@ -131,6 +131,36 @@ module _ (keep : Place → Bool) where
           here (inr there) = let later = rest there in (later.0, or_right _ _ later.1)
       by false is listed rest = let later = rest listed in (later.0, or_right _ _ later.1)
 
+-- what is held has a word
+pub entry_of_held : (shards : Shards) (trees : List Shape) → AreLoose shards trees → (p : Place) → is_held (holdings_in shards trees) p ≡ true → has_entry shards p ≡ true
+entry_of_held shards trees loose p held = by (at (holdings_in shards trees) p) refl held
+  where
+    by : (m : Option Held) → at (holdings_in shards trees) p ≡ m → is_some m ≡ true → has_entry shards p ≡ true
+    by None is some = absurd (cc some)
+    by (Some m) is some = ap is_some (entry_held shards trees loose p m is).1.1
+
+-- with a place its origin has an entry
+pub origins_with_places : (now : Shards) (trees : List Shape) → AreLoose now trees → (frame : ℕ) → OriginsHaveEntries now (links_in trees frame)
+origins_with_places now trees loose frame p o is has =
+    let listed = origin_listed (links_in trees frame) p o is in
+    let inside = within_from_place (limits_in now trees) p (loose.within frame p listed) in
+    let e = entry_of_place (entry_at now p) has in
+    let same_frame = loose.frames frame p e.0 listed e.1 in
+    let origin : origin_at (holdings_in now trees) p ≡ Some o = origin_within (limits_in now trees) now trees p inside e.0 e.1 ∙ ap (λ n. origin_in (links_in trees n) p) same_frame ∙ is in
+    entry_of_held now trees loose o (origin_is_held (holdings_in now trees) (lawful_parts (holdings_in now trees) loose.lawful) p o origin)
+  where
+    entry_of_place : (k : Option Entry) → is_some k ≡ true → (e : Entry) × (k ≡ Some e)
+    entry_of_place None has = absurd (cc has)
+    entry_of_place (Some e) has = (e, refl)
+
+    origin_listed : (os : Origins) (p o : Place) → origin_in os p ≡ Some o → list_any (λ x. same_place p x.0) os ≡ true
+    origin_listed [] p o is = absurd (cc is)
+    origin_listed (x ∷ os) p o is = by (same_or_apart p x.0) (origin_listed os p o)
+      where
+        by : (p ≡ x.0) ⊎ (same_place p x.0 ≡ false) → (origin_in os p ≡ Some o → list_any (λ x. same_place p x.0) os ≡ true) → (same_place p x.0 || list_any (λ x. same_place p x.0) os) ≡ true
+        by (inl same) rest = or_left _ _ (subst (λ q. same_place p q ≡ true) same (same_self p))
+        by (inr apart) rest = or_right _ _ (rest (rw apart at is))
+
 -- ---- the outermost runs stand for the named places
 
 module _ (shards : Shards) (trees : List Shape) (sound : AreSound shards trees) (frame : ℕ) (places : List Place) (of_frame : AreOfFrame shards trees frame places) (runs : List (Range ℕ)) (outer : AreOuterRuns (links_in trees frame) places runs) where
@@ -176,7 +206,7 @@ module _ (shards : Shards) (trees : List Shape) (sound : AreSound shards trees) 
       first_is (r ∷ rs) (suc k) w = or_right _ _ (first_is rs k (omega (arith, w)))
 
   -- each named place that is held is below the first places
-  covered : (q : Place) → is_held (holdings_in shards trees) q ≡ true → any_of places q ≡ true → is_below (holdings_in shards trees) (any_of (firsts (links_in trees frame) runs)) q ≡ true
+  pub covered : (q : Place) → is_held (holdings_in shards trees) q ≡ true → any_of places q ≡ true → is_below (holdings_in shards trees) (any_of (firsts (links_in trees frame) runs)) q ≡ true
   covered q held named = by (at (holdings_in shards trees) q) refl held
     where
       by : (m : Option Held) → at (holdings_in shards trees) q ≡ m → is_some m ≡ true → is_below (holdings_in shards trees) (any_of (firsts (links_in trees frame) runs)) q ≡ true
@@ -216,11 +246,7 @@ module _ (shards : Shards) (trees : List Shape) (sound : AreSound shards trees) 
 
     -- what is held has a word
     held_entry : (p : Place) → is_held (holdings_in now trees) p ≡ true → has_entry now p ≡ true
-    held_entry p held = by (at (holdings_in now trees) p) refl held
-      where
-        by : (m : Option Held) → at (holdings_in now trees) p ≡ m → is_some m ≡ true → has_entry now p ≡ true
-        by None is some = absurd (cc some)
-        by (Some m) is some = ap is_some (entry_held now trees done.loose p m is).1.1
+    held_entry = entry_of_held now trees done.loose
 
     -- outside of the runs nothing is lost
     pub outside_held : list_all (λ o. has_entry now o.0) (outside 0 runs (links_in trees frame)) ≡ true
@@ -249,25 +275,7 @@ module _ (shards : Shards) (trees : List Shape) (sound : AreSound shards trees) 
 
     -- with a place its origin stays
     pub origins_stay : OriginsHaveEntries now (links_in trees frame)
-    origins_stay p o is has =
-        let listed = origin_listed (links_in trees frame) p o is in
-        let inside = within_from_place (limits_in now trees) p (done.loose.within frame p listed) in
-        let e = entry_of_place (entry_at now p) has in
-        let same_frame = done.loose.frames frame p e.0 listed e.1 in
-        let origin : origin_at (holdings_in now trees) p ≡ Some o = origin_within (limits_in now trees) now trees p inside e.0 e.1 ∙ ap (λ n. origin_in (links_in trees n) p) same_frame ∙ is in
-        held_entry o (origin_is_held (holdings_in now trees) (lawful_parts (holdings_in now trees) done.loose.lawful) p o origin)
-      where
-        entry_of_place : (k : Option Entry) → is_some k ≡ true → (e : Entry) × (k ≡ Some e)
-        entry_of_place None has = absurd (cc has)
-        entry_of_place (Some e) has = (e, refl)
-
-        origin_listed : (os : Origins) (p o : Place) → origin_in os p ≡ Some o → list_any (λ x. same_place p x.0) os ≡ true
-        origin_listed [] p o is = absurd (cc is)
-        origin_listed (x ∷ os) p o is = by (same_or_apart p x.0) (origin_listed os p o)
-          where
-            by : (p ≡ x.0) ⊎ (same_place p x.0 ≡ false) → (origin_in os p ≡ Some o → list_any (λ x. same_place p x.0) os ≡ true) → (same_place p x.0 || list_any (λ x. same_place p x.0) os) ≡ true
-            by (inl same) rest = or_left _ _ (subst (λ q. same_place p q ≡ true) same (same_self p))
-            by (inr apart) rest = or_right _ _ (rest (rw apart at is))
+    origins_stay = origins_with_places now trees done.loose frame
 
     -- ---- the pruned tree
 

@@ -71,21 +71,3 @@ module _ (old : Shards) (trees : List Shape) (loose : AreLoose old trees) (a : R
         loose = loose;
         layout = record { spaces = refl; bits = refl; count = refl; index = λ p. refl };
       }
-
-  pub one_stripped : (ps : List Place) (c : Place) (now next : Shards) (status more : Rights) → AreStripped old trees ps a f now status → more ≡ strip_word (holdings_in now trees) (only c)
-      → holdings_in next trees ≡ strip (holdings_in now trees) (only c) a f → AreLoose next trees → IsLaidOutAs now next → AreStripped old trees (ps ++ c ∷ []) a f next (join status more)
-  one_stripped ps c now next status more so_far word left next_loose layout =
-      let h = holdings_in old trees in
-      let same : (p : Place) → any_of (ps ++ c ∷ []) p ≡ (any_of ps p || only c p) = any_more ps c in
-      record {
-        word = ap (λ r. join r more) so_far.word ∙ ap (join (strip_word h (any_of ps))) (word ∙ ap (λ k. strip_word k (only c)) so_far.left)
-            ∙ word-union h was_lawful (any_of ps) a f (only c) ∙ sym (word_same h was_lawful (any_of (ps ++ c ∷ [])) (λ p. any_of ps p || only c p) (λ p _. same p));
-        left = left ∙ ap (λ k. strip k (only c) a f) so_far.left ∙ strip-union h was_lawful (any_of ps) a f (only c)
-            ∙ sym (strip_same h was_lawful (any_of (ps ++ c ∷ [])) (λ p. any_of ps p || only c p) (λ p _. same p) a f);
-        loose = next_loose;
-        layout = same_layouts old now next so_far.layout layout;
-      }
-
--- the first places of one run more
-pub firsts_more : (os : Origins) (runs : List (Range ℕ)) (i : ℕ) (d : Range ℕ) → i < length runs → firsts os (take (i + 1) runs) ≡ firsts os (take i runs) ++ place_at os (get_or runs i d).start (record { space = 0; page = 0 }) ∷ []
-firsts_more os runs i d within = ap (firsts os) (take_more runs i d within) ∙ map-append (λ r. place_at os r.start (record { space = 0; page = 0 })) (take i runs) (get_or runs i d ∷ [])

@@ -20,6 +20,8 @@ use Rattle.pieces.specs.declared.touch.WordAccess.{WordAccess}
 use Rattle.pieces.specs.declared.link.Store.{Store}
 use Rattle.pieces.specs.declared.moving.Pair.{Pair}
 use Rattle.holdings.specs.Places.{any_of}
+use Rattle.holdings.specs.Sending.{fate_in}
+use Rattle.model.specs.Items.{Counts, no_counts, add_counts, counts_of}
 use Rattle.pieces.specs.Masks.{masks_of}
 
 -- the strip of a part of a run, whose first node may be spared; its status goes to the origin of the run
@@ -113,3 +115,12 @@ word_pair s t = record { taken = index_of s t.source; put = index_of s t.target 
 abbrev pub word_pairs : Shards → List Transfer → List Pair
 word_pairs s [] = []
 word_pairs s (t ∷ ts) = if has_entry s t.source then word_pair s t ∷ word_pairs s ts else word_pairs s ts
+
+-- what becomes of a page of an item: it is lost if its source is not held
+abbrev pub count_in : Shards → Transfer → Counts
+count_in s t = counts_of (fate_in t) (has_entry s t.source)
+
+-- of some
+abbrev pub counts_in : Shards → List Transfer → Counts
+counts_in s [] = no_counts
+counts_in s (t ∷ ts) = add_counts (count_in s t) (counts_in s ts)

@@ -34,3 +34,9 @@ pub record IsPhaseWorked (old new : Shards) (ps : List Piece) (g : Gathered) : T
 -- whatever the words of the shards are, the pieces can be worked
 abbrev pub CanBeWorkedIn : Shards → List Piece → Type 0
 CanBeWorkedIn s ps = (w : List ℕ) → AreWordsOf s w → CanBeWorked w ps
+
+-- a phase wrote: from words of the old shards the new ones have what its pieces make of them
+pub record IsWritten (old new : Shards) (ps : List Piece) : Type 0 where
+  pub words : List ℕ
+  pub are : AreWordsOf old words
+  pub with : IsWith old (worked words ps) new

@@ -5,6 +5,7 @@ ghost use Rattle.space.specs.Directory.{pages_of};
 
 use super::send_page;
 use crate::Database;
+use crew::Alone;
 use fpage::{Control, Fpage, Rights};
 use space::{Entry, Place};
 use std::alloc::Global;
@@ -40,7 +41,16 @@ fn extend(rt: &impl Abort, database: &mut Database, alloc: Global, below: u32) -
 {
     let source = place(below);
     let target = place(below + 1);
-    let reply = send_page(rt, database, alloc, 24, source, target, Rights::all())?;
+    let reply = send_page(
+        rt,
+        database,
+        alloc,
+        &Alone::new(256),
+        24,
+        source,
+        target,
+        Rights::all(),
+    )?;
     assert_eq!(rt; reply.linked, 1, "{target}");
     Ok(())
 }

@@ -4,6 +4,7 @@ ghost use Rattle.std.specs.Prelude.{◌≡◌, ◌<◌, OnOk};
 
 use super::{NONE, expect_page, held, place, rights, send_page};
 use crate::{Database, SendReply};
+use crew::Alone;
 use fpage::{Fpage, Item, Rights};
 use std::alloc::Global;
 use std::process::Abort;
@@ -42,7 +43,7 @@ fn send(
     let (Ok(window), Ok(item)) = (Fpage::read(window, 18), Item::read(kind, pages, 18)) else {
         panic!(rt; "a word is refused");
     };
-    let answer = database.send(alloc, from, to, &window, &[item])?;
+    let answer = database.send(alloc, from, to, &window, &[item], &Alone::new(2))?;
     assert_eq!(rt; answer, reply, "{kind} {pages} from {from}");
     Ok(())
 }
@@ -54,7 +55,16 @@ fn passed_on(rt: &impl Abort, database: &mut Database, alloc: Global) -> Result<
 {
     let all = rights(true, true, true);
     for page in 0..16 {
-        let reply = send_page(rt, database, alloc, 18, place(0, 0), place(1, page), all)?;
+        let reply = send_page(
+            rt,
+            database,
+            alloc,
+            &Alone::new(2),
+            18,
+            place(0, 0),
+            place(1, page),
+            all,
+        )?;
         assert_eq!(rt; reply, SendReply { linked: 1, ..NONE }, "{page}");
     }
     Ok(())

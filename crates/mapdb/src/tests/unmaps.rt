@@ -7,6 +7,7 @@ ghost use Rattle.fpage.specs.Fpage.{IsFpageOf};
 
 use super::send_page;
 use crate::{Database, DbError, SendReply};
+use crew::{Alone, Crew, NoGate, Workers};
 use fpage::{Access, Control, Fpage, Item, Rights, with_status};
 use space::{Entry, Place};
 use std::alloc::Global;
@@ -351,20 +352,22 @@ fn page(rt: &impl Abort, at: (u16, u32)) -> Place
 }
 
 /// Maps a page to a page of another space that holds nothing, with its rights as far as these go.
-fn map(
+fn map<T: Workers>(
     rt: &impl Abort,
     database: &mut Database,
     alloc: Global,
+    workers: &T,
     source: (u16, u32),
     target: (u16, u32),
     rights: Rights,
 ) -> Result<(), Fail>
-    requires { database.old.limits ≡ record { spaces = 3; bits = 18; frames = 16 } }
+    requires workers { T.ready workers.now }
+    requires limits { database.old.limits ≡ record { spaces = 3; bits = 18; frames = 16 } }
     ensures { OnOk result (database.new.limits ≡ record { spaces = 3; bits = 18; frames = 16 }) }
 {
     let source = page(rt, source);
     let target = page(rt, target);
-    let reply = match send_page(rt, database, alloc, 18, source, target, rights) {
+    let reply = match send_page(rt, database, alloc, workers, 18, source, target, rights) {
         Ok(reply) => reply,
         Err(error) => return Err(halted(rt, database, error)),
     };
@@ -373,17 +376,19 @@ fn map(
 }
 
 /// Sends an item, and looks at the reply.
-fn send(
+fn send<T: Workers>(
     rt: &impl Abort,
     database: &mut Database,
     alloc: Global,
+    workers: &T,
     from: u16,
     to: u16,
     window: u32,
     item: (u32, u32),
     reply: SendReply,
 ) -> Result<(), Fail>
-    requires { database.old.limits ≡ record { spaces = 3; bits = 18; frames = 16 } }
+    requires workers { T.ready workers.now }
+    requires limits { database.old.limits ≡ record { spaces = 3; bits = 18; frames = 16 } }
     ensures { OnOk result (database.new.limits ≡ record { spaces = 3; bits = 18; frames = 16 }) }
 {
     let Ok(window) = Fpage::read(window, 18) else {
@@ -392,7 +397,7 @@ fn send(
     let Ok(item) = Item::read(item.0, item.1, 18) else {
         panic!(rt; "the item is refused");
     };
-    let answer = match database.send(alloc, from, to, &window, &[item]) {
+    let answer = match database.send(alloc, from, to, &window, &[item], workers) {
         Ok(answer) => answer,
         Err(error) => return Err(halted(rt, database, error)),
     };
@@ -401,17 +406,19 @@ fn send(
 }
 
 /// Makes an access, which succeeds.
-fn touch(
+fn touch<T: Workers>(
     rt: &impl Abort,
     database: &mut Database,
     alloc: Global,
+    workers: &T,
     at: (u16, u32),
     access: Access,
 ) -> Result<(), Fail>
-    requires { database.old.limits ≡ record { spaces = 3; bits = 18; frames = 16 } }
+    requires workers { T.ready workers.now }
+    requires limits { database.old.limits ≡ record { spaces = 3; bits = 18; frames = 16 } }
     ensures { OnOk result (database.new.limits ≡ record { spaces = 3; bits = 18; frames = 16 }) }
 {
-    let answers = match database.access_all(alloc, &[(page(rt, at), access)]) {
+    let answers = match database.access_all(alloc, &[(page(rt, at), access)], workers) {
         Ok(answers) => answers,
         Err(error) => return Err(halted(rt, database, error)),
     };
@@ -448,17 +455,19 @@ fn fpages(rt: &impl Abort, alloc: Global, words: &[u32]) -> Result<Vec<Fpage>, F
 }
 
 /// Unmaps words, by recursion or not, and looks at the words that come back.
-fn unmap(
+fn unmap<T: Workers>(
     rt: &impl Abort,
     database: &mut Database,
     alloc: Global,
+    workers: &T,
     space: u16,
     control: u32,
     words: &[u32],
     reply: &[u32],
     plain: bool,
 ) -> Result<(), Fail>
-    requires { database.old.limits ≡ record { spaces = 3; bits = 18; frames = 16 } }
+    requires workers { T.ready workers.now }
+    requires limits { database.old.limits ≡ record { spaces = 3; bits = 18; frames = 16 } }
     ensures { OnOk result (database.new.limits ≡ record { spaces = 3; bits = 18; frames = 16 }) }
 {
     let Ok(control) = Control::read(control, words.len()) else {
@@ -468,7 +477,7 @@ fn unmap(
     let answer = if plain {
         database.unmap_plain(alloc, space, control, &fpages)
     } else {
-        database.unmap(alloc, space, control, &fpages)
+        database.unmap(alloc, space, control, &fpages, workers)
     };
     let status = match answer {
         Ok(status) => status,
@@ -485,28 +494,33 @@ fn unmap(
 }
 
 /// Does one step.
-fn work(
+fn work<T: Workers>(
     rt: &impl Abort,
     database: &mut Database,
     alloc: Global,
+    workers: &T,
     step: Step,
     plain: bool,
 ) -> Result<(), Fail>
-    requires { database.old.limits ≡ record { spaces = 3; bits = 18; frames = 16 } }
+    requires workers { T.ready workers.now }
+    requires limits { database.old.limits ≡ record { spaces = 3; bits = 18; frames = 16 } }
     ensures { OnOk result (database.new.limits ≡ record { spaces = 3; bits = 18; frames = 16 }) }
 {
     match step {
-        Step::Map(source, target) => map(rt, database, alloc, source, target, ALL),
-        Step::MapSome(source, target, rights) => map(rt, database, alloc, source, target, rights),
+        Step::Map(source, target) => map(rt, database, alloc, workers, source, target, ALL),
+        Step::MapSome(source, target, rights) => map(
+            rt, database, alloc, workers, source, target, rights,
+        ),
         Step::Send(from, to, window, item, reply) => {
-            send(rt, database, alloc, from, to, window, item, reply)
+            send(rt, database, alloc, workers, from, to, window, item, reply)
         }
-        Step::Touch(at, access) => touch(rt, database, alloc, at, access),
+        Step::Touch(at, access) => touch(rt, database, alloc, workers, at, access),
         Step::Unmap(space, control, word, reply) => {
             unmap(
                 rt,
                 database,
                 alloc,
+                workers,
                 space,
                 control,
                 &[word],
@@ -515,7 +529,9 @@ fn work(
             )
         }
         Step::UnmapTwo(space, control, words, reply) => {
-            unmap(rt, database, alloc, space, control, &words, &reply, plain)
+            unmap(
+                rt, database, alloc, workers, space, control, &words, &reply, plain,
+            )
         }
     }
 }
@@ -553,14 +569,22 @@ fn expect(
     Ok(())
 }
 
-/// Works one case, by recursion or not, and looks at what is left.
-fn work_case(rt: &impl Abort, alloc: Global, case: Case, plain: bool) -> Result<(), Fail> {
+/// Works one case, unmaps by recursion or not, and looks at what is left.
+fn work_case<T: Workers>(
+    rt: &impl Abort,
+    alloc: Global,
+    workers: &T,
+    case: Case,
+    plain: bool,
+) -> Result<(), Fail>
+    requires { T.ready workers.now }
+{
     let mut database = Database::new(alloc, 3, 18, 16)?;
     for step in CHAIN {
-        work(rt, &mut database, alloc, step, plain)?;
+        work(rt, &mut database, alloc, workers, step, plain)?;
     }
     for step in case.steps {
-        work(rt, &mut database, alloc, *step, plain)?;
+        work(rt, &mut database, alloc, workers, *step, plain)?;
     }
     for (at, held) in case.left {
         expect(rt, &database, case.name, case.frame, *at, *held)?;
@@ -569,20 +593,32 @@ fn work_case(rt: &impl Abort, alloc: Global, case: Case, plain: bool) -> Result<
     Ok(())
 }
 
-/// Works all cases, by recursion or not.
-fn work_cases(rt: &impl Abort, alloc: Global, plain: bool) -> Result<(), Fail> {
+/// Works all cases, unmaps by recursion or not.
+fn work_cases<T: Workers>(
+    rt: &impl Abort,
+    alloc: Global,
+    workers: &T,
+    plain: bool,
+) -> Result<(), Fail>
+    requires { T.ready workers.now }
+{
     for case in CASES {
-        work_case(rt, alloc, case, plain)?;
+        work_case(rt, alloc, workers, case, plain)?;
     }
     Ok(())
 }
 
 #[test]
 fn revokes_what_derives(rt: HostRuntime) -> Result<(), Fail> {
-    work_cases(&rt, rt.alloc(), false)
+    work_cases(&rt, rt.alloc(), &Alone::new(1), false)
+}
+
+#[test]
+fn revokes_what_derives_with_a_crew(rt: HostRuntime) -> Result<(), Fail> {
+    work_cases(&rt, rt.alloc(), &Crew::new(&rt, 4, 1, &NoGate), false)
 }
 
 #[test]
 fn revokes_by_recursion(rt: HostRuntime) -> Result<(), Fail> {
-    work_cases(&rt, rt.alloc(), true)
+    work_cases(&rt, rt.alloc(), &Alone::new(256), true)
 }

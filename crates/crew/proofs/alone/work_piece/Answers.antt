@@ -1,11 +1,10 @@
 -- The words that a piece names; and the marks of a touch.
-use denote.MutBor.{as_bor}
 use Rattle.std.proofs.Common.{◌≡◌, ◌∙◌, sym, ap, subst, length, map}
 use Rattle.pieces.specs.Effects.{words_after}
 use Rattle.pieces.specs.Steps.{effects, may_access}
-use Rattle.crew.specs.Opening.{start, NamesWords, marks_made}
+use Rattle.crew.specs.Opening.{NamesWords, marks_made}
 use Rattle.crew.proofs.InPlace.{marks_are_effects}
-use Rattle.crew.proofs.Working.{stores_within, pairs_within, accesses_within, read_first}
+use Rattle.crew.proofs.Working.{stores_within, pairs_within, accesses_within}
 use Rattle.crew.proofs.alone.work_piece.Goals as goal
 
 pub put-requires-clause-within : goal.put-requires-clause-within
@@ -18,15 +17,10 @@ pub mark-requires-clause-within : goal.mark-requires-clause-within
 mark-requires-clause-within c = accesses_within (length c.args.words.now) c.in-Touch.touch (subst (NamesWords c.args.words.now) c.in-Touch.is c.requires.names)
 
 pub answers-requires-clause-within : goal.answers-requires-clause-within
-answers-requires-clause-within c =
-    let before : c.unwrap_or.result.now ≡ start c.args.opening c.args.words.now = ap (λ b. b.now) c.unwrap_or.ensures ∙ read_first c.args.opening (as_bor c.args.words) in
-    let l : length c.unwrap_or.result.now ≡ length c.args.words.now = ap length before ∙ c.requires.many in
-    rw l (accesses_within (length c.args.words.now) c.in-Touch.touch (subst (NamesWords c.args.words.now) c.in-Touch.is c.requires.names))
+answers-requires-clause-within c = accesses_within (length c.args.words.now) c.in-Touch.touch (subst (NamesWords c.args.words.now) c.in-Touch.is c.requires.names)
 
 pub returns-in_ok-answers-in-Touch-clause-words : goal.returns-in_ok-answers-in-Touch-clause-words
 returns-in_ok-answers-in-Touch-clause-words c =
-    let w = start c.args.opening c.args.words.now in
-    let before : c.unwrap_or.result.now ≡ w = ap (λ b. b.now) c.unwrap_or.ensures ∙ read_first c.args.opening (as_bor c.args.words) in
-    let answers : c.deref.result.now ≡ map (may_access w) c.in-Touch.touch = c.deref.ensures.value ∙ c.in_ok-answers-in-Touch.ensures ∙ ap (λ v. map (may_access v) c.in-Touch.touch) before in
-    c.mark.ensures ∙ ap (λ bs. words_after c.args.words.now (marks_made c.in-Touch.touch bs)) answers ∙ ap (words_after c.args.words.now) (marks_are_effects w c.in-Touch.touch)
-    ∙ ap (λ p. words_after c.args.words.now (effects w p)) (sym c.in-Touch.is)
+    let w = c.args.words.now in
+    let answers : c.deref.result.now ≡ map (may_access w) c.in-Touch.touch = c.deref.ensures.value ∙ c.in_ok-answers-in-Touch.ensures in
+    c.mark.ensures ∙ ap (λ bs. words_after w (marks_made c.in-Touch.touch bs)) answers ∙ ap (words_after w) (marks_are_effects w c.in-Touch.touch) ∙ ap (λ p. words_after w (effects w p)) (sym c.in-Touch.is)

@@ -1,5 +1,5 @@
 -- One store more.
-use Rattle.std.proofs.Common.{◌∙◌, ◌<◌, sym, ap, subst, arith, length}
+use Rattle.std.proofs.Common.{◌∙◌, ◌<◌, refl, sym, ap, subst, arith, length}
 use Rattle.space.specs.Word.{is_pack}
 use Rattle.pieces.proofs.AllSteps.{words_none}
 use Rattle.pieces.specs.declared.link.Store.{Store}
@@ -14,20 +14,20 @@ linked-requires-clause-target c =
     let within : c.loop-k.k < length c.args.link.now = omega (arith, c.len-k-end.ensures.len) in
     let low = (c.requires.within c.loop-k.k c.store-store.result within).1 in
     let there : c.store-store.result.put < length c.args.words.now = subst (λ (s : Store). s.put < length c.args.words.now) (sym c.store-store.ensures) low in
-    ap is_pack (c.at_opening-target.ensures ∙ put_reads c.args.opening c.args.words.now c.loop-k.words c.args.link.now c.loop-k.k c.store-store.result c.len-k-end.ensures.distinct c.requires.given within c.loop-k.invariant c.store-store.result.put)
-    ∙ c.requires.packs c.store-store.result.put 0 (omega (arith, there, c.requires.many))
+    ap is_pack (put_reads c.args.words.now c.loop-k.words c.args.link.now c.loop-k.k c.store-store.result c.len-k-end.ensures.distinct c.requires.few within c.loop-k.invariant c.store-store.result.put)
+    ∙ c.requires.packs c.store-store.result.put 0 there
 
 pub linked-requires-clause-source : goal.linked-requires-clause-source
 linked-requires-clause-source c =
     let within : c.loop-k.k < length c.args.link.now = omega (arith, c.len-k-end.ensures.len) in
     let low = (c.requires.within c.loop-k.k c.store-store.result within).0 in
     let there : c.store-store.result.read < length c.args.words.now = subst (λ (s : Store). s.read < length c.args.words.now) (sym c.store-store.ensures) low in
-    ap is_pack (c.at_opening-source.ensures ∙ put_reads c.args.opening c.args.words.now c.loop-k.words c.args.link.now c.loop-k.k c.store-store.result c.len-k-end.ensures.distinct c.requires.given within c.loop-k.invariant c.store-store.result.read)
-    ∙ c.requires.packs c.store-store.result.read 0 (omega (arith, there, c.requires.many))
+    ap is_pack (put_reads c.args.words.now c.loop-k.words c.args.link.now c.loop-k.k c.store-store.result c.len-k-end.ensures.distinct c.requires.few within c.loop-k.invariant c.store-store.result.read)
+    ∙ c.requires.packs c.store-store.result.read 0 there
 
 pub loop-k-preserved : goal.loop-k-preserved
 loop-k-preserved c =
     let within : c.loop-k.k < length c.args.link.now = omega (arith, c.len-k-end.ensures.len) in
     let low = (c.requires.within c.loop-k.k c.store-store.result within).1 in
-    put_next_of c.args.opening c.args.words.now c.loop-k.words c.args.link.now c.loop-k.k c.store-store.result c.store-store.ensures c.len-k-end.ensures.distinct c.requires.given within c.loop-k.invariant
-    c.linked.result c.at_opening-target.result c.at_opening-source.result c.linked.ensures c.at_opening-target.ensures c.at_opening-source.ensures (subst (λ (s : Store). s.put < length c.args.words.now) (sym c.store-store.ensures) low)
+    put_next_of c.args.words.now c.loop-k.words c.args.link.now c.loop-k.k c.store-store.result c.store-store.ensures c.len-k-end.ensures.distinct c.requires.few within c.loop-k.invariant
+    c.linked.result _ _ c.linked.ensures refl refl (subst (λ (s : Store). s.put < length c.args.words.now) (sym c.store-store.ensures) low)

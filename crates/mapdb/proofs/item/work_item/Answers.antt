@@ -16,16 +16,17 @@ use Rattle.mapdb.specs.Sending.{ends_of, transfers_of, AreWorkedBy}
 use Rattle.mapdb.proofs.Ends.{all_within}
 use Rattle.mapdb.proofs.Phases.{ends_within, grant_goes}
 use Rattle.mapdb.proofs.OneItem.{flush_left, planned, lawful_then, planned_then, ready_then, left_then, counts_then, total_then, fits_then}
+use Rattle.mapdb.proofs.item.work_item.Given.{Over}
 use Rattle.mapdb.proofs.item.work_item.Goals as goal
 
-pub strip-requires : goal.strip-requires
-strip-requires c =
+pub strip-requires-clause-within : goal.strip-requires-clause-within
+strip-requires-clause-within g c =
     let limits = c.args.held.limits in
-    let transfers = subst (All (IsTransferWithin limits)) (sym (c.deref.ensures.value ∙ c.in_ok-plan.ensures.transfers)) (planned c.args.held c.args.pages.now c.in_ok-plan.ensures.consistent c.requires).within in
+    let transfers = subst (All (IsTransferWithin limits)) (sym (c.deref.ensures.value ∙ c.in_ok-plan.ensures.transfers)) (planned c.args.held c.args.pages.now c.in_ok-plan.ensures.consistent c.requires.pages).within in
     subst (All (IsWithin limits)) (sym c.deref-2.ensures.value)
     (all_within limits c.in_ok-replaced.replaced.items (λ p named. ends_within limits Target c.deref.result.now transfers p (sym (c.in_ok-replaced.ensures p) ∙ named)))
 
-module _ (c : goal.After-deref-3) where
+module _ (g : Over) (c : goal.After-deref-3 g) where
   flushed : c.in_ok-held.held ≡ left_with c.args.held (strip c.args.held.holdings (ends_of Target (transfers_of c.args.held.holdings (job_of_pages c.args.pages.now) (job_of_pages c.args.pages.now).pairs)) all_rights true)
   flushed =
       flush_left c.args.held c.deref.result.now _ c.deref-2.result.now c.all.result (c.in_ok-held.held, c.in_ok-held.field-0-1) c.in_ok-held.ensures c.all.ensures
@@ -35,18 +36,18 @@ module _ (c : goal.After-deref-3) where
   shown = c.deref-3.ensures.value ∙ c.in_ok-plan.ensures.transfers
 
 pub map_or_grant-requires-clause-lawful : goal.map_or_grant-requires-clause-lawful
-map_or_grant-requires-clause-lawful c = lawful_then c.args.held c.args.pages.now c.in_ok-plan.ensures.consistent c.requires c.in_ok-held.held (flushed c)
+map_or_grant-requires-clause-lawful g c = lawful_then c.args.held c.args.pages.now c.in_ok-plan.ensures.consistent c.requires.pages c.in_ok-held.held (flushed g c)
 
 pub map_or_grant-requires-clause-planned : goal.map_or_grant-requires-clause-planned
-map_or_grant-requires-clause-planned c = subst (ArePlanned c.in_ok-held.held.limits) (sym (shown c)) (planned_then c.args.held c.args.pages.now c.in_ok-plan.ensures.consistent c.requires c.in_ok-held.held (flushed c))
+map_or_grant-requires-clause-planned g c = subst (ArePlanned c.in_ok-held.held.limits) (sym (shown g c)) (planned_then c.args.held c.args.pages.now c.in_ok-plan.ensures.consistent c.requires.pages c.in_ok-held.held (flushed g c))
 
 pub map_or_grant-requires-clause-all_go : goal.map_or_grant-requires-clause-all_go
-map_or_grant-requires-clause-all_go c grants = subst AllGo (sym (shown c)) (grant_goes c.args.held.holdings (job_of_pages c.args.pages.now) grants (job_of_pages c.args.pages.now).pairs)
+map_or_grant-requires-clause-all_go g c grants = subst AllGo (sym (shown g c)) (grant_goes c.args.held.holdings (job_of_pages c.args.pages.now) grants (job_of_pages c.args.pages.now).pairs)
 
 pub map_or_grant-requires-clause-ready : goal.map_or_grant-requires-clause-ready
-map_or_grant-requires-clause-ready c = subst (AreReady c.in_ok-held.held.holdings c.args.pages.now.rights) (sym (shown c)) (ready_then c.args.held c.args.pages.now c.in_ok-plan.ensures.consistent c.requires c.in_ok-held.held (flushed c))
+map_or_grant-requires-clause-ready g c = subst (AreReady c.in_ok-held.held.holdings c.args.pages.now.rights) (sym (shown g c)) (ready_then c.args.held c.args.pages.now c.in_ok-plan.ensures.consistent c.requires.pages c.in_ok-held.held (flushed g c))
 
-module _ (c : goal.After-of_transfers) where
+module _ (g : Over) (c : goal.After-of_transfers g) where
   flushed_before : c.in_ok-held.held ≡ left_with c.args.held (strip c.args.held.holdings (ends_of Target (transfers_of c.args.held.holdings (job_of_pages c.args.pages.now) (job_of_pages c.args.pages.now).pairs)) all_rights true)
   flushed_before =
       flush_left c.args.held c.deref.result.now _ c.deref-2.result.now c.all.result (c.in_ok-held.held, c.in_ok-held.field-0-1) c.in_ok-held.ensures c.all.ensures
@@ -57,11 +58,11 @@ module _ (c : goal.After-of_transfers) where
       subst (λ (ts : List Transfer). AreWorkedBy c.in_ok-held.held c.args.pages.now.kind c.args.pages.now.rights ts (c.in_ok-held-2.held, c.in_ok-held-2.worked)) (c.deref-3.ensures.value ∙ c.in_ok-plan.ensures.transfers) c.in_ok-held-2.ensures
 
 pub plus-requires : goal.plus-requires
-plus-requires c =
+plus-requires g c =
     subst (λ (more : Counts). total (counts_of c.in_ok-plan.plan.decided) + total more < 2 ^ 128) (sym c.of_transfers.ensures)
-    (fits_then c.args.held c.args.pages.now c.in_ok-plan.ensures.consistent c.requires c.in_ok-held.held (flushed_before c) (c.in_ok-held-2.held, c.in_ok-held-2.worked) (phased c) (counts_of c.in_ok-plan.plan.decided) c.in_ok-plan.ensures.decided)
+    (fits_then c.args.held c.args.pages.now c.in_ok-plan.ensures.consistent c.requires.pages c.in_ok-held.held (flushed_before g c) (c.in_ok-held-2.held, c.in_ok-held-2.worked) (phased g c) (counts_of c.in_ok-plan.plan.decided) c.in_ok-plan.ensures.decided)
 
-module _ (c : goal.After-drop-plan-2) where
+module _ (g : Over) (c : goal.After-drop-plan-2 g) where
   flushed_last : c.in_ok-held.held ≡ left_with c.args.held (strip c.args.held.holdings (ends_of Target (transfers_of c.args.held.holdings (job_of_pages c.args.pages.now) (job_of_pages c.args.pages.now).pairs)) all_rights true)
   flushed_last =
       flush_left c.args.held c.deref.result.now _ c.deref-2.result.now c.all.result (c.in_ok-held.held, c.in_ok-held.field-0-1) c.in_ok-held.ensures c.all.ensures
@@ -75,12 +76,12 @@ module _ (c : goal.After-drop-plan-2) where
   counted = c.plus.ensures ∙ ap (add_counts (counts_of c.in_ok-plan.plan.decided)) c.of_transfers.ensures
 
 pub returns-clause-sent : goal.returns-clause-sent
-returns-clause-sent c = record {
-  left_is = left_then c.args.held c.args.pages.now c.in_ok-plan.ensures.consistent c.requires c.in_ok-held.held (flushed_last c) (c.in_ok-held-2.held, c.in_ok-held-2.worked) (phased_last c) (counts_of c.in_ok-plan.plan.decided) c.in_ok-plan.ensures.decided;
-  counted = counted c ∙ counts_then c.args.held c.args.pages.now c.in_ok-plan.ensures.consistent c.requires c.in_ok-held.held (flushed_last c) (c.in_ok-held-2.held, c.in_ok-held-2.worked) (phased_last c) (counts_of c.in_ok-plan.plan.decided) c.in_ok-plan.ensures.decided;
+returns-clause-sent g c = record {
+  left_is = left_then c.args.held c.args.pages.now c.in_ok-plan.ensures.consistent c.requires.pages c.in_ok-held.held (flushed_last g c) (c.in_ok-held-2.held, c.in_ok-held-2.worked) (phased_last g c) (counts_of c.in_ok-plan.plan.decided) c.in_ok-plan.ensures.decided;
+  counted = counted g c ∙ counts_then c.args.held c.args.pages.now c.in_ok-plan.ensures.consistent c.requires.pages c.in_ok-held.held (flushed_last g c) (c.in_ok-held-2.held, c.in_ok-held-2.worked) (phased_last g c) (counts_of c.in_ok-plan.plan.decided) c.in_ok-plan.ensures.decided;
 }
 
 pub returns-clause-few : goal.returns-clause-few
-returns-clause-few c =
-    subst (λ (k : Counts). total k < 2 ^ 32) (sym (counted c))
-    (total_then c.args.held c.args.pages.now c.in_ok-plan.ensures.consistent c.requires c.in_ok-held.held (flushed_last c) (c.in_ok-held-2.held, c.in_ok-held-2.worked) (phased_last c) (counts_of c.in_ok-plan.plan.decided) c.in_ok-plan.ensures.decided)
+returns-clause-few g c =
+    subst (λ (k : Counts). total k < 2 ^ 32) (sym (counted g c))
+    (total_then c.args.held c.args.pages.now c.in_ok-plan.ensures.consistent c.requires.pages c.in_ok-held.held (flushed_last g c) (c.in_ok-held-2.held, c.in_ok-held-2.worked) (phased_last g c) (counts_of c.in_ok-plan.plan.decided) c.in_ok-plan.ensures.decided)

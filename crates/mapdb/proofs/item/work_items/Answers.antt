@@ -13,7 +13,7 @@ use Rattle.mapdb.proofs.ItemByItem.{AreWorked, none_worked, one_worked, all_work
 use Rattle.mapdb.proofs.item.work_items.Goals as goal
 
 pub loop-item-init : goal.loop-item-init
-loop-item-init c =
+loop-item-init g c =
     subst (AreWorked c.args.held c.args.from c.args.to c.args.window.now c.args.items.now 0 c.args.held) (sym c.none-reply.ensures)
     (none_worked c.args.held c.args.from c.args.to c.args.window.now c.args.items.now)
 
@@ -31,14 +31,14 @@ within old now from to window item p same from_less to_less differ window_within
       differ = λ one. differ (sym source ∙ one ∙ target);
     })
 
-pub work_item-requires : goal.work_item-requires
-work_item-requires c =
+pub work_item-requires-clause-pages : goal.work_item-requires-clause-pages
+work_item-requires-clause-pages g c =
     let sent = subst (λ (item : Item). IsFpageOf c.args.held.limits.bits item.sent) (sym c.item-item.is) (c.requires.items c.loop-item.item-index c.item-item.result c.loop-item-test.true) in
     within c.args.held.limits c.loop-item.held.limits c.args.from c.args.to c.args.window.now c.item-item.result c.item_pages-pages.result c.loop-item.invariant.limits
     c.requires.from c.requires.to c.requires.differ c.requires.window sent c.item_pages-pages.ensures.source c.item_pages-pages.ensures.target c.item_pages-pages.ensures.within
 
 pub plus-reply-requires : goal.plus-reply-requires
-plus-reply-requires c =
+plus-reply-requires g c =
     let index : c.loop-item.item-index < 2 ^ 64 = omega arith in
     fits (total (counts_of c.loop-item.reply)) (total (counts_of c.in_ok-left.worked)) c.loop-item.item-index c.loop-item.invariant.few c.in_ok-left.ensures.few index
   where
@@ -46,13 +46,13 @@ plus-reply-requires c =
     fits a b i so_far few index = omega (arith, so_far, few, index)
 
 pub loop-item-preserved : goal.loop-item-preserved
-loop-item-preserved c =
+loop-item-preserved g c =
     subst (AreWorked c.args.held c.args.from c.args.to c.args.window.now c.args.items.now (c.loop-item.item-index + 1) c.in_ok-left.left) (sym c.plus-reply.ensures)
     (one_worked c.args.held c.args.from c.args.to c.args.window.now c.args.items.now c.loop-item.item-index c.item-item.result c.loop-item-test.true c.loop-item.held c.in_ok-left.left
     (counts_of c.loop-item.reply) (counts_of c.in_ok-left.worked) c.loop-item.invariant (job_of_pages c.item_pages-pages.result) (c.item_pages-pages.ensures.job ∙ ap (job_of c.args.from c.args.to c.args.window.now) c.item-item.is)
     c.in_ok-left.ensures.sent.left_is c.in_ok-left.ensures.sent.counted c.in_ok-left.ensures.few)
 
 pub returns : goal.returns
-returns c =
+returns g c =
     let all = all_worked c.args.held c.args.from c.args.to c.args.window.now c.args.items.now c.loop-item.item-index c.loop-item.held (counts_of c.loop-item.reply) c.loop-item-test.false c.loop-item.invariant in
     record { left_is = all.0; counted = all.1 }

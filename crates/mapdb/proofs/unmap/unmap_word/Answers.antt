@@ -9,22 +9,12 @@ use Rattle.holdings.specs.Contents.{IsStripped}
 use Rattle.mapdb.proofs.NamedPlaces.{all_within, named_set}
 use Rattle.mapdb.proofs.unmap.unmap_word.Goals as goal
 
-pub strip-requires : goal.strip-requires
-strip-requires c =
+pub strip-requires-clause-within : goal.strip-requires-clause-within
+strip-requires-clause-within g c =
     subst (All (IsWithin c.args.held.limits)) (sym (c.deref.ensures.value ∙ c.in_ok-places.ensures)) (all_within c.args.held.limits c.args.space c.requires.space c.args.fpage.now.first c.args.fpage.now.count c.requires.fpage)
 
-pub returns-in-Runs : goal.returns-in-Runs
-returns-in-Runs c =
+pub returns : goal.returns
+returns g c =
     let word = c.args.fpage.now in
     subst (λ (set : PlaceSet). IfOk c.strip.result (IsStripped c.args.held set word.rights c.args.flush)) (ap any_of (c.deref.ensures.value ∙ c.in_ok-places.ensures) ∙ named_set c.args.space word)
     (subst (λ (a : Rights). IfOk c.strip.result (IsStripped c.args.held (any_of c.deref.result.now) a c.args.flush)) c.rights.ensures c.strip.ensures)
-
-pub strip_by_recursion-requires : goal.strip_by_recursion-requires
-strip_by_recursion-requires c =
-    subst (All (IsWithin c.args.held.limits)) (sym (c.deref-in-Recursion.ensures.value ∙ c.in_ok-places.ensures)) (all_within c.args.held.limits c.args.space c.requires.space c.args.fpage.now.first c.args.fpage.now.count c.requires.fpage)
-
-pub returns : goal.returns
-returns c =
-    let word = c.args.fpage.now in
-    subst (λ (set : PlaceSet). IfOk c.strip_by_recursion.result (IsStripped c.args.held set word.rights c.args.flush)) (ap any_of (c.deref-in-Recursion.ensures.value ∙ c.in_ok-places.ensures) ∙ named_set c.args.space word)
-    (subst (λ (a : Rights). IfOk c.strip_by_recursion.result (IsStripped c.args.held (any_of c.deref-in-Recursion.result.now) a c.args.flush)) c.rights-in-Recursion.ensures c.strip_by_recursion.ensures)

@@ -5,7 +5,7 @@ use Rattle.replay.proofs.answer.unmap_pages.Goals as goal
 use Rattle.replay.proofs.answer.unmap_pages.Goals.{then-plain, else-plain}
 
 pub returns-in_ok-reply_words-in-Ok-clause-ok : goal.returns-in_ok-reply_words-in-Ok-clause-ok
-returns-in_ok-reply_words-in-Ok-clause-ok c =
+returns-in_ok-reply_words-in-Ok-clause-ok g c =
     let s = c.args.database.now in
     let status = c.in-Ok.status in
     let is_unmapped : IsUnmapped s c.args.space c.args.control.flush c.args.fpages.now status.items c.if-plain.database = elim c.if-plain.branch [

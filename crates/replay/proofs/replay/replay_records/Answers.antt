@@ -27,20 +27,20 @@ loop-i-preserved g c =
       few = omega (arith, c.loop-i.invariant.few, few);
     }
 
--- where memory ran out at a record, the replies before it are written
-pub returns-in_default-clause-err : goal.returns-in_default-clause-err
-returns-in_default-clause-err g c =
+-- where a record was not answered, the replies before it are written
+pub returns-in-Err-clause-err : goal.returns-in-Err-clause-err
+returns-in-Err-clause-err g c =
     stopped _ (g.W.Sink.contents c.args.writer.now) (g.W.Sink.contents c.loop-i.writer) (g.W.Sink.contents c.stop_at.new.writer) (g.W.Sink.failed c.args.writer.now) (g.W.Sink.failed c.loop-i.writer) (g.W.Sink.failed c.stop_at.new.writer)
     c.loop-i.i c.stop_at.result (so_far-stop c.loop-i.invariant.so_far) c.loop-i.invariant.works c.stop_at.ensures
 
--- where it ran out after the last record, all replies are
-pub returns-in_default-closing_text-clause-err : goal.returns-in_default-closing_text-clause-err
-returns-in_default-closing_text-clause-err g c =
+-- where memory ran out after the last record, all replies are
+pub returns-in_default-clause-err : goal.returns-in_default-clause-err
+returns-in_default-clause-err g c =
     let count = length c.args.records.now in
     let replies = so_far-end (rw (drop_all c.args.records.now c.loop-i.i c.loop-i-test.false) at c.loop-i.invariant.so_far) in
     let before = before_audit replies count (replies_count c.args.database.now.limits c.args.records.now c.args.database.now.holdings) in
-    stopped _ (g.W.Sink.contents c.args.writer.now) (g.W.Sink.contents c.loop-i.writer) (g.W.Sink.contents c.stop_at-in_default-closing_text.new.writer) (g.W.Sink.failed c.args.writer.now) (g.W.Sink.failed c.loop-i.writer) (g.W.Sink.failed c.stop_at-in_default-closing_text.new.writer)
-    count c.stop_at-in_default-closing_text.result before c.loop-i.invariant.works c.stop_at-in_default-closing_text.ensures
+    stopped _ (g.W.Sink.contents c.args.writer.now) (g.W.Sink.contents c.loop-i.writer) (g.W.Sink.contents c.stop_at-in_default.new.writer) (g.W.Sink.failed c.args.writer.now) (g.W.Sink.failed c.loop-i.writer) (g.W.Sink.failed c.stop_at-in_default.new.writer)
+    count c.stop_at-in_default.result before c.loop-i.invariant.works c.stop_at-in_default.ensures
 
 pub returns-clause-ok : goal.returns-clause-ok
 returns-clause-ok g c =

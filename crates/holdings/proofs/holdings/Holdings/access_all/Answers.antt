@@ -21,21 +21,21 @@ are_pieces list xs most ps same is = is ∙ ap (λ ys. map piece.Touch (pieces (
 pub work_phase-requires-clause-can : goal.work_phase-requires-clause-can
 work_phase-requires-clause-can g c =
     let d = c.self.inside in
-    let within = subst (λ (s : Contents). All (λ (t : Place × Access). IsWithin s.limits t.0) c.args.accesses.now) (sym c.self.view_is) c.requires in
+    let within = subst (λ (s : Contents). All (λ (t : Place × Access). IsWithin s.limits t.0) c.args.accesses.now) (sym c.self.view_is) c.requires.within in
     accesses_can d.shards d.trees.items c.self.invariant c.args.accesses.now within c.piece_length.result c.piece_length.ensures c.in_ok-pieces.pieces.items
     (are_pieces c.in_ok-list.list.items _ c.piece_length.result c.in_ok-pieces.pieces.items c.in_ok-list.ensures c.in_ok-pieces.ensures)
 
 pub invariant_of-result-2 : goal.invariant_of-result-2
 invariant_of-result-2 g c =
     let d = c.self.inside in
-    let within = subst (λ (s : Contents). All (λ (t : Place × Access). IsWithin s.limits t.0) c.args.accesses.now) (sym c.self.view_is) c.requires in
+    let within = subst (λ (s : Contents). All (λ (t : Place × Access). IsWithin s.limits t.0) c.args.accesses.now) (sym c.self.view_is) c.requires.within in
     accesses_sound d.shards d.trees.items c.self.invariant c.args.accesses.now within c.piece_length.result c.piece_length.ensures c.in_ok-pieces.pieces.items
     (are_pieces c.in_ok-list.list.items _ c.piece_length.result c.in_ok-pieces.pieces.items c.in_ok-list.ensures c.in_ok-pieces.ensures) c.work_phase.new.shards c.in_ok-found.found c.in_ok-found.ensures
 
 pub returns : goal.returns
 returns g c =
     let d = c.self.inside in
-    let within = subst (λ (s : Contents). All (λ (t : Place × Access). IsWithin s.limits t.0) c.args.accesses.now) (sym c.self.view_is) c.requires in
+    let within = subst (λ (s : Contents). All (λ (t : Place × Access). IsWithin s.limits t.0) c.args.accesses.now) (sym c.self.view_is) c.requires.within in
     let are = are_pieces c.in_ok-list.list.items _ c.piece_length.result c.in_ok-pieces.pieces.items c.in_ok-list.ensures c.in_ok-pieces.ensures in
     subst (λ (old : Contents). AreAccessed old c.args.accesses.now (contents_of c.work_phase.new.shards d.trees.items, c.in_ok-found.found.answers)) c.self.view_is
     (record {

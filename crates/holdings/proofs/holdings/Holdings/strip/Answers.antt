@@ -1,100 +1,82 @@
--- One group of pages more; the held pages stand for all places.
-use Rattle.std.proofs.Common.{◌≡◌, ℕ, ◌<◌, ◌≤◌, ◌-◌, List, take, drop, length, sym, ap, ◌∙◌, subst, arith}
-use Rattle.std.specs.List.{All, slice_range, drop-map, take-map}
+-- The strip is planned and worked as one phase, and then the trees are pruned.
+use Rattle.std.proofs.Common.{◌≡◌, List, length, sym, ap, ◌∙◌, subst, arith}
+use Rattle.std.specs.Vec.{with_items}
+use Rattle.std.proofs.lemmas.Bool.{eqb-true}
 use Rattle.std.proofs.lemmas.List.{with_items_is}
+use Rattle.fpage.specs.declared.rights.Rights.{Rights}
+use Rattle.space.specs.declared.shards.Shards.{Shards}
+use Rattle.maptree.specs.Cuts.{nodes_of}
 use Rattle.maptree.specs.Origins.{Shape}
-use Rattle.model.specs.Strip.{strip, strip_word}
-use Rattle.holdings.specs.declared.pages.HeldPage.{HeldPage}
-use Rattle.holdings.specs.Places.{IsWithin, any_of}
+use Rattle.maptree.specs.declared.slice.Slice.{Slice}
 use Rattle.holdings.specs.Contents.{Contents, IsStripped}
-use Rattle.holdings.specs.Inner.Held.{contents_of, limits_in, holdings_in}
-use Rattle.holdings.specs.Inner.Stripping.{places_in, AreOfFrame}
-use Rattle.holdings.proofs.Stripping.HeldPages.{any_within}
-use Rattle.holdings.proofs.Groups.{group_shown}
-use Rattle.holdings.proofs.Stripping.Named.{ArePages, AreStrippedUpTo, pages_in_order, same_pages, none_of_pages, frame_within, of_frame, one_group, all_groups, places_of_set, strip_of_set, word_of_set}
+use Rattle.holdings.specs.Places.{any_of}
+use Rattle.holdings.specs.Inner.Held.{contents_of, limits_in}
+use Rattle.holdings.specs.Inner.Sound.{AreSound}
+use Rattle.holdings.specs.Inner.StripPlans.{IsPlanned, AllCanBePruned, AreKeptNodes, ArePruned}
+use Rattle.holdings.specs.declared.planning.FrameRuns.{FrameRuns}
+use Rattle.holdings.specs.declared.planning.StripPlan.{StripPlan}
+use Rattle.holdings.proofs.Planned.StripPhase.{plan_can, plan_can_prune, plan_keeps, plan_left, plan_stripped, nothing_stripped}
 use Rattle.holdings.proofs.holdings.Holdings.strip.Goals as goal
 
-pub loop-from-init : goal.loop-from-init
-loop-from-init c =
-    let s = c.self.inside.shards in
-    let t = c.self.inside.trees.items in
-    let within = subst (λ (h : Contents). All (IsWithin h.limits) c.args.places.now) (sym c.self.view_is) c.requires in
-    let given : ArePages s t c.in_ok-pages.pages.items = record {
-      frames = c.in_ok-pages.ensures.frames;
-      places = places_of_set (limits_in s t) s c.in_ok-pages.pages.items (any_of c.args.places.now) c.in_ok-pages.ensures.named (any_within (limits_in s t) c.args.places.now within);
-    } in
-    let are = pages_in_order s t c.in_ok-pages.pages.items c.sort_unstable_by_key.new.self.items c.sort_unstable_by_key.ensures.permutation given in (
-      are,
-      subst (AreStrippedUpTo s t c.sort_unstable_by_key.new.self.items 0 c.args.revoked c.args.flush s t) (sym c.none-status.ensures)
-          (none_of_pages s t c.self.invariant c.sort_unstable_by_key.new.self.items are c.args.revoked c.args.flush),
-    )
+-- the plan, of the trees as they are read
+planned : (s : Shards) (trees read : List Shape) (set : _) (a : Rights) (flush : _) (plan : StripPlan) → read ≡ trees → IsPlanned s read set a flush plan → IsPlanned s trees set a flush plan
+planned s trees read set a flush plan same is = subst (λ ts. IsPlanned s ts set a flush plan) same is
 
--- the places of a slice of pages
-places_slice : (pages : List HeldPage) (from end : ℕ) → slice_range (places_in pages) from end ≡ places_in (slice_range pages from end)
-places_slice pages from end = ap (take (end - from)) (drop-map (λ (h : HeldPage). h.place) from pages) ∙ take-map (λ (h : HeldPage). h.place) (end - from) (drop from pages)
+pub returns-then-is_empty : goal.returns-then-is_empty
+returns-then-is_empty g c =
+    let d = c.self.inside in
+    let is = planned d.shards d.trees.items c.deref.result.now (any_of c.args.places.now) c.args.revoked c.args.flush c.in_ok-plan.plan c.deref.ensures.value c.in_ok-plan.ensures in
+    let empty = eqb-true c.in_ok-plan.plan.pieces.len 0 (sym c.is_empty.ensures ∙ c.if-is_empty.true) in
+    subst (λ (old : Contents). IsStripped old (any_of c.args.places.now) c.args.revoked c.args.flush (contents_of d.shards d.trees.items, c.none.result)) c.self.view_is
+    (subst (λ r. IsStripped (contents_of d.shards d.trees.items) (any_of c.args.places.now) c.args.revoked c.args.flush (contents_of d.shards d.trees.items, r)) (sym c.none.ensures)
+    (nothing_stripped d.shards d.trees.items c.self.invariant (any_of c.args.places.now) c.args.revoked c.args.flush c.in_ok-plan.plan is (sym c.in_ok-plan.plan.pieces.ok.0 ∙ empty)))
 
--- there is a page left
-before : (c : goal.After-strip_frame-arg-1) → c.loop-from.from < length c.sort_unstable_by_key.new.self.items
-before c = omega (arith, c.loop-from-test.true, c.len.ensures, c.sort_unstable_by_key.new.self.ok.0)
+pub work_phase-requires-clause-can : goal.work_phase-requires-clause-can
+work_phase-requires-clause-can g c =
+    let d = c.self.inside in
+    let is = planned d.shards d.trees.items c.deref.result.now (any_of c.args.places.now) c.args.revoked c.args.flush c.in_ok-plan.plan c.deref.ensures.value c.in_ok-plan.ensures in
+    plan_can d.shards d.trees.items c.self.invariant (any_of c.args.places.now) c.args.revoked c.args.flush c.in_ok-plan.plan is
 
-pub strip_frame-requires-clause-frame : goal.strip_frame-requires-clause-frame
-strip_frame-requires-clause-frame c =
-    let s = c.self.inside.shards in
-    let t = c.self.inside.trees.items in
-    let pages = c.sort_unstable_by_key.new.self.items in
-    let less = frame_within s t c.self.invariant pages c.loop-from.invariant.0 c.args.revoked c.args.flush c.loop-from.shards c.loop-from.trees.items c.loop-from.invariant.1.limits c.loop-from.from c.index.result.now (before c) in
-    subst (λ (ts : List Shape). c.index.result.now.frame < length ts) (sym c.deref_mut.ensures.value)
-    (subst (λ (h : HeldPage). h.frame < length c.loop-from.trees.items) (sym c.index.ensures) less)
+pub prune_gone-requires-clause-can : goal.prune_gone-requires-clause-can
+prune_gone-requires-clause-can g c =
+    let d = c.self.inside in
+    let is = planned d.shards d.trees.items c.deref.result.now (any_of c.args.places.now) c.args.revoked c.args.flush c.in_ok-plan.plan c.deref.ensures.value c.in_ok-plan.ensures in
+    let can = plan_can_prune d.shards d.trees.items c.self.invariant (any_of c.args.places.now) c.args.revoked c.args.flush c.in_ok-plan.plan is c.work_phase.new.shards c.in_ok-found.found c.in_ok-found.ensures in
+    subst (AllCanBePruned c.work_phase.new.shards c.deref_mut.result.now) (sym c.deref-2.ensures.value)
+    (subst (λ (ts : List Shape). AllCanBePruned c.work_phase.new.shards ts c.in_ok-plan.plan.frames.items) (sym c.deref_mut.ensures.value) can)
 
-pub strip_frame-requires-clause-places : goal.strip_frame-requires-clause-places
-strip_frame-requires-clause-places c =
-    let s = c.self.inside.shards in
-    let t = c.self.inside.trees.items in
-    let pages = c.sort_unstable_by_key.new.self.items in
-    let group = group_shown (λ (h : HeldPage). h.frame) pages c.deref-in-loop-from.result.now c.loop-from.from c.group_end-end.result c.index.result.now c.deref-in-loop-from.ensures.value c.index.ensures c.group_end-end.ensures.frames in
-    let upto = subst (λ (hs : List HeldPage). c.group_end-end.result ≤ length hs) c.deref-in-loop-from.ensures.value c.group_end-end.ensures.within in
-    let end = c.group_end-end.result in
-    let all : c.deref-in-loop-from-2.result.now ≡ places_in pages = c.deref-in-loop-from-2.ensures.value ∙ c.in_ok-named.ensures ∙ ap places_in c.deref.ensures.value in
-    let places : slice_range c.deref-in-loop-from-2.result.now c.loop-from.from end ≡ places_in (slice_range pages c.loop-from.from end) = ap (λ ps. slice_range ps c.loop-from.from end) all ∙ places_slice pages c.loop-from.from end in
-    subst (λ (ts : List Shape). AreOfFrame c.loop-from.shards ts c.index.result.now.frame (slice_range c.deref-in-loop-from-2.result.now c.loop-from.from end)) (sym c.deref_mut.ensures.value)
-    (subst (AreOfFrame c.loop-from.shards c.loop-from.trees.items c.index.result.now.frame) (sym places)
-    (of_frame s t c.self.invariant pages c.loop-from.invariant.0 c.args.revoked c.args.flush c.loop-from.shards c.loop-from.trees.items
-    c.loop-from.status c.loop-from.from c.group_end-end.result c.index.result.now.frame c.loop-from.invariant.1 upto group))
+-- the nodes that are kept, of the trees and frames as they are read
+kept_of_read : (s : Shards) (trees read : List Shape) (fs shown : List FrameRuns) (slices given : List Slice) → read ≡ trees → shown ≡ fs → given ≡ slices → AreKeptNodes s trees fs (nodes_of slices) → AreKeptNodes s read shown (nodes_of given)
+kept_of_read s trees read fs shown slices given same is them are =
+    subst (λ ks. AreKeptNodes s read shown (nodes_of ks)) (sym them) (subst (λ gs. AreKeptNodes s read gs (nodes_of slices)) (sym is) (subst (λ ts. AreKeptNodes s ts fs (nodes_of slices)) (sym same) are))
 
-pub loop-from-preserved : goal.loop-from-preserved
-loop-from-preserved c =
-    let s = c.self.inside.shards in
-    let t = c.self.inside.trees.items in
-    let pages = c.sort_unstable_by_key.new.self.items in
-    let upto = subst (λ (hs : List HeldPage). c.group_end-end.result ≤ length hs) c.deref-in-loop-from.ensures.value c.group_end-end.ensures.within in
-    let end = c.group_end-end.result in
-    let all : c.deref-in-loop-from-2.result.now ≡ places_in pages = c.deref-in-loop-from-2.ensures.value ∙ c.in_ok-named.ensures ∙ ap places_in c.deref.ensures.value in
-    let places : slice_range c.deref-in-loop-from-2.result.now c.loop-from.from end ≡ places_in (slice_range pages c.loop-from.from end) = ap (λ ps. slice_range ps c.loop-from.from end) all ∙ places_slice pages c.loop-from.from end in
-    let was : (ts : List Shape) → ts ≡ c.loop-from.trees.items → holdings_in c.loop-from.shards ts ≡ holdings_in c.loop-from.shards c.loop-from.trees.items = λ ts is. ap (holdings_in c.loop-from.shards) is in
-    let before_it = was c.deref_mut.result.now c.deref_mut.ensures.value in
-    let next = one_group s t c.self.invariant pages c.loop-from.invariant.0 c.args.revoked c.args.flush c.loop-from.shards
-    c.strip_frame.new.shards c.loop-from.trees.items c.strip_frame.new.trees c.loop-from.status c.in_ok-word.word c.loop-from.from c.group_end-end.result c.loop-from.invariant.1 (omega (arith, c.group_end-end.ensures.some)) upto
-    (c.in_ok-word.ensures.status ∙ ap (λ h. strip_word h (any_of (slice_range c.deref-in-loop-from-2.result.now c.loop-from.from end))) before_it ∙ ap (λ ps. strip_word (holdings_in c.loop-from.shards c.loop-from.trees.items) (any_of ps)) places)
-    (c.in_ok-word.ensures.left ∙ ap (λ h. strip h (any_of (slice_range c.deref-in-loop-from-2.result.now c.loop-from.from end)) c.args.revoked c.args.flush) before_it ∙ ap (λ ps. strip (holdings_in c.loop-from.shards c.loop-from.trees.items) (any_of ps) c.args.revoked c.args.flush) places)
-    c.in_ok-word.ensures.sound (c.in_ok-word.ensures.limits ∙ ap (limits_in c.loop-from.shards) c.deref_mut.ensures.value) in
-    let count : length c.strip_frame.new.trees ≡ c.loop-from.trees.len = omega (arith, c.strip_frame.auto.trees, ap length c.deref_mut.ensures.value, c.loop-from.trees.ok.0) in (
-      c.loop-from.invariant.0,
-      subst (λ ts. AreStrippedUpTo s t pages c.group_end-end.result c.args.revoked c.args.flush c.strip_frame.new.shards ts c.join-status.result) (sym (with_items_is c.loop-from.trees c.strip_frame.new.trees count))
-          (subst (AreStrippedUpTo s t pages c.group_end-end.result c.args.revoked c.args.flush c.strip_frame.new.shards c.strip_frame.new.trees) (sym c.join-status.ensures) next),
-    )
+pub prune_gone-requires-clause-kept : goal.prune_gone-requires-clause-kept
+prune_gone-requires-clause-kept g c =
+    let d = c.self.inside in
+    let is = planned d.shards d.trees.items c.deref.result.now (any_of c.args.places.now) c.args.revoked c.args.flush c.in_ok-plan.plan c.deref.ensures.value c.in_ok-plan.ensures in
+    kept_of_read c.work_phase.new.shards d.trees.items c.deref_mut.result.now c.in_ok-plan.plan.frames.items c.deref-2.result.now c.in_ok-found.found.slices.items c.deref-3.result.now c.deref_mut.ensures.value c.deref-2.ensures.value c.deref-3.ensures.value
+    (plan_keeps d.shards d.trees.items c.self.invariant (any_of c.args.places.now) c.args.revoked c.args.flush c.in_ok-plan.plan is c.work_phase.new.shards c.in_ok-found.found c.in_ok-found.ensures)
+
+-- the trees were pruned
+pruned_to : (s : Shards) (trees read left : List Shape) (fs shown : List FrameRuns) → read ≡ trees → shown ≡ fs → ArePruned s shown read left → ArePruned s fs trees left
+pruned_to s trees read left fs shown same is are = subst (λ ts. ArePruned s fs ts left) same (subst (λ gs. ArePruned s gs read left) is are)
+
+pub invariant_of-result-2 : goal.invariant_of-result-2
+invariant_of-result-2 g c =
+    let d = c.self.inside in
+    let is = planned d.shards d.trees.items c.deref.result.now (any_of c.args.places.now) c.args.revoked c.args.flush c.in_ok-plan.plan c.deref.ensures.value c.in_ok-plan.ensures in
+    let are = pruned_to c.work_phase.new.shards d.trees.items c.deref_mut.result.now c.prune_gone.new.trees c.in_ok-plan.plan.frames.items c.deref-2.result.now c.deref_mut.ensures.value c.deref-2.ensures.value c.in_ok-prune_gone.ensures in
+    let count : length c.prune_gone.new.trees ≡ d.trees.len = omega (arith, are.count, d.trees.ok.0) in
+    subst (AreSound c.work_phase.new.shards) (sym (with_items_is d.trees c.prune_gone.new.trees count))
+    (plan_left d.shards d.trees.items c.self.invariant (any_of c.args.places.now) c.args.revoked c.args.flush c.in_ok-plan.plan is c.work_phase.new.shards c.in_ok-found.found c.in_ok-found.ensures c.prune_gone.new.trees are).sound
 
 pub returns : goal.returns
-returns c =
-    let s = c.self.inside.shards in
-    let t = c.self.inside.trees.items in
-    let h = holdings_in s t in
+returns g c =
+    let d = c.self.inside in
     let set = any_of c.args.places.now in
-    let named = c.in_ok-pages.ensures.named in
-    let sorted = c.sort_unstable_by_key.new.self.items in
-    let all = all_groups s t c.self.invariant sorted c.loop-from.invariant.0 c.args.revoked c.args.flush c.loop-from.shards c.loop-from.trees.items
-    c.loop-from.status c.loop-from.from c.loop-from.invariant.1 (omega (arith, c.loop-from-test.false, c.len.ensures, c.sort_unstable_by_key.new.self.ok.0)) in
-    let same = same_pages c.in_ok-pages.pages.items sorted c.sort_unstable_by_key.ensures.permutation in
-    let left = all.1 ∙ ap (λ pages. strip h pages c.args.revoked c.args.flush) (sym same) ∙ strip_of_set s t c.self.invariant c.in_ok-pages.pages.items set named c.args.revoked c.args.flush in
-    let status = all.0 ∙ ap (strip_word h) (sym same) ∙ word_of_set s t c.self.invariant c.in_ok-pages.pages.items set named in
-    subst (λ (old : Contents). IsStripped old set c.args.revoked c.args.flush (contents_of c.loop-from.shards c.loop-from.trees.items, c.loop-from.status)) c.self.view_is
-    (record { left = λ i. record { limits = c.loop-from.invariant.1.limits i; holdings = left i }; status = status })
+    let is = planned d.shards d.trees.items c.deref.result.now set c.args.revoked c.args.flush c.in_ok-plan.plan c.deref.ensures.value c.in_ok-plan.ensures in
+    let are = pruned_to c.work_phase.new.shards d.trees.items c.deref_mut.result.now c.prune_gone.new.trees c.in_ok-plan.plan.frames.items c.deref-2.result.now c.deref_mut.ensures.value c.deref-2.ensures.value c.in_ok-prune_gone.ensures in
+    let count : length c.prune_gone.new.trees ≡ d.trees.len = omega (arith, are.count, d.trees.ok.0) in
+    subst (λ (old : Contents). IsStripped old set c.args.revoked c.args.flush (contents_of c.work_phase.new.shards (with_items d.trees c.prune_gone.new.trees).items, c.in_ok-found.found.status)) c.self.view_is
+    (subst (λ ts. IsStripped (contents_of d.shards d.trees.items) set c.args.revoked c.args.flush (contents_of c.work_phase.new.shards ts, c.in_ok-found.found.status)) (sym (with_items_is d.trees c.prune_gone.new.trees count))
+    (plan_stripped d.shards d.trees.items c.self.invariant set c.args.revoked c.args.flush c.in_ok-plan.plan is c.work_phase.new.shards c.in_ok-found.found c.in_ok-found.ensures c.prune_gone.new.trees are))

@@ -1,13 +1,14 @@
 -- The parts of a cut.
-use Rattle.std.proofs.Common.{length, subst, sym, refl}
+use Rattle.std.proofs.Common.{◌≡◌, length, true, subst, sym, refl, rules}
 use Rattle.std.specs.List.{All}
-use Rattle.maptree.specs.Origins.{Shape, IsRun, AreRising}
+use Rattle.maptree.specs.Origins.{Shape, IsRun, AreRising, are_once}
 use Rattle.maptree.specs.Cuts.{outside, ArePartsOf}
+use Rattle.maptree.proofs.Linking.{forest_once}
 use Rattle.maptree.proofs.Outside.{cut_out}
 use Rattle.maptree.proofs.tree.Tree.parts.Goals as goal
 
-pub returns : goal.returns
-returns c =
+pub returns-clause-parts : goal.returns-clause-parts
+returns-clause-parts c =
     let nodes = c.self.inside.nodes.nodes in
     let ranges = c.args.ranges.now in
     let cutting = c.in_ok-parts.field-0 in
@@ -16,3 +17,8 @@ returns c =
     (subst (λ (s : Shape). All (IsRun s.links) ranges) (sym c.self.view_is) c.requires.runs)
     refl c.in_ok-parts.ensures.parts c.in_ok-parts.ensures.whole in
     subst (λ (s : Shape). ArePartsOf s.links ranges c.args.most cutting.parts.items) c.self.view_is out.parts
+
+pub returns-clause-once : goal.returns-clause-once
+returns-clause-once c =
+    let once = subst (λ (s : Shape). are_once s.links ≡ true) c.self.view_is (forest_once c.self.inside.nodes.nodes c.self.invariant) in
+    search (rules, once)

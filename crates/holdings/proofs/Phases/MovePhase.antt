@@ -1,0 +1,72 @@
+-- The phase of a GrantItem.
+use Rattle.std.proofs.Common.{◌≡◌, ℕ, ◌≤◌, true, List, length, map, None, sym, ap, ◌∙◌, subst}
+use Rattle.space.specs.declared.shards.Shards.{Shards}
+use Rattle.maptree.specs.Cuts.{pieces}
+use Rattle.maptree.specs.Origins.{Shape}
+use Rattle.model.specs.Grant.{renamed}
+use Rattle.pieces.specs.Applied.{worked}
+use Rattle.pieces.specs.Contents.{ends_of}
+use Rattle.pieces.specs.Distinct.{are_distinct}
+use Rattle.pieces.specs.Phases.{CanBeWorked}
+use Rattle.pieces.specs.declared.moving.Pair.{Pair}
+use Rattle.pieces.specs.declared.piece.Piece.{Piece}
+use Rattle.pieces.specs.declared.piece.Piece.TheVariants as piece
+use Rattle.holdings.specs.Contents.{Contents, AreMoved}
+use Rattle.holdings.specs.Meaning.{counts_of}
+use Rattle.holdings.specs.Sending.{ArePlanned, AllGo, AreFree, moving_of}
+use Rattle.holdings.specs.declared.link.Link.{Link}
+use Rattle.holdings.specs.declared.transfer.Transfer.{Transfer}
+use Rattle.holdings.specs.declared.transfer_counts.TransferCounts.{TransferCounts}
+use Rattle.holdings.specs.Inner.Held.{contents_of, holdings_in, limits_in}
+use Rattle.holdings.specs.Inner.Links.{last_target, links_of}
+use Rattle.holdings.specs.Inner.Phases.{IsPhaseLeft}
+use Rattle.holdings.specs.Inner.Planning.{counts_in, word_pairs}
+use Rattle.holdings.specs.Inner.Renamings.{AreMovable, AreRenamed}
+use Rattle.holdings.specs.Inner.Sound.{AreSound}
+use Rattle.holdings.specs.Inner.Words.{CanBeWorkedIn, IsWith, IsWritten}
+use Rattle.holdings.proofs.Phases.Beside.{ends_distinct}
+use Rattle.holdings.proofs.Phases.Counted.{counted_by_words}
+use Rattle.holdings.proofs.Phases.Whole.{both_ends, pairs_are_moved}
+use Rattle.holdings.proofs.Phases.Words.{own_words}
+use Rattle.holdings.proofs.Renamings.MovingTrees.{movable}
+
+module _ (s : Shards) (trees : List Shape) (sound : AreSound s trees) (old : Contents) (view : contents_of s trees ≡ old) (ts : List Transfer) (planned_old : ArePlanned old.limits ts) (all_go : AllGo ts) (free_old : AreFree old.holdings ts) where
+  planned : ArePlanned (limits_in s trees) ts
+  planned = subst (λ (c : Contents). ArePlanned c.limits ts) (sym view) planned_old
+
+  free : AreFree (holdings_in s trees) ts
+  free = subst (λ (c : Contents). AreFree c.holdings ts) (sym view) free_old
+
+  pub trees_movable : (now : List Shape) → now ≡ trees → (ls : List Link) → ls ≡ links_of s ts → AreMovable now ls
+  trees_movable now now_is ls ls_are =
+      subst (λ us. AreMovable us ls) (sym now_is) (subst (AreMovable trees) (sym ls_are) (movable (limits_in s trees) s trees sound ts planned all_go free (sym sound.kept.fits.count)))
+
+  module _ (xs : List Pair) (xs_are : xs ≡ word_pairs s ts) where
+    pub pairs_distinct : are_distinct (ends_of xs) ≡ true
+    pairs_distinct =
+        let own = own_words s sound.kept.fits.present in
+        ap (λ ys. are_distinct (ends_of ys)) xs_are ∙ ends_distinct s own.0 own.1 planned.from planned.to planned.differ ts planned.paired (both_ends s trees sound ts planned.within)
+
+    module _ (most : ℕ) (some : 1 ≤ most) (ps : List Piece) (ps_are : ps ≡ map piece.Move (pieces (length xs) most xs)) where
+      same_pieces : map piece.Move (pieces (length (word_pairs s ts)) most (word_pairs s ts)) ≡ ps
+      same_pieces = ap (λ ys. map piece.Move (pieces (length ys) most ys)) (sym xs_are) ∙ sym ps_are
+
+      pub pairs_can : CanBeWorkedIn s ps
+      pairs_can w words = subst (CanBeWorked w) same_pieces (pairs_are_moved s trees sound ts planned all_go free w words most some).0
+
+      module _ (ls : List Link) (ls_are : ls ≡ links_of s ts) (now : List Shape) (now_is : now ≡ trees) (after : List Shape) (moved : AreRenamed (λ p. last_target ls p None) ls now after) (n : Shards) (done : IsWritten s n ps) where
+        phase_left : IsPhaseLeft (limits_in s trees) (renamed (moving_of (holdings_in s trees) ts) (holdings_in s trees)) n after
+        phase_left =
+            (pairs_are_moved s trees sound ts planned all_go free done.words done.are most some).1 after
+            (subst (λ ks. AreRenamed (λ p. last_target ks p None) ks trees after) ls_are (subst (λ us. AreRenamed (λ p. last_target ls p None) ls us after) now_is moved)) n
+            (subst (λ qs. IsWith s (worked done.words qs) n) (sym same_pieces) done.with)
+
+        pub moved_sound : AreSound n after
+        moved_sound = phase_left.sound
+
+        pub are_moved : (counts : TransferCounts) → counts_of counts ≡ counts_in s ts → AreMoved old ts (contents_of n after, counts)
+        are_moved counts counted =
+            subst (λ (c : Contents). AreMoved c ts (contents_of n after, counts)) view (record {
+              left = λ i. record { limits = phase_left.limits_stay i; holdings = phase_left.left i };
+              counted = counted ∙ counted_by_words s trees ts planned.within;
+            })

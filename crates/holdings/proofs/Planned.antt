@@ -1,0 +1,9 @@
+-- The strip of a set of pages, planned: the runs of its pages frame by frame, their parts, and the trees afterwards.
+pub mod Parts
+pub mod Runs
+pub mod Groups
+pub mod AllKept
+pub mod Apart
+pub mod Plan
+pub mod Trees
+pub mod StripPhase

@@ -1,0 +1,147 @@
+-- The runs of a strip, frame by frame, as they are planned, and the trees that lose the places that are held no more.
+use Rattle.std.specs.Prelude.{◌≡◌, ℕ, ◌+◌, ◌-◌, ◌<◌, ◌==◌, ⊤, Bool, true, false, List, [], ◌∷◌, ◌++◌, length, map, Option, Some}
+use Rattle.std.specs.List.{All, flat_map, list_any, list_all, slice_range}
+use Rattle.std.specs.declared.ops.Range.{Range}
+use Rattle.fpage.specs.declared.rights.Rights.{Rights}
+use Rattle.space.specs.declared.place.Place.{Place}
+use Rattle.space.specs.declared.shards.Shards.{Shards}
+use Rattle.space.specs.Shards.{IsPlace}
+use Rattle.maptree.specs.Origins.{Origins, Shape, AreOuterRuns, AreRising, IsRun, are_once}
+use Rattle.maptree.specs.Cuts.{outside, nodes_of, kept_of}
+use Rattle.maptree.specs.declared.node.Node.{Node}
+use Rattle.model.specs.Holdings.{PlaceSet}
+use Rattle.pieces.specs.Contents.{StripContent}
+use Rattle.pieces.specs.Phases.{IsPiece}
+use Rattle.pieces.specs.declared.piece.Piece.TheVariants as piece
+use Rattle.holdings.specs.declared.pages.HeldPage.{HeldPage}
+use Rattle.holdings.specs.declared.planning.FrameRuns.{FrameRuns}
+use Rattle.holdings.specs.declared.planning.StripPlan.{StripPlan}
+use Rattle.holdings.specs.Inner.Held.{links_in, has_entry}
+use Rattle.holdings.specs.declared.planning.RunParts.{RunParts}
+use Rattle.holdings.specs.Places.{any_of}
+use Rattle.holdings.specs.Inner.Planning.{RunPlan, IsRunPlan, IsStripPlan, strips_of_run, strips_of_runs, all_places, come_once}
+use Rattle.holdings.specs.Inner.Stripping.{places_in, OriginsHaveEntries, pruned}
+
+-- pages in front of others are those of a frame, whose outermost runs are these
+pub record IsFrameGroup (trees : List Shape) (group rest : List HeldPage) (f : FrameRuns) : Type 0 where
+  pub some : 0 < length group
+  pub frame : f.frame < length trees
+  pub same : All (λ h. h.frame ≡ f.frame) group
+  pub others : All (λ h. h.frame ≡ f.frame → ⊥) rest
+  pub runs : AreOuterRuns (links_in trees f.frame) (places_in group) f.runs.items
+
+-- pages in groups of one frame, each with its runs
+abbrev pub AreFrameRuns : List Shape → List HeldPage → List FrameRuns → Type 0
+AreFrameRuns trees pages [] = pages ≡ []
+AreFrameRuns trees pages (f ∷ fs) = (group : List HeldPage) × (rest : List HeldPage) × (pages ≡ group ++ rest) × IsFrameGroup trees group rest f × AreFrameRuns trees rest fs
+
+-- the runs of a frame, planned
+pub record AreRunPlans (trees : List Shape) (frame : ℕ) (runs : List (Range ℕ)) (plans : List RunPlan) : Type 0 where
+  pub each : All (IsRunPlan trees) plans
+  pub frames : All (λ plan. plan.frame ≡ frame) plans
+  pub runs_are : map (λ plan. plan.run) plans ≡ runs
+  -- no place stands twice in the tree
+  pub once : All (λ plan. are_once (links_in trees plan.frame) ≡ true) plans
+
+-- the runs of frames, planned
+abbrev pub AreFramePlans : List Shape → List FrameRuns → List RunPlan → Type 0
+AreFramePlans trees [] plans = plans ≡ []
+AreFramePlans trees (f ∷ fs) plans = (mine : List RunPlan) × (others : List RunPlan) × (plans ≡ mine ++ others) × AreRunPlans trees f.frame f.runs.items mine × AreFramePlans trees fs others
+
+-- ---- the parts of runs, and their strips
+
+-- each range is the run of a node of the frame's tree, and they rise
+pub record HaveRuns (trees : List Shape) (f : FrameRuns) : Type 0 where
+  pub frame : f.frame < length trees
+  pub rising : AreRising 0 f.runs.items (length (links_in trees f.frame))
+  pub whole : All (IsRun (links_in trees f.frame)) f.runs.items
+
+-- the origin and the nodes of a run's parts, as a plan has them
+abbrev pub parts_of : RunParts → Option Place × List (List Node)
+parts_of r = (r.origin, nodes_of r.parts.items)
+
+abbrev pub parts_in : RunPlan → Option Place × List (List Node)
+parts_in plan = (plan.origin, plan.parts)
+
+-- the parts are those of the runs of these frames
+pub record ArePlannedParts (trees : List Shape) (fs : List FrameRuns) (parts : List RunParts) : Type 0 where
+  pub plans : List RunPlan
+  pub planned : AreFramePlans trees fs plans
+  pub are : map parts_of parts ≡ map parts_in plans
+
+-- the parts of the runs of a frame were added to others
+pub record AreAdded (trees : List Shape) (frame : ℕ) (runs : List (Range ℕ)) (old new : List RunParts) : Type 0 where
+  pub plans : List RunPlan
+  pub planned : AreRunPlans trees frame runs plans
+  pub are : map parts_of new ≡ map parts_of old ++ map parts_in plans
+
+-- each page of a run has its own word, and the origin, which is none of them, has another
+pub record HaveWords (s : Shards) (origin : Option Place) (parts : List (List Node)) : Type 0 where
+  pub places : All (IsPlace s) (all_places parts)
+  pub once : come_once (all_places parts) ≡ true
+  pub origin_stands : (o : Place) → origin ≡ Some o → IsPlace s o
+  pub apart : (o : Place) → origin ≡ Some o → any_of (all_places parts) o ≡ false
+
+-- the strips of these parts, one run after another
+abbrev pub strips_of_parts : Shards → Rights → Bool → List RunParts → List StripContent
+strips_of_parts s revoked flush [] = []
+strips_of_parts s revoked flush (r ∷ rs) = strips_of_run s revoked flush r.origin (nodes_of r.parts.items) ++ strips_of_parts s revoked flush rs
+
+-- the strip of a set of pages, planned, with its pieces
+pub record IsPlanned (s : Shards) (trees : List Shape) (set : PlaceSet) (revoked : Rights) (flush : Bool) (plan : StripPlan) : Type 0 where
+  pub pages : List HeldPage
+  pub runs : AreFrameRuns trees pages plan.frames.items
+  pub plans : List RunPlan
+  pub planned : AreFramePlans trees plan.frames.items plans
+  pub strip : IsStripPlan s trees set plans
+  pub pieces_are : plan.pieces.items ≡ map piece.Strip (strips_of_runs s revoked flush plans)
+  pub pieces : All IsPiece plan.pieces.items
+
+-- ---- the trees afterwards
+
+-- a tree can lose the places without entry: they lie in these runs, and no place stays whose origin goes
+pub record CanBePruned (s : Shards) (links : Origins) (runs : List (Range ℕ)) : Type 0 where
+  pub places : All (λ o. IsPlace s o.0) links
+  pub rising : AreRising 0 runs (length links)
+  pub runs_are : All (IsRun links) runs
+  pub outside_stay : list_all (λ o. has_entry s o.0) (outside 0 runs links) ≡ true
+  pub origins : OriginsHaveEntries s links
+
+-- of each of these frames the tree can lose its places, and none comes twice
+abbrev pub AllCanBePruned : Shards → List Shape → List FrameRuns → Type 0
+AllCanBePruned s trees [] = ⊤
+AllCanBePruned s trees (f ∷ fs) = (f.frame < length trees) × CanBePruned s (links_in trees f.frame) f.runs.items × All (λ g. g.frame ≡ f.frame → ⊥) fs × AllCanBePruned s trees fs
+
+-- the places of the runs of a tree, one run after another
+abbrev pub in_runs : Origins → List (Range ℕ) → List Place
+in_runs os runs = flat_map (λ r. slice_range (map (λ o. o.0) os) r.start r.end) runs
+
+-- those of the runs of frames
+abbrev pub in_frames : List Shape → List FrameRuns → List Place
+in_frames trees fs = flat_map (λ f. in_runs (links_in trees f.frame) f.runs.items) fs
+
+-- how many nodes runs have
+abbrev pub count_in_runs : List (Range ℕ) → ℕ
+count_in_runs [] = 0
+count_in_runs (r ∷ rs) = (r.end - r.start) + count_in_runs rs
+
+-- how many the runs of frames have
+abbrev pub count_in_frames : List FrameRuns → ℕ
+count_in_frames [] = 0
+count_in_frames (f ∷ fs) = count_in_runs f.runs.items + count_in_frames fs
+
+-- of the nodes of the runs, in parts, those are kept whose places have entries
+pub record AreKeptNodes (s : Shards) (trees : List Shape) (fs : List FrameRuns) (kept : List (List Node)) : Type 0 where
+  pub parts : List (List Node)
+  pub parts_are : all_places parts ≡ in_frames trees fs
+  pub kept_are : kept ≡ kept_of (has_entry s) parts
+
+-- whether a frame is one of these
+abbrev pub is_planned : List FrameRuns → ℕ → Bool
+is_planned fs g = list_any (λ f. f.frame == g) fs
+
+-- the trees of these frames lost the places without entry
+pub record ArePruned (s : Shards) (fs : List FrameRuns) (old new : List Shape) : Type 0 where
+  pub count : length new ≡ length old
+  pub there : (g : ℕ) → is_planned fs g ≡ true → links_in new g ≡ pruned s (links_in old g)
+  pub elsewhere : (g : ℕ) → is_planned fs g ≡ false → links_in new g ≡ links_in old g

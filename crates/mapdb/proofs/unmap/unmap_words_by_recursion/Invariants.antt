@@ -1,0 +1,6 @@
+-- The words so far are worked.
+use Rattle.mapdb.proofs.WordByWord.{AreWorkedUpTo}
+use Rattle.mapdb.proofs.unmap.unmap_words_by_recursion.Given as goal
+
+abbrev pub invariant-loop-fpage : goal.invariant-loop-fpage
+invariant-loop-fpage l = AreWorkedUpTo l.fn.held l.space l.flush l.fpages l.fpage-index l.held l.status.items

@@ -1,0 +1,178 @@
+#!/usr/bin/env python3
+"""Whatever the number of workers and the length of pieces, the same bytes; and where a thread is refused, no others.
+
+    tests/workers.py [PROGRAM]
+
+Each trace of replays/ and examples/ runs with every choice of options, and must end as the answer beside it says. Random
+traces, made from a fixed table of seeds, run with some of the choices each; their answers are not known, so all runs of a
+trace must end as the first does, with status 0. Then, of some traces whose calls are in many pieces, starts of threads are
+refused, one after another, alone and with all after it, and so are allocations of the first of them: such a run must end as
+the undisturbed one, or with status 3 and `NoMemory` or `NoWorker` at some record, having written exactly the reply lines of
+the records before it.
+"""
+
+import glob
+import os
+import random
+import re
+import tempfile
+from concurrent.futures import ThreadPoolExecutor
+
+from support.program import TOP, Cases, Ended, build_library, difference, program_path, run
+from support.refusals import EXTENTS, runs_refusing
+
+FOLDERS = ["examples", "tests/replays/*"]
+WORKERS = [1, 4, 64]
+PIECES = [1, 2, 7, 256, 65536]
+CHOICES = [["--workers", str(w), "--piece", str(p)] for w in WORKERS for p in PIECES] + [["--plain"]]
+
+SEEDS = range(1, 201)
+CHOICES_OF_A_SEED = 6
+RECORDS = 40
+SPACES = 3
+PAGES = 8
+
+# Traces by whose runs threads and memory are refused, with options by which the work of a call is in many pieces.
+REFUSED = [
+    ("tests/replays/unmaps/16-pages-of-one-frame", ["--workers", "4", "--piece", "2"]),
+    ("tests/replays/windows/complete-space-granted-to-and-fro", ["--workers", "64", "--piece", "1"]),
+    ("tests/replays/phases/each-of-the-six-counts", ["--workers", "2", "--piece", "1"]),
+]
+
+
+def names():
+    """The traces, by their paths in the repository without the ending."""
+    found = (path for folder in FOLDERS for path in glob.glob(f"{folder}/*.csv", root_dir=TOP))
+    return sorted(path.removesuffix(".csv") for path in found)
+
+
+def read(path):
+    with open(os.path.join(TOP, path), "rb") as file:
+        return file.read()
+
+
+def a_space(chance):
+    return chance.randrange(SPACES)
+
+
+def an_fpage(chance):
+    """The word of some pages near the beginning of a space, or of none, or of all."""
+    rights = chance.choice([7, 7, 7, 7, 7, 6, 5, 4, 2, 0])
+    size = chance.choice([0, 1, 12, 12, 12, 12, 13, 13, 14, 14, 15])
+    if size < 12:
+        return 16 * size + rights
+    pages = 1 << (size - 12)
+    return chance.randrange(PAGES // pages) * pages * 4096 + 16 * size + rights
+
+
+def a_send(chance):
+    words = []
+    for _ in range(chance.choice([1, 1, 1, 2, 3])):
+        base = chance.randrange(PAGES) * 4096
+        words += [base + chance.choice([8, 8, 8, 10]), an_fpage(chance)]
+    window = chance.choice([16, 16, an_fpage(chance)])
+    texts = ",".join(f"{word:x}" for word in [window] + words)
+    sender, receiver = chance.sample(range(SPACES), 2)
+    return f"send,{sender},{receiver},{texts}"
+
+
+def an_unmap(chance):
+    words = [an_fpage(chance) for _ in range(chance.choice([1, 1, 2, 4]))]
+    control = chance.choice([0, 0, 0, 0, 64]) + len(words) - 1
+    return ",".join([f"unmap,{a_space(chance)},{control:x}"] + [f"{word:x}" for word in words])
+
+
+def an_access(chance):
+    address = chance.randrange(PAGES) * 4096
+    return f"access,{a_space(chance)},{address:x},{chance.choice('rwx')}"
+
+
+def a_bad_record(chance):
+    return chance.choice(
+        [
+            "access,9,0,r",
+            "access,0,40000,r",
+            "access,0,0,q",
+            "send,1,1,10,8,c7",
+            "send,0,1,0,8,c7",
+            "send,0,1,10,4,c7",
+            "send,0,9,10,8,c7",
+            "unmap,9,0,10",
+            "unmap,0,1,10",
+            "unmap,0,0,57",
+            "unmap,0,0,10d7",
+            "map,0,1",
+        ]
+    )
+
+
+def random_trace(seed):
+    chance = random.Random(seed)
+    kinds = [a_send] * 8 + [an_unmap] * 2 + [an_access] * 4 + [a_bad_record]
+    records = [f"l4map,1,{SPACES},18,{PAGES}"]
+    for _ in range(RECORDS):
+        records.append(chance.choice(kinds)(chance))
+    return "".join(record + "\n" for record in records).encode()
+
+
+def check_stored(program, name):
+    """What is wrong with the runs of a stored trace, choice by choice."""
+    given, wanted = read(name + ".csv"), Ended(0, read(name + ".txt"), b"")
+    for choice in CHOICES:
+        yield f"{name} {' '.join(choice)}", difference(wanted, run([program] + choice, given))
+
+
+def check_random(program, seed):
+    """What is wrong with the runs of a random trace, with some choices of the options."""
+    given = random_trace(seed)
+    choices = random.Random(-seed).sample(CHOICES[:-1], CHOICES_OF_A_SEED - 1) + CHOICES[-1:]
+    first = run([program, "--workers", "1", "--piece", "65536"], given)
+    wanted = Ended(0, first.stdout, b"")
+    yield f"seed {seed}", difference(wanted, first) or ("" if first.stdout else "nothing was written")
+    for choice in choices:
+        yield f"seed {seed} {' '.join(choice)}", difference(wanted, run([program] + choice, given))
+
+
+def what_is_wrong(lines, got):
+    """What is wrong with how a run ended in which something was refused; `lines` are those of the undisturbed one."""
+    undisturbed = Ended(0, b"".join(lines), b"")
+    if got == undisturbed:
+        return ""
+    told = re.fullmatch(rb"l4map: record (\d+): (NoMemory|NoWorker)\n", got.stderr)
+    if got.status != 3 or not told:
+        return f"neither the undisturbed run nor a refusal: status {got.status}, standard error {got.stderr[:200]!r}"
+    records = int(lines[-1].split()[1])
+    record = int(told[1])
+    if record > records + 1:
+        return f"there is no record {record}"
+    return difference(Ended(3, b"".join(lines[: max(record - 1, 0)]), got.stderr), got)
+
+
+def check_refused(cases, program, library, what, traces):
+    """Refuses allocations, or starts of threads, in turn, and looks whether any was refused at all."""
+    effect = False
+    for name, options in traces:
+        given, lines = read(name + ".csv"), read(name + ".txt").splitlines(True)
+        for and_rest, extent in EXTENTS:
+            for it in runs_refusing([program] + options, given, library, what, and_rest):
+                cases.check(f"{name}: {what} {it.at} {extent} is refused", what_is_wrong(lines, it.got))
+                effect = effect or it.was_refused
+    cases.check(f"{what}: some were refused", "" if effect else "the library has no effect")
+
+
+def main():
+    program, cases = program_path(), Cases()
+    with ThreadPoolExecutor(max_workers=os.cpu_count()) as pool:
+        found = list(pool.map(lambda name: list(check_stored(program, name)), names()))
+        found += pool.map(lambda seed: list(check_random(program, seed)), SEEDS)
+    for checks in found:
+        for name, why in checks:
+            cases.check(name, why)
+    with tempfile.TemporaryDirectory() as room:
+        library = build_library("fail_alloc.c", room)
+        check_refused(cases, program, library, "thread", REFUSED)
+        check_refused(cases, program, library, "allocation", REFUSED[:1])
+    cases.end()
+
+
+main()
