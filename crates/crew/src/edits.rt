@@ -12,7 +12,7 @@ ghost use Rattle.crew.specs.Edits.{effect_of, index_of, AreEditsOf};
 
 use crate::steps::{bits, linked, moved, narrowed, permits};
 use fpage::Rights;
-use pieces::{Link, Move, Touch};
+use pieces::{Link, Masks, Move, Touch};
 use std::alloc::{AllocError, Global};
 
 /// What one step does to a word.
@@ -29,7 +29,7 @@ pub fn strip_edits(
     alloc: Global,
     words: &[u64],
     indexes: &[usize],
-    masks: &[Rights],
+    masks: &Masks,
     at: Option<usize>,
     status: Rights,
 ) -> Result<Vec<Edit>, AllocError>
@@ -41,7 +41,7 @@ pub fn strip_edits(
     let mut edits = Vec::with_capacity(alloc, indexes.len())?;
     for k in 0..indexes.len() {
         let index = indexes[k];
-        edits.push(Edit::Write(index, narrowed(words[index], masks[k])))?;
+        edits.push(Edit::Write(index, narrowed(words[index], masks.get(k))))?;
     }
     if let Some(at) = at {
         edits.push(Edit::Add(at, bits(status)))?;

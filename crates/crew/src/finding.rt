@@ -11,7 +11,7 @@ ghost use Rattle.crew.specs.Kept.{nodes_kept};
 use crate::steps::{permits, remains, status};
 use fpage::Rights;
 use maptree::{Node, Slice};
-use pieces::Touch;
+use pieces::{Masks, Touch};
 use std::alloc::{AllocError, Global};
 
 /// What a piece found out.
@@ -56,7 +56,7 @@ pub fn status_at(words: &[u64], indexes: &[usize]) -> Rights
 }
 
 /// Moves the nodes that are left with a right to the front, in their order, and returns how many there are.
-pub fn keep(words: &[u64], nodes: &mut [Node], masks: &[Rights], indexes: &[usize]) -> usize
+pub fn keep(words: &[u64], nodes: &mut [Node], masks: &Masks, indexes: &[usize]) -> usize
     requires packs { AllPass is_pack words.now }
     requires within { All (λ i. i < length words.now) indexes.now }
     requires masks { length masks.now ≡ length nodes.old }
@@ -66,7 +66,7 @@ pub fn keep(words: &[u64], nodes: &mut [Node], masks: &[Rights], indexes: &[usiz
 {
     let mut kept = 0;
     for k in 0..nodes.len() {
-        if remains(words[indexes[k]], masks[k]) {
+        if remains(words[indexes[k]], masks.get(k)) {
             nodes[kept] = nodes[k];
             kept += 1;
         }

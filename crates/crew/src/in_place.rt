@@ -13,14 +13,14 @@ ghost use Rattle.crew.specs.Opening.{narrows, marks_made};
 use crate::steps::{bits, linked, moved, narrowed, remains, status};
 use fpage::Rights;
 use maptree::Node;
-use pieces::{Link, Move, Touch};
+use pieces::{Link, Masks, Move, Touch};
 
 /// Narrows the words at some indexes, each by its mask. The nodes whose words are left with a right move to the front, in
 /// their order. Returns how many these are, and the union of the status that the words had.
 pub fn narrow_and_keep(
     words: &mut [u64],
     nodes: &mut [Node],
-    masks: &[Rights],
+    masks: &Masks,
     indexes: &[usize],
 ) -> (usize, Rights)
     requires packs { AllPass is_pack words.old }
@@ -38,12 +38,13 @@ pub fn narrow_and_keep(
     for k in 0..indexes.len() {
         let index = indexes[k];
         let word = words[index];
+        let mask = masks.get(k);
         found = found.join(status(word));
-        if remains(word, masks[k]) {
+        if remains(word, mask) {
             nodes[kept] = nodes[k];
             kept += 1;
         }
-        words[index] = narrowed(word, masks[k]);
+        words[index] = narrowed(word, mask);
     }
     (kept, found)
 }

@@ -196,7 +196,7 @@ fn add_strips(
     let mut spared = !flush;
     for part in parts {
         let indexes = indexes(alloc, shards, &part.nodes)?;
-        let strip = Strip::of_part(alloc, part, indexes, fold, revoked, spared)?;
+        let strip = Strip::of_part(part, indexes, fold, revoked, spared);
         pieces.push(Piece::Strip(strip)).map_err(AllocError::from)?;
         spared = false;
     }

@@ -1,11 +1,19 @@
 -- What the parts of a strip are as contracts see it.
-use Rattle.std.specs.Prelude.{ℕ, Option}
+use Rattle.std.specs.Prelude.{ℕ, List, Option}
 use Rattle.std.specs.declared.vec.Vec.{Vec}
 use Rattle.std.specs.declared.alloc.Global.{Global}
 use Rattle.fpage.specs.declared.rights.Rights.{Rights}
 use Rattle.maptree.specs.declared.slice.Slice.{Slice}
 use Rattle.pieces.specs.Contents.{StripContent}
+use Rattle.pieces.specs.Masks.{masks_of}
+use Rattle.pieces.specs.declared.masks.Form.{Form}
+use Rattle.pieces.specs.declared.masks.Form.TheVariants.{Run, Each}
 
 -- the nodes of a part, masks and indexes
-abbrev pub content_of : Slice → Vec Rights Global → Vec ℕ Global → Option ℕ → StripContent
-content_of slice masks indexes fold = record { nodes = slice.nodes.items; masks = masks.items; indexes = indexes.items; fold = fold }
+abbrev pub content_of : Slice → List Rights → Vec ℕ Global → Option ℕ → StripContent
+content_of slice masks indexes fold = record { nodes = slice.nodes.items; masks = masks; indexes = indexes.items; fold = fold }
+
+-- masks, in either form
+abbrev pub masks_in : Form → List Rights
+masks_in (Run nodes revoked spared) = masks_of spared revoked nodes
+masks_in (Each list) = list.items

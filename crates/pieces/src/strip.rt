@@ -1,10 +1,6 @@
-ghost use Rattle.std.specs.Prelude.{◌≡◌, IfOk};
-ghost use Rattle.pieces.specs.Masks.{masks_of};
-
+use crate::masks::Masks;
 use fpage::Rights;
 use maptree::{Node, Slice};
-use space::NoMemory;
-use std::alloc::{AllocError, Global};
 use std::marker::Model;
 
 /// A part of a tree's list whose pages lose rights (L4 X.2, Unmap).
@@ -15,7 +11,7 @@ use std::marker::Model;
 #[derive(Drop)]
 pub struct Strip {
     slice: Slice,
-    masks: Vec<Rights>,
+    masks: Masks,
     indexes: Vec<usize>,
     fold: Option<usize>,
 }
@@ -34,7 +30,7 @@ impl Model for Strip {
 }
 
 impl Strip {
-    ghost use Rattle.std.specs.Prelude.{◌≡◌, ◌<◌, ◌==◌, true, length, get_or, slice_index, IfOk};
+    ghost use Rattle.std.specs.Prelude.{◌≡◌, ◌<◌, ◌==◌, true, length, get_or, slice_index};
     ghost use Rattle.pieces.specs.Distinct.{are_distinct};
     ghost use Rattle.pieces.specs.Masks.{masks_of};
     ghost use Rattle.pieces.specs.Contents.{IsStrip, is_fold_apart};
@@ -42,36 +38,38 @@ impl Strip {
 
     /// The nodes of a part, with as many masks and indexes of words, and the index of the fold word.
     pub fn new(slice: Slice, masks: Vec<Rights>, indexes: Vec<usize>, fold: Option<usize>) -> Strip
-        requires { IsStrip (content_of slice masks indexes fold) }
-        ensures { result ≡ content_of slice masks indexes fold }
+        requires { IsStrip (content_of slice masks.items indexes fold) }
+        ensures { result ≡ content_of slice masks.items indexes fold }
     {
         Strip {
             slice,
-            masks,
+            masks: Masks::new(masks),
             indexes,
             fold,
         }
     }
 
     /// The nodes of a part of a run, which all lose these rights; the first is spared if `spared` says so. It is spared where
-    /// the part begins its run and there is no flush.
-    ///
-    /// Refused, where memory is: `NoMemory`. Then what was given is gone.
+    /// the part begins its run and there is no flush. This takes no memory.
     pub fn of_part(
-        alloc: Global,
         slice: Slice,
         indexes: Vec<usize>,
         fold: Option<usize>,
         revoked: Rights,
         spared: bool,
-    ) -> Result<Strip, NoMemory>
+    ) -> Strip
         requires each { length indexes.items ≡ length slice.nodes.items }
         requires distinct { are_distinct indexes.items ≡ true }
         requires apart { is_fold_apart fold indexes.items ≡ true }
-        ensures { IfOk result (λ s. s ≡ record { nodes = slice.nodes.items; masks = masks_of spared revoked (length slice.nodes.items); indexes = indexes.items; fold = fold }) }
+        ensures { result ≡ record { nodes = slice.nodes.items; masks = masks_of spared revoked (length slice.nodes.items); indexes = indexes.items; fold = fold } }
     {
-        let masks = masks(alloc, slice.nodes.len(), revoked, spared)?;
-        Ok(Strip::new(slice, masks, indexes, fold))
+        let masks = Masks::of_run(slice.nodes.len(), revoked, spared);
+        Strip {
+            slice,
+            masks,
+            indexes,
+            fold,
+        }
     }
 
     /// How many nodes it has.
@@ -102,7 +100,7 @@ impl Strip {
         requires { i < length self.now.nodes }
         ensures { result ≡ get_or self.now.masks i result }
     {
-        self.masks[i]
+        self.masks.get(i)
     }
 
     /// The index of the word of the node at a position.
@@ -121,7 +119,7 @@ impl Strip {
     }
 
     /// What it was made from.
-    pub fn into_parts(self) -> (Slice, Vec<Rights>, Vec<usize>, Option<usize>)
+    pub fn into_parts(self) -> (Slice, Masks, Vec<usize>, Option<usize>)
         ensures { content_of result.0 result.1 result.2 result.3 ≡ self }
     {
         let Strip {
@@ -132,20 +130,4 @@ impl Strip {
         } = self;
         (slice, masks, indexes, fold)
     }
-}
-
-/// The rights that so many nodes of a run lose, of which the first may be spared.
-fn masks(
-    alloc: Global,
-    nodes: usize,
-    revoked: Rights,
-    spared: bool,
-) -> Result<Vec<Rights>, AllocError>
-    ensures { IfOk result (λ masks. masks.items ≡ masks_of spared revoked nodes) }
-{
-    let mut masks = vec![in alloc; revoked; nodes]?;
-    if spared && nodes > 0 {
-        masks[0] = Rights::none();
-    }
-    Ok(masks)
 }

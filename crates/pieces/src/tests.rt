@@ -38,7 +38,7 @@ fn masks_spare_the_first_node_of_a_run(rt: HostRuntime) -> Result<(), Fail> {
             nodes: vec![in alloc; node(0, 5, 0), node(1, 0, 1)]?,
         };
         let indexes = vec![in alloc; 4, 7]?;
-        let strip = Strip::of_part(alloc, slice, indexes, Some(5), W, spared)?;
+        let strip = Strip::of_part(slice, indexes, Some(5), W, spared);
         assert_eq!(rt; strip.len(), 2);
         assert_eq!(rt; strip.mask(0), first);
         assert_eq!(rt; strip.mask(1), W);

@@ -12,7 +12,7 @@ pub returns-clause-words : goal.returns-clause-words
 returns-clause-words c =
     let w = c.args.words.now in
     let narrowed : c.narrow_and_keep-kept.new.words ≡ words_after w (narrows w c.args.strip.indexes c.args.strip.masks) = search rules in
-    let status : c.narrow_and_keep-kept.result.1 ≡ status_in w c.args.strip.indexes = c.narrow_and_keep-kept.ensures.status ∙ ap (status_in w) (c.deref-2.ensures.value ∙ ap (λ (s : StripContent). s.indexes) c.into_parts-slice.ensures) in
+    let status : c.narrow_and_keep-kept.result.1 ≡ status_in w c.args.strip.indexes = c.narrow_and_keep-kept.ensures.status ∙ ap (status_in w) (c.deref.ensures.value ∙ ap (λ (s : StripContent). s.indexes) c.into_parts-slice.ensures) in
     elim c.match-at.branch [
       | in-Some v ↦
           let at : c.args.strip.fold ≡ Some v.in-Some.at = sym (ap (λ (s : StripContent). s.fold) c.into_parts-slice.ensures) ∙ v.in-Some.is in

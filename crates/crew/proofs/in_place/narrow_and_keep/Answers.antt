@@ -1,14 +1,14 @@
 -- One word more.
-use Rattle.std.proofs.Common.{◌≡◌, ◌<◌, ◌∙◌, length, sym, ap, refl, get_or, arith}
+use Rattle.std.proofs.Common.{◌<◌, ◌∙◌, length, sym, ap, refl, get_or, arith}
 use Rattle.std.specs.Option.{is_some}
 use Rattle.fpage.specs.Rights.{no_rights, join}
 use Rattle.maptree.specs.declared.node.Node.{Node}
 use Rattle.pieces.proofs.AllSteps.{words_none}
 use Rattle.pieces.specs.Steps.{narrowed_by, entry_in}
 use Rattle.space.specs.Entries.{status_of}
-use Rattle.space.specs.Word.{is_pack, entry_of}
+use Rattle.space.specs.Word.{is_pack, entry_of, word_of}
 use Rattle.crew.proofs.InPlace.{narrow_reads, narrow_next, status_next}
-use Rattle.crew.proofs.Keeping.{IsFront, kept_next, left_out}
+use Rattle.crew.proofs.Keeping.{kept_next, left_out}
 use Rattle.crew.proofs.in_place.narrow_and_keep.Goals as goal
 use Rattle.crew.proofs.in_place.narrow_and_keep.Goals.{then-remains, else-remains}
 
@@ -43,8 +43,10 @@ loop-k-preserved c =
     let k = c.loop-k.k in
     let each = c.requires.masks ∙ sym c.requires.indexes in
     let same = narrow_reads old c.loop-k.words is ms k no_rights c.requires.distinct each c.loop-k-test.true c.loop-k.invariant.0 in
-    let remain = ap (λ x. is_some (narrowed_by (get_or ms k no_rights) (entry_of x))) (sym same) in
-    let words = narrow_next old c.loop-k.words is ms k no_rights c.requires.distinct each c.loop-k-test.true c.loop-k.invariant.0 c.narrowed.result c.narrowed.ensures (c.requires.within k 0 c.loop-k-test.true) in
+    let mask = c.get-mask.ensures no_rights in
+    let word = get_or c.loop-k.words (get_or is k 0) 0 in
+    let remain = ap (λ x. is_some (narrowed_by (get_or ms k no_rights) (entry_of x))) (sym same) ∙ ap (λ m. is_some (narrowed_by m (entry_of word))) (sym mask) in
+    let words = narrow_next old c.loop-k.words is ms k no_rights c.requires.distinct each c.loop-k-test.true c.loop-k.invariant.0 c.narrowed.result (c.narrowed.ensures ∙ ap (λ m. word_of (narrowed_by m (entry_of word))) mask) (c.requires.within k 0 c.loop-k-test.true) in
     let status =
     c.join-found.ensures ∙ ap (join c.loop-k.found) (c.status.ensures ∙ ap (λ x. status_of (entry_of x)) same)
     ∙ ap (λ s. join s (status_of (entry_in old (get_or is k 0)))) c.loop-k.invariant.2

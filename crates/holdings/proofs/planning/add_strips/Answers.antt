@@ -50,14 +50,14 @@ indexes-requires c = subst (All (λ n. IsPlace c.args.shards.now n.place)) (sym 
 abbrev indexes_of : Shards → List Node → List ℕ
 indexes_of s ns = map (λ n. index_of s n.place) ns
 
-pub of_part-requires-clause-distinct : goal.of_part-requires-clause-distinct
-of_part-requires-clause-distinct c =
-    let next = next_of ((goal.at.of_part-requires-clause-distinct c).After-deref) in
+pub of_part-strip-requires-clause-distinct : goal.of_part-strip-requires-clause-distinct
+of_part-strip-requires-clause-distinct c =
+    let next = next_of ((goal.at.of_part-strip-requires-clause-distinct c).After-deref) in
     ap are_distinct (c.in_ok-indexes.ensures ∙ ap (indexes_of c.args.shards.now) c.deref.ensures.value) ∙ next.words.distinct
 
-pub of_part-requires-clause-apart : goal.of_part-requires-clause-apart
-of_part-requires-clause-apart c =
-    let next = next_of ((goal.at.of_part-requires-clause-apart c).After-deref) in
+pub of_part-strip-requires-clause-apart : goal.of_part-strip-requires-clause-apart
+of_part-strip-requires-clause-apart c =
+    let next = next_of ((goal.at.of_part-strip-requires-clause-apart c).After-deref) in
     ap (λ fold. is_fold_apart fold c.in_ok-indexes.indexes.items) c.index_of_origin-fold.ensures
     ∙ ap (is_fold_apart _) (c.in_ok-indexes.ensures ∙ ap (indexes_of c.args.shards.now) c.deref.ensures.value) ∙ next.words.apart
 
@@ -68,10 +68,10 @@ loop-part-preserved c =
     let ns = nodes_of c.args.run.parts.items in
     let n = length c.loop-part.yielded in
     let part = c.in-Some.part.nodes.items in
-    let strip = c.in_ok-strip.strip in
+    let strip = c.of_part-strip.result in
     let indexes = c.in_ok-indexes.ensures ∙ ap (indexes_of s) c.deref.ensures.value in
     let made : strip ≡ strip_of s c.loop-part.spared c.args.revoked c.args.run.origin part =
-    c.in_ok-strip.ensures ∙ ap (λ is. record { nodes = part; masks = masks_of c.loop-part.spared c.args.revoked (length part); indexes = is; fold = c.index_of_origin-fold.result }) indexes
+    c.of_part-strip.ensures ∙ ap (λ is. record { nodes = part; masks = masks_of c.loop-part.spared c.args.revoked (length part); indexes = is; fold = c.index_of_origin-fold.result }) indexes
     ∙ ap (λ fold. record { nodes = part; masks = masks_of c.loop-part.spared c.args.revoked (length part); indexes = indexes_of s part; fold = fold }) c.index_of_origin-fold.ensures in
     let same = made ∙ ap (strip_of s c.loop-part.spared c.args.revoked c.args.run.origin) (sym next.nodes) in
     let l = length-append c.loop-part.yielded (c.in-Some.part ∷ []) in
