@@ -11,12 +11,11 @@ use crate::group::group_end;
 use crate::pages::{HeldPage, places_of, sorted_pages};
 use crate::tree::{links_for_many, origin_by};
 use fpage::Rights;
-use maptree::{Node, Slice, Tree};
+use maptree::{Node, Tree};
 use pieces::{Piece, Strip, are_pieces};
 use space::{NoMemory, Place, Shards};
 use std::alloc::{AllocError, Global};
 use std::ops::Range;
-use std::slice;
 
 /// The outermost runs of some pages of one frame, in its tree.
 #[derive(Drop)]
@@ -51,8 +50,7 @@ pub fn plan_strip(
 {
     let pages = sorted_pages(alloc, shards, places)?;
     let frames = runs_by_frame(alloc, trees, &pages)?;
-    let parts = parts_of_runs(alloc, trees, &frames, most)?;
-    let pieces = strips(alloc, shards, parts, revoked, flush)?;
+    let pieces = strips(alloc, shards, trees, &frames, revoked, flush, most)?;
     are_pieces(&pieces);
     Ok(StripPlan { frames, pieces })
 }
@@ -87,123 +85,112 @@ fn runs_by_frame(
     Ok(frames)
 }
 
-ghost use Rattle.holdings.specs.Inner.StripPlans.{HaveRuns, ArePlannedParts};
+ghost use Rattle.holdings.specs.Inner.StripPlans.{HaveRuns, ArePlannedStrips};
 
-/// The parts of a run, and the origin of its first page.
-#[derive(Drop)]
-pub struct RunParts {
-    pub origin: Option<Place>,
-    pub parts: Vec<Slice>,
-}
-
-/// The parts of all these runs, one run after another. A part has at most so many nodes.
-///
-/// Refused, where memory is: `NoMemory`.
-fn parts_of_runs(
-    alloc: Global,
-    trees: &[Tree],
-    frames: &[FrameRuns],
-    most: usize,
-) -> Result<Vec<RunParts>, NoMemory>
-    requires runs { All (HaveRuns trees.now) frames.now }
-    requires most { 1 ≤ most }
-    ensures { IfOk result (λ parts. ArePlannedParts trees.now frames.now parts.items) }
-{
-    let mut parts = Vec::new(alloc);
-    for frame in frames {
-        add_parts(alloc, trees, frame, most, &mut parts)?;
-    }
-    Ok(parts)
-}
-
-ghost use Rattle.std.specs.Prelude.{OnOk};
-ghost use Rattle.holdings.specs.Inner.StripPlans.{AreAdded};
-
-/// Adds the parts of the runs of a frame to others.
-///
-/// Refused, where memory is: `NoMemory`.
-fn add_parts(
-    alloc: Global,
-    trees: &[Tree],
-    frame: &FrameRuns,
-    most: usize,
-    parts: &mut Vec<RunParts>,
-) -> Result<(), NoMemory>
-    requires runs { HaveRuns trees.now frame.now }
-    requires most { 1 ≤ most }
-    ensures { OnOk result (AreAdded trees.now frame.now.frame frame.now.runs.items parts.old.items parts.new.items) }
-{
-    let tree = &trees[frame.frame as usize];
-    let links = links_for_many(alloc, tree, frame.runs.len())?;
-    for run in &frame.runs {
-        let origin = origin_by(tree, &links, run.start);
-        let nodes = tree.parts(alloc, slice::from_ref(run), most)?;
-        parts
-            .push(RunParts {
-                origin,
-                parts: nodes,
-            })
-            .map_err(AllocError::from)?;
-    }
-    Ok(())
-}
-
-ghost use Rattle.std.specs.Prelude.{map};
-ghost use Rattle.maptree.specs.Cuts.{nodes_of};
-ghost use Rattle.pieces.specs.declared.piece.Piece.TheVariants as piece;
-ghost use Rattle.holdings.specs.Inner.StripPlans.{HaveWords, strips_of_parts};
-
-/// The strips of the parts of runs. The status of a part goes to the origin of its run, and the first page of a run is spared where
-/// there is no flush.
+/// The strips of all these runs, one run after another, in parts of at most so many nodes.
 ///
 /// Refused, where memory is: `NoMemory`.
 fn strips(
     alloc: Global,
     shards: &Shards,
-    runs: Vec<RunParts>,
+    trees: &[Tree],
+    frames: &[FrameRuns],
     revoked: Rights,
     flush: bool,
+    most: usize,
 ) -> Result<Vec<Piece>, NoMemory>
-    requires { All (λ run. HaveWords shards.now run.origin (nodes_of run.parts.items)) runs.items }
-    ensures { IfOk result (λ pieces. pieces.items ≡ map piece.Strip (strips_of_parts shards.now revoked flush runs.items)) }
+    requires sound { AreSound shards.now trees.now }
+    requires runs { All (HaveRuns trees.now) frames.now }
+    requires most { 1 ≤ most }
+    ensures { IfOk result (λ pieces. ArePlannedStrips shards.now trees.now revoked flush frames.now pieces.items) }
 {
-    let mut pieces = Vec::with_capacity(alloc, runs.len())?;
-    for run in runs {
-        add_strips(alloc, shards, run, revoked, flush, &mut pieces)?;
+    let mut pieces = Vec::with_capacity(alloc, frames.len())?;
+    for frame in frames {
+        add_frame(
+            alloc,
+            shards,
+            trees,
+            frame,
+            revoked,
+            flush,
+            most,
+            &mut pieces,
+        )?;
     }
     Ok(pieces)
 }
 
-ghost use Rattle.std.specs.Prelude.{◌++◌};
-ghost use Rattle.holdings.specs.Inner.Planning.{strips_of_run};
+ghost use Rattle.std.specs.Prelude.{OnOk};
+ghost use Rattle.holdings.specs.Inner.StripPlans.{AreAdded};
 
-/// Adds the strips of one run to others.
+/// Adds the strips of the runs of a frame to others.
 ///
 /// Refused, where memory is: `NoMemory`.
-fn add_strips(
+fn add_frame(
     alloc: Global,
     shards: &Shards,
-    run: RunParts,
+    trees: &[Tree],
+    frame: &FrameRuns,
     revoked: Rights,
     flush: bool,
+    most: usize,
     pieces: &mut Vec<Piece>,
 ) -> Result<(), NoMemory>
-    requires { HaveWords shards.now run.origin (nodes_of run.parts.items) }
-    ensures { OnOk result (pieces.new.items ≡ pieces.old.items ++ map piece.Strip (strips_of_run shards.now revoked flush run.origin (nodes_of run.parts.items))) }
+    requires sound { AreSound shards.now trees.now }
+    requires runs { HaveRuns trees.now frame.now }
+    requires most { 1 ≤ most }
+    ensures { OnOk result (AreAdded shards.now trees.now revoked flush frame.now.frame frame.now.runs.items pieces.old.items pieces.new.items) }
 {
-    let RunParts { origin, parts } = run;
-    let fold = index_of_origin(shards, origin);
-    let mut spared = !flush;
-    for part in parts {
-        let indexes = indexes(alloc, shards, &part.nodes)?;
-        let strip = Strip::of_part(part, indexes, fold, revoked, spared);
-        pieces.push(Piece::Strip(strip)).map_err(AllocError::from)?;
-        spared = false;
+    let tree = &trees[frame.frame as usize];
+    tree.places_are_distinct();
+    let links = links_for_many(alloc, tree, frame.runs.len())?;
+    for run in &frame.runs {
+        let origin = origin_by(tree, &links, run.start);
+        add_run(
+            alloc, shards, tree, run, origin, revoked, flush, most, pieces,
+        )?;
     }
     Ok(())
 }
 
-ghost use Rattle.std.specs.Prelude.{option_map, Some};
+ghost use Rattle.holdings.specs.Inner.StripPlans.{HaveWords, IsRunAdded, pages_of};
+
+/// Adds the strips of a run to others, in parts of at most so many nodes. Their status goes to the origin of the run, and its
+/// first page is spared where there is no flush.
+///
+/// Refused, where memory is: `NoMemory`.
+fn add_run(
+    alloc: Global,
+    shards: &Shards,
+    tree: &Tree,
+    run: &Range<usize>,
+    origin: Option<Place>,
+    revoked: Rights,
+    flush: bool,
+    most: usize,
+    pieces: &mut Vec<Piece>,
+) -> Result<(), NoMemory>
+    requires within { run.now.end ≤ length tree.now.links }
+    requires words { HaveWords shards.now origin (pages_of tree.now.links run.now.start run.now.end) }
+    requires most { 1 ≤ most }
+    ensures { OnOk result (IsRunAdded shards.now revoked flush origin (pages_of tree.now.links run.now.start run.now.end) pieces.old.items pieces.new.items) }
+{
+    let fold = index_of_origin(shards, origin);
+    let mut spared = !flush;
+    let mut at = run.start;
+    while at < run.end {
+        let end = at + most.min(run.end - at);
+        let part = tree.part(alloc, at, end)?;
+        let indexes = indexes(alloc, shards, &part.nodes)?;
+        let strip = Strip::of_part(part, indexes, fold, revoked, spared);
+        pieces.push(Piece::Strip(strip)).map_err(AllocError::from)?;
+        spared = false;
+        at = end;
+    }
+    Ok(())
+}
+
+ghost use Rattle.std.specs.Prelude.{map, option_map, Some};
 ghost use Rattle.space.specs.declared.place.Place.{Place};
 ghost use Rattle.space.specs.Shards.{IsPlace, index_of};
 

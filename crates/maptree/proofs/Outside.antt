@@ -342,6 +342,26 @@ pub parts_depths : (ns left : List Node) (gaps : List ℕ) (parts : List Slice) 
 parts_depths ns left gaps parts forest same whole =
     joined_parts (HasDepth (origins_of ns)) 0 left gaps parts same (subst (AllNodes (HasDepth (origins_of ns))) (sym whole) (all_nodes (HasDepth (origins_of ns)) ns (λ i d within. forest_depth ns forest i d within)))
 
+-- the places from a position up to another
+pub part_places : (ns : List Node) (a b : ℕ) → map (λ n. n.place) (slice_range ns a b) ≡ slice_range (map (λ o. o.0) (origins_of ns)) a b
+part_places ns a b = sym (slice_map (λ (n : Node). n.place) a b ns) ∙ ap (λ ps. slice_range ps a b) (sym (places_links [] ns))
+
+-- the nodes there have the depths that they have in the tree
+pub part_depths : (ns : List Node) (a b : ℕ) → is_forest ns ≡ true → All (λ n. HasDepth (origins_of ns) n.place n.depth) (slice_range ns a b)
+part_depths ns a b forest =
+    taken (b - a) (drop a ns) (dropped a ns (all_nodes (HasDepth (origins_of ns)) ns (λ i d within. forest_depth ns forest i d within)))
+  where
+    dropped : (n : ℕ) (xs : List Node) → AllNodes (HasDepth (origins_of ns)) xs → AllNodes (HasDepth (origins_of ns)) (drop n xs)
+    dropped zero xs all = all
+    dropped (suc n) [] all = all
+    dropped (suc n) (x ∷ xs) all = dropped n xs (λ k d w. all (suc k) d (omega (arith, w)))
+
+    taken : (n : ℕ) (xs : List Node) → AllNodes (HasDepth (origins_of ns)) xs → AllNodes (HasDepth (origins_of ns)) (take n xs)
+    taken zero xs all = All-nil (λ n. HasDepth (origins_of ns) n.place n.depth)
+    taken (suc n) [] all = all
+    taken (suc n) (x ∷ xs) all =
+        All-cons (λ n. HasDepth (origins_of ns) n.place n.depth) x (take n xs) (all 0 x (omega arith)) (taken n xs (λ k d w. all (suc k) d (omega (arith, w))))
+
 -- what a cut of a tree leaves and gives
 pub record IsCutOut (ns : List Node) (rs : List (Range ℕ)) (most : ℕ) (left : List Node) (gaps : List ℕ) (taken : List Slice) : Type 0 where
   pub forest : is_forest left ≡ true

@@ -5,7 +5,6 @@ ghost use Rattle.space.specs.declared.place.Place.{Place};
 ghost use Rattle.maptree.specs.Origins.{origin_in, place_at, AreOuterRuns};
 ghost use Rattle.maptree.specs.Nodes.{is_forest, origins_of, run_len};
 
-use crate::cutting::Cutting;
 use crate::node::Node;
 use crate::node_list::NodeList;
 use crate::place_map::PlaceMap;
@@ -46,8 +45,8 @@ impl Tree {
     ghost use Rattle.std.specs.Prelude.{None, Some, option_map, IfSome, IfOk, OnOk, OnErr};
     ghost use Rattle.space.specs.declared.place.Place.{Place};
     ghost use Rattle.space.specs.Place.{same_place};
-    ghost use Rattle.std.specs.Prelude.{filter};
-    ghost use Rattle.std.specs.List.{All};
+    ghost use Rattle.std.specs.Prelude.{filter, map};
+    ghost use Rattle.std.specs.List.{All, slice_range};
     ghost use Rattle.maptree.specs.Origins.{are_once, OriginsStand, origin_in, place_at, renamed, LeadsTo, HasDepth, IsRun, AreRising, AreOuterRuns, AreRunEnds};
     ghost use Rattle.maptree.specs.PlaceMaps.{place_for};
     ghost use Rattle.maptree.specs.Growing.{with_below, AreApart};
@@ -173,21 +172,24 @@ impl Tree {
         Ok(runs)
     }
 
-    /// A copy of the parts that `cut` would give; the tree stays as it is.
-    pub fn parts(
-        &self,
-        alloc: Global,
-        ranges: &[Range<usize>],
-        most: usize,
-    ) -> Result<Vec<Slice>, NoMemory>
-        requires rising { AreRising 0 ranges.now (length self.now.links) }
-        requires runs { All (IsRun self.now.links) ranges.now }
-        requires most { 1 ≤ most }
-        ensures parts { IfOk result (λ parts. ArePartsOf self.now.links ranges.now most parts.items) }
-        ensures once { OnOk result (are_once self.now.links ≡ true) }
+    /// No place stands twice in a tree, as its type says. The function does nothing: its contract is what it tells.
+    pub fn places_are_distinct(&self)
+        ensures { are_once self.now.links ≡ true }
     {
-        let Cutting { parts, .. } = Cutting::of(alloc, &self.nodes, ranges, most)?;
-        Ok(parts)
+        let _ = &self.nodes;
+    }
+
+    /// A copy of the nodes from a position up to another; the tree stays as it is.
+    ///
+    /// Refused, where memory is: `NoMemory`.
+    pub fn part(&self, alloc: Global, from: usize, to: usize) -> Result<Slice, NoMemory>
+        requires rising { from ≤ to }
+        requires within { to ≤ length self.now.links }
+        ensures places { IfOk result (λ s. map (λ n. n.place) s.nodes.items ≡ slice_range (map (λ o. o.0) self.now.links) from to) }
+        ensures depths { IfOk result (λ s. All (λ n. HasDepth self.now.links n.place n.depth) s.nodes.items) }
+    {
+        let nodes = self.nodes.copy(alloc, from, to)?;
+        Ok(Slice { nodes })
     }
 
     /// Cuts runs out of the tree, in parts of at most so many nodes, each within one run. `splice` puts back what is

@@ -1,11 +1,8 @@
 -- Planned runs are apart: no page is in two of them, and the origin of one is in none.
-use Rattle.std.proofs.Common.{◌≡◌, ℕ, zero, suc, ◌+◌, ◌-◌, ◌<◌, ◌≤◌, true, false, Bool, ◌&&◌, ◌||◌, not, List, [], ◌∷◌, ◌++◌, length, take, drop, map, Option, Some, None, get_or, refl, sym, ap, ◌∙◌, subst, arith, ◌⊎◌, inl, inr}
+use Rattle.std.proofs.Common.{◌≡◌, ℕ, zero, suc, ◌<◌, ◌≤◌, true, false, Bool, ◌&&◌, ◌||◌, not, List, [], ◌∷◌, ◌++◌, length, drop, map, Some, get_or, refl, sym, ap, ◌∙◌, subst, arith, ◌⊎◌, inl, inr}
 use Rattle.std.specs.List.{All, list_any, list_all, flat_map, slice_range}
 use Rattle.std.specs.declared.ops.Range.{Range}
 use Rattle.std.proofs.lemmas.Bool.{and_parts, and_from, or_cases, or_left, or_right, false_from_ne_true}
-use Rattle.std.proofs.lemmas.Grind.{flat_map-append}
-use Rattle.std.proofs.lemmas.List.{map-append, take-append-drop}
-use Rattle.std.proofs.lemmas.List.Elements.{All-append}
 use Rattle.std.proofs.lemmas.List.Folds.{list_any-append, list_all-append}
 use Rattle.space.specs.declared.place.Place.{Place}
 use Rattle.space.specs.declared.place.Entry.{Entry}
@@ -13,23 +10,21 @@ use Rattle.space.specs.declared.shards.Shards.{Shards}
 use Rattle.space.specs.Place.{same_place}
 use Rattle.space.specs.Shards.{IsPlace, entry_at}
 use Rattle.space.proofs.Places.{same_is, same_self}
-use Rattle.maptree.specs.declared.node.Node.{Node}
-use Rattle.maptree.specs.Origins.{Origins, Shape, IsRun, AreRising, are_once, place_at, origin_in}
+use Rattle.maptree.specs.Origins.{Origins, Shape, AreRising, are_once, place_at, origin_in}
 use Rattle.maptree.proofs.Cuttings.{split_at}
 use Rattle.model.specs.Holdings.{only, origin_at}
-use Rattle.model.specs.Derived.{is_below, is_under}
+use Rattle.model.specs.Derived.{is_below}
 use Rattle.model.proofs.LawfulParts.{IsLawful, lawful_parts}
-use Rattle.model.proofs.Chains.{below_from, under_from, under_self}
-use Rattle.holdings.specs.Places.{any_of, IsWithin}
+use Rattle.model.proofs.Chains.{under_from, under_self}
+use Rattle.holdings.specs.Places.{any_of}
 use Rattle.holdings.specs.Inner.Held.{links_in, is_listed, limits_in, holdings_in}
 use Rattle.holdings.specs.Inner.Planning.{RunPlan, IsRunPlan, all_places, come_once, first_of, places_of_runs}
 use Rattle.holdings.specs.Inner.Sound.{AreSound, AreLoose}
-use Rattle.holdings.specs.Inner.StripPlans.{AreRunPlans, AreFramePlans, HaveWords}
-use Rattle.holdings.specs.declared.planning.FrameRuns.{FrameRuns}
+use Rattle.holdings.specs.Inner.StripPlans.{AreRunPlans, HaveWords}
 use Rattle.holdings.proofs.Contents.Holders.{origin_within}
 use Rattle.holdings.proofs.Contents.Listing.{within_from_place}
 use Rattle.holdings.proofs.Contents.WordChanges.{frame_from}
-use Rattle.holdings.proofs.Trees.Chains.{is_among, among_at, at_among, listed_at, below_among}
+use Rattle.holdings.proofs.Trees.Chains.{is_among, among_at, listed_at, below_among}
 use Rattle.holdings.proofs.Stripping.Frames.{loose_from}
 use Rattle.holdings.proofs.Stripping.Walks.{standing_place, place_any}
 use Rattle.holdings.proofs.Phases.StrippedRun.{slice_of_map, each_listed}
@@ -213,7 +208,7 @@ module _ (s : Shards) (trees : List Shape) (sound : AreSound s trees) where
       cc (under, under_self (holdings_in s trees) lawful (first_of trees plan)))
 
   -- each run has words of its own
-  pub have_words : (plan : RunPlan) → IsRunPlan trees plan → are_once (links_in trees plan.frame) ≡ true → HaveWords s plan.origin plan.parts
+  pub have_words : (plan : RunPlan) → IsRunPlan trees plan → are_once (links_in trees plan.frame) ≡ true → HaveWords s plan.origin (all_places plan.parts)
   have_words plan is once = record {
     places = subst (All (IsPlace s)) (sym (is.places ∙ slice_of_map os plan.run.start plan.run.end)) (each_listed (IsPlace s) (slice_range os plan.run.start plan.run.end) (λ p among.
         let at = among_at os plan.run.start plan.run.end p p among in

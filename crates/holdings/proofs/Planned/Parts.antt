@@ -1,8 +1,9 @@
 -- The strips of the parts of one run, one after another.
-use Rattle.std.proofs.Common.{◌≡◌, ℕ, zero, suc, ◌+◌, ◌<◌, ◌≤◌, true, false, Bool, ◌&&◌, ◌||◌, not, List, [], ◌∷◌, ◌++◌, length, take, map, Option, Some, None, get_or, refl, sym, ap, ◌∙◌, subst, arith, option_map}
-use Rattle.std.specs.List.{All, list_any, list_all, flat_map}
-use Rattle.std.proofs.lemmas.Bool.{and_parts, or_cases, or_right}
-use Rattle.std.proofs.lemmas.List.{map-append, take_more}
+use Rattle.std.proofs.Common.{◌≡◌, ℕ, zero, suc, ◌+◌, ◌-◌, ◌<◌, ◌≤◌, true, false, Bool, ◌&&◌, ◌||◌, not, List, [], ◌∷◌, ◌++◌, length, take, drop, map, Option, Some, None, get_or, refl, sym, ap, ◌∙◌, subst, arith, option_map}
+use Rattle.std.specs.List.{All, list_all}
+use Rattle.std.proofs.lemmas.Bool.{and_parts}
+use Rattle.std.proofs.lemmas.List.{map-append, length-append, length-drop, length-map}
+use Rattle.std.proofs.lemmas.List.Elements.{All-append}
 use Rattle.std.proofs.lemmas.List.Folds.{list_any-append, list_all-append}
 use Rattle.fpage.specs.declared.rights.Rights.{Rights}
 use Rattle.space.specs.declared.place.Place.{Place}
@@ -10,16 +11,15 @@ use Rattle.space.specs.declared.shards.Shards.{Shards}
 use Rattle.space.specs.Place.{same_place}
 use Rattle.space.specs.Shards.{IsPlace, index_of}
 use Rattle.maptree.specs.declared.node.Node.{Node}
-use Rattle.maptree.specs.declared.slice.Slice.{Slice}
-use Rattle.maptree.specs.Cuts.{nodes_of}
+use Rattle.maptree.specs.Origins.{Origins}
+use Rattle.maptree.proofs.Cuttings.{drop_drop, take_more}
 use Rattle.pieces.specs.Contents.{StripContent, is_fold_apart}
 use Rattle.pieces.specs.Distinct.{are_distinct, is_none_of}
 use Rattle.pieces.specs.declared.piece.Piece.{Piece}
 use Rattle.pieces.specs.declared.piece.Piece.TheVariants as piece
 use Rattle.holdings.specs.Places.{any_of}
 use Rattle.holdings.specs.Inner.Planning.{all_places, come_once, strip_of, strips_of_run}
-use Rattle.holdings.specs.declared.planning.RunParts.{RunParts}
-use Rattle.holdings.specs.Inner.StripPlans.{strips_of_parts}
+use Rattle.holdings.specs.Inner.StripPlans.{HaveWords, IsRunAdded, pages_of}
 use Rattle.holdings.proofs.Phases.StripPlans.{apart_index, distinct_indexes}
 
 -- ---- places that come once
@@ -61,7 +61,7 @@ pub record HasWords (s : Shards) (origin : Option Place) (part : List Node) : Ty
   pub apart : is_fold_apart (option_map (index_of s) origin) (map (λ n. index_of s n.place) part) ≡ true
 
 module _ (s : Shards) (origin : Option Place) (standing : (o : Place) → origin ≡ Some o → IsPlace s o) where
-  of_part : (part : List Node) → All (IsPlace s) (map (λ n. n.place) part) → come_once (map (λ n. n.place) part) ≡ true
+  pub of_part : (part : List Node) → All (IsPlace s) (map (λ n. n.place) part) → come_once (map (λ n. n.place) part) ≡ true
       → ((o : Place) → origin ≡ Some o → any_of (map (λ n. n.place) part) o ≡ false) → HasWords s origin part
   of_part part places once apart = record {
     places = each part places;
@@ -82,111 +82,98 @@ module _ (s : Shards) (origin : Option Place) (standing : (o : Place) → origin
       by None stands none = refl
       by (Some o) stands none = ap (λ is. is_none_of is (index_of s o)) (indexes part) ∙ apart_index s o (map (λ n. n.place) part) (stands o refl) places (none o refl)
 
-  pub words_of_part : (parts : List (List Node)) → All (IsPlace s) (all_places parts) → come_once (all_places parts) ≡ true → ((o : Place) → origin ≡ Some o → any_of (all_places parts) o ≡ false)
-      → (n : ℕ) (d : List Node) → n < length parts → HasWords s origin (get_or parts n d)
-  words_of_part [] places once apart n d less = absurd (omega (arith, less))
-  words_of_part (part ∷ parts) places once apart zero d less =
-      of_part part (all_first (IsPlace s) (map (λ n. n.place) part) (all_places parts) places) (once_parts (map (λ n. n.place) part) (all_places parts) once).0
-      (λ o is. (none_parts (map (λ n. n.place) part) (all_places parts) o (apart o is)).0)
-  words_of_part (part ∷ parts) places once apart (suc n) d less =
-      words_of_part parts (all_second (IsPlace s) (map (λ n. n.place) part) (all_places parts) places) (once_parts (map (λ n. n.place) part) (all_places parts) once).1
-      (λ o is. (none_parts (map (λ n. n.place) part) (all_places parts) o (apart o is)).1) n d (omega (arith, less))
-
 -- ---- the strips so far
 
-pieces_assoc : (xs ys zs : List Piece) → (xs ++ ys) ++ zs ≡ xs ++ (ys ++ zs)
+pieces_assoc : {A : Type 0} (xs ys zs : List A) → (xs ++ ys) ++ zs ≡ xs ++ (ys ++ zs)
 pieces_assoc [] ys zs = refl
 pieces_assoc (x ∷ xs) ys zs = ap (λ ps. x ∷ ps) (pieces_assoc xs ys zs)
+
+none_more : {A : Type 0} (xs : List A) → xs ++ [] ≡ xs
+none_more [] = refl
+none_more (x ∷ xs) = ap (λ ys. x ∷ ys) (none_more xs)
+
+-- the pages up to a position, and those behind it
+pub more_pages : (os : Origins) (a b c : ℕ) → a ≤ b → b ≤ c → pages_of os a c ≡ pages_of os a b ++ pages_of os b c
+more_pages os a b c first second =
+    let ps = map (λ o. o.0) os in
+    let most : (c - a) - (b - a) ≡ c - b = omega (arith, first, second) in
+    let at : a + (b - a) ≡ b = omega (arith, first) in
+    take_more (b - a) (c - a) (drop a ps) (omega (arith, first, second))
+    ∙ ap (λ qs. take (b - a) (drop a ps) ++ take ((c - a) - (b - a)) qs) (drop_drop a (b - a) ps ∙ ap (λ n. drop n ps) at)
+    ∙ ap (λ n. take (b - a) (drop a ps) ++ take n (drop b ps)) most
+
+-- there are none behind the end
+pub no_pages : (os : Origins) (a b : ℕ) → b ≤ a → pages_of os a b ≡ []
+no_pages os a b end = let none : b - a ≡ 0 = omega (arith, end) in ap (λ n. take n (drop a (map (λ o. o.0) os))) none
+
+-- there are some before it
+pub some_pages : (os : Origins) (a b : ℕ) → a < b → b ≤ length os → 0 < length (pages_of os a b)
+some_pages os a b less within = some (drop a (map (λ o. o.0) os)) (b - a) (omega (arith, less)) (let l = length-drop a (map (λ o. o.0) os) in let count = length-map os (λ o. o.0) in omega (arith, l, count, less, within))
+  where
+    some : (ys : List Place) (n : ℕ) → 0 < n → 0 < length ys → 0 < length (take n ys)
+    some [] n positive more = absurd (omega (arith, more))
+    some (y ∷ ys) zero positive more = absurd (omega (arith, positive))
+    some (y ∷ ys) (suc n) positive more = omega arith
 
 -- whether the first node of the part with this number is spared
 abbrev pub spares : Bool → ℕ → Bool
 spares flush zero = not flush
 spares flush (suc n) = false
 
+all_more : (parts : List (List Node)) (part : List Node) → all_places (parts ++ part ∷ []) ≡ all_places parts ++ map (λ n. n.place) part
+all_more [] part = none_more (map (λ n. n.place) part)
+all_more (p ∷ parts) part = ap (λ ps. map (λ n. n.place) p ++ ps) (all_more parts part) ∙ sym (pieces_assoc (map (λ n. n.place) p) (all_places parts) (map (λ n. n.place) part))
+
 module _ (s : Shards) (a : Rights) (flush : Bool) (origin : Option Place) where
-  strip_at : (parts : List (List Node)) (n : ℕ) (d : List Node) (e : StripContent) → n < length parts → get_or (strips_of_run s a flush origin parts) n e ≡ strip_of s (spares flush n) a origin (get_or parts n d)
-  strip_at [] n d e less = absurd (omega (arith, less))
-  strip_at (part ∷ parts) zero d e less = refl
-  strip_at (part ∷ parts) (suc n) d e less = later parts n (omega (arith, less))
-    where
-      later : (parts : List (List Node)) (n : ℕ) → n < length parts → get_or (map (strip_of s false a origin) parts) n e ≡ strip_of s false a origin (get_or parts n d)
-      later [] n less = absurd (omega (arith, less))
-      later (p ∷ ps) zero less = refl
-      later (p ∷ ps) (suc n) less = later ps n (omega (arith, less))
+  strips_more : (parts : List (List Node)) (part : List Node) → strips_of_run s a flush origin (parts ++ part ∷ []) ≡ strips_of_run s a flush origin parts ++ strip_of s (spares flush (length parts)) a origin part ∷ []
+  strips_more [] part = refl
+  strips_more (p ∷ parts) part = ap (λ ks. strip_of s (not flush) a origin p ∷ ks) (map-append (strip_of s false a origin) parts (part ∷ []))
 
-  pub strips_count : (parts : List (List Node)) → length (strips_of_run s a flush origin parts) ≡ length parts
-  strips_count [] = refl
-  strips_count (part ∷ parts) = ap suc (rest parts)
-    where
-      rest : (parts : List (List Node)) → length (map (strip_of s false a origin) parts) ≡ length parts
-      rest [] = refl
-      rest (p ∷ ps) = ap suc (rest ps)
+  -- the strips of the parts so far were added; the parts and the pages to come are all pages of the run
+  pub record IsAddedUpTo (ps rest : List Place) (old : List Piece) (spared : Bool) (now : List Piece) : Type 0 where
+    pub parts : List (List Node)
+    pub each : All (λ part. 0 < length part) parts
+    pub places : all_places parts ++ rest ≡ ps
+    pub first : spared ≡ spares flush (length parts)
+    pub items : now ≡ old ++ map piece.Strip (strips_of_run s a flush origin parts)
 
-  -- the strips of so many parts were added
-  pub record AreStripsAdded (parts : List (List Node)) (old : List Piece) (n : ℕ) (spared : Bool) (now : List Piece) : Type 0 where
-    pub first : spared ≡ spares flush n
-    pub items : now ≡ old ++ map piece.Strip (take n (strips_of_run s a flush origin parts))
+  pub none_yet : (ps : List Place) (old : List Piece) → IsAddedUpTo ps ps old (not flush) old
+  none_yet ps old = record { parts = []; each = λ k d less. absurd (omega (arith, less)); places = refl; first = refl; items = sym (none_more old) }
 
-  pub none_added : (parts : List (List Node)) (old : List Piece) → AreStripsAdded parts old 0 (not flush) old
-  none_added parts old = record { first = refl; items = none old }
-    where
-      none : (ps : List Piece) → ps ≡ ps ++ []
-      none [] = refl
-      none (p ∷ ps) = ap (λ qs. p ∷ qs) (none ps)
-
-  pub one_added : (parts : List (List Node)) (old : List Piece) (n : ℕ) (spared : Bool) (now : List Piece) (d : List Node) → AreStripsAdded parts old n spared now → n < length parts
-      → (strip : StripContent) → strip ≡ strip_of s spared a origin (get_or parts n d) → (next : List Piece) → next ≡ now ++ piece.Strip strip ∷ [] → AreStripsAdded parts old (n + 1) false next
-  one_added parts old n spared now d so_far less strip is next pushed =
-      let ss = strips_of_run s a flush origin parts in
-      let count = strips_count parts in
-      let e = strip in
-      let here : get_or ss n e ≡ strip = strip_at parts n d e less ∙ ap (λ b. strip_of s b a origin (get_or parts n d)) (sym so_far.first) ∙ sym is in
-      let grown : take (n + 1) ss ≡ take n ss ++ strip ∷ [] = take_more ss n e (omega (arith, less, count)) ∙ ap (λ k. take n ss ++ k ∷ []) here in
+  pub one_more : (ps rest next : List Place) (old : List Piece) (spared : Bool) (now new : List Piece) → IsAddedUpTo ps rest old spared now → (part : List Node) → 0 < length part → rest ≡ map (λ n. n.place) part ++ next
+      → (strip : StripContent) → strip ≡ strip_of s spared a origin part → new ≡ now ++ piece.Strip strip ∷ [] → IsAddedUpTo ps next old false new
+  one_more ps rest next old spared now new so_far part some joined strip is pushed =
+      let parts = so_far.parts in
+      let strips = strips_of_run s a flush origin parts in
       record {
-        first = later n;
-        items = pushed ∙ ap (λ ps. ps ++ piece.Strip strip ∷ []) so_far.items ∙ pieces_assoc old (map piece.Strip (take n ss)) (piece.Strip strip ∷ [])
-            ∙ ap (λ ps. old ++ ps) (sym (ap (map piece.Strip) grown ∙ map-append piece.Strip (take n ss) (strip ∷ [])));
+        parts = parts ++ part ∷ [];
+        each = All-append (λ part. 0 < length part) parts (part ∷ []) so_far.each (λ k d less. one k d (omega (arith, less)));
+        places = ap (λ qs. qs ++ next) (all_more parts part) ∙ pieces_assoc (all_places parts) (map (λ n. n.place) part) next ∙ ap (λ qs. all_places parts ++ qs) (sym joined) ∙ so_far.places;
+        first = let l = length-append parts (part ∷ []) in later (length (parts ++ part ∷ [])) (omega (arith, l));
+        items = pushed ∙ ap (λ k. now ++ piece.Strip k ∷ []) (is ∙ ap (λ b. strip_of s b a origin part) so_far.first)
+            ∙ ap (λ qs. qs ++ piece.Strip (strip_of s (spares flush (length parts)) a origin part) ∷ []) so_far.items
+            ∙ pieces_assoc old (map piece.Strip strips) (piece.Strip (strip_of s (spares flush (length parts)) a origin part) ∷ [])
+            ∙ ap (λ qs. old ++ qs) (sym (ap (map piece.Strip) (strips_more parts part) ∙ map-append piece.Strip strips (strip_of s (spares flush (length parts)) a origin part ∷ [])));
       }
     where
-      later : (n : ℕ) → false ≡ spares flush (n + 1)
-      later n = let same : n + 1 ≡ suc n = omega arith in ap (spares flush) (sym same)
+      one : (k : ℕ) (d : List Node) → k ≤ 0 → 0 < length (get_or (part ∷ []) k d)
+      one zero d least = some
+      one (suc k) d least = absurd (omega (arith, least))
 
-  pub all_added : (parts : List (List Node)) (old : List Piece) (n : ℕ) (spared : Bool) (now : List Piece) → AreStripsAdded parts old n spared now → length parts ≤ n
-      → now ≡ old ++ map piece.Strip (strips_of_run s a flush origin parts)
-  all_added parts old n spared now so_far end =
-      let count = strips_count parts in
-      so_far.items ∙ ap (λ ss. old ++ map piece.Strip ss) (all n (strips_of_run s a flush origin parts) (omega (arith, count, end)))
-    where
-      all : (n : ℕ) (xs : List StripContent) → length xs ≤ n → take n xs ≡ xs
-      all n [] end = nothing n
-        where
-          nothing : (n : ℕ) → take {A = StripContent} n [] ≡ []
-          nothing zero = refl
-          nothing (suc n) = refl
-      all zero (x ∷ xs) end = absurd (omega (arith, end))
-      all (suc n) (x ∷ xs) end = ap (λ ys. x ∷ ys) (all n xs (omega (arith, end)))
+      later : (n : ℕ) → 0 < n → false ≡ spares flush n
+      later zero positive = absurd (omega (arith, positive))
+      later (suc n) positive = refl
 
--- the nodes of the part with a number
-pub nodes_at : (parts : List Slice) (n : ℕ) (d : Slice) → n < length parts → get_or (nodes_of parts) n d.nodes.items ≡ (get_or parts n d).nodes.items
-nodes_at [] n d less = absurd (omega (arith, less))
-nodes_at (p ∷ ps) zero d less = refl
-nodes_at (p ∷ ps) (suc n) d less = nodes_at ps n d (omega (arith, less))
+  pub all_added : (ps : List Place) (old : List Piece) (spared : Bool) (now : List Piece) → IsAddedUpTo ps [] old spared now → IsRunAdded s a flush origin ps old now
+  all_added ps old spared now so_far = record { parts = so_far.parts; each = so_far.each; places = sym (none_more (all_places so_far.parts)) ∙ so_far.places; items = so_far.items }
 
-pub as_many : (parts : List Slice) → length (nodes_of parts) ≡ length parts
-as_many [] = refl
-as_many (p ∷ ps) = ap suc (as_many ps)
-
--- ---- the strips of runs
-
-module _ (s : Shards) (a : Rights) (flush : Bool) where
-  pub strips_more : (rs : List RunParts) (r : RunParts) → map piece.Strip (strips_of_parts s a flush (rs ++ r ∷ [])) ≡ map piece.Strip (strips_of_parts s a flush rs) ++ map piece.Strip (strips_of_run s a flush r.origin (nodes_of r.parts.items))
-  strips_more [] r = ap (map piece.Strip) (nothing_more (strips_of_run s a flush r.origin (nodes_of r.parts.items)))
-    where
-      nothing_more : (ss : List StripContent) → ss ++ [] ≡ ss
-      nothing_more [] = refl
-      nothing_more (k ∷ ss) = ap (λ ks. k ∷ ks) (nothing_more ss)
-  strips_more (q ∷ rs) r =
-      let mine = strips_of_run s a flush q.origin (nodes_of q.parts.items) in
-      map-append piece.Strip mine (strips_of_parts s a flush (rs ++ r ∷ [])) ∙ ap (λ ps. map piece.Strip mine ++ ps) (strips_more rs r)
-      ∙ sym (pieces_assoc (map piece.Strip mine) (map piece.Strip (strips_of_parts s a flush rs)) (map piece.Strip (strips_of_run s a flush r.origin (nodes_of r.parts.items))))
-      ∙ ap (λ ps. ps ++ map piece.Strip (strips_of_run s a flush r.origin (nodes_of r.parts.items))) (sym (map-append piece.Strip mine (strips_of_parts s a flush rs)))
+  -- the next part has words of its own
+  pub words_next : (ps rest next : List Place) (old : List Piece) (spared : Bool) (now : List Piece) → HaveWords s origin ps → IsAddedUpTo ps rest old spared now → (part : List Node) → rest ≡ map (λ n. n.place) part ++ next → HasWords s origin part
+  words_next ps rest next old spared now have so_far part joined =
+      let before = all_places so_far.parts in
+      let here = map (λ (n : Node). n.place) part in
+      let whole : ps ≡ before ++ (here ++ next) = sym so_far.places ∙ ap (λ qs. before ++ qs) joined in
+      of_part s origin have.origin_stands part
+      (all_first (IsPlace s) here next (all_second (IsPlace s) before (here ++ next) (subst (All (IsPlace s)) whole have.places)))
+      (once_parts here next (once_parts before (here ++ next) (ap come_once (sym whole) ∙ have.once)).1).0
+      (λ o is. (none_parts here next o (none_parts before (here ++ next) o (ap (λ qs. any_of qs o) (sym whole) ∙ have.apart o is)).1).0)

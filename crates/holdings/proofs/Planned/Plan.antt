@@ -1,6 +1,6 @@
 -- The runs of held pages, frame by frame, are the plan of a strip.
-use Rattle.std.proofs.Common.{◌≡◌, ℕ, zero, suc, ◌+◌, ◌<◌, ◌≤◌, ◌==◌, true, false, Bool, ◌&&◌, ◌||◌, not, List, [], ◌∷◌, ◌++◌, length, map, Option, Some, None, get_or, refl, sym, ap, ◌∙◌, subst, arith, ◌⊎◌, inl, inr}
-use Rattle.std.specs.List.{All, list_any, list_all, flat_map}
+use Rattle.std.proofs.Common.{◌≡◌, ℕ, zero, suc, ◌<◌, ◌==◌, true, false, ◌||◌, not, List, [], ◌∷◌, ◌++◌, length, map, Option, Some, None, get_or, refl, sym, ap, ◌∙◌, subst, arith, ◌⊎◌, inl, inr}
+use Rattle.std.specs.List.{All, list_all}
 use Rattle.std.specs.declared.ops.Range.{Range}
 use Rattle.std.proofs.lemmas.Bool.{and_parts, and_from, or_cases, or_left, or_right, false_from_ne_true, eqb-true}
 use Rattle.std.proofs.lemmas.Grind.{flat_map-append}
@@ -8,35 +8,31 @@ use Rattle.std.proofs.lemmas.List.{map-append}
 use Rattle.std.proofs.lemmas.List.Elements.{All-append}
 use Rattle.std.proofs.lemmas.List.Folds.{list_any-append}
 use Rattle.std.proofs.lemmas.Option.{same_Some}
-use Rattle.fpage.specs.declared.rights.Rights.{Rights}
 use Rattle.space.specs.declared.place.Place.{Place}
 use Rattle.space.specs.declared.place.Entry.{Entry}
 use Rattle.space.specs.declared.shards.Shards.{Shards}
 use Rattle.space.specs.Place.{same_place}
-use Rattle.space.specs.Shards.{IsPlace, entry_at}
+use Rattle.space.specs.Shards.{entry_at}
 use Rattle.space.proofs.Places.{same_is, same_self}
-use Rattle.maptree.specs.declared.node.Node.{Node}
-use Rattle.maptree.specs.Cuts.{nodes_of}
-use Rattle.maptree.specs.Origins.{Origins, Shape, AreOuterRuns, are_once, place_at}
+use Rattle.maptree.specs.Origins.{Origins, Shape, are_once, place_at}
 use Rattle.model.specs.Holdings.{PlaceSet, only, is_held}
 use Rattle.model.specs.Derived.{is_below}
 use Rattle.model.proofs.LawfulParts.{IsLawful, lawful_parts}
 use Rattle.model.proofs.Chains.{below_from, below_within, in_below}
-use Rattle.pieces.specs.Contents.{StripContent}
-use Rattle.holdings.specs.Places.{any_of, IsWithin}
+use Rattle.holdings.specs.Places.{any_of}
 use Rattle.holdings.specs.Inner.Held.{links_in, is_place, is_listed, limits_in, holdings_in, has_entry}
-use Rattle.holdings.specs.Inner.Planning.{RunPlan, IsRunPlan, IsStripPlan, all_places, come_once, first_of, places_of_runs, strips_of_run, strips_of_runs}
+use Rattle.holdings.specs.Inner.Planning.{RunPlan, IsRunPlan, IsStripPlan, all_places, come_once, first_of, places_of_runs}
 use Rattle.holdings.specs.Inner.Sound.{AreSound}
 use Rattle.holdings.specs.Inner.Stripping.{any_page, places_in, HasItsFrame, AreHeldPages, AreOfFrame, firsts}
-use Rattle.holdings.specs.Inner.StripPlans.{IsFrameGroup, AreFrameRuns, AreRunPlans, AreFramePlans, HaveRuns, HaveWords, parts_of, parts_in, strips_of_parts, is_planned}
+use Rattle.holdings.specs.Inner.StripPlans.{AreFrameRuns, AreFramePlans, HaveRuns, HaveWords, pages_of, is_planned}
 use Rattle.holdings.specs.declared.pages.HeldPage.{HeldPage}
 use Rattle.holdings.specs.declared.planning.FrameRuns.{FrameRuns}
-use Rattle.holdings.specs.declared.planning.RunParts.{RunParts}
 use Rattle.holdings.proofs.Contents.Listing.{within_from_place}
 use Rattle.holdings.proofs.Contents.WordChanges.{frame_from}
 use Rattle.holdings.proofs.Stripping.Frames.{covered, entry_of_held, loose_from}
 use Rattle.holdings.proofs.Trees.Chains.{among_at}
-use Rattle.holdings.proofs.Planned.Apart.{StartWithin, starts_apart, joined_once, any_cases, any_first, any_second, one_tree, run_among, run_listed, first_is, first_listed, below_run, first_origin, origin_apart, have_words, frame_once, Agree, map_pairs}
+use Rattle.holdings.proofs.Planned.Runs.{IsRunOf, one_part, one_part_planned, places_of_one}
+use Rattle.holdings.proofs.Planned.Apart.{starts_apart, joined_once, any_cases, any_first, any_second, one_tree, run_among, run_listed, first_is, first_listed, below_run, first_origin, origin_apart, have_words, frame_once, Agree, map_pairs}
 
 -- ---- lists
 
@@ -303,22 +299,9 @@ module _ (s : Shards) (trees : List Shape) (sound : AreSound s trees) where
       any_at (x ∷ xs) zero d within = or_left _ _ (same_self x.place)
       any_at (x ∷ xs) (suc i) d within = or_right _ _ (any_at xs i d (omega (arith, within)))
 
-  -- the parts have words of their own
-  pub parts_have_words : (parts : List RunParts) (plans : List RunPlan) → map parts_of parts ≡ map parts_in plans → All (IsRunPlan trees) plans → All (λ plan. are_once (links_in trees plan.frame) ≡ true) plans
-      → All (λ r. HaveWords s r.origin (nodes_of r.parts.items)) parts
-  parts_have_words [] plans same each once k d less = absurd (omega (arith, less))
-  parts_have_words (r ∷ rs) [] same each once k d less = absurd (cc same)
-  parts_have_words (r ∷ rs) (p ∷ ps) same each once zero d less =
-      let pair : parts_in p ≡ parts_of r = cc same in
-      subst (λ x. HaveWords s x.0 x.1) pair (have_words s trees sound p (each 0 p (omega arith)) (once 0 p (omega arith)))
-  parts_have_words (r ∷ rs) (p ∷ ps) same each once (suc k) d less =
-      parts_have_words rs ps (cc same) (λ j e w. each (suc j) e (omega (arith, w))) (λ j e w. once (suc j) e (omega (arith, w))) k d (omega (arith, less))
-
--- and their strips are those of the plans
-pub strips_same : (s : Shards) (a : Rights) (flush : Bool) (parts : List RunParts) (plans : List RunPlan) → map parts_of parts ≡ map parts_in plans → strips_of_parts s a flush parts ≡ strips_of_runs s a flush plans
-strips_same s a flush [] [] same = refl
-strips_same s a flush [] (p ∷ ps) same = absurd (cc same)
-strips_same s a flush (r ∷ rs) [] same = absurd (cc same)
-strips_same s a flush (r ∷ rs) (p ∷ ps) same =
-    let pair : parts_of r ≡ parts_in p = cc same in
-    ap (λ x. strips_of_run s a flush x.0 x.1 ++ strips_of_parts s a flush rs) pair ∙ ap (λ ks. strips_of_run s a flush p.origin p.parts ++ ks) (strips_same s a flush rs ps (cc same))
+  -- the pages of a run have words of their own
+  pub run_has_words : (frame : ℕ) (run : Range ℕ) (origin : Option Place) → IsRunOf trees frame run origin → are_once (links_in trees frame) ≡ true → HaveWords s origin (pages_of (links_in trees frame) run.start run.end)
+  run_has_words frame run origin is once =
+      let ps = pages_of (links_in trees frame) run.start run.end in
+      let have = have_words s trees sound (record { frame = frame; run = run; origin = origin; parts = one_part ps }) (one_part_planned trees frame run origin is) once in
+      subst (HaveWords s origin) (places_of_one ps) have

@@ -7,17 +7,16 @@ use Rattle.space.specs.declared.place.Place.{Place}
 use Rattle.space.specs.declared.shards.Shards.{Shards}
 use Rattle.space.specs.Shards.{IsPlace}
 use Rattle.maptree.specs.Origins.{Origins, Shape, AreOuterRuns, AreRising, IsRun, are_once}
-use Rattle.maptree.specs.Cuts.{outside, nodes_of, kept_of}
+use Rattle.maptree.specs.Cuts.{outside, kept_of}
 use Rattle.maptree.specs.declared.node.Node.{Node}
 use Rattle.model.specs.Holdings.{PlaceSet}
-use Rattle.pieces.specs.Contents.{StripContent}
 use Rattle.pieces.specs.Phases.{IsPiece}
+use Rattle.pieces.specs.declared.piece.Piece.{Piece}
 use Rattle.pieces.specs.declared.piece.Piece.TheVariants as piece
 use Rattle.holdings.specs.declared.pages.HeldPage.{HeldPage}
 use Rattle.holdings.specs.declared.planning.FrameRuns.{FrameRuns}
 use Rattle.holdings.specs.declared.planning.StripPlan.{StripPlan}
 use Rattle.holdings.specs.Inner.Held.{links_in, has_entry}
-use Rattle.holdings.specs.declared.planning.RunParts.{RunParts}
 use Rattle.holdings.specs.Places.{any_of}
 use Rattle.holdings.specs.Inner.Planning.{RunPlan, IsRunPlan, IsStripPlan, strips_of_run, strips_of_runs, all_places, come_once}
 use Rattle.holdings.specs.Inner.Stripping.{places_in, OriginsHaveEntries, pruned}
@@ -48,7 +47,7 @@ abbrev pub AreFramePlans : List Shape → List FrameRuns → List RunPlan → Ty
 AreFramePlans trees [] plans = plans ≡ []
 AreFramePlans trees (f ∷ fs) plans = (mine : List RunPlan) × (others : List RunPlan) × (plans ≡ mine ++ others) × AreRunPlans trees f.frame f.runs.items mine × AreFramePlans trees fs others
 
--- ---- the parts of runs, and their strips
+-- ---- the strips of runs
 
 -- each range is the run of a node of the frame's tree, and they rise
 pub record HaveRuns (trees : List Shape) (f : FrameRuns) : Type 0 where
@@ -56,36 +55,35 @@ pub record HaveRuns (trees : List Shape) (f : FrameRuns) : Type 0 where
   pub rising : AreRising 0 f.runs.items (length (links_in trees f.frame))
   pub whole : All (IsRun (links_in trees f.frame)) f.runs.items
 
--- the origin and the nodes of a run's parts, as a plan has them
-abbrev pub parts_of : RunParts → Option Place × List (List Node)
-parts_of r = (r.origin, nodes_of r.parts.items)
+-- each of some pages has its own word, and the origin, which is none of them, has another
+pub record HaveWords (s : Shards) (origin : Option Place) (ps : List Place) : Type 0 where
+  pub places : All (IsPlace s) ps
+  pub once : come_once ps ≡ true
+  pub origin_stands : (o : Place) → origin ≡ Some o → IsPlace s o
+  pub apart : (o : Place) → origin ≡ Some o → any_of ps o ≡ false
 
-abbrev pub parts_in : RunPlan → Option Place × List (List Node)
-parts_in plan = (plan.origin, plan.parts)
+-- the pages of a tree from a position up to another
+abbrev pub pages_of : Origins → ℕ → ℕ → List Place
+pages_of os from to = slice_range (map (λ o. o.0) os) from to
 
--- the parts are those of the runs of these frames
-pub record ArePlannedParts (trees : List Shape) (fs : List FrameRuns) (parts : List RunParts) : Type 0 where
-  pub plans : List RunPlan
-  pub planned : AreFramePlans trees fs plans
-  pub are : map parts_of parts ≡ map parts_in plans
+-- the strips of the parts of a run were added to others: one part after another they are the run, and none is empty
+pub record IsRunAdded (s : Shards) (revoked : Rights) (flush : Bool) (origin : Option Place) (ps : List Place) (old new : List Piece) : Type 0 where
+  pub parts : List (List Node)
+  pub each : All (λ part. 0 < length part) parts
+  pub places : all_places parts ≡ ps
+  pub items : new ≡ old ++ map piece.Strip (strips_of_run s revoked flush origin parts)
 
--- the parts of the runs of a frame were added to others
-pub record AreAdded (trees : List Shape) (frame : ℕ) (runs : List (Range ℕ)) (old new : List RunParts) : Type 0 where
+-- the strips of the runs of a frame were added to others
+pub record AreAdded (s : Shards) (trees : List Shape) (revoked : Rights) (flush : Bool) (frame : ℕ) (runs : List (Range ℕ)) (old new : List Piece) : Type 0 where
   pub plans : List RunPlan
   pub planned : AreRunPlans trees frame runs plans
-  pub are : map parts_of new ≡ map parts_of old ++ map parts_in plans
+  pub items : new ≡ old ++ map piece.Strip (strips_of_runs s revoked flush plans)
 
--- each page of a run has its own word, and the origin, which is none of them, has another
-pub record HaveWords (s : Shards) (origin : Option Place) (parts : List (List Node)) : Type 0 where
-  pub places : All (IsPlace s) (all_places parts)
-  pub once : come_once (all_places parts) ≡ true
-  pub origin_stands : (o : Place) → origin ≡ Some o → IsPlace s o
-  pub apart : (o : Place) → origin ≡ Some o → any_of (all_places parts) o ≡ false
-
--- the strips of these parts, one run after another
-abbrev pub strips_of_parts : Shards → Rights → Bool → List RunParts → List StripContent
-strips_of_parts s revoked flush [] = []
-strips_of_parts s revoked flush (r ∷ rs) = strips_of_run s revoked flush r.origin (nodes_of r.parts.items) ++ strips_of_parts s revoked flush rs
+-- the strips of the runs of these frames
+pub record ArePlannedStrips (s : Shards) (trees : List Shape) (revoked : Rights) (flush : Bool) (fs : List FrameRuns) (pieces : List Piece) : Type 0 where
+  pub plans : List RunPlan
+  pub planned : AreFramePlans trees fs plans
+  pub items : pieces ≡ map piece.Strip (strips_of_runs s revoked flush plans)
 
 -- the strip of a set of pages, planned, with its pieces
 pub record IsPlanned (s : Shards) (trees : List Shape) (set : PlaceSet) (revoked : Rights) (flush : Bool) (plan : StripPlan) : Type 0 where

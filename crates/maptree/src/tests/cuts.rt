@@ -15,6 +15,7 @@ use space::{NoMemory, Place};
 use std::alloc::{AllocError, Global};
 use std::ops::Range;
 use std::process::Abort;
+use std::slice;
 use std::test::Fail;
 
 /// Whether a place is one of these.
@@ -175,21 +176,26 @@ pub fn put_back(
     Ok(count)
 }
 
-/// The parts of the runs of a case are those of a cut, and the tree has its nodes as before.
-fn copies(rt: &impl Abort, alloc: Global, tree: &Tree, case: &Case) -> Result<(), NoMemory> {
-    let named = places_of(rt, alloc, case.named)?;
-    let runs = tree.outer_runs(alloc, &named)?;
-    assert!(rt; 1 <= case.most);
-    let parts = tree.parts(alloc, &runs, case.most)?;
-    assert_parts(rt, &parts, case.parts);
+/// A copy of all nodes of the tree of a case, which has so many, has its nodes, and the tree has them as before.
+fn copies(
+    rt: &impl Abort,
+    alloc: Global,
+    tree: &Tree,
+    len: usize,
+    case: &Case,
+) -> Result<(), NoMemory>
+    requires { len ≡ length tree.now.links }
+{
+    let whole = tree.part(alloc, 0, len)?;
+    assert_parts(rt, slice::from_ref(&whole), case.tree);
     assert_tree(rt, tree, case.tree, case.tree);
     Ok(())
 }
 
-/// Makes the tree of a case, copies its parts, and works the case.
+/// Makes the tree of a case, copies its nodes, and works the case.
 fn works_on_a_tree(rt: &impl Abort, alloc: Global, case: &Case) -> Result<(), NoMemory> {
     let (mut tree, len) = tree_of(rt, alloc, case.tree)?;
-    copies(rt, alloc, &tree, case)?;
+    copies(rt, alloc, &tree, len, case)?;
     reserves(rt, &mut tree, case)?;
     works(rt, alloc, &mut tree, len, case)
 }

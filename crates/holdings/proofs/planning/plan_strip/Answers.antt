@@ -1,17 +1,15 @@
 -- The groups of held pages are planned, and their parts are the pieces.
-use Rattle.std.proofs.Common.{◌≡◌, ◌<◌, List, length, map, sym, ap, ◌∙◌, subst}
+use Rattle.std.proofs.Common.{◌≡◌, ◌<◌, List, length, sym, subst}
 use Rattle.std.specs.List.{All}
 use Rattle.std.specs.List.Sorted.{IsNonDecreasingBy}
-use Rattle.pieces.specs.declared.piece.Piece.{Piece}
-use Rattle.pieces.specs.declared.piece.Piece.TheVariants as piece
 use Rattle.pieces.specs.Phases.{IsPiece}
 use Rattle.holdings.specs.declared.pages.HeldPage.{HeldPage}
 use Rattle.holdings.specs.declared.planning.FrameRuns.{FrameRuns}
 use Rattle.holdings.specs.Places.{any_of}
 use Rattle.holdings.specs.Inner.Held.{limits_in}
-use Rattle.holdings.specs.Inner.StripPlans.{AreFrameRuns, ArePlannedParts, HaveRuns}
+use Rattle.holdings.specs.Inner.StripPlans.{AreFrameRuns, ArePlannedStrips}
 use Rattle.holdings.proofs.Stripping.HeldPages.{any_within}
-use Rattle.holdings.proofs.Planned.Plan.{strip_planned, page_frames, parts_have_words, strips_same, have_runs, each_planned, each_once}
+use Rattle.holdings.proofs.Planned.Plan.{strip_planned, page_frames, have_runs}
 use Rattle.holdings.proofs.planning.plan_strip.Goals as goal
 
 pub runs_by_frame-requires-clause-sorted : goal.runs_by_frame-requires-clause-sorted
@@ -27,16 +25,10 @@ runs_by_frame-requires-clause-frames c =
 groups_of : (trees : _) (pages read : List HeldPage) (fs shown : List FrameRuns) → read ≡ pages → shown ≡ fs → AreFrameRuns trees read fs → AreFrameRuns trees pages shown
 groups_of trees pages read fs shown same is are = subst (AreFrameRuns trees pages) (sym is) (subst (λ hs. AreFrameRuns trees hs fs) same are)
 
-pub parts_of_runs-requires-clause-runs : goal.parts_of_runs-requires-clause-runs
-parts_of_runs-requires-clause-runs c =
+pub strips-requires-clause-runs : goal.strips-requires-clause-runs
+strips-requires-clause-runs c =
     let groups = groups_of c.args.trees.now c.in_ok-pages.pages.items c.deref.result.now c.in_ok-frames.frames.items c.deref-2.result.now c.deref.ensures.value c.deref-2.ensures.value c.in_ok-frames.ensures in
     have_runs c.args.trees.now c.in_ok-pages.pages.items c.deref-2.result.now groups
-
-pub strips-requires : goal.strips-requires
-strips-requires c =
-    let trees = c.args.trees.now in
-    let planned = c.in_ok-parts.ensures in
-    parts_have_words c.args.shards.now trees c.requires.sound c.in_ok-parts.parts.items planned.plans planned.are (each_planned trees c.deref-2.result.now planned.plans planned.planned) (each_once trees c.deref-2.result.now planned.plans planned.planned)
 
 pub returns : goal.returns
 returns c =
@@ -45,13 +37,13 @@ returns c =
     let pages = c.in_ok-pages.pages.items in
     let fs = c.in_ok-frames.frames.items in
     let groups = groups_of trees pages c.deref.result.now fs c.in_ok-frames.frames.items c.deref.ensures.value (λ i. fs) c.in_ok-frames.ensures in
-    let planned = subst (λ gs. ArePlannedParts trees gs c.in_ok-parts.parts.items) c.deref-2.ensures.value c.in_ok-parts.ensures in
+    let planned = subst (λ gs. ArePlannedStrips s trees c.args.revoked c.args.flush gs c.in_ok-pieces.pieces.items) c.deref-2.ensures.value c.in_ok-pieces.ensures in
     record {
       pages = pages;
       runs = groups;
       plans = planned.plans;
       planned = planned.planned;
       strip = strip_planned s trees c.requires.sound (any_of c.args.places.now) pages fs planned.plans c.in_ok-pages.ensures.held groups planned.planned;
-      pieces_are = c.in_ok-pieces.ensures ∙ ap (map piece.Strip) (strips_same s c.args.revoked c.args.flush c.in_ok-parts.parts.items planned.plans planned.are);
+      pieces_are = planned.items;
       pieces = subst (All IsPiece) c.deref-3.ensures.value c.are_pieces.ensures;
     }

@@ -1,25 +1,18 @@
--- One run more.
-use Rattle.std.proofs.Common.{rules, ◌≡◌, ◌+◌, ◌++◌, ◌∷◌, [], List, length, map, take, ◌∙◌, sym, ap, arith}
-use Rattle.std.proofs.lemmas.Iterator.Adapters.{YieldsList-from_vec}
-use Rattle.std.proofs.lemmas.Iterator.Consumers.{YieldsList-turn}
-use Rattle.std.proofs.lemmas.List.{length-append, take_more}
-use Rattle.maptree.specs.Cuts.{nodes_of}
-use Rattle.pieces.specs.declared.piece.Piece.TheVariants as piece
-use Rattle.holdings.specs.declared.planning.RunParts.{RunParts}
-use Rattle.holdings.specs.Inner.Planning.{strips_of_run}
-use Rattle.holdings.specs.Inner.StripPlans.{strips_of_parts}
-use Rattle.holdings.proofs.Planned.Parts.{strips_more}
+-- One frame more.
+use Rattle.std.proofs.Common.{◌++◌, ◌∷◌, [], take, sym, ap, ◌∙◌, subst}
+use Rattle.std.proofs.lemmas.List.{take_more}
+use Rattle.holdings.specs.Inner.StripPlans.{ArePlannedStrips}
+use Rattle.holdings.proofs.Planned.Runs.{no_frame, one_frame}
 use Rattle.holdings.proofs.planning.strips.Goals as goal
 
-pub loop-run-preserved : goal.loop-run-preserved
-loop-run-preserved c =
-    let road = YieldsList-from_vec c.args.runs.items (search rules) (search rules) in
-    let turn = YieldsList-turn road c.loop-run.yielded c.loop-run.run-iterator c.loop-run.yielded_by c.next.result c.next.new.self c.in-Some.run' c.in-Some.is c.next.ensures.steps in
+pub loop-frame-init : goal.loop-frame-init
+loop-frame-init c = subst (ArePlannedStrips c.args.shards.now c.args.trees.now c.args.revoked c.args.flush []) (sym c.in_ok-pieces.ensures.items) (no_frame c.args.shards.now c.args.trees.now c.args.revoked c.args.flush)
+
+pub loop-frame-preserved : goal.loop-frame-preserved
+loop-frame-preserved c =
     let s = c.args.shards.now in
-    let n = length c.loop-run.yielded in
-    let r = c.in-Some.run' in
-    let l = length-append c.loop-run.yielded (r ∷ []) in
-    let one : length (c.loop-run.yielded ++ r ∷ []) ≡ n + 1 = omega (arith, l) in
-    let grown = ap (λ m. take m c.args.runs.items) one ∙ take_more c.args.runs.items n r turn.0 ∙ ap (λ q. take n c.args.runs.items ++ q ∷ []) (sym turn.1) in
-    c.in_ok-add_strips.ensures ∙ ap (λ (ps : List _). ps ++ map piece.Strip (strips_of_run s c.args.revoked c.args.flush r.origin (nodes_of r.parts.items))) c.loop-run.invariant
-    ∙ sym (ap (λ (rs : List RunParts). map piece.Strip (strips_of_parts s c.args.revoked c.args.flush rs)) grown ∙ strips_more s c.args.revoked c.args.flush (take n c.args.runs.items) r)
+    let trees = c.args.trees.now in
+    let before = take c.loop-frame.frame-index c.args.frames.now in
+    let grown = take_more c.args.frames.now c.loop-frame.frame-index c.frame-item.result c.loop-frame-test.true ∙ ap (λ f. before ++ f ∷ []) (sym c.frame-item.is) in
+    subst (λ fs. ArePlannedStrips s trees c.args.revoked c.args.flush fs c.add_frame.new.pieces.items) (sym grown)
+    (one_frame s trees c.args.revoked c.args.flush before c.loop-frame.pieces.items c.add_frame.new.pieces.items c.loop-frame.invariant c.frame-item.result c.in_ok-add_frame.ensures)

@@ -1,9 +1,0 @@
--- The parts of the runs so far; the links are those of the tree.
-use Rattle.std.proofs.Common.{take}
-use Rattle.std.specs.Option.{ForSome}
-use Rattle.holdings.specs.Inner.Derivation.{AreLinksOf}
-use Rattle.holdings.specs.Inner.StripPlans.{AreAdded}
-use Rattle.holdings.proofs.planning.add_parts.Given as goal
-
-abbrev pub invariant-loop-run : goal.invariant-loop-run
-invariant-loop-run l = ForSome l.links (λ k. AreLinksOf l.tree k.items) × AreAdded l.trees l.frame.frame (take l.run-index l.run-items) l.initial.parts.items l.parts.items
