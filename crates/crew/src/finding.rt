@@ -1,8 +1,9 @@
 //! What a piece finds out of the words at opening.
 
-ghost use Rattle.std.specs.Prelude.{◌≡◌, ◌<◌, ◌≤◌, true, map, take, length, IfOk, []};
+ghost use Rattle.std.specs.Prelude.{◌≡◌, ◌<◌, ◌≤◌, true, map, take, length, get_or, set, IfOk, []};
 ghost use Rattle.std.specs.List.{All, AllPass};
 ghost use Rattle.space.specs.Word.{is_pack};
+ghost use Rattle.maptree.specs.declared.node.Node.{Node};
 ghost use Rattle.pieces.specs.Steps.{status_in, may_access};
 ghost use Rattle.pieces.specs.Dones.{found_as};
 ghost use Rattle.pieces.specs.Values.{no_value};
@@ -67,11 +68,23 @@ pub fn keep(words: &[u64], nodes: &mut [Node], masks: &Masks, indexes: &[usize])
     let mut kept = 0;
     for k in 0..nodes.len() {
         if remains(words[indexes[k]], masks.get(k)) {
-            nodes[kept] = nodes[k];
+            move_node(nodes, k, kept);
             kept += 1;
         }
     }
     kept
+}
+
+/// Puts the node at a position at another too. Where they are the same it is left alone: most strips keep all their nodes, and
+/// then none is read or written.
+pub fn move_node(nodes: &mut [Node], from: usize, to: usize)
+    requires from { from < length nodes.old }
+    requires to { to < length nodes.old }
+    ensures { (n : Node) → nodes.new ≡ set nodes.old to (get_or nodes.old from n) }
+{
+    if to != from {
+        nodes[to] = nodes[from];
+    }
 }
 
 /// For each access of a touch whether it may be made.

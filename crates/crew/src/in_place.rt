@@ -10,6 +10,7 @@ ghost use Rattle.pieces.specs.declared.piece.Piece.TheVariants as piece;
 ghost use Rattle.crew.specs.Kept.{nodes_kept};
 ghost use Rattle.crew.specs.Opening.{narrows, marks_made};
 
+use crate::finding::move_node;
 use crate::steps::{bits, linked, moved, narrowed, remains, status};
 use fpage::Rights;
 use maptree::Node;
@@ -41,7 +42,7 @@ pub fn narrow_and_keep(
         let mask = masks.get(k);
         found = found.join(status(word));
         if remains(word, mask) {
-            nodes[kept] = nodes[k];
+            move_node(nodes, k, kept);
             kept += 1;
         }
         words[index] = narrowed(word, mask);

@@ -1,5 +1,5 @@
 -- One word more.
-use Rattle.std.proofs.Common.{◌<◌, ◌∙◌, length, sym, ap, refl, get_or, arith}
+use Rattle.std.proofs.Common.{◌≡◌, ◌+◌, ◌<◌, ◌∙◌, length, sym, ap, subst, refl, get_or, arith}
 use Rattle.std.specs.Option.{is_some}
 use Rattle.fpage.specs.Rights.{no_rights, join}
 use Rattle.maptree.specs.declared.node.Node.{Node}
@@ -8,7 +8,7 @@ use Rattle.pieces.specs.Steps.{narrowed_by, entry_in}
 use Rattle.space.specs.Entries.{status_of}
 use Rattle.space.specs.Word.{is_pack, entry_of, word_of}
 use Rattle.crew.proofs.InPlace.{narrow_reads, narrow_next, status_next}
-use Rattle.crew.proofs.Keeping.{kept_next, left_out}
+use Rattle.crew.proofs.Keeping.{IsFront, kept_next, left_out}
 use Rattle.crew.proofs.in_place.narrow_and_keep.Goals as goal
 use Rattle.crew.proofs.in_place.narrow_and_keep.Goals.{then-remains, else-remains}
 
@@ -56,8 +56,9 @@ loop-k-preserved c =
       | then-remains w ↦
           rw (w.kept-is, w.nodes-is) (
             words,
-            kept_next old c.args.nodes.now is ms k c.loop-k.kept c.loop-k.nodes no_rights c.loop-k.invariant.1 c.loop-k.auto.nodes c.requires.masks c.requires.indexes within
-                _ none (remain ∙ sym c.remains.ensures ∙ w.if-remains.true) refl,
+            subst (IsFront old c.args.nodes.now is ms (k + 1) (c.loop-k.kept + 1)) (sym (w.move_node.ensures none))
+                (kept_next old c.args.nodes.now is ms k c.loop-k.kept c.loop-k.nodes no_rights c.loop-k.invariant.1 c.loop-k.auto.nodes c.requires.masks c.requires.indexes within
+                _ none (remain ∙ sym c.remains.ensures ∙ w.if-remains.true) refl),
             status,
           )
       | else-remains w ↦
