@@ -1,7 +1,10 @@
 -- Pieces worked one after another on the words themselves.
-use Rattle.std.proofs.Common.{◌≡◌, ℕ, suc, ◌+◌, ◌<◌, ◌≤◌, Bool, true, false, ◌||◌, List, [], ◌∷◌, ◌++◌, length, map, take, drop, get_or, refl, ap, ◌∙◌, sym, subst, arith, nat_lt}
+use Rattle.std.proofs.Common.{◌≡◌, ℕ, zero, suc, ◌+◌, ◌<◌, ◌≤◌, Bool, true, false, ◌||◌, List, [], ◌∷◌, ◌++◌, length, map, take, drop, get_or, refl, ap, ◌∙◌, sym, subst, arith, nat_lt}
 use Rattle.std.specs.List.{flat_map, list_any, All, AllPass, AllZip}
-use Rattle.std.proofs.lemmas.List.{take_more, take_all, drop_more, drop_all, append-nil}
+use Rattle.std.proofs.lemmas.List.{take_more, take_all, drop_more, drop_all, append-nil, length-append}
+use Rattle.std.specs.declared.alloc.Global.{Global}
+use Rattle.std.specs.declared.snapshot.Snapshot.{Snapshot}
+use Rattle.std.specs.declared.vec.Vec.{Vec}
 use Rattle.space.specs.Word.{is_pack}
 use Rattle.pieces.specs.Applied.{worked}
 use Rattle.pieces.specs.DistinctParts.{all_split}
@@ -15,9 +18,7 @@ use Rattle.pieces.specs.declared.piece.Piece.{Piece}
 use Rattle.pieces.proofs.AllSteps.{length_words, worked_all, words_none}
 use Rattle.pieces.proofs.OneByOne.{one_after_another, others_can, others_find_the_same, all_held_apart, changes_apart, folds_of_others_apart}
 use Rattle.crew.specs.Opening.{NamesWords, IsInPlace}
-use Rattle.crew.specs.Worked.{IsWorked, IsOpened, results_from}
-use Rattle.crew.specs.declared.alone.Opened.{Opened}
-use Rattle.crew.proofs.EditsOfPieces.{zip_at, zip_length}
+use Rattle.crew.specs.Worked.{IsWorked, results_from}
 use Rattle.crew.proofs.Results.{are_done, dones_more}
 
 -- ---- lists beside lists
@@ -120,11 +121,20 @@ all_done w ps n v ds so_far all =
       dones = subst (AreDone w ps) (sym (so_far.dones ∙ ap (results_from 0 w) (take_all n ps (omega (arith, all))))) (are_done w ps);
     }
 
--- ---- opened pieces
+-- ---- the words at opening
 
--- the next piece, with the words at opening
-pub next_opened : (w : List ℕ) (ps : List Piece) (os : List Opened) (n : ℕ) (o : Opened) → AllZip (IsOpened w) ps os → n < length os → o ≡ get_or os n o → (n < length ps) × (o.piece ≡ get_or ps n o.piece) × (o.words.value.items ≡ w)
-next_opened w ps os n o zipped low is =
-    let less : n < length ps = omega (arith, low, zip_length (IsOpened w) ps os zipped) in
-    let there : IsOpened w (get_or ps n o.piece) o = subst (IsOpened w (get_or ps n o.piece)) (sym is) (zip_at (IsOpened w) ps os n o.piece o zipped low) in
-    (less, there.0, there.1)
+-- those of the last one, and of the others
+pub last_opening : (w : List ℕ) (os rest : List (Snapshot (Vec ℕ Global))) (o : Snapshot (Vec ℕ Global)) → All (λ o. o.value.items ≡ w) os → os ≡ rest ++ o ∷ [] → (o.value.items ≡ w) × All (λ o. o.value.items ≡ w) rest × (length os ≡ length rest + 1)
+last_opening w os rest o all is = (here rest both, before rest both, ap length is ∙ length-append rest (o ∷ []))
+  where
+    both : All (λ o. o.value.items ≡ w) (rest ++ o ∷ [])
+    both = subst (All (λ o. o.value.items ≡ w)) is all
+
+    here : (rest : List (Snapshot (Vec ℕ Global))) → All (λ o. o.value.items ≡ w) (rest ++ o ∷ []) → o.value.items ≡ w
+    here [] all = all 0 o (omega arith)
+    here (q ∷ rest) all = here rest (λ k d less. all (suc k) d (omega (arith, less)))
+
+    before : (rest : List (Snapshot (Vec ℕ Global))) → All (λ o. o.value.items ≡ w) (rest ++ o ∷ []) → All (λ o. o.value.items ≡ w) rest
+    before [] all k d less = absurd (omega (arith, less))
+    before (q ∷ rest) all zero d less = all 0 q (omega arith)
+    before (q ∷ rest) all (suc k) d less = before rest (λ j e l. all (suc j) e (omega (arith, l))) k d (omega (arith, less))

@@ -7,7 +7,6 @@ use Rattle.pieces.specs.Dones.{DoneContent}
 use Rattle.pieces.specs.Laws.{AreDone}
 use Rattle.pieces.specs.Values.{value}
 use Rattle.pieces.specs.declared.piece.Piece.{Piece}
-use Rattle.crew.specs.declared.alone.Opened.{Opened}
 
 -- the words with all steps of all pieces done, and the result of each piece
 pub record IsWorked (w : List ℕ) (ps : List Piece) (after : List ℕ) (ds : List DoneContent) : Type 0 where
@@ -21,7 +20,3 @@ pub record IsWorked (w : List ℕ) (ps : List Piece) (after : List ℕ) (ds : Li
 abbrev pub results_from : ℕ → List ℕ → List Piece → List DoneContent
 results_from n w [] = []
 results_from n w (p ∷ ps) = record { number = n; found = value w p; of = p; words = w } ∷ results_from (n + 1) w ps
-
--- a piece, and the words at opening
-abbrev pub IsOpened : List ℕ → Piece → Opened → Type 0
-IsOpened w p o = (o.piece ≡ p) × (o.words.value.items ≡ w)

@@ -1,6 +1,6 @@
 //! The calling thread works the pieces of a phase.
 
-ghost use Rattle.std.specs.Prelude.{◌≡◌, ◌≤◌, true, IfOk};
+ghost use Rattle.std.specs.Prelude.{◌≡◌, ◌≤◌, true, length, IfOk};
 ghost use Rattle.std.specs.List.{All, AllPass, AllZip, list_any};
 ghost use Rattle.space.specs.Word.{is_pack};
 ghost use Rattle.pieces.specs.Dones.{found_as};
@@ -12,7 +12,7 @@ ghost use Rattle.pieces.specs.Values.{value};
 ghost use Rattle.pieces.specs.declared.piece.Piece.TheVariants as piece;
 ghost use Rattle.crew.specs.Opening.{NamesWords, IsInPlace};
 ghost use Rattle.crew.specs.Parts.{IsPartOf};
-ghost use Rattle.crew.specs.Worked.{IsOpened, IsWorked};
+ghost use Rattle.crew.specs.Worked.{IsWorked};
 
 use crate::beside::{Part, finish, part_of};
 use crate::error::CrewError;
@@ -100,28 +100,18 @@ fn is_link(piece: &Piece) -> bool
     matches!(piece, Piece::Link(_))
 }
 
-/// A piece that is to be worked in place. For contracts alone it has the words at opening.
-#[derive(Drop)]
-pub struct Opened {
-    piece: Piece,
-    words: Snapshot<Vec<u64>>,
-}
-
-/// The pieces, each with the words.
-fn opened_pieces(
+/// The words at opening, once for each of so many pieces. They are there for contracts alone, and have no bytes.
+fn openings(
     alloc: Global,
     words: &Vec<u64>,
-    pieces: Vec<Piece>,
-) -> Result<Vec<Opened>, AllocError>
-    ensures { IfOk result (λ opened. AllZip (IsOpened words.now.items) pieces.items opened.items) }
+    pieces: usize,
+) -> Result<Vec<Snapshot<Vec<u64>>>, AllocError>
+    ensures count { IfOk result (λ list. length list.items ≡ pieces) }
+    ensures words { IfOk result (λ list. All (λ o. o.value.items ≡ words.now.items) list.items) }
 {
-    let mut list = Vec::with_capacity(alloc, pieces.len())?;
-    for piece in pieces {
-        let opening = Snapshot::of(words);
-        list.push(Opened {
-            piece,
-            words: opening,
-        })?;
+    let mut list = Vec::with_capacity(alloc, pieces)?;
+    for piece in 0..pieces {
+        list.push(Snapshot::of(words))?;
     }
     Ok(list)
 }
@@ -138,11 +128,9 @@ fn work_in_place(
     ensures { IfOk result (λ r. IsWorked words.items pieces.items r.0.items r.1.items) }
 {
     let mut dones = Vec::with_capacity(alloc, pieces.len())?;
-    for next in opened_pieces(alloc, &words, pieces)? {
-        let Opened {
-            piece,
-            words: opening,
-        } = next;
+    let mut openings = openings(alloc, &words, pieces.len())?;
+    for piece in pieces {
+        let opening = openings.pop().unwrap();
         let of = Snapshot::of(&piece);
         let found = work_piece(alloc, &mut words, piece)?;
         let number = dones.len();
