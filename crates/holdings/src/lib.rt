@@ -19,6 +19,7 @@ mod planning;
 mod prune;
 mod recursion;
 mod renaming;
+mod runs;
 mod spots;
 mod start;
 mod strip;

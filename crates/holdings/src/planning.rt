@@ -9,6 +9,7 @@ ghost use Rattle.holdings.specs.Inner.StripPlans.{IsPlanned};
 
 use crate::group::group_end;
 use crate::pages::{HeldPage, places_of, sorted_pages};
+use crate::runs::Runs;
 use crate::tree::{links_for_many, origin_by};
 use fpage::Rights;
 use maptree::{Node, Tree};
@@ -21,7 +22,7 @@ use std::ops::Range;
 #[derive(Drop)]
 pub struct FrameRuns {
     pub frame: u32,
-    pub runs: Vec<Range<usize>>,
+    pub runs: Runs,
 }
 
 /// The runs that are stripped, and the pieces of this work.
@@ -76,7 +77,7 @@ fn runs_by_frame(
     while from < pages.len() {
         let frame = pages[from].frame;
         let end = group_end(pages, from);
-        let runs = trees[frame as usize].outer_runs(alloc, &places[from..end])?;
+        let runs = Runs::outermost(alloc, &trees[frame as usize], &places[from..end])?;
         frames
             .push(FrameRuns { frame, runs })
             .map_err(AllocError::from)?;
@@ -139,12 +140,12 @@ fn add_frame(
     requires sound { AreSound shards.now trees.now }
     requires runs { HaveRuns trees.now frame.now }
     requires most { 1 ≤ most }
-    ensures { OnOk result (AreAdded shards.now trees.now revoked flush frame.now.frame frame.now.runs.items pieces.old.items pieces.new.items) }
+    ensures { OnOk result (AreAdded shards.now trees.now revoked flush frame.now.frame frame.now.runs pieces.old.items pieces.new.items) }
 {
     let tree = &trees[frame.frame as usize];
     tree.places_are_distinct();
     let links = links_for_many(alloc, tree, frame.runs.len())?;
-    for run in &frame.runs {
+    for run in frame.runs.as_slice() {
         let origin = origin_by(tree, &links, run.start);
         add_run(
             alloc, shards, tree, run, origin, revoked, flush, most, pieces,

@@ -57,7 +57,12 @@ pub fn prune_all(
     ensures { OnOk result (ArePruned shards.now frames.now trees.old trees.new) }
 {
     for frame in frames {
-        prune(alloc, shards, &mut trees[frame.frame as usize], &frame.runs)?;
+        prune(
+            alloc,
+            shards,
+            &mut trees[frame.frame as usize],
+            frame.runs.as_slice(),
+        )?;
     }
     Ok(())
 }
@@ -89,7 +94,7 @@ ghost use Rattle.holdings.specs.Inner.StripPlans.{count_in_runs, count_in_frames
 
 /// Whether as many nodes were kept as these runs have.
 fn are_all_kept(frames: &[FrameRuns], kept: &[Slice]) -> bool
-    requires { All (λ f. All (λ r. r.start ≤ r.end) f.runs.items) frames.now }
+    requires { All (λ f. All (λ r. r.start ≤ r.end) f.runs) frames.now }
     ensures { result ≡ true → count_of (nodes_of kept.now) ≡ count_in_frames frames.now }
 {
     match (count_in_frames(frames), count_in_slices(kept)) {
@@ -113,12 +118,12 @@ fn count_in_slices(slices: &[Slice]) -> Option<usize>
 
 /// The same of the runs of frames.
 fn count_in_frames(frames: &[FrameRuns]) -> Option<usize>
-    requires { All (λ f. All (λ r. r.start ≤ r.end) f.runs.items) frames.now }
+    requires { All (λ f. All (λ r. r.start ≤ r.end) f.runs) frames.now }
     ensures { IfSome result (λ count. count ≡ count_in_frames frames.now) }
 {
     let mut count: usize = 0;
     for frame in frames {
-        count = count.checked_add(count_in_runs(&frame.runs)?)?;
+        count = count.checked_add(count_in_runs(frame.runs.as_slice())?)?;
     }
     Some(count)
 }

@@ -56,16 +56,16 @@ runs_at rs k d less = runs_more rs k (get_or rs k d) less (same rs k d less)
     same (r ∷ rs) zero d less = refl
     same (r ∷ rs) (suc k) d less = same rs k d (omega (arith, less))
 
-pub frames_more : (fs : List FrameRuns) (k : ℕ) (f : FrameRuns) → k < length fs → f ≡ get_or fs k f → count_in_frames (take (k + 1) fs) ≡ count_in_frames (take k fs) + count_in_runs f.runs.items
+pub frames_more : (fs : List FrameRuns) (k : ℕ) (f : FrameRuns) → k < length fs → f ≡ get_or fs k f → count_in_frames (take (k + 1) fs) ≡ count_in_frames (take k fs) + count_in_runs f.runs
 frames_more [] k f less is = absurd (omega (arith, less))
-frames_more (x ∷ fs) zero f less is = ap (λ (t : FrameRuns). count_in_runs t.runs.items + 0) (sym is) ∙ plus_none (count_in_runs f.runs.items)
+frames_more (x ∷ fs) zero f less is = ap (λ (t : FrameRuns). count_in_runs t.runs + 0) (sym is) ∙ plus_none (count_in_runs f.runs)
   where
     plus_none : (n : ℕ) → n + 0 ≡ 0 + n
     plus_none n = omega arith
 frames_more (x ∷ fs) (suc k) f less is =
     let next : suc k + 1 ≡ suc (k + 1) = omega arith in
     let rest = frames_more fs k f (omega (arith, less)) is in
-    rw next (ap (λ n. count_in_runs x.runs.items + n) rest ∙ assoc (count_in_runs x.runs.items) (count_in_frames (take k fs)) (count_in_runs f.runs.items))
+    rw next (ap (λ n. count_in_runs x.runs + n) rest ∙ assoc (count_in_runs x.runs) (count_in_frames (take k fs)) (count_in_runs f.runs))
   where
     assoc : (a b c : ℕ) → a + (b + c) ≡ (a + b) + c
     assoc a b c = omega arith
@@ -166,18 +166,18 @@ module _ (s : Shards) (trees : List Shape) where
   frames_count : (fs : List FrameRuns) → AllCanBePruned s trees fs → length (in_frames trees fs) ≡ count_in_frames fs
   frames_count [] can = refl
   frames_count (f ∷ fs) can =
-      length-append (in_runs (links_in trees f.frame) f.runs.items) (in_frames trees fs) ∙ ap (λ n. n + length (in_frames trees fs)) (runs_count (links_in trees f.frame) 0 f.runs.items can.1.rising)
-      ∙ ap (λ n. count_in_runs f.runs.items + n) (frames_count fs can.3)
+      length-append (in_runs (links_in trees f.frame) f.runs) (in_frames trees fs) ∙ ap (λ n. n + length (in_frames trees fs)) (runs_count (links_in trees f.frame) 0 f.runs can.1.rising)
+      ∙ ap (λ n. count_in_runs f.runs + n) (frames_count fs can.3)
 
-  one_whole : (f : FrameRuns) → CanBePruned s (links_in trees f.frame) f.runs.items → list_all (has_entry s) (in_runs (links_in trees f.frame) f.runs.items) ≡ true → links_in trees f.frame ≡ pruned s (links_in trees f.frame)
+  one_whole : (f : FrameRuns) → CanBePruned s (links_in trees f.frame) f.runs → list_all (has_entry s) (in_runs (links_in trees f.frame) f.runs) ≡ true → links_in trees f.frame ≡ pruned s (links_in trees f.frame)
   one_whole f can all =
       let os = links_in trees f.frame in
-      sym (all_pass (λ o. has_entry s o.0) os (none_gone (has_entry s) os 0 f.runs.items can.rising (all_in_runs os (has_entry s) f.runs.items all) can.outside_stay))
+      sym (all_pass (λ o. has_entry s o.0) os (none_gone (has_entry s) os 0 f.runs can.rising (all_in_runs os (has_entry s) f.runs all) can.outside_stay))
 
   each_whole : (fs : List FrameRuns) → AllCanBePruned s trees fs → list_all (has_entry s) (in_frames trees fs) ≡ true → (g : ℕ) → is_planned fs g ≡ true → links_in trees g ≡ pruned s (links_in trees g)
   each_whole [] can all g is = absurd (cc is)
   each_whole (f ∷ fs) can all g is =
-      let parts = and_parts _ _ (sym (list_all-append (has_entry s) (in_runs (links_in trees f.frame) f.runs.items) (in_frames trees fs)) ∙ all) in
+      let parts = and_parts _ _ (sym (list_all-append (has_entry s) (in_runs (links_in trees f.frame) f.runs) (in_frames trees fs)) ∙ all) in
       by (f.frame == g) refl is (one_whole f can.1 parts.0) (each_whole fs can.3 parts.1 g)
     where
       by : (b : Bool) → (f.frame == g) ≡ b → (b || is_planned fs g) ≡ true → links_in trees f.frame ≡ pruned s (links_in trees f.frame)
@@ -195,9 +195,9 @@ module _ (s : Shards) (trees : List Shape) where
           ∙ all_in_all (has_entry s) are.parts (sym (ap count_of are.kept_are) ∙ same ∙ sym (frames_count fs can) ∙ sym (ap length are.parts_are))
 
 -- no run ends before it starts
-pub rising_runs : (s : Shards) (trees : List Shape) (fs : List FrameRuns) → AllCanBePruned s trees fs → All (λ f. All (λ r. r.start ≤ r.end) f.runs.items) fs
+pub rising_runs : (s : Shards) (trees : List Shape) (fs : List FrameRuns) → AllCanBePruned s trees fs → All (λ f. All (λ r. r.start ≤ r.end) f.runs) fs
 rising_runs s trees [] can k d less = absurd (omega (arith, less))
-rising_runs s trees (f ∷ fs) can zero d less = rising 0 f.runs.items can.1.rising
+rising_runs s trees (f ∷ fs) can zero d less = rising 0 f.runs can.1.rising
   where
     rising : (from : ℕ) (rs : List (Range ℕ)) → AreRising from rs (length (links_in trees f.frame)) → All (λ r. r.start ≤ r.end) rs
     rising from [] rise k d less = absurd (omega (arith, less))
@@ -220,7 +220,7 @@ module _ (trees : List Shape) where
   plan_places (f ∷ fs) plans (mine, others, joined, are, rest) =
       ap places_of_runs joined ∙ flat_map-append (λ plan. all_places plan.parts) mine others
       ∙ ap (λ qs. qs ++ places_of_runs others) (run_places f.frame mine are.each are.frames ∙ ap (in_runs (links_in trees f.frame)) are.runs_are)
-      ∙ ap (λ qs. in_runs (links_in trees f.frame) f.runs.items ++ qs) (plan_places fs others rest)
+      ∙ ap (λ qs. in_runs (links_in trees f.frame) f.runs ++ qs) (plan_places fs others rest)
 
 module _ (s : Shards) (a : Rights) (flush : Bool) where
   part_nodes : (origin : Option Place) (parts : List (List Node)) → map (λ k. k.nodes) (map (strip_of s false a origin) parts) ≡ parts

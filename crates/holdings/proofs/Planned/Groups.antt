@@ -29,7 +29,7 @@ same_frames (h ∷ hs) frame all (suc k) d less = same_frames hs frame (and_part
 pub one_group : (trees : List Shape) (pages : List HeldPage) (from end : ℕ) (fs : List FrameRuns) → AreGroupedUpTo trees pages from fs → IsNonDecreasingBy (λ h. h.frame) pages → All (λ h. h.frame < length trees) pages
     → from < end → end ≤ length pages → (f : FrameRuns) (first : HeldPage) → f.frame ≡ (get_or pages from first).frame
     → list_all (λ h. h.frame == f.frame) (slice_range pages from end) ≡ true → ((d : HeldPage) → end < length pages → (get_or pages end d).frame ≡ (get_or pages from d).frame → ⊥)
-    → AreOuterRuns (links_in trees f.frame) (places_in (slice_range pages from end)) f.runs.items → AreGroupedUpTo trees pages end (fs ++ f ∷ [])
+    → AreOuterRuns (links_in trees f.frame) (places_in (slice_range pages from end)) f.runs → AreGroupedUpTo trees pages end (fs ++ f ∷ [])
 one_group trees pages from end fs so_far sorted within less upto f first frame same ends outer =
     record { upto = upto; whole = λ rest are. subst (AreFrameRuns trees pages) (sym (assoc fs (f ∷ []) rest)) (so_far.whole (f ∷ rest) (group, drop end pages, split_at from end pages (omega (arith, less)), grouped, are)) }
   where

@@ -127,7 +127,7 @@ module _ (s : Shards) (trees : List Shape) (sound : AreSound s trees) where
   once_all pages [] plans groups none = subst (λ ps. come_once (places_of_runs ps) ≡ true) (sym none) refl
   once_all pages (f ∷ fs) plans (group, rest, whole, is, groups) (mine, others, joined, are, planned) =
       ap (λ ps. come_once (places_of_runs ps)) joined ∙ ap come_once (flat_map-append (λ plan. all_places plan.parts) mine others)
-      ∙ joined_once (places_of_runs mine) (places_of_runs others) (frame_once s trees sound f.frame f.runs.items mine are is.runs.rising) (once_all rest fs others groups planned) apart
+      ∙ joined_once (places_of_runs mine) (places_of_runs others) (frame_once s trees sound f.frame f.runs mine are is.runs.rising) (once_all rest fs others groups planned) apart
     where
       apart : (q : Place) → any_of (places_of_runs mine) q ≡ true → any_of (places_of_runs others) q ≡ true → ⊥
       apart q one two =
@@ -146,7 +146,7 @@ module _ (s : Shards) (trees : List Shape) (sound : AreSound s trees) where
   pairs_all pages (f ∷ fs) plans (group, rest, whole, is, groups) (mine, others, joined, are, planned) =
       subst (λ ps. All (λ a. All (Agree s trees sound a) ps) ps) (sym joined)
       (pairs_joined (Agree s trees sound) mine others
-      (map_pairs s trees sound mine f.runs.items are.runs_are (starts_apart 0 f.runs.items (length (links_in trees f.frame)) is.runs.rising))
+      (map_pairs s trees sound mine f.runs are.runs_are (starts_apart 0 f.runs (length (links_in trees f.frame)) is.runs.rising))
       (λ k d less j e w frames. absurd (differ j e w (sym frames ∙ are.frames k d less)))
       (λ k d less j e w frames. absurd (differ k d less (frames ∙ are.frames j e w)))
       (pairs_all rest fs others groups planned))
@@ -212,7 +212,7 @@ module _ (s : Shards) (trees : List Shape) (sound : AreSound s trees) where
       → All (λ plan. set (first_of trees plan) ≡ true) plans
   named_all set pages [] plans groups none inside = subst (All (λ plan. set (first_of trees plan) ≡ true)) (sym none) (λ k d less. absurd (omega (arith, less)))
   named_all set pages (f ∷ fs) plans (group, rest, whole, is, groups) (mine, others, joined, are, planned) inside =
-      subst (All (λ plan. set (first_of trees plan) ≡ true)) (sym joined) (All-append (λ plan. set (first_of trees plan) ≡ true) mine others (named mine f.runs.items are.frames are.runs_are is.runs.named)
+      subst (All (λ plan. set (first_of trees plan) ≡ true)) (sym joined) (All-append (λ plan. set (first_of trees plan) ≡ true) mine others (named mine f.runs are.frames are.runs_are is.runs.named)
       (named_all set rest fs others groups planned (λ q in_rest. inside q (ap (λ hs. any_page hs q) whole ∙ list_any-append (λ (h : HeldPage). same_place q h.place) group rest ∙ or_right (any_page group q) _ in_rest))))
     where
       in_group : (q : Place) → any_of (places_in group) q ≡ true → set q ≡ true
@@ -270,8 +270,8 @@ module _ (s : Shards) (trees : List Shape) (sound : AreSound s trees) where
           → is_below (holdings_in s trees) (any_of (map (first_of trees) plans)) p ≡ true
       by (inl here) later =
           let of_frame = group_of_frame f.frame group is.same (first_all (HasItsFrame s) group rest both) in
-          let below = covered s trees sound f.frame (places_in group) of_frame f.runs.items is.runs p held (any_places group p ∙ here) in
-          let firsts_same : firsts (links_in trees f.frame) f.runs.items ≡ map (first_of trees) mine = ap (firsts (links_in trees f.frame)) (sym are.runs_are) ∙ firsts_are f.frame mine are.frames in
+          let below = covered s trees sound f.frame (places_in group) of_frame f.runs is.runs p held (any_places group p ∙ here) in
+          let firsts_same : firsts (links_in trees f.frame) f.runs ≡ map (first_of trees) mine = ap (firsts (links_in trees f.frame)) (sym are.runs_are) ∙ firsts_are f.frame mine are.frames in
           wider (map (first_of trees) mine) (λ q in_mine. ap (λ ps. any_of ps q) all_firsts ∙ any_first (map (first_of trees) mine) (map (first_of trees) others) q in_mine)
           (subst (λ ps. is_below (holdings_in s trees) (any_of ps) p ≡ true) firsts_same below)
       by (inr there) later = wider (map (first_of trees) others) (λ q in_others. ap (λ ps. any_of ps q) all_firsts ∙ any_second (map (first_of trees) mine) (map (first_of trees) others) q in_others) (later there)

@@ -143,12 +143,12 @@ module _ (s : Shards) (trees : List Shape) (a : Rights) (flush : Bool) where
   pub no_frame : ArePlannedStrips s trees a flush [] []
   no_frame = record { plans = []; planned = refl; items = refl }
 
-  frames_more : (fs : List FrameRuns) (plans : List RunPlan) → AreFramePlans trees fs plans → (f : FrameRuns) (mine : List RunPlan) → AreRunPlans trees f.frame f.runs.items mine → AreFramePlans trees (fs ++ f ∷ []) (plans ++ mine)
+  frames_more : (fs : List FrameRuns) (plans : List RunPlan) → AreFramePlans trees fs plans → (f : FrameRuns) (mine : List RunPlan) → AreRunPlans trees f.frame f.runs mine → AreFramePlans trees (fs ++ f ∷ []) (plans ++ mine)
   frames_more [] plans none f mine are = (mine, [], ap (λ ps. ps ++ mine) none ∙ sym (none_more mine), are, refl)
   frames_more (g ∷ fs) plans (first, others, parts, first_are, rest) f mine are =
       (first, others ++ mine, ap (λ ps. ps ++ mine) parts ∙ joined first others mine, first_are, frames_more fs others rest f mine are)
 
-  pub one_frame : (fs : List FrameRuns) (now new : List Piece) → ArePlannedStrips s trees a flush fs now → (f : FrameRuns) → AreAdded s trees a flush f.frame f.runs.items now new → ArePlannedStrips s trees a flush (fs ++ f ∷ []) new
+  pub one_frame : (fs : List FrameRuns) (now new : List Piece) → ArePlannedStrips s trees a flush fs now → (f : FrameRuns) → AreAdded s trees a flush f.frame f.runs now new → ArePlannedStrips s trees a flush (fs ++ f ∷ []) new
   one_frame fs now new so_far f added = record {
     plans = so_far.plans ++ added.plans;
     planned = frames_more fs so_far.plans so_far.planned f added.plans added.planned;

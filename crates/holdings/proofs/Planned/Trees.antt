@@ -70,7 +70,7 @@ drop_here (suc n) (f ∷ fs) d less = let more : suc n + 1 ≡ suc (n + 1) = ome
 
 -- the next frame's tree
 pub next_tree : (s : Shards) (fs : List FrameRuns) (old : List Shape) (n : ℕ) (now : List Shape) (d : FrameRuns) → ArePrunedUpTo s fs old n now → n < length fs
-    → ((get_or fs n d).frame < length now) × CanBePruned s (links_in now (get_or fs n d).frame) (get_or fs n d).runs.items
+    → ((get_or fs n d).frame < length now) × CanBePruned s (links_in now (get_or fs n d).frame) (get_or fs n d).runs
 next_tree s fs old n now d so_far less = let all = subst (AllCanBePruned s now) (drop_here n fs d less) so_far.rest in (all.0, all.1)
 
 -- others can still lose places
@@ -78,7 +78,7 @@ still : (s : Shards) (fs : List FrameRuns) (now next : List Shape) (frame : ℕ)
 still s [] now next frame links set differ can = can
 still s (f ∷ fs) now next frame links set differ can = (
   subst (λ n. f.frame < n) (sym set.count) can.0,
-  subst (λ os. CanBePruned s os f.runs.items) (sym (set.elsewhere f.frame (differ 0 f (omega arith)))) can.1,
+  subst (λ os. CanBePruned s os f.runs) (sym (set.elsewhere f.frame (differ 0 f (omega arith)))) can.1,
   can.2,
   still s fs now next frame links set (λ k d less. differ (suc k) d (omega (arith, less))) can.3,
 )
@@ -185,7 +185,7 @@ module _ (s : Shards) (trees : List Shape) (sound : AreSound s trees) where
   -- a page of a run that is listed in a frame's tree is in a run of that frame
   record IsInFrame (f : FrameRuns) (q : Place) : Type 0 where
     mine : List RunPlan
-    are : AreRunPlans trees f.frame f.runs.items mine
+    are : AreRunPlans trees f.frame f.runs mine
     within : any_of (places_of_runs mine) q ≡ true
 
   in_frame : (pages : List HeldPage) (fs : List FrameRuns) (plans : List RunPlan) → AreFrameRuns trees pages fs → AreFramePlans trees fs plans → (q : Place) → any_of (places_of_runs plans) q ≡ true
@@ -222,7 +222,7 @@ module _ (s : Shards) (trees : List Shape) (sound : AreSound s trees) where
       by (inr there) later (suc k) e less = later there k e (omega (arith, less))
 
   -- and lies in it
-  lies_in_frame : (f : FrameRuns) (j : ℕ) (d : Place) → j < length (links_in trees f.frame) → IsInFrame f (place_at (links_in trees f.frame) j d) → LiesInOne j f.runs.items
+  lies_in_frame : (f : FrameRuns) (j : ℕ) (d : Place) → j < length (links_in trees f.frame) → IsInFrame f (place_at (links_in trees f.frame) j d) → LiesInOne j f.runs
   lies_in_frame f j d less is =
       let e : RunPlan = record { frame = 0; run = record { start = 0; end = 0 }; origin = None; parts = [] } in
       let q = place_at (links_in trees f.frame) j d in
@@ -235,7 +235,7 @@ module _ (s : Shards) (trees : List Shape) (sound : AreSound s trees) where
       let x_less : x.0 < length (links_in trees f.frame) = subst (λ g. x.0 < length (links_in trees g)) of_frame x.3 in
       let there : place_at (links_in trees f.frame) x.0 d ≡ q = ap (λ g. place_at (links_in trees g) x.0 d) (sym of_frame) ∙ x.4 in
       let same : x.0 ≡ j = position_once s trees sound (links_in trees f.frame) once x.0 j d x_less less there in
-      lies is.mine f.runs.items is.are.runs_are at.0 e at.1 (omega (arith, x.1, same)) (omega (arith, x.2, same))
+      lies is.mine f.runs is.are.runs_are at.0 e at.1 (omega (arith, x.1, same)) (omega (arith, x.2, same))
     where
       lies : (plans : List RunPlan) (rs : List (Range ℕ)) → map (λ plan. plan.run) plans ≡ rs → (k : ℕ) (e : RunPlan) → k < length plans → (get_or plans k e).run.start ≤ j → j < (get_or plans k e).run.end → LiesInOne j rs
       lies [] rs same k e w a b = absurd (omega (arith, w))
@@ -258,7 +258,7 @@ module _ (s : Shards) (trees : List Shape) (sound : AreSound s trees) where
         entry_of_held new trees done.loose q (ap is_some (ap (λ k. at k q) done.left ∙ left ∙ ap (changed (stripping h set a flush) q) held) ∙ rw kept refl)
 
     module _ (pages : List HeldPage) (fs : List FrameRuns) (groups : AreFrameRuns trees pages fs) (planned : AreFramePlans trees fs plans) where
-      one_can : (k : ℕ) (d : FrameRuns) → k < length fs → CanBePruned new (links_in trees (get_or fs k d).frame) (get_or fs k d).runs.items
+      one_can : (k : ℕ) (d : FrameRuns) → k < length fs → CanBePruned new (links_in trees (get_or fs k d).frame) (get_or fs k d).runs
       one_can k d less =
           let f = get_or fs k d in
           let os = links_in trees f.frame in
@@ -267,7 +267,7 @@ module _ (s : Shards) (trees : List Shape) (sound : AreSound s trees) where
             places = λ i o within. subst (IsPlace new) (read os i o within) (standing_place new trees f.frame done.loose (place_at os i (get_or os i o).0) (listed_at os i (get_or os i o).0 within));
             rising = have.rising;
             runs_are = have.whole;
-            outside_stay = all_outside (has_entry new) os 0 f.runs.items have.rising (λ j e least within out.
+            outside_stay = all_outside (has_entry new) os 0 f.runs have.rising (λ j e least within out.
                 let q = place_at os j e in
                 let listed = listed_at os j e within in
                 stays f.frame q listed (false_from_ne_true _ (λ inside. out (lies_in_frame f j e within (in_frame pages fs plans groups planned q inside k d less listed)))));
@@ -282,7 +282,7 @@ module _ (s : Shards) (trees : List Shape) (sound : AreSound s trees) where
       pub all_can : AllCanBePruned new trees fs
       all_can = by pages fs groups one_can
         where
-          by : (pages : List HeldPage) (gs : List FrameRuns) → AreFrameRuns trees pages gs → ((k : ℕ) (d : FrameRuns) → k < length gs → CanBePruned new (links_in trees (get_or gs k d).frame) (get_or gs k d).runs.items) → AllCanBePruned new trees gs
+          by : (pages : List HeldPage) (gs : List FrameRuns) → AreFrameRuns trees pages gs → ((k : ℕ) (d : FrameRuns) → k < length gs → CanBePruned new (links_in trees (get_or gs k d).frame) (get_or gs k d).runs) → AllCanBePruned new trees gs
           by pages [] groups can = _
           by pages (g ∷ gs) (group, rest, whole, is, groups) can =
               (is.frame, can 0 g (omega arith), frames_differ trees rest gs groups g.frame is.others, by rest gs groups (λ k d less. can (suc k) d (omega (arith, less))))

@@ -27,7 +27,7 @@ pub record IsFrameGroup (trees : List Shape) (group rest : List HeldPage) (f : F
   pub frame : f.frame < length trees
   pub same : All (λ h. h.frame ≡ f.frame) group
   pub others : All (λ h. h.frame ≡ f.frame → ⊥) rest
-  pub runs : AreOuterRuns (links_in trees f.frame) (places_in group) f.runs.items
+  pub runs : AreOuterRuns (links_in trees f.frame) (places_in group) f.runs
 
 -- pages in groups of one frame, each with its runs
 abbrev pub AreFrameRuns : List Shape → List HeldPage → List FrameRuns → Type 0
@@ -45,15 +45,15 @@ pub record AreRunPlans (trees : List Shape) (frame : ℕ) (runs : List (Range �
 -- the runs of frames, planned
 abbrev pub AreFramePlans : List Shape → List FrameRuns → List RunPlan → Type 0
 AreFramePlans trees [] plans = plans ≡ []
-AreFramePlans trees (f ∷ fs) plans = (mine : List RunPlan) × (others : List RunPlan) × (plans ≡ mine ++ others) × AreRunPlans trees f.frame f.runs.items mine × AreFramePlans trees fs others
+AreFramePlans trees (f ∷ fs) plans = (mine : List RunPlan) × (others : List RunPlan) × (plans ≡ mine ++ others) × AreRunPlans trees f.frame f.runs mine × AreFramePlans trees fs others
 
 -- ---- the strips of runs
 
 -- each range is the run of a node of the frame's tree, and they rise
 pub record HaveRuns (trees : List Shape) (f : FrameRuns) : Type 0 where
   pub frame : f.frame < length trees
-  pub rising : AreRising 0 f.runs.items (length (links_in trees f.frame))
-  pub whole : All (IsRun (links_in trees f.frame)) f.runs.items
+  pub rising : AreRising 0 f.runs (length (links_in trees f.frame))
+  pub whole : All (IsRun (links_in trees f.frame)) f.runs
 
 -- each of some pages has its own word, and the origin, which is none of them, has another
 pub record HaveWords (s : Shards) (origin : Option Place) (ps : List Place) : Type 0 where
@@ -108,7 +108,7 @@ pub record CanBePruned (s : Shards) (links : Origins) (runs : List (Range ℕ)) 
 -- of each of these frames the tree can lose its places, and none comes twice
 abbrev pub AllCanBePruned : Shards → List Shape → List FrameRuns → Type 0
 AllCanBePruned s trees [] = ⊤
-AllCanBePruned s trees (f ∷ fs) = (f.frame < length trees) × CanBePruned s (links_in trees f.frame) f.runs.items × All (λ g. g.frame ≡ f.frame → ⊥) fs × AllCanBePruned s trees fs
+AllCanBePruned s trees (f ∷ fs) = (f.frame < length trees) × CanBePruned s (links_in trees f.frame) f.runs × All (λ g. g.frame ≡ f.frame → ⊥) fs × AllCanBePruned s trees fs
 
 -- the places of the runs of a tree, one run after another
 abbrev pub in_runs : Origins → List (Range ℕ) → List Place
@@ -116,7 +116,7 @@ in_runs os runs = flat_map (λ r. slice_range (map (λ o. o.0) os) r.start r.end
 
 -- those of the runs of frames
 abbrev pub in_frames : List Shape → List FrameRuns → List Place
-in_frames trees fs = flat_map (λ f. in_runs (links_in trees f.frame) f.runs.items) fs
+in_frames trees fs = flat_map (λ f. in_runs (links_in trees f.frame) f.runs) fs
 
 -- how many nodes runs have
 abbrev pub count_in_runs : List (Range ℕ) → ℕ
@@ -126,7 +126,7 @@ count_in_runs (r ∷ rs) = (r.end - r.start) + count_in_runs rs
 -- how many the runs of frames have
 abbrev pub count_in_frames : List FrameRuns → ℕ
 count_in_frames [] = 0
-count_in_frames (f ∷ fs) = count_in_runs f.runs.items + count_in_frames fs
+count_in_frames (f ∷ fs) = count_in_runs f.runs + count_in_frames fs
 
 -- of the nodes of the runs, in parts, those are kept whose places have entries
 pub record AreKeptNodes (s : Shards) (trees : List Shape) (fs : List FrameRuns) (kept : List (List Node)) : Type 0 where

@@ -21,10 +21,10 @@ record IsNext (trees : List Shape) (frame : ℕ) (tree : Shape) (run : Range ℕ
   within : run.end ≤ length (links_in trees frame)
   is_run : IsRun (links_in trees frame) run
 
-next_of : (trees : List Shape) (f : FrameRuns) (have : HaveRuns trees f) (tree : Shape) (read : List (Range ℕ)) → read ≡ f.runs.items → tree ≡ get_or trees f.frame tree → (k : ℕ) (d : Range ℕ) → k < length read → IsNext trees f.frame tree (get_or read k d)
+next_of : (trees : List Shape) (f : FrameRuns) (have : HaveRuns trees f) (tree : Shape) (read : List (Range ℕ)) → read ≡ f.runs → tree ≡ get_or trees f.frame tree → (k : ℕ) (d : Range ℕ) → k < length read → IsNext trees f.frame tree (get_or read k d)
 next_of trees f have tree read same is k d less =
-    let here : k < length f.runs.items = subst (λ rs. k < length rs) same less in
-    let bounds = rising_at 0 f.runs.items (length (links_in trees f.frame)) k d have.rising here in
+    let here : k < length f.runs = subst (λ rs. k < length rs) same less in
+    let bounds = rising_at 0 f.runs (length (links_in trees f.frame)) k d have.rising here in
     subst (λ rs. IsNext trees f.frame tree (get_or rs k d)) (sym same) (record { links = links_read trees f.frame tree have.frame is; some = bounds.0; within = bounds.1; is_run = have.whole k d here })
 
 pub loop-run-init : goal.loop-run-init
@@ -32,24 +32,24 @@ loop-run-init c = (c.in_ok-links.ensures, none_added c.args.shards.now c.args.tr
 
 pub origin_by-origin-requires-clause-within : goal.origin_by-origin-requires-clause-within
 origin_by-origin-requires-clause-within c =
-    let next = next_of c.args.trees.now c.args.frame.now c.requires.runs c.index-trees-frame.result c.deref-run-items.result.now c.deref-run-items.ensures.value c.index-trees-frame.is c.loop-run.run-index (record { start = 0; end = 0 }) c.loop-run-test.true in
-    subst (λ os. (get_or c.deref-run-items.result.now c.loop-run.run-index (record { start = 0; end = 0 })).start < length os) next.links (omega (arith, next.some, next.within))
+    let next = next_of c.args.trees.now c.args.frame.now c.requires.runs c.index-trees-frame.result c.as_slice-run-items.result.now c.as_slice-run-items.ensures c.index-trees-frame.is c.loop-run.run-index (record { start = 0; end = 0 }) c.loop-run-test.true in
+    subst (λ os. (get_or c.as_slice-run-items.result.now c.loop-run.run-index (record { start = 0; end = 0 })).start < length os) next.links (omega (arith, next.some, next.within))
 
 pub origin_by-origin-requires-clause-links : goal.origin_by-origin-requires-clause-links
 origin_by-origin-requires-clause-links c = c.loop-run.invariant.0
 
 -- the next run, with its origin
-run_of : (c : After-origin_by-origin) → IsRunOf c.args.trees.now c.args.frame.now.frame (get_or c.deref-run-items.result.now c.loop-run.run-index (record { start = 0; end = 0 })) c.origin_by-origin.result
+run_of : (c : After-origin_by-origin) → IsRunOf c.args.trees.now c.args.frame.now.frame (get_or c.as_slice-run-items.result.now c.loop-run.run-index (record { start = 0; end = 0 })) c.origin_by-origin.result
 run_of c =
-    let next = next_of c.args.trees.now c.args.frame.now c.requires.runs c.index-trees-frame.result c.deref-run-items.result.now c.deref-run-items.ensures.value c.index-trees-frame.is c.loop-run.run-index (record { start = 0; end = 0 }) c.loop-run-test.true in
-    let run : Range ℕ = get_or c.deref-run-items.result.now c.loop-run.run-index (record { start = 0; end = 0 }) in
+    let next = next_of c.args.trees.now c.args.frame.now c.requires.runs c.index-trees-frame.result c.as_slice-run-items.result.now c.as_slice-run-items.ensures c.index-trees-frame.is c.loop-run.run-index (record { start = 0; end = 0 }) c.loop-run-test.true in
+    let run : Range ℕ = get_or c.as_slice-run-items.result.now c.loop-run.run-index (record { start = 0; end = 0 }) in
     record { is_run = next.is_run; some = next.some; within = next.within; is_origin = subst (λ os. IsOriginAt os run.start c.origin_by-origin.result) (sym next.links) c.origin_by-origin.ensures }
 
 pub add_run-requires-clause-within : goal.add_run-requires-clause-within
 add_run-requires-clause-within c =
     let run = run_of ((goal.at.add_run-requires-clause-within c).After-origin_by-origin) in
     let links = links_read c.args.trees.now c.args.frame.now.frame c.index-trees-frame.result c.requires.runs.frame c.index-trees-frame.is in
-    subst (λ os. (get_or c.deref-run-items.result.now c.loop-run.run-index (record { start = 0; end = 0 })).end ≤ length os) links run.within
+    subst (λ os. (get_or c.as_slice-run-items.result.now c.loop-run.run-index (record { start = 0; end = 0 })).end ≤ length os) links run.within
 
 -- the links of the tree, no place of which comes twice
 once_in : (os ts : Origins) → os ≡ ts → are_once ts ≡ true → are_once os ≡ true
@@ -60,7 +60,7 @@ add_run-requires-clause-words c =
     let s = c.args.shards.now in
     let trees = c.args.trees.now in
     let f = c.args.frame.now.frame in
-    let run : Range ℕ = get_or c.deref-run-items.result.now c.loop-run.run-index (record { start = 0; end = 0 }) in
+    let run : Range ℕ = get_or c.as_slice-run-items.result.now c.loop-run.run-index (record { start = 0; end = 0 }) in
     let links = links_read trees f c.index-trees-frame.result c.requires.runs.frame c.index-trees-frame.is in
     subst (λ os. HaveWords s c.origin_by-origin.result (pages_of os run.start run.end)) links
     (run_has_words s trees c.requires.sound f run c.origin_by-origin.result (run_of ((goal.at.add_run-requires-clause-words c).After-origin_by-origin)) (once_in _ _ links c.places_are_distinct.ensures))
@@ -70,7 +70,7 @@ loop-run-preserved c =
     let s = c.args.shards.now in
     let trees = c.args.trees.now in
     let f = c.args.frame.now.frame in
-    let read = c.deref-run-items.result.now in
+    let read = c.as_slice-run-items.result.now in
     let k = c.loop-run.run-index in
     let run : Range ℕ = get_or read k (record { start = 0; end = 0 }) in
     let origin = c.origin_by-origin.result in

@@ -25,7 +25,7 @@ loop-from-preserved c =
     let links = links_read trees _ c.index-trees-frame.result frame c.index-trees-frame.is in
     let f : FrameRuns = record { frame = _; runs = c.in_ok-runs.runs } in
     let places = ap (λ ps. slice_range ps from end) (c.deref.ensures.value ∙ c.in_ok-places.ensures) ∙ places_slice pages from end in
-    let outer = subst (λ ps. AreOuterRuns (links_in trees f.frame) ps c.in_ok-runs.runs.items) places (subst (λ os. AreOuterRuns os (slice_range c.deref.result.now from end) c.in_ok-runs.runs.items) (sym links) c.in_ok-runs.ensures) in
+    let outer = subst (λ ps. AreOuterRuns (links_in trees f.frame) ps c.in_ok-runs.runs) places (subst (λ os. AreOuterRuns os (slice_range c.deref.result.now from end) c.in_ok-runs.runs) (sym links) c.in_ok-runs.ensures) in
     let pushed : c.push.new.self.items ≡ c.loop-from.frames.items ++ f ∷ [] = c.push.ensures.items ∙ ap (λ b. if b then c.loop-from.frames.items ++ f ∷ [] else c.loop-from.frames.items) (sym c.map_err.ensures.variant ∙ ap is_ok c.in_ok-map_err.was) in
     subst (AreGroupedUpTo trees pages end) (sym pushed)
     (one_group trees pages from end c.loop-from.frames.items c.loop-from.invariant c.requires.sorted c.requires.frames c.group_end-end.ensures.some c.group_end-end.ensures.within f d refl (c.group_end-end.ensures.frames d) c.group_end-end.ensures.ends outer)
