@@ -63,7 +63,7 @@ fn stores(
     requires places { All (λ t. IsPlace shards.now t.source × IsPlace shards.now t.target) transfers.now }
     ensures { IfOk result (λ stores. stores.items ≡ stores_of shards.now rights transfers.now) }
 {
-    let mut stores = Vec::new(alloc);
+    let mut stores = Vec::with_capacity(alloc, transfers.len())?;
     for transfer in transfers {
         if shards.get(transfer.source).is_some() {
             let read = shards.index(transfer.source);

@@ -58,7 +58,7 @@ fn pairs(alloc: Global, shards: &Shards, transfers: &[Transfer]) -> Result<Vec<P
     requires places { All (λ t. IsPlace shards.now t.source × IsPlace shards.now t.target) transfers.now }
     ensures { IfOk result (λ pairs. pairs.items ≡ word_pairs shards.now transfers.now) }
 {
-    let mut pairs = Vec::new(alloc);
+    let mut pairs = Vec::with_capacity(alloc, transfers.len())?;
     for transfer in transfers {
         if shards.get(transfer.source).is_some() {
             let taken = shards.index(transfer.source);

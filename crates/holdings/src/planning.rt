@@ -145,6 +145,7 @@ fn add_frame(
     let tree = &trees[frame.frame as usize];
     tree.places_are_distinct();
     let links = links_for_many(alloc, tree, frame.runs.len())?;
+    pieces.reserve(frame.runs.len())?;
     for run in frame.runs.as_slice() {
         let origin = origin_by(tree, &links, run.start);
         add_run(

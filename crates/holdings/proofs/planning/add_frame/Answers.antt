@@ -28,7 +28,12 @@ next_of trees f have tree read same is k d less =
     subst (λ rs. IsNext trees f.frame tree (get_or rs k d)) (sym same) (record { links = links_read trees f.frame tree have.frame is; some = bounds.0; within = bounds.1; is_run = have.whole k d here })
 
 pub loop-run-init : goal.loop-run-init
-loop-run-init c = (c.in_ok-links.ensures, none_added c.args.shards.now c.args.trees.now c.args.revoked c.args.flush c.args.frame.now.frame c.args.pieces.now.items)
+loop-run-init c =
+    let old = c.args.pieces.now.items in (
+      c.in_ok-links.ensures,
+      subst (AreAdded c.args.shards.now c.args.trees.now c.args.revoked c.args.flush c.args.frame.now.frame [] old) (sym c.reserve.ensures.items)
+          (none_added c.args.shards.now c.args.trees.now c.args.revoked c.args.flush c.args.frame.now.frame old),
+    )
 
 pub origin_by-origin-requires-clause-within : goal.origin_by-origin-requires-clause-within
 origin_by-origin-requires-clause-within c =

@@ -8,4 +8,4 @@ use Rattle.holdings.proofs.planning.add_frame.Given as goal
 abbrev pub invariant-loop-run : goal.invariant-loop-run
 invariant-loop-run l =
     ForSome l.links (λ k. AreLinksOf l.tree k.items)
-    × AreAdded l.shards l.trees l.revoked l.flush l.frame.frame (take l.run-index l.run-items) l.initial.pieces.items l.pieces.items
+    × AreAdded l.shards l.trees l.revoked l.flush l.frame.frame (take l.run-index l.run-items) l.fn.pieces.items l.pieces.items
