@@ -9,7 +9,7 @@ use Rattle.pieces.specs.Distinct.{is_none_of, are_distinct}
 use Rattle.pieces.specs.DistinctParts.{all_split}
 use Rattle.pieces.specs.Contents.{is_fold_apart}
 use Rattle.pieces.specs.Effects.{Effect, keeps, adds, writes, words_after, writes_at, adds_at}
-use Rattle.pieces.specs.Phases.{IsPiece, named}
+use Rattle.pieces.specs.Phases.{IsPiece, named, NamesWords}
 use Rattle.pieces.specs.Steps.{effect, effects, narrow, fold_of, status_in, may_access, access_steps, see, mark}
 use Rattle.pieces.specs.declared.link.Store.{Store}
 use Rattle.pieces.specs.declared.moving.Pair.{Pair}
@@ -18,7 +18,6 @@ use Rattle.pieces.specs.declared.piece.Piece.{Piece}
 use Rattle.pieces.specs.declared.piece.Piece.TheVariants as piece
 use Rattle.pieces.proofs.Writers.{piece_writes, piece_adds, touches_write, none_of_none}
 use Rattle.crew.specs.Edits.{effect_of, index_of, is_change, AreEditsOf}
-use Rattle.crew.specs.Opening.{NamesWords}
 use Rattle.crew.specs.declared.edits.Edit.{Edit}
 use Rattle.crew.proofs.EditLists.{same_words, same_writes, same_adds}
 

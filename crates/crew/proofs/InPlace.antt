@@ -81,12 +81,6 @@ module _ (old now is : List ℕ) (ms : List Rights) (k : ℕ) (m : Rights) (once
 pub fold_next : (w : List ℕ) (i bits b : ℕ) → i < length w → b ≡ bits → set w i (bit_or (get_or w i 0) b) ≡ words_after w (adds i bits ∷ [])
 fold_next w i bits b within is = ap (λ c. set w i (bit_or (get_or w i 0) c)) is ∙ sym (ap (λ k. words_after w (adds k bits ∷ [])) (sym (zero-add i)) ∙ add_from 0 w i bits within)
 
--- ---- status
-
-pub status_next : (w is : List ℕ) (k : ℕ) → k < length is → status_in w (take (k + 1) is) ≡ join (status_in w (take k is)) (status_of (entry_in w (get_or is k 0)))
-status_next w is k within =
-    ap (status_in w) (take_more is k 0 within) ∙ status_append w (take k is) (get_or is k 0 ∷ []) ∙ ap (join (status_in w (take k is))) (join_nothing (status_of (entry_in w (get_or is k 0))))
-
 -- ---- links
 
 -- one store more

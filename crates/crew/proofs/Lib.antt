@@ -1,5 +1,4 @@
 pub mod InPlace
-pub mod Keeping
 pub mod Results
 pub mod Working
 pub mod EditLists

@@ -11,13 +11,13 @@ use Rattle.pieces.specs.DistinctParts.{all_split}
 use Rattle.pieces.specs.Dones.{DoneContent}
 use Rattle.pieces.specs.Effects.{words_after}
 use Rattle.pieces.specs.Laws.{AreDone, spare_held}
-use Rattle.pieces.specs.Phases.{IsPiece, CanBeWorked, changes, named, is_link, length_of}
+use Rattle.pieces.specs.Phases.{IsPiece, CanBeWorked, changes, named, is_link, length_of, NamesWords}
 use Rattle.pieces.specs.Steps.{effects}
 use Rattle.pieces.specs.Values.{value}
 use Rattle.pieces.specs.declared.piece.Piece.{Piece}
 use Rattle.pieces.proofs.AllSteps.{length_words, worked_all, words_none}
 use Rattle.pieces.proofs.OneByOne.{one_after_another, others_can, others_find_the_same, all_held_apart, changes_apart, folds_of_others_apart}
-use Rattle.crew.specs.Opening.{NamesWords, IsInPlace}
+use Rattle.crew.specs.Opening.{IsInPlace}
 use Rattle.crew.specs.Worked.{IsWorked, results_from}
 use Rattle.crew.proofs.Results.{are_done, dones_more}
 

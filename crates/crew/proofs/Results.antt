@@ -11,7 +11,7 @@ use Rattle.pieces.specs.Effects.{words_after, writes_at, adds_at}
 use Rattle.pieces.specs.Gathering.{has_stranger, numbers_of}
 use Rattle.pieces.specs.Laws.{AreDone}
 use Rattle.pieces.specs.DistinctParts.{all_split}
-use Rattle.pieces.specs.Phases.{IsPiece, CanBeWorked, named}
+use Rattle.pieces.specs.Phases.{IsPiece, CanBeWorked, named, NamesWords}
 use Rattle.pieces.specs.Steps.{effects}
 use Rattle.pieces.specs.Values.{Value, value}
 use Rattle.pieces.specs.declared.piece.Piece.{Piece}
@@ -20,7 +20,6 @@ use Rattle.pieces.proofs.InTurn.{steps_in_turn}
 use Rattle.pieces.proofs.OneByOne.{first_can, all_first}
 use Rattle.pieces.proofs.Packs.{packs_after_steps, pieces_suit}
 use Rattle.pieces.proofs.Writers.{all_apart}
-use Rattle.crew.specs.Opening.{NamesWords}
 use Rattle.crew.specs.Worked.{IsWorked, results_from}
 use Rattle.crew.proofs.InPlace.{around}
 

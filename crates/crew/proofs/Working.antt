@@ -22,36 +22,6 @@ both true true h = (refl, refl)
 both true false h = absurd (cc)
 both false b h = absurd (cc)
 
--- ---- the words that a piece names
-
-module _ (n : ℕ) where
-  pub stores_within : (xs : List Store) → list_all (λ i. nat_lt i n) (flat_map (λ s. s.read ∷ s.put ∷ []) xs) ≡ true → All (λ s. (s.read < n) × (s.put < n)) xs
-  stores_within [] named k d less = absurd (omega (arith, less))
-  stores_within (s ∷ xs) named zero d less =
-      let first = both (nat_lt s.read n) (list_all (λ i. nat_lt i n) (s.put ∷ flat_map (λ (t : Store). t.read ∷ t.put ∷ []) xs)) named in
-      let second = both (nat_lt s.put n) (list_all (λ i. nat_lt i n) (flat_map (λ (t : Store). t.read ∷ t.put ∷ []) xs)) first.1 in
-      (ltb-true s.read n first.0, ltb-true s.put n second.0)
-  stores_within (s ∷ xs) named (suc k) d less =
-      let first = both (nat_lt s.read n) (list_all (λ i. nat_lt i n) (s.put ∷ flat_map (λ (t : Store). t.read ∷ t.put ∷ []) xs)) named in
-      let second = both (nat_lt s.put n) (list_all (λ i. nat_lt i n) (flat_map (λ (t : Store). t.read ∷ t.put ∷ []) xs)) first.1 in
-      stores_within xs second.1 k d (omega (arith, less))
-
-  pub pairs_within : (xs : List Pair) → list_all (λ i. nat_lt i n) (flat_map (λ p. p.taken ∷ p.put ∷ []) xs) ≡ true → All (λ p. (p.taken < n) × (p.put < n)) xs
-  pairs_within [] named k d less = absurd (omega (arith, less))
-  pairs_within (p ∷ xs) named zero d less =
-      let first = both (nat_lt p.taken n) (list_all (λ i. nat_lt i n) (p.put ∷ flat_map (λ (q : Pair). q.taken ∷ q.put ∷ []) xs)) named in
-      let second = both (nat_lt p.put n) (list_all (λ i. nat_lt i n) (flat_map (λ (q : Pair). q.taken ∷ q.put ∷ []) xs)) first.1 in
-      (ltb-true p.taken n first.0, ltb-true p.put n second.0)
-  pairs_within (p ∷ xs) named (suc k) d less =
-      let first = both (nat_lt p.taken n) (list_all (λ i. nat_lt i n) (p.put ∷ flat_map (λ (q : Pair). q.taken ∷ q.put ∷ []) xs)) named in
-      let second = both (nat_lt p.put n) (list_all (λ i. nat_lt i n) (flat_map (λ (q : Pair). q.taken ∷ q.put ∷ []) xs)) first.1 in
-      pairs_within xs second.1 k d (omega (arith, less))
-
-  pub accesses_within : (xs : List WordAccess) → list_all (λ i. nat_lt i n) (map (λ t. t.index) xs) ≡ true → All (λ t. t.index < n) xs
-  accesses_within [] named k d less = absurd (omega (arith, less))
-  accesses_within (t ∷ xs) named zero d less = ltb-true t.index n (both (nat_lt t.index n) (list_all (λ i. nat_lt i n) (map (λ (u : WordAccess). u.index) xs)) named).0
-  accesses_within (t ∷ xs) named (suc k) d less = accesses_within xs (both (nat_lt t.index n) (list_all (λ i. nat_lt i n) (map (λ (u : WordAccess). u.index) xs)) named).1 k d (omega (arith, less))
-
 -- ---- a strip
 
 strip_effects : (w : List ℕ) (s : StripContent) → effects w (piece.Strip s) ≡ narrows w s.indexes s.masks ++ map (effect w) (fold_of s.fold (status_in w s.indexes))

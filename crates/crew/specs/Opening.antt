@@ -19,10 +19,6 @@ marks_made [] answers = []
 marks_made (t ∷ ts) [] = []
 marks_made (t ∷ ts) (b ∷ bs) = (if b then keeps t.index ∷ adds t.index (status_bits (marks t.access)) ∷ [] else keeps t.index ∷ []) ++ marks_made ts bs
 
--- each index that a piece names has a word
-abbrev pub NamesWords : List ℕ → Piece → Type 0
-NamesWords words p = list_all (λ i. nat_lt i (length words)) (named p) ≡ true
-
 -- no piece reads a word that a piece or store before it has changed: only the first piece may be a link, and that of one store
 abbrev pub IsInPlace : List Piece → Type 0
 IsInPlace [] = Unit {0}

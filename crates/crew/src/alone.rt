@@ -5,12 +5,12 @@ ghost use Rattle.std.specs.List.{All, AllPass, AllZip, list_any};
 ghost use Rattle.space.specs.Word.{is_pack};
 ghost use Rattle.pieces.specs.Dones.{found_as};
 ghost use Rattle.pieces.specs.Effects.{words_after};
-ghost use Rattle.pieces.specs.Phases.{CanBeWorked, IsPiece, is_link, length_of};
+ghost use Rattle.pieces.specs.Phases.{CanBeWorked, IsPiece, is_link, length_of, NamesWords};
 ghost use Rattle.pieces.specs.Steps.{effects};
 ghost use Rattle.pieces.specs.Contents.{IsStrip};
 ghost use Rattle.pieces.specs.Values.{value};
 ghost use Rattle.pieces.specs.declared.piece.Piece.TheVariants as piece;
-ghost use Rattle.crew.specs.Opening.{NamesWords, IsInPlace};
+ghost use Rattle.crew.specs.Opening.{IsInPlace};
 ghost use Rattle.crew.specs.Parts.{IsPartOf};
 ghost use Rattle.crew.specs.Worked.{IsWorked};
 

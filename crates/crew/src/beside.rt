@@ -4,12 +4,11 @@ ghost use Rattle.std.specs.Prelude.{◌≡◌, ◌<◌, map, length, IfOk};
 ghost use Rattle.std.specs.List.{All, AllPass, AllZip};
 ghost use Rattle.space.specs.Word.{is_pack};
 ghost use Rattle.pieces.specs.Dones.{found_as};
-ghost use Rattle.pieces.specs.Phases.{CanBeWorked, IsPiece};
+ghost use Rattle.pieces.specs.Phases.{CanBeWorked, IsPiece, NamesWords};
 ghost use Rattle.pieces.specs.Contents.{IsStrip};
 ghost use Rattle.pieces.specs.Values.{value};
 ghost use Rattle.pieces.specs.declared.piece.Piece.TheVariants as piece;
 ghost use Rattle.crew.specs.Edits.{AreEditsOf};
-ghost use Rattle.crew.specs.Opening.{NamesWords};
 ghost use Rattle.crew.specs.Parts.{IsPartOf};
 ghost use Rattle.crew.specs.Worked.{IsWorked};
 

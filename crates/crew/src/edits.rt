@@ -10,8 +10,8 @@ ghost use Rattle.pieces.specs.declared.piece.Piece.TheVariants as piece;
 ghost use Rattle.crew.specs.Opening.{narrows};
 ghost use Rattle.crew.specs.Edits.{effect_of, index_of, AreEditsOf};
 
-use crate::steps::{bits, linked, moved, narrowed, permits};
 use fpage::Rights;
+use pieces::steps::{bits, linked, moved, narrowed, permits};
 use pieces::{Link, Masks, Move, Touch};
 use std::alloc::{AllocError, Global};
 

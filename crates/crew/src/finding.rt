@@ -7,11 +7,11 @@ ghost use Rattle.maptree.specs.declared.node.Node.{Node};
 ghost use Rattle.pieces.specs.Steps.{status_in, may_access};
 ghost use Rattle.pieces.specs.Dones.{found_as};
 ghost use Rattle.pieces.specs.Values.{no_value};
-ghost use Rattle.crew.specs.Kept.{nodes_kept};
+ghost use Rattle.pieces.specs.Kept.{nodes_kept};
 
-use crate::steps::{permits, remains, status};
 use fpage::Rights;
 use maptree::{Node, Slice};
+use pieces::steps::{permits, remains, status};
 use pieces::{Masks, Touch};
 use std::alloc::{AllocError, Global};
 

@@ -7,13 +7,13 @@ ghost use Rattle.pieces.specs.Distinct.{are_distinct};
 ghost use Rattle.pieces.specs.Effects.{words_after, adds};
 ghost use Rattle.pieces.specs.Steps.{effects, status_bits, status_in};
 ghost use Rattle.pieces.specs.declared.piece.Piece.TheVariants as piece;
-ghost use Rattle.crew.specs.Kept.{nodes_kept};
+ghost use Rattle.pieces.specs.Kept.{nodes_kept};
 ghost use Rattle.crew.specs.Opening.{narrows, marks_made};
 
 use crate::finding::move_node;
-use crate::steps::{bits, linked, moved, narrowed, remains, status};
 use fpage::Rights;
 use maptree::Node;
+use pieces::steps::{bits, linked, moved, narrowed, remains, status};
 use pieces::{Link, Masks, Move, Touch};
 
 /// Narrows the words at some indexes, each by its mask. The nodes whose words are left with a right move to the front, in

@@ -9,7 +9,6 @@ mod error;
 mod finding;
 mod gate;
 mod in_place;
-mod steps;
 #[cfg(test)]
 mod tests;
 mod workers;

@@ -9,3 +9,5 @@ pub mod WholeStrips
 pub mod InTurn
 pub mod Packs
 pub mod OneByOne
+pub mod Keeping
+pub mod NamedWords

@@ -143,7 +143,7 @@ same_pairs v w (p ∷ pairs) same =
     ap (λ x. effect w (step.take p.taken) ∷ effect w (step.put p.put (option_map without_status (entry_of x))) ∷ map (effect v) (flat_map (pair_steps v) pairs)) same.0
     ∙ ap (λ es. effect w (step.take p.taken) ∷ effect w (step.put p.put (option_map without_status (entry_in w p.taken))) ∷ es) (same_pairs v w pairs same.1.1)
 
-may_by_page : (a b : Option Entry) (access : Access) → option_map page a ≡ option_map page b → option_map_or (λ e. has e.rights access) a false ≡ option_map_or (λ e. has e.rights access) b false
+pub may_by_page : (a b : Option Entry) (access : Access) → option_map page a ≡ option_map page b → option_map_or (λ e. has e.rights access) a false ≡ option_map_or (λ e. has e.rights access) b false
 may_by_page None None access same = refl
 may_by_page None (Some f) access same = absurd (cc)
 may_by_page (Some e) None access same = absurd (cc)

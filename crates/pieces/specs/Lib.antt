@@ -5,6 +5,7 @@ pub mod Contents
 pub mod Steps
 pub mod Applied
 pub mod Values
+pub mod Kept
 pub mod Forms
 pub mod Rows
 pub mod Dones

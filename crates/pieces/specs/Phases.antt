@@ -30,6 +30,10 @@ named (piece.Link stores) = flat_map (λ s. s.read ∷ s.put ∷ []) stores
 named (piece.Move pairs) = ends_of pairs
 named (piece.Touch list) = map (λ t. t.index) list
 
+-- each index that a piece names has a word
+abbrev pub NamesWords : List ℕ → Piece → Type 0
+NamesWords words p = list_all (λ i. nat_lt i (length words)) (named p) ≡ true
+
 -- those at which a page must be held: a fold word, a word that a store reads or that is taken
 abbrev pub held : Piece → List ℕ
 held (piece.Strip s) = option_to_list s.fold

@@ -11,6 +11,7 @@ mod link;
 mod masks;
 mod moving;
 mod piece;
+pub mod steps;
 mod strip;
 #[cfg(test)]
 mod tests;

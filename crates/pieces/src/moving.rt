@@ -29,7 +29,7 @@ impl Model for Move {
 }
 
 impl Move {
-    ghost use Rattle.std.specs.Prelude.{◌≡◌, ◌<◌, ◌==◌, true, length, get_or};
+    ghost use Rattle.std.specs.Prelude.{◌≡◌, ◌<◌, ◌==◌, ◌^◌, true, length, get_or};
     ghost use Rattle.pieces.specs.Distinct.{are_distinct};
     ghost use Rattle.pieces.specs.Contents.{ends_of};
 
@@ -45,6 +45,7 @@ impl Move {
     pub fn len(&self) -> usize
         ensures len { result ≡ length self.now }
         ensures distinct { are_distinct (ends_of self.now) ≡ true }
+        ensures few { length self.now < 2 ^ 63 }
     {
         self.pairs.len()
     }

@@ -25,7 +25,7 @@ impl Model for Touch {
 }
 
 impl Touch {
-    ghost use Rattle.std.specs.Prelude.{◌≡◌, ◌<◌, ◌==◌, length, get_or};
+    ghost use Rattle.std.specs.Prelude.{◌≡◌, ◌<◌, ◌==◌, ◌^◌, length, get_or};
 
     /// These accesses.
     pub fn new(list: Vec<WordAccess>) -> Touch
@@ -36,7 +36,8 @@ impl Touch {
 
     /// How many accesses it has.
     pub fn len(&self) -> usize
-        ensures { result ≡ length self.now }
+        ensures len { result ≡ length self.now }
+        ensures few { length self.now < 2 ^ 63 }
     {
         self.list.len()
     }

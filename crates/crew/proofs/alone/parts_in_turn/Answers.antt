@@ -4,7 +4,7 @@ use Rattle.std.specs.List.{AllZip}
 use Rattle.std.proofs.lemmas.Iterator.Adapters.{YieldsList-from_vec}
 use Rattle.std.proofs.lemmas.Iterator.Consumers.{YieldsList-turn}
 use Rattle.std.proofs.lemmas.List.{length-append}
-use Rattle.crew.specs.Opening.{NamesWords}
+use Rattle.pieces.specs.Phases.{NamesWords}
 use Rattle.crew.specs.Parts.{IsPartOf}
 use Rattle.crew.proofs.Finishing.{each_named}
 use Rattle.crew.proofs.PiecesInPlace.{zip_more}

@@ -10,7 +10,7 @@ use Rattle.pieces.specs.Effects.{words_after}
 use Rattle.pieces.specs.Steps.{effects}
 use Rattle.pieces.specs.Values.{value}
 use Rattle.pieces.proofs.AllSteps.{length_words}
-use Rattle.crew.specs.Opening.{NamesWords}
+use Rattle.pieces.specs.Phases.{NamesWords}
 use Rattle.crew.proofs.PiecesInPlace.{AreWorkedUpTo, last_opening, names_here, few_here, value_here, one_more, all_done}
 use Rattle.crew.proofs.Results.{written_over, same_result}
 use Rattle.crew.proofs.alone.work_in_place.Goals as goal

@@ -2,9 +2,10 @@
 use Rattle.std.proofs.Common.{◌≡◌, ◌∙◌, sym, ap, subst, length, map}
 use Rattle.pieces.specs.Effects.{words_after}
 use Rattle.pieces.specs.Steps.{effects, may_access}
-use Rattle.crew.specs.Opening.{NamesWords, marks_made}
+use Rattle.crew.specs.Opening.{marks_made}
+use Rattle.pieces.specs.Phases.{NamesWords}
 use Rattle.crew.proofs.InPlace.{marks_are_effects}
-use Rattle.crew.proofs.Working.{stores_within, pairs_within, accesses_within}
+use Rattle.pieces.proofs.NamedWords.{stores_within, pairs_within, accesses_within}
 use Rattle.crew.proofs.alone.work_piece.Goals as goal
 
 pub put-requires-clause-within : goal.put-requires-clause-within

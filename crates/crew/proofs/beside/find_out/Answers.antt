@@ -1,7 +1,7 @@
 -- The words that a piece names.
 use Rattle.std.proofs.Common.{subst, length}
-use Rattle.crew.specs.Opening.{NamesWords}
-use Rattle.crew.proofs.Working.{stores_within, pairs_within, accesses_within}
+use Rattle.pieces.specs.Phases.{NamesWords}
+use Rattle.pieces.proofs.NamedWords.{stores_within, pairs_within, accesses_within}
 use Rattle.crew.proofs.beside.find_out.Goals as goal
 
 pub link_edits-requires-clause-within : goal.link_edits-requires-clause-within

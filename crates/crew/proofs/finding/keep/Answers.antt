@@ -4,7 +4,7 @@ use Rattle.std.specs.Option.{is_some}
 use Rattle.fpage.specs.Rights.{no_rights}
 use Rattle.maptree.specs.declared.node.Node.{Node}
 use Rattle.pieces.specs.Steps.{narrowed_by, entry_in}
-use Rattle.crew.proofs.Keeping.{IsFront, kept_next, left_out}
+use Rattle.pieces.proofs.Keeping.{IsFront, kept_next, left_out}
 use Rattle.crew.proofs.finding.keep.Goals as goal
 use Rattle.crew.proofs.finding.keep.Goals.{then-remains, else-remains}
 

@@ -1,5 +1,5 @@
 -- Of the nodes so far those that are kept stand at the front; the others are where they were.
-use Rattle.crew.proofs.Keeping.{IsFront}
+use Rattle.pieces.proofs.Keeping.{IsFront}
 use Rattle.crew.proofs.finding.keep.Given as goal
 
 abbrev pub invariant-loop-k : goal.invariant-loop-k

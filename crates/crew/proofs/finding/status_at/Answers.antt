@@ -3,7 +3,7 @@ use Rattle.std.proofs.Common.{◌∙◌, sym, ap, get_or}
 use Rattle.fpage.specs.Rights.{join}
 use Rattle.space.specs.Entries.{status_of}
 use Rattle.pieces.specs.Steps.{entry_in}
-use Rattle.crew.proofs.InPlace.{status_next}
+use Rattle.pieces.proofs.Keeping.{status_next}
 use Rattle.crew.proofs.finding.status_at.Goals as goal
 
 pub loop-index-preserved : goal.loop-index-preserved

@@ -7,8 +7,8 @@ use Rattle.pieces.proofs.AllSteps.{words_none}
 use Rattle.pieces.specs.Steps.{narrowed_by, entry_in}
 use Rattle.space.specs.Entries.{status_of}
 use Rattle.space.specs.Word.{is_pack, entry_of, word_of}
-use Rattle.crew.proofs.InPlace.{narrow_reads, narrow_next, status_next}
-use Rattle.crew.proofs.Keeping.{IsFront, kept_next, left_out}
+use Rattle.crew.proofs.InPlace.{narrow_reads, narrow_next}
+use Rattle.pieces.proofs.Keeping.{IsFront, kept_next, left_out, status_next}
 use Rattle.crew.proofs.in_place.narrow_and_keep.Goals as goal
 use Rattle.crew.proofs.in_place.narrow_and_keep.Goals.{then-remains, else-remains}
 

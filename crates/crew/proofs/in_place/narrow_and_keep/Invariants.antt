@@ -3,7 +3,7 @@ use Rattle.std.proofs.Common.{◌≡◌, take}
 use Rattle.pieces.specs.Effects.{words_after}
 use Rattle.pieces.specs.Steps.{status_in}
 use Rattle.crew.specs.Opening.{narrows}
-use Rattle.crew.proofs.Keeping.{IsFront}
+use Rattle.pieces.proofs.Keeping.{IsFront}
 use Rattle.crew.proofs.in_place.narrow_and_keep.Given as goal
 
 abbrev pub invariant-loop-k : goal.invariant-loop-k

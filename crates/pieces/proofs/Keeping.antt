@@ -1,11 +1,16 @@
--- Nodes that are kept, moved to the front.
+-- Nodes that are kept, moved to the front, and the status of the words so far.
 use Rattle.std.proofs.Common.{◌≡◌, ℕ, zero, suc, ◌+◌, ◌<◌, ◌≤◌, Bool, true, false, List, [], ◌∷◌, ◌++◌, length, map, filter, take, drop, get_or, set, refl, ap, ◌∙◌, sym, arith, cond}
 use Rattle.std.specs.List.{zip}
-use Rattle.std.proofs.lemmas.List.{take_more_set, drop-set-lt, drop-drop, append-nil, get_or-drop}
+use Rattle.std.proofs.lemmas.List.{take_more, take_more_set, drop-set-lt, drop-drop, append-nil, get_or-drop}
 use Rattle.fpage.specs.declared.rights.Rights.{Rights}
 use Rattle.maptree.specs.declared.node.Node.{Node}
+use Rattle.fpage.specs.Rights.{join}
+use Rattle.fpage.proofs.RightSets.{join_nothing}
+use Rattle.space.specs.Entries.{status_of}
+use Rattle.pieces.specs.Steps.{entry_in, status_in}
 use Rattle.pieces.specs.Values.{remains}
-use Rattle.crew.specs.Kept.{nodes_kept}
+use Rattle.pieces.proofs.InPieces.{status_append}
+use Rattle.pieces.specs.Kept.{nodes_kept}
 
 -- one node more
 kept_more : (w : List ℕ) (nodes : List Node) (is : List ℕ) (ms : List Rights) (k : ℕ) (n : Node) (m : Rights) → k < length nodes → k < length is → k < length ms
@@ -67,3 +72,9 @@ module _ (w : List ℕ) (given : List Node) (is : List ℕ) (ms : List Rights) (
         ∙ sym (kept_more w given is ms k n m within (omega (arith, within, indexes)) (omega (arith, within, masks)) ∙ ap (λ t. nodes_kept w (take k given) is ms ++ cond t (get_or given k n ∷ []) []) gone ∙ append-nil (nodes_kept w (take k given) is ms));
     rest = rest_next;
   }
+
+-- ---- status
+
+pub status_next : (w is : List ℕ) (k : ℕ) → k < length is → status_in w (take (k + 1) is) ≡ join (status_in w (take k is)) (status_of (entry_in w (get_or is k 0)))
+status_next w is k within =
+    ap (status_in w) (take_more is k 0 within) ∙ status_append w (take k is) (get_or is k 0 ∷ []) ∙ ap (join (status_in w (take k is))) (join_nothing (status_of (entry_in w (get_or is k 0))))

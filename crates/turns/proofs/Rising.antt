@@ -1,0 +1,63 @@
+-- Numbers sorted, each once.
+use Rattle.std.proofs.Common.{◌≡◌, ℕ, zero, suc, ◌+◌, ◌<◌, ◌≤◌, Bool, true, false, ◌&&◌, ◌||◌, not, List, [], ◌∷◌, length, get_or, refl, ap, ◌∙◌, sym, subst, arith}
+use Rattle.std.specs.Prelude.{◌==◌}
+use Rattle.std.specs.List.{list_any, Contains, dedup}
+use Rattle.std.specs.List.Sorted.{IsPermutation, IsStrictlyIncreasing}
+use Rattle.std.proofs.Math.Dec.{eqb}
+use Rattle.std.proofs.lemmas.Bool.{eqb-true, eq-eqb, ne_eqb}
+use Rattle.std.proofs.lemmas.List.Kept.{Contains-dedup_nat}
+use Rattle.std.proofs.lemmas.List.Sorted.{list_any-IsPermutation}
+use Rattle.pieces.specs.Distinct.{is_none_of, are_distinct}
+
+-- ---- among some numbers
+
+contains_of : (xs : List ℕ) (i : ℕ) → is_none_of xs i ≡ false → Contains xs i
+contains_of [] i there = absurd (cc)
+contains_of (x ∷ xs) i there = by (x == i) refl there (contains_of xs i)
+  where
+    by : (t : Bool) → (x == i) ≡ t → (not t && is_none_of xs i) ≡ false → (is_none_of xs i ≡ false → Contains xs i) → Contains (x ∷ xs) i
+    by true is h later = (0, omega arith, eqb-true x i is)
+    by false is h later = let m = later h in (suc m.0, omega (arith, m.1), m.2)
+
+of_contains : (xs : List ℕ) (i k : ℕ) → k < length xs → get_or xs k i ≡ i → is_none_of xs i ≡ false
+of_contains [] i k less at = absurd (omega (arith, less))
+of_contains (x ∷ xs) i zero less at = ap (λ t. not t && is_none_of xs i) (eq-eqb x i at)
+of_contains (x ∷ xs) i (suc k) less at = by (not (x == i)) (of_contains xs i k (omega (arith, less)) at)
+  where
+    by : (t : Bool) → is_none_of xs i ≡ false → (t && is_none_of xs i) ≡ false
+    by true h = h
+    by false h = refl
+
+none_any : (xs : List ℕ) (i : ℕ) → is_none_of xs i ≡ not (list_any (λ j. j == i) xs)
+none_any [] i = refl
+none_any (x ∷ xs) i = by (x == i) (none_any xs i)
+  where
+    by : (t : Bool) → is_none_of xs i ≡ not (list_any (λ j. j == i) xs) → (not t && is_none_of xs i) ≡ not (t || list_any (λ j. j == i) xs)
+    by true h = refl
+    by false h = h
+
+-- each number of a list is among those that a sort and a `dedup` leave
+pub all_there : (xs ys zs : List ℕ) → IsPermutation xs ys → zs ≡ dedup eqb ys → (i : ℕ) → is_none_of xs i ≡ false → is_none_of zs i ≡ false
+all_there xs ys zs order is i there =
+    let sorted : is_none_of ys i ≡ false = none_any ys i ∙ ap not (sym (list_any-IsPermutation (λ j. j == i) xs ys order)) ∙ sym (none_any xs i) ∙ there in
+    let found = Contains-dedup_nat ys i (contains_of ys i sorted) in
+    ap (λ ws. is_none_of ws i) is ∙ of_contains (dedup eqb ys) i found.0 found.1 found.2
+
+-- ---- rising numbers
+
+tail_rises : (x : ℕ) (xs : List ℕ) → IsStrictlyIncreasing (x ∷ xs) → IsStrictlyIncreasing xs
+tail_rises x xs rises k less = let next : suc k + 1 ≡ suc (k + 1) = omega arith in subst (λ n. get_or xs k 0 < get_or (x ∷ xs) n 0) next (rises (suc k) (omega (arith, less)))
+
+above : (x : ℕ) (xs : List ℕ) (y : ℕ) → IsStrictlyIncreasing xs → (0 < length xs → x < get_or xs 0 0) → y ≤ x → is_none_of xs y ≡ true
+above x [] y rises first low = refl
+above x (z ∷ xs) y rises first low =
+    let here : x < z = first (omega arith) in
+    ap (λ t. not t && is_none_of xs y) (ne_eqb z y (λ is. omega (arith, is, here, low))) ∙ above z xs y (tail_rises z xs rises) (λ some. rises 0 (omega (arith, some))) (omega (arith, here, low))
+
+pub rising_distinct : (xs : List ℕ) → IsStrictlyIncreasing xs → are_distinct xs ≡ true
+rising_distinct [] rises = refl
+rising_distinct (x ∷ xs) rises = by (is_none_of xs x) (above x xs x (tail_rises x xs rises) (λ some. rises 0 (omega (arith, some))) (omega arith)) (rising_distinct xs (tail_rises x xs rises))
+  where
+    by : (t : Bool) → t ≡ true → are_distinct xs ≡ true → (t && are_distinct xs) ≡ true
+    by true is h = h
+    by false is h = absurd (cc)

@@ -1,0 +1,72 @@
+-- Seats at shared words.
+use Rattle.std.proofs.Common.{◌≡◌, ℕ, ◌<◌, false, List, [], length, get_or, Some, ap, ◌∙◌, sym, subst}
+use Rattle.std.specs.Prelude.{slice_get}
+use Rattle.std.proofs.lemmas.Option.{slice_get_within, get_or_from_slice_get}
+use Rattle.atomic_table.specs.Seated.{TableId}
+use Rattle.atomic_table.specs.Table.{State, Me, Allows, Splits, Joins, Seen}
+use Rattle.pieces.specs.Distinct.{is_none_of}
+use Rattle.pieces.specs.Effects.{Effect, done, words_after}
+use Rattle.turns.specs.Rules.{steps_in, IsNext, IsMade, index_of, made, next_step}
+use Rattle.turns.specs.Sheets.{SheetContent, IsSheet, IsSeat, replaced}
+use Rattle.turns.specs.Views.{count_in, names_in, first_only, others_of, joined, spent}
+use Rattle.turns.specs.declared.view.Opening.{Opening}
+use Rattle.turns.specs.Tables.{Ruled}
+use Rattle.turns.specs.declared.view.View.{View}
+use Rattle.turns.proofs.Closing.{closes}
+use Rattle.turns.proofs.Replacing.{put_back_words}
+use Rattle.turns.proofs.Moves.{allows, deals, takes_back}
+
+-- the word of the next step is shared
+pub shared : (s : SheetContent) (ws is : List ℕ) → IsSheet s ws is → (id : TableId) (me : Me (Unit {0}) View) → IsSeat s id me → (e : Effect) → IsNext me.0 e → is_none_of is (index_of e) ≡ false
+shared s ws is sheet id me seat e next = ap (λ at. is_none_of at (index_of e)) (sym sheet.at) ∙ sheet.phase.opening.covers me.0.counts e (ap (λ p. next_step p me.0.counts) (sym seat.opening) ∙ next.step)
+
+-- it stands below the number of shared words
+pub below : (s : SheetContent) (ws is : List ℕ) → IsSheet s ws is → (j i : ℕ) → slice_get is j ≡ Some i → j < s.id.words
+below s ws is sheet j i at = subst (λ n. j < n) (sym sheet.many) (slice_get_within is j i at)
+
+-- a seat stays one when it makes a step
+pub stays : (s : SheetContent) (id new : TableId) (me after : Me (Unit {0}) View) (i word : ℕ) → IsSeat s id me → new ≡ id → after.1 ≡ me.1 → IsMade i me.0 word after.0 → IsSeat s new after
+stays s id new me after i word seat same empty made = record {
+  id = same ∙ seat.id;
+  opening = ap (λ (v : View). v.opening) made.view ∙ seat.opening;
+  live = ap (λ (v : View). v.live) made.view ∙ seat.live;
+  empty = empty ∙ seat.empty;
+}
+
+-- the index that stands at a position
+pub placed : (s : SheetContent) (ws is : List ℕ) → IsSheet s ws is → (id : TableId) (me : Me (Unit {0}) View) → IsSeat s id me → (j i : ℕ) → slice_get is j ≡ Some i → get_or me.0.opening.at j 0 ≡ i
+placed s ws is sheet id me seat j i at = ap (λ (o : Opening). get_or o.at j 0) seat.opening ∙ ap (λ js. get_or js j 0) sheet.at ∙ get_or_from_slice_get is j i 0 at
+
+-- a seat may make its next step
+pub may : (s : SheetContent) (ws is : List ℕ) → IsSheet s ws is → (slots seat_id : ℕ) (id : TableId) (me : Me (Unit {0}) View) → IsSeat s id me → (e : Effect) → IsNext me.0 e → (j : ℕ) → slice_get is j ≡ Some (index_of e)
+    → (id ≡ s.id) × (j < s.id.words) × Allows (Ruled s.opening) slots seat_id me j (made e) (λ found after. (after.1 ≡ me.1) × IsMade (get_or me.0.opening.at j 0) me.0 found after.0)
+may s ws is sheet slots seat_id id me seat e next j at =
+    let made_at : get_or me.0.opening.at j 0 ≡ index_of e = placed s ws is sheet id me seat j (index_of e) at in (
+      seat.id,
+      below s ws is sheet j (index_of e) at,
+      subst
+          (λ i. Allows (Ruled s.opening) slots seat_id me j (made e) (λ found after. (after.1 ≡ me.1) × IsMade i me.0 found after.0))
+          (sym made_at)
+          (allows s.opening sheet.phase.opening slots seat_id me.0 me.1 e j seat.opening next (ap (λ js. slice_get js j) sheet.at ∙ at)),
+    )
+
+pub some_words : (s : SheetContent) (ws is : List ℕ) → IsSheet s ws is → 0 < s.id.words
+some_words s ws is sheet = subst (λ n. 0 < n) (sym sheet.many) sheet.some
+
+-- a seat may be dealt
+pub splits : (s : SheetContent) (ws is : List ℕ) → IsSheet s ws is → (seat_id : ℕ) (id : TableId) (me : Me (Unit {0}) View) → IsSeat s id me
+    → (id ≡ s.id) × (0 < s.id.words) × Splits {S = Unit {0}} (Ruled s.opening) seat_id me.0 (others_of me.0) (first_only me.0)
+splits s ws is sheet seat_id id me seat = (seat.id, some_words s ws is sheet, deals s.opening seat_id me.0)
+
+-- a seat may be taken back
+pub joins : (s : SheetContent) (ws is : List ℕ) → IsSheet s ws is → (seat_id other_id : ℕ) (id other : TableId) (me theirs : Me (Unit {0}) View) → IsSeat s id me → IsSeat s other theirs
+    → (id ≡ s.id) × (other ≡ s.id) × (theirs.1 ≡ []) × (0 < s.id.words) × Joins {S = Unit {0}} (Ruled s.opening) seat_id me.0 other_id theirs.0 (joined me.0 theirs.0) spent
+joins s ws is sheet seat_id other_id id other me theirs seat seat_other =
+    (seat.id, seat_other.id, seat_other.empty, some_words s ws is sheet, takes_back s.opening seat_id me.0 other_id theirs.0 seat.live)
+
+-- the words at the end, with the shared words put back
+pub finished : (s : SheetContent) (ws is : List ℕ) → IsSheet s ws is → (end : State (Unit {0}) View) (k : ℕ) (v : View) → Seen (Ruled s.opening) k v end → ((p : ℕ) → p < length s.opening.pieces → 0 < names_in p v.counts)
+    → (shared_words : List ℕ) → end.words ≡ shared_words → replaced ws is shared_words ≡ words_after s.opening.words (done (λ p. count_in p v.counts) (steps_in s.opening))
+finished s ws is sheet end k v seen names shared_words same =
+    ap (λ js. replaced ws js shared_words) (sym sheet.at) ∙ ap (λ us. replaced us s.opening.at shared_words) (sym sheet.words)
+    ∙ put_back_words s.opening sheet.phase.opening (λ p. count_in p v.counts) shared_words (sym same ∙ closes s.opening end.words end.views k v seen.0 seen.1 names)

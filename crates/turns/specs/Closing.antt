@@ -1,0 +1,48 @@
+-- The end of a phase.
+use Rattle.std.specs.Prelude.{◌≡◌, ℕ, ◌<◌, ◌≤◌, ◌==◌, Bool, true, false, not, List, [], ◌∷◌, length, map, slice_index_or, if◌then◌else◌}
+use Rattle.std.specs.Vec.{vec_capacity}
+use Rattle.std.specs.declared.vec.Vec.{Vec}
+use Rattle.std.specs.declared.alloc.Global.{Global}
+use Rattle.pieces.specs.Distinct.{is_none_of}
+use Rattle.pieces.specs.Dones.{DoneContent}
+use Rattle.turns.specs.Posts.{PostContent}
+use Rattle.turns.specs.Sheets.{SheetContent}
+use Rattle.turns.specs.Turns.{steps_to_do}
+use Rattle.turns.specs.Views.{count_in}
+use Rattle.turns.specs.declared.open.Unended.{Unended}
+
+-- room for what the turns hand in
+pub record HasRoom (s : SheetContent) (flags : Vec Bool Global) (dones : Vec DoneContent Global) (unended : Vec Unended Global) : Type 0 where
+  pub flag_each : length flags.items ≡ length s.opening.pieces
+  pub no_done : dones.items ≡ []
+  pub done_each : length s.opening.pieces ≤ vec_capacity dones
+  pub none_unended : unended.items ≡ []
+  pub unended_each : length s.opening.pieces ≤ vec_capacity unended
+
+-- the numbers of the pieces of turns
+abbrev pub numbers_of : List PostContent → List ℕ
+numbers_of ts = map (λ t. t.number) ts
+
+-- the pieces of turns, each with how many of its steps were done
+abbrev pub counts_of : List PostContent → List (ℕ × ℕ)
+counts_of ts = map (λ t. (t.number, t.steps)) ts
+
+-- how many steps turns made of a piece
+abbrev pub steps_made : List PostContent → ℕ → ℕ
+steps_made ts p = count_in p (counts_of ts)
+
+-- what a turn hands in whose piece has steps left
+abbrev pub unended_of : PostContent → List Unended
+unended_of t = if t.steps == steps_to_do t then [] else record { piece = t.number; steps = t.steps } ∷ []
+
+-- each piece has a turn among these
+abbrev pub AreAll : SheetContent → List PostContent → Type 0
+AreAll s ts = (p : ℕ) → p < length s.opening.pieces → is_none_of (numbers_of ts) p ≡ false
+
+-- a piece has none
+abbrev pub OneIsWanting : SheetContent → List PostContent → Type 0
+OneIsWanting s ts = (p : ℕ) × (p < length s.opening.pieces) × (is_none_of (numbers_of ts) p ≡ true)
+
+-- the pieces of turns are flagged, and no others
+abbrev pub AreMarked : List Bool → List PostContent → Type 0
+AreMarked flags ts = (p : ℕ) → p < length flags → (d : Bool) → slice_index_or flags p d ≡ not (is_none_of (numbers_of ts) p)

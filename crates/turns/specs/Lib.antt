@@ -1,0 +1,10 @@
+pub mod Writers
+pub mod Views
+pub mod Rules
+pub mod Tables
+pub mod Sheets
+pub mod Posts
+pub mod Works
+pub mod Turns
+pub mod Closing
+pub mod Laws

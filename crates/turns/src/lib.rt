@@ -1,0 +1,24 @@
+//! Shared words that turns change step by step, in any order.
+#![tactic(auto)]
+
+mod laws;
+mod link_work;
+mod move_work;
+mod open;
+mod post;
+mod rule;
+mod sharing;
+mod sheet;
+mod strip_work;
+#[cfg(test)]
+mod tests;
+mod touch_work;
+mod turn;
+mod view;
+mod work;
+
+pub use laws::the_rule_is_kept;
+pub use open::{NotAll, Open, Unended};
+pub use rule::{Fixed, Rule};
+pub use turn::{Progress, Turn};
+pub use view::{Opening, View};

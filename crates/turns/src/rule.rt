@@ -1,0 +1,80 @@
+//! The rule of a table of shared words, and what its steps tell.
+use crate::view::View;
+use atomic_table::{Join, Play, Split, TableRule};
+use pieces::Piece;
+use std::snapshot::Snapshot;
+
+/// What the table is told once, when it is made: words, pieces and shared indexes, as contracts see them. It has no bytes.
+#[derive(Drop)]
+pub struct Fixed {
+    /// The words at opening.
+    pub words: Snapshot<Vec<u64>>,
+    /// The pieces.
+    pub pieces: Snapshot<Vec<Piece>>,
+    /// The indexes of the words that are shared.
+    pub at: Snapshot<Vec<usize>>,
+}
+
+/// The shared words are those at opening with the steps that all seats together count.
+pub struct Rule;
+
+impl TableRule<(), View, Fixed> for Rule {
+    ghost use Rattle.turns.specs.Tables.{opened, Ruled};
+    ghost use Rattle.turns.specs.Views.{first_view};
+
+    ghost holds = { λ key. Ruled (opened key) };
+
+    ghost first = { λ key. first_view (opened key) };
+}
+
+/// A step of a piece.
+pub(crate) struct Made;
+
+impl Play<(), View> for Made {
+    ghost use Rattle.std.specs.Prelude.{◌≡◌, slice_index};
+    ghost use Rattle.turns.specs.Rules.{IsMade};
+
+    ghost then = { λ step me found after. (after.1 ≡ me.1) × IsMade (slice_index me.0.opening.at step.word) me.0 found after.0 };
+}
+
+/// A seat has no piece twice.
+pub(crate) struct Once;
+
+impl Play<(), View> for Once {
+    ghost use Rattle.std.specs.Prelude.{◌≡◌};
+    ghost use Rattle.turns.specs.Views.{HasOnce};
+
+    ghost then = { λ step me found after. (after ≡ me) × HasOnce me.0 };
+}
+
+/// A seat comes that has no piece.
+pub(crate) struct Entered;
+
+impl Play<(), View> for Entered {
+    ghost use Rattle.std.specs.Prelude.{◌≡◌};
+    ghost use Rattle.turns.specs.Views.{entered};
+
+    ghost then = { λ step me found after. after.0 ≡ entered me.0 };
+}
+
+/// A seat is dealt for the first piece.
+pub(crate) struct Dealt;
+
+impl Split<View> for Dealt {
+    ghost use Rattle.turns.specs.Views.{others_of, first_only};
+
+    ghost left = { others_of };
+
+    ghost right = { first_only };
+}
+
+/// A seat takes back what another has.
+pub(crate) struct TakenBack;
+
+impl Join<View> for TakenBack {
+    ghost use Rattle.turns.specs.Views.{joined, spent};
+
+    ghost both = { joined };
+
+    ghost spent = { spent };
+}

@@ -1,0 +1,231 @@
+//! The shared words of a phase. Nothing but this file calls `atomic_table`.
+
+ghost use Rattle.std.specs.Prelude.{◌≡◌, ◌<◌, false, Some, length, map, slice_get, slice_index, IfOk};
+ghost use Rattle.std.specs.List.{All};
+ghost use Rattle.std.specs.Slots.{slots_items, slots_len, IsFull};
+ghost use Rattle.pieces.specs.Distinct.{is_none_of};
+ghost use Rattle.turns.specs.Sheets.{replaced};
+
+use crate::rule::{Dealt, Entered, Fixed, Made, Once, Rule, TakenBack};
+use crate::view::View;
+use atomic_table::{Closed, Table};
+use pieces::Piece;
+use std::alloc::{AllocError, Global};
+use std::marker::Model;
+use std::snapshot::Snapshot;
+
+/// A seat at shared words.
+pub(crate) type Seat = atomic_table::Seat<(), View>;
+
+/// All words of a phase, and those of them that are shared.
+#[derive(Drop)]
+pub(crate) struct Sheet {
+    /// The shared words.
+    table: Table<(), View, Fixed, Rule, Global>,
+    /// All words, as they were at opening.
+    words: Vec<u64>,
+    /// The index of each shared word.
+    at: Vec<usize>,
+}
+
+impl Model for Sheet {
+    ghost use Rattle.turns.specs.Sheets.{SheetContent};
+
+    ghost Value = { SheetContent };
+
+    ghost use Rattle.turns.specs.Tables.{opened};
+    ghost use Rattle.turns.specs.Sheets.{IsSheet};
+
+    ghost view = { λ s. record { id = s.table.shared.table_id; opening = opened s.table.shared.key } };
+
+    ghost invariant = { λ s. IsSheet (record { id = s.table.shared.table_id; opening = opened s.table.shared.key }) s.words.items s.at.items };
+}
+
+impl Sheet {
+    ghost use Rattle.std.specs.Prelude.{◌≡◌, ℕ, ◌<◌, ◌++◌, [], length, slice_index, IfOk};
+    ghost use Rattle.std.specs.List.{All};
+    ghost use Rattle.pieces.specs.Effects.{keeps, adds, writes, done, words_after};
+    ghost use Rattle.turns.specs.Views.{count_in, names_in, none_done, first_of, behind_first, HasOnce};
+    ghost use Rattle.turns.specs.Rules.{IsNext, IsMade, steps_in};
+    ghost use Rattle.turns.specs.Sheets.{IsPhase, IsSeat};
+
+    /// Shares the words at some indexes. The first seat has all pieces, and no step is done.
+    pub(crate) fn lay(
+        alloc: Global,
+        words: Vec<u64>,
+        pieces: Snapshot<Vec<Piece>>,
+        at: Vec<usize>,
+    ) -> Result<(Sheet, Seat), AllocError>
+        requires phase { IsPhase (record { words = words.items; pieces = pieces.value.items; at = at.items }) }
+        requires some { 0 < length at.items }
+        requires within { All (λ i. i < length words.items) at.items }
+        ensures opening { IfOk result (λ r. r.0.opening ≡ record { words = words.items; pieces = pieces.value.items; at = at.items }) }
+        ensures seat { IfOk result (λ r. IsSeat r.0 r.1.table_id r.1.me × (r.1.me.0.counts ≡ none_done (length pieces.value.items))) }
+    {
+        let fixed = Fixed {
+            words: Snapshot::of(&words),
+            pieces,
+            at: Snapshot::of(&at),
+        };
+        let shared = gathered(alloc, &words, &at)?;
+        let (table, seat) = Table::of_words(alloc, &shared, &fixed)?;
+        Ok((Sheet { table, words, at }, seat))
+    }
+
+    /// Deals a seat for the first piece of another.
+    pub(crate) fn deal(&self, seat: &mut Seat) -> Seat
+        requires { IsSeat self.now seat.old.table_id seat.old.me }
+        ensures others { IsSeat self.now seat.new.table_id seat.new.me × (seat.new.me.0.counts ≡ behind_first seat.old.me.0.counts) }
+        ensures first { IsSeat self.now result.table_id result.me × (result.me.0.counts ≡ first_of seat.old.me.0.counts) }
+    {
+        self.table.shared.split_seat::<Dealt>(seat)
+    }
+
+    /// A seat that has no piece.
+    pub(crate) fn enter(&self) -> Seat
+        ensures { IsSeat self.now result.table_id result.me × (result.me.0.counts ≡ []) }
+    {
+        let (_, seat) = self.table.shared.load_new_seat::<Entered>(0);
+        seat
+    }
+
+    /// Takes another seat back, with its pieces.
+    pub(crate) fn collect(&self, seat: &mut Seat, other: Seat)
+        requires seat { IsSeat self.now seat.old.table_id seat.old.me }
+        requires other { IsSeat self.now other.table_id other.me }
+        ensures { IsSeat self.now seat.new.table_id seat.new.me × (seat.new.me.0.counts ≡ seat.old.me.0.counts ++ other.me.0.counts) }
+    {
+        self.table.shared.join_seat::<TakenBack>(seat, other);
+    }
+
+    /// No two seats have one piece, so none has one twice, however many it took back. A load of a word tells it.
+    pub(crate) fn has_once(&self, seat: &mut Seat)
+        requires { IsSeat self.now seat.old.table_id seat.old.me }
+        ensures same { (seat.new.table_id ≡ seat.old.table_id) × (seat.new.me ≡ seat.old.me) }
+        ensures once { HasOnce seat.new.me.0 }
+    {
+        self.table.shared.load::<Once>(seat, 0);
+    }
+
+    /// Ends the sharing: all words, those that were shared as they are now.
+    pub(crate) fn finish(self, seat: Seat) -> Vec<u64>
+        requires seat { IsSeat self seat.table_id seat.me }
+        requires all { (p : ℕ) → p < length self.opening.pieces → 0 < names_in p seat.me.0.counts }
+        ensures { result.items ≡ words_after self.opening.words (done (λ p. count_in p seat.me.0.counts) (steps_in self.opening)) }
+    {
+        let Sheet {
+            table,
+            mut words,
+            at,
+        } = self;
+        let closed = table.close_with(seat);
+        put_back(&mut words, &at, &closed);
+        closed.free();
+        words
+    }
+
+    /// Finds the word at an index as it is, which is the next step of a seat's piece.
+    pub(crate) fn look(&self, seat: &mut Seat, index: usize, hint: usize) -> u64
+        requires seat { IsSeat self.now seat.old.table_id seat.old.me }
+        requires next { IsNext seat.old.me.0 (keeps index) }
+        ensures seat { IsSeat self.now seat.new.table_id seat.new.me }
+        ensures made { IsMade index seat.old.me.0 result seat.new.me.0 }
+    {
+        let at = position(&self.at, index, hint);
+        self.table.shared.load::<Made>(seat, at)
+    }
+
+    /// Adds bits to the word at an index, which is the next step of a seat's piece. Returns the word as it was.
+    pub(crate) fn add(&self, seat: &mut Seat, index: usize, bits: u64, hint: usize) -> u64
+        requires seat { IsSeat self.now seat.old.table_id seat.old.me }
+        requires next { IsNext seat.old.me.0 (adds index bits) }
+        ensures seat { IsSeat self.now seat.new.table_id seat.new.me }
+        ensures made { IsMade index seat.old.me.0 result seat.new.me.0 }
+    {
+        let at = position(&self.at, index, hint);
+        self.table.shared.fetch_or::<Made>(seat, at, bits)
+    }
+
+    /// Writes the word at an index, which is the next step of a seat's piece. Returns the word as it was.
+    pub(crate) fn write(&self, seat: &mut Seat, index: usize, word: u64, hint: usize) -> u64
+        requires seat { IsSeat self.now seat.old.table_id seat.old.me }
+        requires next { IsNext seat.old.me.0 (writes index word) }
+        ensures seat { IsSeat self.now seat.new.table_id seat.new.me }
+        ensures made { IsMade index seat.old.me.0 result seat.new.me.0 }
+    {
+        let at = position(&self.at, index, hint);
+        self.table.shared.swap::<Made>(seat, at, word)
+    }
+
+    /// The pieces can be worked on these words. The function does nothing: its contract is what it tells.
+    pub(crate) fn can_be_worked(&self)
+        ensures { IsPhase self.now.opening }
+    {
+        let _ = self.words.len();
+    }
+
+    /// The words at opening, for contracts alone.
+    pub(crate) fn opening(&self) -> Snapshot<Vec<u64>>
+        ensures { result.value.items ≡ self.now.opening.words }
+    {
+        Snapshot::of(&self.words)
+    }
+
+    /// The word at an index as it was at opening.
+    pub(crate) fn word(&self, index: usize) -> u64
+        requires { index < length self.now.opening.words }
+        ensures { result ≡ slice_index self.now.opening.words index }
+    {
+        self.words[index]
+    }
+}
+
+/// The words at some indexes.
+fn gathered(alloc: Global, words: &[u64], at: &[usize]) -> Result<Vec<u64>, AllocError>
+    requires { All (λ i. i < length words.now) at.now }
+    ensures { IfOk result (λ r. r.items ≡ map (slice_index words.now) at.now) }
+{
+    let mut found = Vec::with_capacity(alloc, at.len())?;
+    for index in at {
+        found.push(words[*index])?;
+    }
+    Ok(found)
+}
+
+/// Puts back the words that were shared, each at its index.
+fn put_back(words: &mut [u64], at: &[usize], shared: &Closed<(), Global>)
+    requires within { All (λ i. i < length words.old) at.now }
+    requires full { IsFull shared.now.words }
+    requires each { slots_len shared.now.words ≡ length at.now }
+    ensures { words.new ≡ replaced words.old at.now (slots_items shared.now.words) }
+{
+    for k in 0..at.len() {
+        words[at[k]] = shared.word(k);
+    }
+}
+
+/// Where an index stands among these: where the hint says, if it stands there; else wherever it is found.
+fn position(at: &[usize], index: usize, hint: usize) -> usize
+    requires { is_none_of at.now index ≡ false }
+    ensures { slice_get at.now result ≡ Some index }
+{
+    if hint < at.len() && at[hint] == index {
+        return hint;
+    }
+    match at.binary_search(&index) {
+        Ok(found) if at[found] == index => found,
+        _ => first(at, index),
+    }
+}
+
+/// Where an index stands first among these.
+fn first(at: &[usize], index: usize) -> usize
+    requires { is_none_of at.now index ≡ false }
+    ensures { slice_get at.now result ≡ Some index }
+{
+    let mut i = 0;
+    while at[i] != index {
+        i += 1;
+    }
+    i
+}

@@ -1,0 +1,129 @@
+//! A strip at work.
+
+use crate::post::Post;
+use crate::sheet::Sheet;
+use fpage::Rights;
+use maptree::Slice;
+use pieces::steps::{bits, narrowed, remains, status};
+use pieces::{Masks, Strip};
+use std::snapshot::Snapshot;
+
+/// A strip, some of whose steps were done. The nodes that are kept stand in front, in their order.
+#[derive(Drop)]
+pub(crate) struct StripWork {
+    slice: Slice,
+    masks: Masks,
+    indexes: Vec<usize>,
+    fold: Option<usize>,
+    /// How many nodes are kept so far.
+    kept: usize,
+    /// The union of the status that was found.
+    status: Rights,
+    /// Where the words of its nodes are shared: a hint.
+    hint: usize,
+    /// The strip.
+    of: Snapshot<Strip>,
+}
+
+impl StripWork {
+    ghost use Rattle.std.specs.Prelude.{◌≡◌, ℕ, List, ◌+◌, ◌<◌, ◌≤◌, Some, length, slice_get};
+    ghost use Rattle.pieces.specs.Steps.{steps, status_in};
+    ghost use Rattle.pieces.specs.Values.{kept_nodes};
+    ghost use Rattle.pieces.specs.declared.piece.Piece.TheVariants as piece;
+    ghost use Rattle.turns.specs.Works.{IsStripWork};
+
+    /// A strip of which no step was done.
+    pub(crate) fn new(strip: Strip, hint: usize) -> StripWork
+        ensures of { result.of.value ≡ strip }
+        ensures work { (w : List ℕ) → IsStripWork w result 0 }
+    {
+        let of = Snapshot::of(&strip);
+        let _ = strip.len();
+        let (slice, masks, indexes, fold) = strip.into_parts();
+        StripWork {
+            slice,
+            masks,
+            indexes,
+            fold,
+            kept: 0,
+            status: Rights::none(),
+            hint,
+            of,
+        }
+    }
+
+    /// How many steps it has.
+    pub(crate) fn len(&self) -> usize
+        requires { (w : List ℕ) × (k : ℕ) × IsStripWork w self.now k }
+        ensures { (w : List ℕ) → result ≡ length (steps w (piece.Strip self.now.of.value)) }
+    {
+        let folds = if self.fold.is_some() { 1 } else { 0 };
+        self.indexes.len() + folds
+    }
+
+    /// What it found out, when all its steps were done: the nodes that are kept, and their status.
+    pub(crate) fn into_found(self) -> (Slice, Rights)
+        ensures kept { (w : List ℕ) (k : ℕ) → IsStripWork w self k → length self.of.value.nodes ≤ k → result.0.nodes.items ≡ kept_nodes w self.of.value }
+        ensures status { (w : List ℕ) (k : ℕ) → IsStripWork w self k → length self.of.value.nodes ≤ k → result.1 ≡ status_in w self.of.value.indexes }
+    {
+        let StripWork {
+            mut slice,
+            masks: _,
+            indexes: _,
+            fold: _,
+            kept,
+            status,
+            hint: _,
+            of: _,
+        } = self;
+        slice.nodes.truncate(kept);
+        (slice, status)
+    }
+
+    /// The next step: a word loses rights; behind the last, the fold word gains the status that was found.
+    pub(crate) fn step(&mut self, post: &mut Post, sheet: &Sheet)
+        requires of { post.old.sheet ≡ sheet.now }
+        requires piece { slice_get sheet.now.opening.pieces post.old.number ≡ Some (piece.Strip self.old.of.value) }
+        requires work { IsStripWork sheet.now.opening.words self.old post.old.steps }
+        requires left { post.old.steps < length (steps sheet.now.opening.words (piece.Strip self.old.of.value)) }
+        ensures post { post.new ≡ record post.old { steps = post.old.steps + 1 } }
+        ensures of { self.new.of.value ≡ self.old.of.value }
+        ensures work { IsStripWork sheet.now.opening.words self.new (post.old.steps + 1) }
+    {
+        let k = post.steps();
+        if k < self.indexes.len() {
+            self.narrow(post, sheet, k);
+        } else if let Some(index) = self.fold {
+            let found = bits(self.status);
+            post.add(sheet, index, found, self.hint);
+        }
+    }
+
+    /// The step of the node at a position.
+    fn narrow(&mut self, post: &mut Post, sheet: &Sheet, k: usize)
+        requires of { post.old.sheet ≡ sheet.now }
+        requires piece { slice_get sheet.now.opening.pieces post.old.number ≡ Some (piece.Strip self.old.of.value) }
+        requires work { IsStripWork sheet.now.opening.words self.old post.old.steps }
+        requires next { post.old.steps ≡ k }
+        requires within { k < length self.old.of.value.nodes }
+        ensures post { post.new ≡ record post.old { steps = post.old.steps + 1 } }
+        ensures of { self.new.of.value ≡ self.old.of.value }
+        ensures work { IsStripWork sheet.now.opening.words self.new (post.old.steps + 1) }
+    {
+        sheet.can_be_worked();
+        let index = self.indexes[k];
+        let mask = self.masks.get(k);
+        let word = sheet.word(index);
+        let found = post.write(
+            sheet,
+            index,
+            narrowed(word, mask),
+            self.hint.wrapping_add(k),
+        );
+        self.status = self.status.join(status(found));
+        if remains(found, mask) {
+            self.slice.nodes[self.kept] = self.slice.nodes[k];
+            self.kept += 1;
+        }
+    }
+}

@@ -1,0 +1,129 @@
+//! A turn works one piece, step by step.
+
+use crate::open::Open;
+use crate::post::Post;
+use crate::sheet::{Seat, Sheet};
+use crate::work::Work;
+use pieces::{Done, Piece};
+use std::alloc::{AllocError, Global};
+use std::marker::Model;
+use std::snapshot::Snapshot;
+
+/// Whether a turn has steps left.
+#[derive(Clone, Copy, Debug, PartialEq, Eq)]
+pub enum Progress {
+    /// It has.
+    More,
+    /// It has none.
+    Ended,
+}
+
+/// Works one piece of a phase, one atomic operation a step. It moves between threads, and steps beside the other turns of its
+/// phase. It cannot be cloned.
+#[derive(Drop)]
+pub struct Turn {
+    post: Post,
+    work: Work,
+    of: Snapshot<Piece>,
+}
+
+impl Model for Turn {
+    ghost use Rattle.turns.specs.Posts.{PostContent};
+
+    ghost Value = { PostContent };
+
+    ghost use Rattle.turns.specs.Turns.{IsTurn};
+
+    ghost view = { λ t. t.post };
+
+    ghost invariant = { λ t. IsTurn t.post t.work t.of.value };
+}
+
+impl Turn {
+    ghost use Rattle.std.specs.Prelude.{◌≡◌, ◌+◌, ◌<◌, ◌==◌, [], ◌∷◌, Some, length, slice_get, IfOk};
+    ghost use Rattle.std.specs.Option.{option_to_list};
+    ghost use Rattle.turns.specs.Sheets.{IsSeat};
+    ghost use Rattle.turns.specs.Turns.{steps_to_do, progress_of, done_of};
+
+    /// The turn of a piece of which no step was done.
+    pub(crate) fn new(
+        alloc: Global,
+        sheet: &Sheet,
+        seat: Seat,
+        number: usize,
+        piece: Piece,
+        hint: usize,
+    ) -> Result<Turn, AllocError>
+        requires seat { IsSeat sheet.now seat.table_id seat.me }
+        requires first { seat.me.0.counts ≡ (number, 0) ∷ [] }
+        requires piece { slice_get sheet.now.opening.pieces number ≡ Some piece }
+        ensures { IfOk result (λ t. t ≡ record { sheet = sheet.now; number = number; steps = 0 }) }
+    {
+        let of = Snapshot::of(&piece);
+        let work = Work::new(alloc, piece, hint)?;
+        let post = Post::new(sheet, seat, number);
+        Ok(Turn { post, work, of })
+    }
+
+    /// Makes the next step of its piece: one atomic operation on one shared word, whatever the other turns do meanwhile. Where it
+    /// has ended, nothing is done.
+    ///
+    /// It is a turn of this phase. It takes no memory, and waits for nobody.
+    pub fn step(&mut self, open: &Open) -> Progress
+        requires of { self.old.sheet ≡ open.now }
+        ensures same { (self.new.sheet ≡ self.old.sheet) × (self.new.number ≡ self.old.number) }
+        ensures made { self.old.steps < steps_to_do self.old → self.new ≡ record self.old { steps = self.old.steps + 1 } }
+        ensures still { self.old.steps ≡ steps_to_do self.old → self.new ≡ self.old }
+        ensures progress { result ≡ progress_of self.new }
+    {
+        if !self.has_ended() {
+            self.work.step(&mut self.post, open.sheet());
+        }
+        if self.has_ended() {
+            Progress::Ended
+        } else {
+            Progress::More
+        }
+    }
+
+    /// Gives up its seat, and what its piece found out, if all steps were done.
+    pub(crate) fn end(self, alloc: Global, sheet: &Sheet) -> (Seat, Option<Done>)
+        requires of { self.sheet ≡ sheet.now }
+        ensures seat { IsSeat sheet.now result.0.table_id result.0.me × (result.0.me.0.counts ≡ (self.number, self.steps) ∷ []) }
+        ensures below { self.number < length sheet.now.opening.pieces }
+        ensures done { option_to_list result.1 ≡ done_of self }
+    {
+        let ended = self.has_ended();
+        let number = self.piece();
+        let Turn { post, work, of } = self;
+        let seat = post.into_seat();
+        if !ended {
+            return (seat, None);
+        }
+        let (kept, status, answers) = work.into_found(alloc);
+        let done = Done::new(number, kept, status, answers, of, sheet.opening());
+        (seat, Some(done))
+    }
+
+    /// Whether all steps of its piece were done.
+    fn has_ended(&self) -> bool
+        ensures { result ≡ (self.now.steps == steps_to_do self.now) }
+    {
+        self.work.has_ended(self.post.steps())
+    }
+
+    /// The number of its piece.
+    pub fn piece(&self) -> usize
+        ensures number { result ≡ self.now.number }
+        ensures below { self.now.number < length self.now.sheet.opening.pieces }
+    {
+        self.post.number()
+    }
+
+    /// How many steps of its piece were done.
+    pub fn steps(&self) -> usize
+        ensures { result ≡ self.now.steps }
+    {
+        self.post.steps()
+    }
+}
