@@ -16,3 +16,4 @@ pub mod Dealing
 pub mod Pigeons
 pub mod Marks
 pub mod Ending
+pub mod Crosses

@@ -12,6 +12,8 @@ mod sheet;
 mod strip_work;
 #[cfg(test)]
 mod tests;
+#[cfg(test)]
+mod threads;
 mod touch_work;
 mod turn;
 mod view;

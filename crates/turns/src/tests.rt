@@ -34,7 +34,7 @@ const X: Rights = Rights {
 };
 
 /// Two strips of one node each, with a common fold word.
-fn two_strips(alloc: Global) -> Result<(Vec<u64>, Vec<Piece>), NoMemory>
+pub(crate) fn two_strips(alloc: Global) -> Result<(Vec<u64>, Vec<Piece>), NoMemory>
     ensures { IfOk result (λ r. CanBeWorked r.0.items r.1.items) }
 {
     let words = Vec::from_slice(alloc, &[0x1_0000_0507, 0x1_0000_0527, 0x1_0000_0537])?;
@@ -260,7 +260,7 @@ fn no_pieces(alloc: Global) -> Result<(Vec<u64>, Vec<Piece>), NoMemory>
 }
 
 /// Turns without the last one, and that one.
-fn without_last(open: &Open, mut turns: Vec<Turn>) -> (Vec<Turn>, Option<Turn>)
+pub(crate) fn without_last(open: &Open, mut turns: Vec<Turn>) -> (Vec<Turn>, Option<Turn>)
     requires { All (λ t. t.sheet ≡ open.now) turns.items }
     ensures others { All (λ t. t.sheet ≡ open.now) result.0.items }
     ensures last { IfSome result.1 (λ t. t.sheet ≡ open.now) }
@@ -271,7 +271,11 @@ fn without_last(open: &Open, mut turns: Vec<Turn>) -> (Vec<Turn>, Option<Turn>)
 }
 
 /// These turns, and the last one.
-fn with_last(open: &Open, mut turns: Vec<Turn>, last: Option<Turn>) -> Result<Vec<Turn>, AllocError>
+pub(crate) fn with_last(
+    open: &Open,
+    mut turns: Vec<Turn>,
+    last: Option<Turn>,
+) -> Result<Vec<Turn>, AllocError>
     requires others { All (λ t. t.sheet ≡ open.now) turns.items }
     requires last { IfSome last (λ t. t.sheet ≡ open.now) }
     ensures { IfOk result (λ after. All (λ t. t.sheet ≡ open.now) after.items) }

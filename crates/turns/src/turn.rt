@@ -40,9 +40,10 @@ impl Model for Turn {
 }
 
 impl Turn {
-    ghost use Rattle.std.specs.Prelude.{◌≡◌, ◌+◌, ◌<◌, ◌==◌, [], ◌∷◌, Some, length, slice_get, IfOk};
+    ghost use Rattle.std.specs.Prelude.{◌≡◌, ◌+◌, ◌<◌, ◌≤◌, ◌==◌, [], ◌∷◌, Some, length, slice_get, IfOk};
     ghost use Rattle.std.specs.Option.{option_to_list};
     ghost use Rattle.turns.specs.Sheets.{IsSeat};
+    ghost use Rattle.turns.specs.declared.turn.Progress.TheVariants.{More};
     ghost use Rattle.turns.specs.Turns.{steps_to_do, progress_of, done_of};
 
     /// The turn of a piece of which no step was done.
@@ -73,8 +74,9 @@ impl Turn {
         requires of { self.old.sheet ≡ open.now }
         ensures same { (self.new.sheet ≡ self.old.sheet) × (self.new.number ≡ self.old.number) }
         ensures made { self.old.steps < steps_to_do self.old → self.new ≡ record self.old { steps = self.old.steps + 1 } }
-        ensures still { self.old.steps ≡ steps_to_do self.old → self.new ≡ self.old }
+        ensures still { steps_to_do self.old ≤ self.old.steps → self.new ≡ self.old }
         ensures progress { result ≡ progress_of self.new }
+        ensures more { result ≡ More → self.new.steps < steps_to_do self.new }
     {
         if !self.has_ended() {
             self.work.step(&mut self.post, open.sheet());
@@ -84,6 +86,17 @@ impl Turn {
         } else {
             Progress::More
         }
+    }
+
+    /// Makes all steps that its piece has left.
+    ///
+    /// It is a turn of this phase. It takes no memory, and waits for nobody.
+    pub fn step_to_end(&mut self, open: &Open)
+        requires of { self.old.sheet ≡ open.now }
+        ensures same { (self.new.sheet ≡ self.old.sheet) × (self.new.number ≡ self.old.number) }
+        ensures ended { self.new.steps ≡ steps_to_do self.new }
+    {
+        while self.step(open) == Progress::More {}
     }
 
     /// Gives up its seat, and what its piece found out, if all steps were done.
