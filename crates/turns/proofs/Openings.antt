@@ -1,14 +1,14 @@
 -- The pieces of a phase that can be worked can be worked step by step.
-use Rattle.std.proofs.Common.{◌≡◌, ℕ, zero, suc, ◌+◌, ◌<◌, ◌≤◌, Bool, true, false, ◌&&◌, not, List, [], ◌∷◌, ◌++◌, length, map, Option, Some, None, refl, ap, ◌∙◌, sym, subst, arith, zero-add, nat_lt, if◌then◌else◌}
+use Rattle.std.proofs.Common.{◌≡◌, ℕ, zero, suc, ◌+◌, ◌<◌, ◌≤◌, Bool, true, false, ◌&&◌, ◌||◌, not, ◌⊎◌, inl, inr, List, [], ◌∷◌, ◌++◌, length, map, Option, Some, None, refl, ap, ◌∙◌, sym, subst, arith, zero-add, nat_lt, if◌then◌else◌}
 use Rattle.std.specs.Prelude.{◌==◌, slice_get}
-use Rattle.std.specs.List.{flat_map, list_all, zip, All}
+use Rattle.std.specs.List.{flat_map, list_all, list_any, zip, All}
 use Rattle.std.specs.Option.{option_map, option_to_list}
-use Rattle.std.proofs.lemmas.Bool.{eqb-true, eq-eqb, ne_eqb, true≢false}
+use Rattle.std.proofs.lemmas.Bool.{eqb-true, lt-ltb, eq-eqb, ne_eqb, true≢false}
 use Rattle.fpage.specs.declared.rights.Rights.{Rights}
 use Rattle.pieces.specs.Contents.{puts_of, ends_of}
 use Rattle.pieces.specs.Distinct.{is_none_of, are_distinct}
 use Rattle.pieces.specs.Effects.{Effect, keeps, adds, writes, writes_at, adds_at}
-use Rattle.pieces.specs.Phases.{IsPiece, CanBeWorked, named}
+use Rattle.pieces.specs.Phases.{IsPiece, CanBeWorked, named, changes, folds, is_touch}
 use Rattle.pieces.specs.Steps.{Step, narrow, effect, effects, fold_of, status_in, store_step, access_steps, may_access, see, mark, put, without_status, entry_in, status_bits}
 use Rattle.pieces.specs.declared.link.Store.{Store}
 use Rattle.pieces.specs.declared.moving.Pair.{Pair}
@@ -20,7 +20,7 @@ use Rattle.pieces.proofs.NamedWords.{indexes_within}
 use Rattle.pieces.proofs.Writers.{all_apart}
 use Rattle.turns.specs.Writers.{writers, adders, all_writers, all_adders, AreApart}
 use Rattle.turns.specs.Rules.{index_of}
-use Rattle.turns.specs.Sheets.{IsPhase, shared}
+use Rattle.turns.specs.Sheets.{IsPhase, common}
 use Rattle.turns.proofs.Insertions.{writers_append, adders_append}
 use Rattle.turns.proofs.Raising.{IsFirst, first_step}
 
@@ -157,25 +157,39 @@ touch_about w (t ∷ xs) k e at = by (may_access w t) k at (λ j. touch_about w 
     by false zero at later = here (effect w (see t.index t.access)) (cc) refl
     by false (suc k) at later = among_there (index_of e) t.index (map (λ u. u.index) xs) (later k at)
 
-about : (w : List ℕ) (p : Piece) (k : ℕ) (e : Effect) → slice_get (effects w p) k ≡ Some e → is_none_of (shared p) (index_of e) ≡ false
-about w (piece.Strip s) k e at = narrow_about w s.indexes s.masks (fold_of s.fold (status_in w s.indexes)) (option_to_list s.fold) k e (λ j. fold_about w s.fold (status_in w s.indexes) e j) at
-about w (piece.Link xs) k e at = link_about w xs k e at
-about w (piece.Move xs) k e at = move_about w xs k e at
-about w (piece.Touch xs) k e at = touch_about w xs k e at
+-- a word that one piece alone has a step about, or one that several may have
+AmongAll : (Piece → List ℕ) → List Piece → ℕ → Type 0
+AmongAll f ps i = is_none_of (flat_map f ps) i ≡ false
 
-among_all : (i n : ℕ) (ps : List Piece) (p : Piece) → slice_get ps n ≡ Some p → is_none_of (shared p) i ≡ false → is_none_of (flat_map shared ps) i ≡ false
-among_all i n [] p at there = absurd (cc)
-among_all i zero (q ∷ ps) p at there = let is : q ≡ p = cc in among_first i (shared q) (flat_map shared ps) (ap (λ r. is_none_of (shared r) i) is ∙ there)
-among_all i (suc n) (q ∷ ps) p at there = among_second i (shared q) (flat_map shared ps) (among_all i n ps p at there)
+among_parts : (i : ℕ) (js ks : List ℕ) → is_none_of (js ++ ks) i ≡ false → (is_none_of js i ≡ false) ⊎ (is_none_of ks i ≡ false)
+among_parts i [] ks there = inr there
+among_parts i (j ∷ js) ks there = by (not (j == i)) there (among_parts i js ks)
+  where
+    by : (t : Bool) → (t && is_none_of (js ++ ks) i) ≡ false → (is_none_of (js ++ ks) i ≡ false → (is_none_of js i ≡ false) ⊎ (is_none_of ks i ≡ false)) → ((t && is_none_of js i) ≡ false) ⊎ (is_none_of ks i ≡ false)
+    by true h later = later h
+    by false h later = inl refl
+
+about : (w : List ℕ) (p : Piece) (k : ℕ) (e : Effect) → slice_get (effects w p) k ≡ Some e → (is_none_of (changes p) (index_of e) ≡ false) ⊎ (is_none_of (common p) (index_of e) ≡ false)
+about w (piece.Strip s) k e at =
+    among_parts (index_of e) s.indexes (option_to_list s.fold)
+    (narrow_about w s.indexes s.masks (fold_of s.fold (status_in w s.indexes)) (option_to_list s.fold) k e (λ j. fold_about w s.fold (status_in w s.indexes) e j) at)
+about w (piece.Link xs) k e at = inl (link_about w xs k e at)
+about w (piece.Move xs) k e at = inl (move_about w xs k e at)
+about w (piece.Touch xs) k e at = inr (touch_about w xs k e at)
+
+among_all : (f : Piece → List ℕ) (i n : ℕ) (ps : List Piece) (p : Piece) → slice_get ps n ≡ Some p → is_none_of (f p) i ≡ false → is_none_of (flat_map f ps) i ≡ false
+among_all f i n [] p at there = absurd (cc)
+among_all f i zero (q ∷ ps) p at there = let is : q ≡ p = cc in among_first i (f q) (flat_map f ps) (ap (λ r. is_none_of (f r) i) is ∙ there)
+among_all f i (suc n) (q ∷ ps) p at there = among_second i (f q) (flat_map f ps) (among_all f i n ps p at there)
 
 piece_there : (w : List ℕ) (n : ℕ) (ps : List Piece) (es : List Effect) → slice_get (map (effects w) ps) n ≡ Some es → (p : Piece) × (slice_get ps n ≡ Some p) × (effects w p ≡ es)
 piece_there w n [] es at = absurd (cc)
 piece_there w zero (p ∷ ps) es at = (p, refl, cc)
 piece_there w (suc n) (p ∷ ps) es at = piece_there w n ps es at
 
-pub phase : (w : List ℕ) (ps : List Piece) (at : List ℕ) → All IsPiece ps → CanBeWorked w ps → are_distinct at ≡ true → ((i : ℕ) → is_none_of (flat_map shared ps) i ≡ false → is_none_of at i ≡ false)
-    → IsPhase (record { words = w; pieces = ps; at = at })
-phase w ps at each can once all = record {
+pub phase : (w : List ℕ) (ps : List Piece) (at : List ℕ) → All IsPiece ps → CanBeWorked w ps → are_distinct at ≡ true → ((i : ℕ) → is_none_of (flat_map changes ps) i ≡ false → is_none_of at i ≡ false)
+    → ((i : ℕ) → is_none_of (flat_map common ps) i ≡ false → is_none_of at i ≡ false) → IsPhase (record { words = w; pieces = ps; at = at })
+phase w ps at each can once own others = record {
   opening = record {
     apart = apart w ps each can;
     distinct = once;
@@ -183,11 +197,43 @@ phase w ps at each can once all = record {
         λ cs e next.
         let first : IsFirst (record { words = w; pieces = ps; at = at }) cs e = first_step (record { words = w; pieces = ps; at = at }) cs e next in
         let found = piece_there w first.first.0 ps first.steps first.of in
-        all (index_of e) (among_all (index_of e) first.first.0 ps found.0 found.1 (about w found.0 first.first.1 e (ap (λ es. slice_get es first.first.1) found.2 ∙ first.step)));
+        by (index_of e) first.first.0 found.0 found.1 (about w found.0 first.first.1 e (ap (λ es. slice_get es first.first.1) found.2 ∙ first.step));
   };
   can = can;
   each = each;
 }
+  where
+    by : (i n : ℕ) (p : Piece) → slice_get ps n ≡ Some p → (is_none_of (changes p) i ≡ false) ⊎ (is_none_of (common p) i ≡ false) → is_none_of at i ≡ false
+    by i n p of (inl there) = own i (among_all changes i n ps p of there)
+    by i n p of (inr there) = others i (among_all common i n ps p of there)
+
+-- ---- the words that several pieces may have steps about are apart from those that one has
+
+none_changed : (ps : List Piece) → list_all is_touch ps ≡ true → flat_map changes ps ≡ []
+none_changed [] all = refl
+none_changed (piece.Touch xs ∷ ps) all = none_changed ps all
+none_changed (piece.Strip s ∷ ps) all = absurd (cc)
+none_changed (piece.Link xs ∷ ps) all = absurd (cc)
+none_changed (piece.Move xs ∷ ps) all = absurd (cc)
+
+only_folds : (ps : List Piece) → list_any is_touch ps ≡ false → flat_map common ps ≡ flat_map folds ps
+only_folds [] none = refl
+only_folds (piece.Strip s ∷ ps) none = ap (λ is. option_to_list s.fold ++ is) (only_folds ps none)
+only_folds (piece.Link xs ∷ ps) none = only_folds ps none
+only_folds (piece.Move xs ∷ ps) none = only_folds ps none
+only_folds (piece.Touch xs ∷ ps) none = absurd (cc)
+
+of_nothing : (is : List ℕ) → list_all (is_none_of []) is ≡ true
+of_nothing [] = refl
+of_nothing (i ∷ is) = of_nothing is
+
+pub others_apart : (w : List ℕ) (ps : List Piece) → CanBeWorked w ps → list_all (is_none_of (flat_map changes ps)) (flat_map common ps) ≡ true
+others_apart w ps can = by (list_all is_touch ps) refl (list_any is_touch ps) refl can.alike
+  where
+    by : (a : Bool) → list_all is_touch ps ≡ a → (b : Bool) → list_any is_touch ps ≡ b → (a || not b) ≡ true → list_all (is_none_of (flat_map changes ps)) (flat_map common ps) ≡ true
+    by true all b any h = ap (λ is. list_all (is_none_of is) (flat_map common ps)) (none_changed ps all) ∙ of_nothing (flat_map common ps)
+    by false all true any h = absurd (cc)
+    by false all false any h = ap (list_all (is_none_of (flat_map changes ps))) (only_folds ps any) ∙ can.apart
 
 -- ---- the words that are shared are there
 
@@ -198,21 +244,31 @@ puts_too test (s ∷ xs) all =
     let two = both (test s.put) (list_all test (flat_map (λ (t : Store). t.read ∷ t.put ∷ []) xs)) one.1 in
     and_true (test s.put) (list_all test (puts_of xs)) two.0 (puts_too test xs two.1)
 
-shared_too : (test : ℕ → Bool) (p : Piece) → list_all test (named p) ≡ true → list_all test (shared p) ≡ true
-shared_too test (piece.Strip s) all = all
-shared_too test (piece.Link xs) all = puts_too test xs all
-shared_too test (piece.Move xs) all = all
-shared_too test (piece.Touch xs) all = all
+changes_too : (test : ℕ → Bool) (p : Piece) → list_all test (named p) ≡ true → list_all test (changes p) ≡ true
+changes_too test (piece.Strip s) all = (all_split test s.indexes (option_to_list s.fold) all).0
+changes_too test (piece.Link xs) all = puts_too test xs all
+changes_too test (piece.Move xs) all = all
+changes_too test (piece.Touch xs) all = refl
+
+common_too : (test : ℕ → Bool) (p : Piece) → list_all test (named p) ≡ true → list_all test (common p) ≡ true
+common_too test (piece.Strip s) all = (all_split test s.indexes (option_to_list s.fold) all).1
+common_too test (piece.Link xs) all = refl
+common_too test (piece.Move xs) all = refl
+common_too test (piece.Touch xs) all = all
 
 all_append : (test : ℕ → Bool) (is js : List ℕ) → list_all test is ≡ true → list_all test js ≡ true → list_all test (is ++ js) ≡ true
 all_append test [] js a b = b
 all_append test (i ∷ is) js a b = let parts = both (test i) (list_all test is) a in and_true (test i) (list_all test (is ++ js)) parts.0 (all_append test is js parts.1 b)
 
-all_shared : (test : ℕ → Bool) (ps : List Piece) → list_all test (flat_map named ps) ≡ true → list_all test (flat_map shared ps) ≡ true
-all_shared test [] all = refl
-all_shared test (p ∷ ps) all =
+all_too : (f : Piece → List ℕ) (test : ℕ → Bool) → ((p : Piece) → list_all test (named p) ≡ true → list_all test (f p) ≡ true) → (ps : List Piece) → list_all test (flat_map named ps) ≡ true → list_all test (flat_map f ps) ≡ true
+all_too f test too [] all = refl
+all_too f test too (p ∷ ps) all =
     let parts = all_split test (named p) (flat_map named ps) all in
-    all_append test (shared p) (flat_map shared ps) (shared_too test p parts.0) (all_shared test ps parts.1)
+    all_append test (f p) (flat_map f ps) (too p parts.0) (all_too f test too ps parts.1)
 
-pub shared_within : (w : List ℕ) (ps : List Piece) → CanBeWorked w ps → All (λ i. i < length w) (flat_map shared ps)
-shared_within w ps can = indexes_within (length w) (flat_map shared ps) (all_shared (λ i. nat_lt i (length w)) ps can.within)
+-- every word that is shared is one of all words
+pub shared_within : (w : List ℕ) (ps : List Piece) (at : List ℕ) → CanBeWorked w ps
+    → ((test : ℕ → Bool) → test 0 ≡ true → list_all test (flat_map changes ps) ≡ true → list_all test (flat_map common ps) ≡ true → list_all test at ≡ true) → All (λ i. i < length w) at
+shared_within w ps at can within =
+    let test : ℕ → Bool = λ i. nat_lt i (length w) in
+    indexes_within (length w) at (within test (lt-ltb 0 (length w) can.some) (all_too changes test (changes_too test) ps can.within) (all_too common test (common_too test) ps can.within))

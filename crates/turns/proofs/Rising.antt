@@ -1,10 +1,10 @@
 -- Numbers sorted, each once.
-use Rattle.std.proofs.Common.{◌≡◌, ℕ, zero, suc, ◌+◌, ◌<◌, ◌≤◌, Bool, true, false, ◌&&◌, ◌||◌, not, List, [], ◌∷◌, length, get_or, refl, ap, ◌∙◌, sym, subst, arith}
+use Rattle.std.proofs.Common.{◌≡◌, ℕ, zero, suc, ◌+◌, ◌<◌, ◌≤◌, Bool, true, false, ◌&&◌, ◌||◌, not, List, [], ◌∷◌, ◌++◌, length, get_or, refl, ap, ◌∙◌, sym, subst, arith}
 use Rattle.std.specs.Prelude.{◌==◌}
-use Rattle.std.specs.List.{list_any, Contains, dedup}
+use Rattle.std.specs.List.{list_any, list_all, Contains, dedup}
 use Rattle.std.specs.List.Sorted.{IsPermutation, IsStrictlyIncreasing}
 use Rattle.std.proofs.Math.Dec.{eqb}
-use Rattle.std.proofs.lemmas.Bool.{eqb-true, eq-eqb, ne_eqb}
+use Rattle.std.proofs.lemmas.Bool.{eqb-true, eq-eqb, ne_eqb, true≢false}
 use Rattle.std.proofs.lemmas.List.Kept.{Contains-dedup_nat}
 use Rattle.std.proofs.lemmas.List.Sorted.{list_any-IsPermutation}
 use Rattle.pieces.specs.Distinct.{is_none_of, are_distinct}
@@ -61,3 +61,40 @@ rising_distinct (x ∷ xs) rises = by (is_none_of xs x) (above x xs x (tail_rise
     by : (t : Bool) → t ≡ true → are_distinct xs ≡ true → (t && are_distinct xs) ≡ true
     by true is h = h
     by false is h = absurd (cc)
+
+-- ---- two lists, one behind the other
+
+none_behind : (x : ℕ) (xs ys : List ℕ) → is_none_of xs x ≡ true → is_none_of ys x ≡ true → is_none_of (xs ++ ys) x ≡ true
+none_behind x [] ys here there = there
+none_behind x (z ∷ xs) ys here there = by (not (z == x)) here (λ h. none_behind x xs ys h there)
+  where
+    by : (t : Bool) → (t && is_none_of xs x) ≡ true → (is_none_of xs x ≡ true → is_none_of (xs ++ ys) x ≡ true) → (t && is_none_of (xs ++ ys) x) ≡ true
+    by true h later = later h
+    by false h later = absurd (cc)
+
+apart_from : (x y : ℕ) → (x == y) ≡ false → (y == x) ≡ false
+apart_from x y is = ne_eqb y x (λ same. true≢false (sym (eq-eqb x y (sym same)) ∙ is))
+
+-- if none of the others is among some numbers, none of these is among the others
+not_among : (x : ℕ) (xs ys : List ℕ) → list_all (is_none_of (x ∷ xs)) ys ≡ true → (is_none_of ys x ≡ true) × (list_all (is_none_of xs) ys ≡ true)
+not_among x xs [] all = (refl, refl)
+not_among x xs (y ∷ ys) all = by (x == y) refl (is_none_of xs y) all (not_among x xs ys)
+  where
+    by : (t : Bool) → (x == y) ≡ t → (b : Bool) → ((not t && b) && list_all (is_none_of (x ∷ xs)) ys) ≡ true
+        → (list_all (is_none_of (x ∷ xs)) ys ≡ true → (is_none_of ys x ≡ true) × (list_all (is_none_of xs) ys ≡ true)) → (is_none_of (y ∷ ys) x ≡ true) × ((b && list_all (is_none_of xs) ys) ≡ true)
+    by true is b h rest = absurd (cc)
+    by false is true h rest = let m = rest h in (ap (λ t. not t && is_none_of ys x) (apart_from x y is) ∙ m.0, m.1)
+    by false is false h rest = absurd (cc)
+
+pub distinct_behind : (xs ys : List ℕ) → are_distinct xs ≡ true → are_distinct ys ≡ true → list_all (is_none_of xs) ys ≡ true → are_distinct (xs ++ ys) ≡ true
+distinct_behind [] ys one two all = two
+distinct_behind (x ∷ xs) ys one two all = let rest = not_among x xs ys all in by (is_none_of xs x) refl one rest.0 (λ h. distinct_behind xs ys h two rest.1)
+  where
+    by : (t : Bool) → is_none_of xs x ≡ t → (t && are_distinct xs) ≡ true → is_none_of ys x ≡ true → (are_distinct xs ≡ true → are_distinct (xs ++ ys) ≡ true) → are_distinct (x ∷ (xs ++ ys)) ≡ true
+    by true is h there later = ap (λ t. t && are_distinct (xs ++ ys)) (none_behind x xs ys is there) ∙ later h
+    by false is h there later = absurd (cc)
+
+-- a list that was empty, with one number
+pub distinct_one : (xs : List ℕ) (n : ℕ) → are_distinct xs ≡ true → length xs ≡ 0 → are_distinct (xs ++ n ∷ []) ≡ true
+distinct_one [] n once none = refl
+distinct_one (x ∷ xs) n once none = absurd (omega (arith, none))

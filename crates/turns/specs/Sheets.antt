@@ -1,8 +1,7 @@
 -- The shared words of a phase, as contracts see them.
-use Rattle.std.specs.Prelude.{◌≡◌, ℕ, ◌<◌, true, List, [], ◌∷◌, ◌++◌, length, map, slice_set}
+use Rattle.std.specs.Prelude.{◌≡◌, ℕ, ◌<◌, true, List, [], ◌∷◌, length, map, slice_set}
 use Rattle.std.specs.List.{All}
 use Rattle.std.specs.Option.{option_to_list}
-use Rattle.pieces.specs.Contents.{puts_of, ends_of}
 use Rattle.pieces.specs.declared.piece.Piece.{Piece}
 use Rattle.pieces.specs.declared.piece.Piece.TheVariants as piece
 use Rattle.atomic_table.specs.Seated.{TableId}
@@ -46,9 +45,9 @@ replaced ws [] new = ws
 replaced ws (i ∷ is) [] = ws
 replaced ws (i ∷ is) (x ∷ new) = replaced (slice_set ws i x) is new
 
--- the indexes of the words that the steps of a piece are about
-abbrev pub shared : Piece → List ℕ
-shared (piece.Strip s) = s.indexes ++ option_to_list s.fold
-shared (piece.Link stores) = puts_of stores
-shared (piece.Move pairs) = ends_of pairs
-shared (piece.Touch list) = map (λ t. t.index) list
+-- the indexes of the words at which a piece adds bits or looks: other pieces may name them too
+abbrev pub common : Piece → List ℕ
+common (piece.Strip s) = option_to_list s.fold
+common (piece.Link stores) = []
+common (piece.Move pairs) = []
+common (piece.Touch list) = map (λ t. t.index) list

@@ -7,7 +7,7 @@ ghost use Rattle.turns.specs.Views.{none_done};
 ghost use Rattle.turns.specs.Sheets.{IsSeat};
 ghost use Rattle.turns.specs.Turns.{new_turns};
 
-use crate::sharing::indexes;
+use crate::sharing::{indexes, own_words};
 use crate::sheet::{Seat, Sheet};
 use crate::turn::Turn;
 use pieces::{Done, Piece, are_pieces};
@@ -79,8 +79,8 @@ impl Open {
     {
         are_pieces(&pieces);
         let opening = Snapshot::of(&pieces);
-        let at = indexes(alloc, &pieces)?;
-        let (sheet, seat) = Sheet::lay(alloc, words, opening, at)?;
+        let (at, own) = indexes(alloc, &pieces)?;
+        let (sheet, seat) = Sheet::lay(alloc, words, opening, at, own)?;
         let flags = vec![in alloc; false; pieces.len()]?;
         let dones = Vec::with_capacity(alloc, pieces.len())?;
         let unended = Vec::with_capacity(alloc, pieces.len())?;
@@ -160,10 +160,13 @@ fn deal(
     ensures of { IfOk result (λ turns. All (λ t. t.sheet ≡ sheet.now) turns.items) }
 {
     let mut turns = Vec::with_capacity(alloc, pieces.len())?;
+    let mut hint: usize = 0;
     for piece in pieces {
         let own = sheet.deal(&mut seat);
         let number = turns.len();
-        turns.push(Turn::new(alloc, sheet, own, number, piece, 0)?)?;
+        let next = hint.wrapping_add(own_words(&piece));
+        turns.push(Turn::new(alloc, sheet, own, number, piece, hint)?)?;
+        hint = next;
     }
     Ok(turns)
 }

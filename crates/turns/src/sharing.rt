@@ -1,30 +1,94 @@
 //! Which words of a phase are shared.
 
-ghost use Rattle.std.specs.Prelude.{◌≡◌, ◌<◌, ◌++◌, ℕ, true, false, length, IfOk, OnOk};
-ghost use Rattle.std.specs.List.{All, flat_map};
+ghost use Rattle.std.specs.Prelude.{◌≡◌, ◌<◌, ◌++◌, ℕ, Bool, true, false, length, map, IfOk, OnOk};
+ghost use Rattle.std.specs.List.{flat_map, list_all};
+ghost use Rattle.std.specs.Option.{option_to_list};
 ghost use Rattle.pieces.specs.Contents.{puts_of, ends_of};
 ghost use Rattle.pieces.specs.Distinct.{is_none_of, are_distinct};
-ghost use Rattle.pieces.specs.declared.piece.Piece.TheVariants as piece;
-ghost use Rattle.turns.specs.Sheets.{shared};
+ghost use Rattle.pieces.specs.Phases.{changes};
+ghost use Rattle.turns.specs.Sheets.{common};
 
 use pieces::{Link, Move, Piece, Strip, Touch};
 use std::alloc::{AllocError, Global};
 
-/// The indexes of the words that the steps of pieces are about, rising, each once. With no step, the first word is shared, since
-/// a table has one at least.
-pub(crate) fn indexes(alloc: Global, pieces: &[Piece]) -> Result<Vec<usize>, AllocError>
-    ensures distinct { IfOk result (λ at. are_distinct at.items ≡ true) }
-    ensures all { IfOk result (λ at. (i : ℕ) → is_none_of (flat_map shared pieces.now) i ≡ false → is_none_of at.items i ≡ false) }
-    ensures some { IfOk result (λ at. 0 < length at.items) }
-    ensures within { IfOk result (λ at. (n : ℕ) → 0 < n → All (λ i. i < n) (flat_map shared pieces.now) → All (λ i. i < n) at.items) }
+/// The indexes of the words that the steps of pieces are about, each once, and how many of these one piece alone has a step about.
+/// Those are in front, in the order of the pieces and of their steps; behind them the others rise. With no step, the first word is
+/// shared, since a table has one at least.
+pub(crate) fn indexes(alloc: Global, pieces: &[Piece]) -> Result<(Vec<usize>, usize), AllocError>
+    requires distinct { are_distinct (flat_map changes pieces.now) ≡ true }
+    requires apart { list_all (is_none_of (flat_map changes pieces.now)) (flat_map common pieces.now) ≡ true }
+    ensures distinct { IfOk result (λ r. are_distinct r.0.items ≡ true) }
+    ensures own { IfOk result (λ r. (i : ℕ) → is_none_of (flat_map changes pieces.now) i ≡ false → is_none_of r.0.items i ≡ false) }
+    ensures common { IfOk result (λ r. (i : ℕ) → is_none_of (flat_map common pieces.now) i ≡ false → is_none_of r.0.items i ≡ false) }
+    ensures some { IfOk result (λ r. 0 < length r.0.items) }
+    ensures within { IfOk result (λ r. (test : ℕ → Bool) → test 0 ≡ true → list_all test (flat_map changes pieces.now) ≡ true → list_all test (flat_map common pieces.now) ≡ true → list_all test r.0.items ≡ true) }
+{
+    let own = own_indexes(alloc, pieces)?;
+    let first = own.len();
+    let mut at = with_others(own, rising(common_indexes(alloc, pieces)?))?;
+    if at.is_empty() {
+        at.push(0)?;
+    }
+    Ok((at, first))
+}
+
+/// The indexes of the words that one piece alone has a step about, in the order of the pieces and of their steps.
+fn own_indexes(alloc: Global, pieces: &[Piece]) -> Result<Vec<usize>, AllocError>
+    ensures { IfOk result (λ r. r.items ≡ flat_map changes pieces.now) }
+{
+    let mut at = Vec::with_capacity(alloc, own_count(pieces))?;
+    for piece in pieces {
+        match piece {
+            Piece::Strip(strip) => push_nodes(&mut at, strip)?,
+            Piece::Link(link) => push_puts(&mut at, link)?,
+            Piece::Move(pairs) => push_ends(&mut at, pairs)?,
+            Piece::Touch(_) => {}
+        }
+    }
+    Ok(at)
+}
+
+/// How many that comes to: so much room is made.
+fn own_count(pieces: &[Piece]) -> usize {
+    let mut count: usize = 0;
+    for piece in pieces {
+        count = count.saturating_add(own_words(piece));
+    }
+    count
+}
+
+/// How many words one piece alone has a step about.
+pub(crate) fn own_words(piece: &Piece) -> usize {
+    match piece {
+        Piece::Strip(strip) => strip.len(),
+        Piece::Link(link) => link.len(),
+        Piece::Move(pairs) => pairs.len().saturating_mul(2),
+        Piece::Touch(_) => 0,
+    }
+}
+
+/// The indexes of the words that several pieces may have steps about.
+fn common_indexes(alloc: Global, pieces: &[Piece]) -> Result<Vec<usize>, AllocError>
+    ensures { IfOk result (λ r. r.items ≡ flat_map common pieces.now) }
 {
     let mut at = Vec::new(alloc);
     for piece in pieces {
-        push_indexes(&mut at, piece)?;
+        match piece {
+            Piece::Strip(strip) => push_fold(&mut at, strip)?,
+            Piece::Link(_) => {}
+            Piece::Move(_) => {}
+            Piece::Touch(touch) => push_accesses(&mut at, touch)?,
+        }
     }
-    let mut at = rising(at);
-    if at.is_empty() {
-        at.push(0)?;
+    Ok(at)
+}
+
+/// Some indexes, and others behind them.
+fn with_others(mut at: Vec<usize>, others: Vec<usize>) -> Result<Vec<usize>, AllocError>
+    ensures { IfOk result (λ r. r.items ≡ at.items ++ others.items) }
+{
+    for index in others {
+        at.push(index)?;
     }
     Ok(at)
 }
@@ -33,38 +97,35 @@ pub(crate) fn indexes(alloc: Global, pieces: &[Piece]) -> Result<Vec<usize>, All
 fn rising(mut at: Vec<usize>) -> Vec<usize>
     ensures distinct { are_distinct result.items ≡ true }
     ensures all { (i : ℕ) → is_none_of at.items i ≡ false → is_none_of result.items i ≡ false }
-    ensures within { (n : ℕ) → All (λ i. i < n) at.items → All (λ i. i < n) result.items }
+    ensures kept { (test : ℕ → Bool) → list_all test at.items ≡ true → list_all test result.items ≡ true }
 {
     at.sort_unstable();
     at.dedup();
     at
 }
 
-/// Adds the indexes of one piece.
-fn push_indexes(at: &mut Vec<usize>, piece: &Piece) -> Result<(), AllocError>
-    ensures { OnOk result (at.new.items ≡ at.old.items ++ shared piece.now) }
-{
-    match piece {
-        Piece::Strip(strip) => push_strip(at, strip),
-        Piece::Link(link) => push_link(at, link),
-        Piece::Move(pairs) => push_move(at, pairs),
-        Piece::Touch(touch) => push_touch(at, touch),
-    }
-}
-
-fn push_strip(at: &mut Vec<usize>, strip: &Strip) -> Result<(), AllocError>
-    ensures { OnOk result (at.new.items ≡ at.old.items ++ shared (piece.Strip strip.now)) }
+/// Adds the indexes of the words of nodes.
+fn push_nodes(at: &mut Vec<usize>, strip: &Strip) -> Result<(), AllocError>
+    ensures { OnOk result (at.new.items ≡ at.old.items ++ strip.now.indexes) }
 {
     for k in 0..strip.len() {
         at.push(strip.index(k))?;
     }
+    Ok(())
+}
+
+/// Adds the index of a fold word, if there is one.
+fn push_fold(at: &mut Vec<usize>, strip: &Strip) -> Result<(), AllocError>
+    ensures { OnOk result (at.new.items ≡ at.old.items ++ option_to_list strip.now.fold) }
+{
     if let Some(index) = strip.fold() {
         at.push(index)?;
     }
     Ok(())
 }
 
-fn push_link(at: &mut Vec<usize>, link: &Link) -> Result<(), AllocError>
+/// Adds the indexes of the words that stores put.
+fn push_puts(at: &mut Vec<usize>, link: &Link) -> Result<(), AllocError>
     ensures { OnOk result (at.new.items ≡ at.old.items ++ puts_of link.now) }
 {
     for k in 0..link.len() {
@@ -73,7 +134,8 @@ fn push_link(at: &mut Vec<usize>, link: &Link) -> Result<(), AllocError>
     Ok(())
 }
 
-fn push_move(at: &mut Vec<usize>, pairs: &Move) -> Result<(), AllocError>
+/// Adds the indexes of the words that are taken, and of those that are put.
+fn push_ends(at: &mut Vec<usize>, pairs: &Move) -> Result<(), AllocError>
     ensures { OnOk result (at.new.items ≡ at.old.items ++ ends_of pairs.now) }
 {
     for k in 0..pairs.len() {
@@ -84,8 +146,9 @@ fn push_move(at: &mut Vec<usize>, pairs: &Move) -> Result<(), AllocError>
     Ok(())
 }
 
-fn push_touch(at: &mut Vec<usize>, touch: &Touch) -> Result<(), AllocError>
-    ensures { OnOk result (at.new.items ≡ at.old.items ++ shared (piece.Touch touch.now)) }
+/// Adds the indexes of the words that are accessed.
+fn push_accesses(at: &mut Vec<usize>, touch: &Touch) -> Result<(), AllocError>
+    ensures { OnOk result (at.new.items ≡ at.old.items ++ map (λ t. t.index) touch.now) }
 {
     for k in 0..touch.len() {
         at.push(touch.access(k).index)?;

@@ -26,6 +26,8 @@ pub(crate) struct Sheet {
     words: Vec<u64>,
     /// The index of each shared word.
     at: Vec<usize>,
+    /// How many of these stand in front that one piece alone has a step about. The others rise. No proof rests on it.
+    own: usize,
 }
 
 impl Model for Sheet {
@@ -55,6 +57,7 @@ impl Sheet {
         words: Vec<u64>,
         pieces: Snapshot<Vec<Piece>>,
         at: Vec<usize>,
+        own: usize,
     ) -> Result<(Sheet, Seat), AllocError>
         requires phase { IsPhase (record { words = words.items; pieces = pieces.value.items; at = at.items }) }
         requires some { 0 < length at.items }
@@ -69,7 +72,15 @@ impl Sheet {
         };
         let shared = gathered(alloc, &words, &at)?;
         let (table, seat) = Table::of_words(alloc, &shared, &fixed)?;
-        Ok((Sheet { table, words, at }, seat))
+        Ok((
+            Sheet {
+                table,
+                words,
+                at,
+                own,
+            },
+            seat,
+        ))
     }
 
     /// Deals a seat for the first piece of another.
@@ -117,6 +128,7 @@ impl Sheet {
             table,
             mut words,
             at,
+            own: _,
         } = self;
         let closed = table.close_with(seat);
         put_back(&mut words, &at, &closed);
@@ -131,7 +143,7 @@ impl Sheet {
         ensures seat { IsSeat self.now seat.new.table_id seat.new.me }
         ensures made { IsMade index seat.old.me.0 result seat.new.me.0 }
     {
-        let at = position(&self.at, index, hint);
+        let at = position(&self.at, self.own, index, hint);
         self.table.shared.load::<Made>(seat, at)
     }
 
@@ -142,7 +154,7 @@ impl Sheet {
         ensures seat { IsSeat self.now seat.new.table_id seat.new.me }
         ensures made { IsMade index seat.old.me.0 result seat.new.me.0 }
     {
-        let at = position(&self.at, index, hint);
+        let at = position(&self.at, self.own, index, hint);
         self.table.shared.fetch_or::<Made>(seat, at, bits)
     }
 
@@ -153,7 +165,7 @@ impl Sheet {
         ensures seat { IsSeat self.now seat.new.table_id seat.new.me }
         ensures made { IsMade index seat.old.me.0 result seat.new.me.0 }
     {
-        let at = position(&self.at, index, hint);
+        let at = position(&self.at, self.own, index, hint);
         self.table.shared.swap::<Made>(seat, at, word)
     }
 
@@ -204,18 +216,24 @@ fn put_back(words: &mut [u64], at: &[usize], shared: &Closed<(), Global>)
     }
 }
 
-/// Where an index stands among these: where the hint says, if it stands there; else wherever it is found.
-fn position(at: &[usize], index: usize, hint: usize) -> usize
+/// Where an index stands among these, of which those from `rising` on rise: where the hint says, if it stands there; else where it
+/// stands among those that rise; else wherever it is found.
+fn position(at: &[usize], rising: usize, index: usize, hint: usize) -> usize
     requires { is_none_of at.now index ≡ false }
     ensures { slice_get at.now result ≡ Some index }
 {
     if hint < at.len() && at[hint] == index {
         return hint;
     }
-    match at.binary_search(&index) {
-        Ok(found) if at[found] == index => found,
-        _ => first(at, index),
+    if rising <= at.len() {
+        if let Ok(found) = at[rising..].binary_search(&index) {
+            let found = rising + found;
+            if found < at.len() && at[found] == index {
+                return found;
+            }
+        }
     }
+    first(at, index)
 }
 
 /// Where an index stands first among these.

@@ -1,9 +1,10 @@
-use Rattle.std.proofs.Common.{sym, subst, ◌<◌}
-use Rattle.std.specs.List.{All}
+use Rattle.std.proofs.Common.{◌≡◌, true, sym, subst}
+use Rattle.std.specs.List.{list_all}
 use Rattle.std.specs.List.Sorted.{IsStrictlyIncreasing}
 use Rattle.std.proofs.Math.Dec.{eqb}
 use Rattle.std.proofs.lemmas.List.Filters.{dedup_is, All-dedup}
 use Rattle.std.proofs.lemmas.List.Sorted.{All-permutation}
+use Rattle.std.proofs.lemmas.List.Sums.{AllPass-from_list_all, list_all-from_AllPass}
 use Rattle.std.proofs.lemmas.Map.Keys.{IsStrictlyIncreasing-dedup}
 use Rattle.turns.proofs.Rising.{all_there, rising_distinct}
 use Rattle.turns.proofs.sharing.rising.Goals as goal
@@ -16,6 +17,8 @@ returns-clause-distinct c =
 pub returns-clause-all : goal.returns-clause-all
 returns-clause-all c = all_there _ _ _ c.sort_unstable.ensures.permutation (dedup_is eqb _ _ c.dedup.ensures.filtered)
 
-pub returns-clause-within : goal.returns-clause-within
-returns-clause-within c =
-    λ n all. subst (All (λ i. i < n)) (sym (dedup_is eqb _ _ c.dedup.ensures.filtered)) (All-dedup eqb (λ i. i < n) _ (All-permutation (λ i. i < n) _ _ c.sort_unstable.ensures.permutation all))
+pub returns-clause-kept : goal.returns-clause-kept
+returns-clause-kept c =
+    λ test all.
+    subst (λ is. list_all test is ≡ true) (sym (dedup_is eqb _ _ c.dedup.ensures.filtered))
+    (list_all-from_AllPass test _ (All-dedup eqb (λ i. test i ≡ true) _ (All-permutation (λ i. test i ≡ true) _ _ c.sort_unstable.ensures.permutation (AllPass-from_list_all test _ all))))
