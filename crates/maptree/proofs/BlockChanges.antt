@@ -7,7 +7,7 @@ use Rattle.std.proofs.Math.Seq.{paste}
 use Rattle.maptree.specs.declared.node.Node.{Node}
 use Rattle.space.specs.declared.place.Place.{Place}
 use Rattle.maptree.specs.Renamings.{nodes_renamed}
-use Rattle.maptree.specs.Blocks.{nodes_in, IsSeat, split_at_half}
+use Rattle.maptree.specs.Blocks.{nodes_in, IsSeat, split_block}
 use Rattle.maptree.proofs.InBlocks.{nodes_of_both, three, before_seat, behind_seat}
 
 -- the first of some from the front
@@ -76,69 +76,69 @@ module _ (bs : List (List Node)) (k : ℕ) where
       ∙ ap (λ x. take (length front + from) (nodes_in bs) ++ x) (sym (behind_seat bs k to within inside))
 
   -- a block in two
-  halves : k < length bs → split_at_half bs k ≡ take k bs ++ take 128 (get_or bs k []) ∷ drop 128 (get_or bs k []) ∷ drop (suc k) bs
-  halves within =
-      let x = take 128 (get_or bs k []) in
-      let y = drop 128 (get_or bs k []) in
+  halves : (at : ℕ) → k < length bs → split_block at bs k ≡ take k bs ++ take at (get_or bs k []) ∷ drop at (get_or bs k []) ∷ drop (suc k) bs
+  halves at within =
+      let x = take at (get_or bs k []) in
+      let y = drop at (get_or bs k []) in
       let size = length-take-le k bs (omega (arith, within)) in
       let one : k + 1 - k ≡ 1 = omega arith in
       ap (λ l. insert l (k + 1) y) (set_split bs k x within)
       ∙ insert-append_right (take k bs) (x ∷ drop (suc k) bs) k (k + 1) y size (omega arith)
       ∙ ap (λ i. take k bs ++ insert (x ∷ drop (suc k) bs) i y) one
 
-  pub split_nodes : k < length bs → nodes_in (split_at_half bs k) ≡ nodes_in bs
-  split_nodes within =
-      let x = take 128 (get_or bs k []) in
-      let y = drop 128 (get_or bs k []) in
+  pub split_nodes : (at : ℕ) → k < length bs → nodes_in (split_block at bs k) ≡ nodes_in bs
+  split_nodes at within =
+      let x = take at (get_or bs k []) in
+      let y = drop at (get_or bs k []) in
       let one : suc k ≡ k + 1 = omega arith in
-      ap nodes_in (halves within) ∙ nodes_of_both (take k bs) (x ∷ y ∷ drop (suc k) bs)
-      ∙ ap (λ l. nodes_in (take k bs) ++ l) (sym (append_assoc x y (nodes_in (drop (suc k) bs))) ∙ ap (λ b. b ++ nodes_in (drop (suc k) bs)) (take-append-drop 128 (get_or bs k [])) ∙ ap (λ n. get_or bs k [] ++ nodes_in (drop n bs)) one)
+      ap nodes_in (halves at within) ∙ nodes_of_both (take k bs) (x ∷ y ∷ drop (suc k) bs)
+      ∙ ap (λ l. nodes_in (take k bs) ++ l) (sym (append_assoc x y (nodes_in (drop (suc k) bs))) ∙ ap (λ b. b ++ nodes_in (drop (suc k) bs)) (take-append-drop at (get_or bs k [])) ∙ ap (λ n. get_or bs k [] ++ nodes_in (drop n bs)) one)
       ∙ sym (three bs k within)
 
-  pub split_length : k < length bs → length (split_at_half bs k) ≡ length bs + 1
-  split_length within =
-      let size = length-set bs k (take 128 (get_or bs k [])) in
-      length-insert (set bs k (take 128 (get_or bs k []))) (k + 1) (drop 128 (get_or bs k [])) (omega (arith, size, within)) ∙ omega (arith, size)
+  pub split_length : (at : ℕ) → k < length bs → length (split_block at bs k) ≡ length bs + 1
+  split_length at within =
+      let size = length-set bs k (take at (get_or bs k [])) in
+      length-insert (set bs k (take at (get_or bs k []))) (k + 1) (drop at (get_or bs k [])) (omega (arith, size, within)) ∙ omega (arith, size)
 
   -- a seat in the first half
-  pub first_half : (i off : ℕ) → IsSeat bs i (record { block = k; offset = off }) → length (get_or bs k []) ≡ 256 → off ≤ 128
-      → IsSeat (split_at_half bs k) i (record { block = k; offset = off }) × (length (get_or (split_at_half bs k) k []) < 256)
-  first_half i off is full low =
+  pub first_half : (at i off : ℕ) → 0 < at → at < 256 → IsSeat bs i (record { block = k; offset = off }) → length (get_or bs k []) ≡ 256 → off ≤ at
+      → IsSeat (split_block at bs k) i (record { block = k; offset = off }) × (length (get_or (split_block at bs k) k []) < 256)
+  first_half at i off some less is full low =
       let within = is.within in
       let b = get_or bs k [] in
       let size = length-take-le k bs (omega (arith, within)) in
-      let more = split_length within in
-      let here : get_or (split_at_half bs k) k [] ≡ take 128 b = ap (λ l. get_or l k []) (halves within) ∙ get_or_at (take k bs) (take 128 b) (drop 128 b ∷ drop (suc k) bs) [] k size in
-      let front : take k (split_at_half bs k) ≡ take k bs = ap (take k) (halves within) ∙ take_at (take k bs) (take 128 b ∷ drop 128 b ∷ drop (suc k) bs) k size in
-      let half = length-take-le 128 b (omega (arith, full)) in
+      let more = split_length at within in
+      let here : get_or (split_block at bs k) k [] ≡ take at b = ap (λ l. get_or l k []) (halves at within) ∙ get_or_at (take k bs) (take at b) (drop at b ∷ drop (suc k) bs) [] k size in
+      let front : take k (split_block at bs k) ≡ take k bs = ap (take k) (halves at within) ∙ take_at (take k bs) (take at b ∷ drop at b ∷ drop (suc k) bs) k size in
+      let half = length-take-le at b (omega (arith, full, less)) in
       let count = ap length here in
       let before = is.before in
       let same = ap (λ l. length (nodes_in l)) front in
-      (record { within = omega (arith, within, more); upto = omega (arith, count, half, low); before = omega (arith, same, before) }, omega (arith, count, half))
+      (record { within = omega (arith, within, more); upto = omega (arith, count, half, low); before = omega (arith, same, before) }, omega (arith, count, half, less))
 
   -- a seat in the second half
-  pub second_half : (i off : ℕ) → IsSeat bs i (record { block = k; offset = off }) → length (get_or bs k []) ≡ 256 → 128 < off
-      → IsSeat (split_at_half bs k) i (record { block = k + 1; offset = off - 128 }) × (length (get_or (split_at_half bs k) (k + 1) []) < 256)
-  second_half i off is full high =
+  pub second_half : (at i off : ℕ) → 0 < at → at < 256 → IsSeat bs i (record { block = k; offset = off }) → length (get_or bs k []) ≡ 256 → at < off
+      → IsSeat (split_block at bs k) i (record { block = k + 1; offset = off - at }) × (length (get_or (split_block at bs k) (k + 1) []) < 256)
+  second_half at i off some less is full high =
       let within = is.within in
       let upto = is.upto in
       let b = get_or bs k [] in
-      let x = take 128 b in
-      let y = drop 128 b in
+      let x = take at b in
+      let y = drop at b in
       let size = length-take-le k bs (omega (arith, within)) in
-      let more = split_length within in
-      let shape : split_at_half bs k ≡ (take k bs ++ x ∷ []) ++ y ∷ drop (suc k) bs = halves within ∙ sym (append_assoc (take k bs) (x ∷ []) (y ∷ drop (suc k) bs)) in
+      let more = split_length at within in
+      let shape : split_block at bs k ≡ (take k bs ++ x ∷ []) ++ y ∷ drop (suc k) bs = halves at within ∙ sym (append_assoc (take k bs) (x ∷ []) (y ∷ drop (suc k) bs)) in
       let next : length (take k bs ++ x ∷ []) ≡ k + 1 = let e = length-append (take k bs) (x ∷ []) in omega (arith, e, size) in
-      let here : get_or (split_at_half bs k) (k + 1) [] ≡ y = ap (λ l. get_or l (k + 1) []) shape ∙ get_or_at (take k bs ++ x ∷ []) y (drop (suc k) bs) [] (k + 1) next in
-      let front : take (k + 1) (split_at_half bs k) ≡ take k bs ++ x ∷ [] = ap (take (k + 1)) shape ∙ take_at (take k bs ++ x ∷ []) (y ∷ drop (suc k) bs) (k + 1) next in
-      let half = length-take-le 128 b (omega (arith, full)) in
-      let rest = length-drop 128 b in
+      let here : get_or (split_block at bs k) (k + 1) [] ≡ y = ap (λ l. get_or l (k + 1) []) shape ∙ get_or_at (take k bs ++ x ∷ []) y (drop (suc k) bs) [] (k + 1) next in
+      let front : take (k + 1) (split_block at bs k) ≡ take k bs ++ x ∷ [] = ap (take (k + 1)) shape ∙ take_at (take k bs ++ x ∷ []) (y ∷ drop (suc k) bs) (k + 1) next in
+      let half = length-take-le at b (omega (arith, full, less)) in
+      let rest = length-drop at b in
       let count = ap length here in
       let before = is.before in
-      let same : length (nodes_in (take (k + 1) (split_at_half bs k))) ≡ length (nodes_in (take k bs)) + 128 =
+      let same : length (nodes_in (take (k + 1) (split_block at bs k))) ≡ length (nodes_in (take k bs)) + at =
       ap (λ l. length (nodes_in l)) front ∙ ap length (nodes_of_both (take k bs) (x ∷ [])) ∙ length-append (nodes_in (take k bs)) (nodes_in (x ∷ []))
       ∙ ap (λ l. length (nodes_in (take k bs)) + length l) (append-nil x) ∙ ap (λ n. length (nodes_in (take k bs)) + n) half in
-      (record { within = omega (arith, within, more); upto = omega (arith, count, rest, full, upto, high); before = omega (arith, same, before, high) }, omega (arith, count, rest, full))
+      (record { within = omega (arith, within, more); upto = omega (arith, count, rest, full, upto, high); before = omega (arith, same, before, high) }, omega (arith, count, rest, full, some))
 
 -- ---- nodes taken out in steps
 

@@ -7,7 +7,7 @@ use Rattle.space.specs.declared.place.Place.{Place}
 use Rattle.maptree.specs.declared.node.Node.{Node}
 use Rattle.maptree.specs.Nodes.{run_len, last_less}
 use Rattle.maptree.specs.Renamings.{nodes_renamed}
-use Rattle.maptree.specs.Blocks.{is_least, nodes_in, AreLeasts, split_at_half}
+use Rattle.maptree.specs.Blocks.{is_least, nodes_in, AreLeasts}
 use Rattle.maptree.proofs.Depths.{all_deeper, none_less, least_renamed}
 use Rattle.maptree.proofs.LastLess.{later}
 use Rattle.maptree.proofs.InBlocks.{as_read, run_block_on, count_to, last_block}
@@ -30,11 +30,7 @@ leasts_one_more b bs a ls is are = record { count = let count = are.count in ome
 pub leasts_none : AreLeasts [] []
 leasts_none = record { count = omega arith; each = λ k less. absurd (omega (arith, less)) }
 
--- a number as it is read
-pub least_read : (bs : List (List Node)) (ls : List ℕ) (k n : ℕ) → AreLeasts bs ls → k < length bs → n ≡ get_or ls k n → n ≡ slice_index ls k
-least_read bs ls k n are within is = is ∙ get_or_default ls k n 0 (let count = are.count in omega (arith, count, within))
-
--- and what it says of a block as it is read
+-- what a number says of a block as it is read
 pub least_of_block : (bs : List (List Node)) (ls : List ℕ) (k : ℕ) (b : List Node) → AreLeasts bs ls → k < length bs → b ≡ get_or bs k b → is_least (slice_index ls k) b ≡ true
 least_of_block bs ls k b are within read = ap (is_least (slice_index ls k)) (as_read bs k b within read) ∙ are.each k within
 
@@ -64,12 +60,6 @@ leasts_insert [] (suc k) b (l ∷ ls) a are is = absurd (let count = are.count i
 leasts_insert (x ∷ bs) (suc k) b [] a are is = absurd (let count = are.count in omega (arith, count))
 leasts_insert (x ∷ bs) (suc k) b (l ∷ ls) a are is =
     leasts_one_more x (insert bs k b) l (insert ls k a) (leasts_first x bs l ls are) (leasts_insert bs k b ls a (leasts_rest x bs l ls are) is)
-
--- a block is split
-pub leasts_split : (bs : List (List Node)) (k : ℕ) (ls : List ℕ) (a c : ℕ) → k < length bs → AreLeasts bs ls
-    → is_least a (take 128 (get_or bs k [])) ≡ true → is_least c (drop 128 (get_or bs k [])) ≡ true → AreLeasts (split_at_half bs k) (insert (set ls k a) (k + 1) c)
-leasts_split bs k ls a c within are front back =
-    leasts_insert (set bs k (take 128 (get_or bs k []))) (k + 1) (drop 128 (get_or bs k [])) (set ls k a) c (leasts_set bs k (take 128 (get_or bs k [])) ls a within are front) back
 
 -- other places change no depth
 pub leasts_renamed : (new : Place → Option Place) (bs : List (List Node)) (ls : List ℕ) → AreLeasts bs ls → AreLeasts (map (nodes_renamed new) bs) ls

@@ -180,6 +180,22 @@ one_passed ns places i n runs so_far within is other = record {
         let both : true ≡ false = sym named ∙ ap (λ p. list_any (same_place p) places) here ∙ other in
         absurd (cc both)
 
+-- nodes of which none is named are passed over
+pub pass_to : (ns : List Node) (places : List Place) (i j : ℕ) (runs : List (Range ℕ)) → AreSoFar ns places i runs → i ≤ j → j ≤ length ns
+    → ((k : ℕ) (d : Place) → i ≤ k → k < j → list_any (same_place (place_of ns k d)) places ≡ true → ⊥) → AreSoFar ns places j runs
+pass_to ns places i j runs so_far more within none = record {
+  upto = within;
+  rising = rising_more 0 runs i j so_far.rising more;
+  whole = so_far.whole;
+  named = so_far.named;
+  has = λ k d less named. by k d less named (split_at k i);
+}
+  where
+    by : (k : ℕ) (d : Place) → k < j → list_any (same_place (place_of ns k d)) places ≡ true → (k < i) ⊎ (i ≤ k)
+        → (k + 1 + run_at ns k ≤ j) × ((a : ℕ) → k ≤ a → a < k + 1 + run_at ns k → LiesInOne a runs)
+    by k d less named (inl before) = let h = so_far.has k d before named in let end = h.0 in (omega (arith, end, more), h.1)
+    by k d less named (inr behind) = absurd (none k d behind less named)
+
 -- the run of a node that is named is one more
 pub one_more_run : (ns : List Node) (places : List Place) (i r : ℕ) (n : Node) (runs : List (Range ℕ)) → AreSoFar ns places i runs → is_forest ns ≡ true → i < length ns → n ≡ get_or ns i n → list_any (same_place n.place) places ≡ true
     → r ≡ run_len n.depth (take (length ns - (i + 1)) (drop (i + 1) ns))

@@ -6,7 +6,7 @@ use Rattle.std.proofs.lemmas.List.{append_assoc, length-append, take_at, length-
 use Rattle.std.proofs.lemmas.Bool.Decides.{nat_tests}
 use Rattle.maptree.specs.declared.node.Node.{Node}
 use Rattle.maptree.specs.Origins.{AreRising}
-use Rattle.std.specs.Prelude.{insert}
+use Rattle.std.specs.Prelude.{insert, remove, set}
 use Rattle.std.proofs.lemmas.List.Edits.{insert-append_right}
 use Rattle.maptree.specs.Cuts.{outside, joined, AreGaps, count_of, nodes_of}
 use Rattle.maptree.specs.declared.slice.Slice.{Slice}
@@ -194,3 +194,10 @@ without_empty ((n ∷ b) ∷ bs) = let e = some_nodes (length b) in rw e (ap (λ
 pub some_block : (bs : List (List Node)) → 0 < length (nodes_in bs) → 0 < length bs
 some_block [] some = absurd (omega (arith, some))
 some_block (b ∷ bs) some = omega arith
+
+-- two blocks joined have the nodes of both
+pub joined_blocks : (bs : List (List Node)) (k : ℕ) → suc k < length bs → nodes_in (set (remove bs (suc k)) k (get_or bs k [] ++ get_or bs (suc k) [])) ≡ nodes_in bs
+joined_blocks [] k within = absurd (omega (arith, within))
+joined_blocks (x ∷ []) zero within = absurd (omega (arith, within))
+joined_blocks (x ∷ y ∷ bs) zero within = append_assoc x y (nodes_in bs)
+joined_blocks (x ∷ bs) (suc k) within = ap (λ l. x ++ l) (joined_blocks bs k (omega (arith, within)))

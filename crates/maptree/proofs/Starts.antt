@@ -1,13 +1,12 @@
 -- For each block, how many nodes stand before it.
-use Rattle.std.proofs.Common.{◌≡◌, ℕ, ◌+◌, ◌<◌, ◌≤◌, List, [], ◌∷◌, ◌++◌, length, take, get_or, set, map, Option, sym, ap, ◌∙◌, subst, arith, ◌⊎◌, inl, inr}
-use Rattle.std.specs.List.{slice_index}
-use Rattle.std.proofs.lemmas.List.{get_or_default, get_or-take, get_or_at, get_or_append_left, length-set, length-take-le, length-append, take-set-le, take-map, length-map, take_all}
+use Rattle.std.proofs.Common.{◌≡◌, ℕ, ◌+◌, ◌<◌, ◌≤◌, List, [], length, take, get_or, set, map, Option, sym, ap, ◌∙◌, subst, arith, ◌⊎◌, inl, inr}
+use Rattle.std.proofs.lemmas.List.{get_or-take, length-set, length-take-le, take-set-le, take-map, length-map, take_all}
 use Rattle.std.proofs.Math.Seq.{take-set-lt}
 use Rattle.maptree.specs.declared.node.Node.{Node}
 use Rattle.space.specs.declared.place.Place.{Place}
 use Rattle.maptree.specs.Renamings.{nodes_renamed}
-use Rattle.maptree.specs.Blocks.{nodes_in, AreStarts}
-use Rattle.maptree.proofs.InBlocks.{count_cut}
+use Rattle.maptree.specs.Blocks.{nodes_in, AreStarts, Grouped, number_at}
+use Rattle.maptree.proofs.InBlocks.{count_cut, count_to}
 use Rattle.maptree.proofs.BlockChanges.{first_of, count_set, renamed_in}
 
 -- before a later block no fewer nodes stand
@@ -22,16 +21,23 @@ pub before_all : (bs : List (List Node)) (k : ℕ) → length (nodes_in (take k 
 before_all bs k = let cut = count_cut bs k in omega (arith, cut)
 
 -- a number as it is read
-pub start_at : (bs : List (List Node)) (starts : List ℕ) (k d : ℕ) → AreStarts bs starts → k < length bs → get_or starts k d ≡ length (nodes_in (take k bs))
-start_at bs starts k d are within = get_or_default starts k d 0 (omega (arith, are.count, within)) ∙ are.each k within
+pub start_read : (items bs : List (List Node)) (starts : Grouped) (k n : ℕ) → items ≡ bs → AreStarts items starts → k < length items → n ≡ number_at starts k → n ≡ length (nodes_in (take k bs))
+start_read items bs starts k n same are within is = is ∙ are.each k within ∙ ap (λ l. length (nodes_in (take k l))) same
 
-pub start_read : (items bs : List (List Node)) (starts : List ℕ) (k n : ℕ) → items ≡ bs → AreStarts items starts → k < length items → n ≡ get_or starts k n → n ≡ length (nodes_in (take k bs))
-start_read items bs starts k n same are within is = is ∙ start_at items starts k n are within ∙ ap (λ l. length (nodes_in (take k l))) same
+-- behind a block there are the nodes before it and its own
+pub has_nodes : (bs : List (List Node)) (starts : Grouped) (k n : ℕ) → AreStarts bs starts → k < length bs → n ≤ length (get_or bs k []) → (j : ℕ) → k < j → j < length starts.inside → number_at starts k + n ≤ number_at starts j
+has_nodes bs starts k n are within less j behind inside =
+    let count = are.count in
+    let here = are.each k within in
+    let there = are.each j (omega (arith, count, inside)) in
+    let next = count_to bs k within in
+    let later = before_later bs (k + 1) j (omega (arith, behind)) in
+    omega (arith, here, there, next, later, less)
 
 -- one block has other nodes
-pub starts_set : (bs : List (List Node)) (k : ℕ) (b : List Node) (starts next : List ℕ) → k < length bs → AreStarts bs starts → length next ≡ length starts
-    → ((j : ℕ) → j < k + 1 → slice_index next j ≡ slice_index starts j)
-    → ((j : ℕ) → k + 1 ≤ j → j < length starts → slice_index next j + length (get_or bs k []) ≡ slice_index starts j + length b)
+pub starts_set : (bs : List (List Node)) (k : ℕ) (b : List Node) (starts next : Grouped) → k < length bs → AreStarts bs starts → length next.inside ≡ length starts.inside
+    → ((j : ℕ) → j ≤ k → number_at next j ≡ number_at starts j)
+    → ((j : ℕ) → k < j → j < length starts.inside → number_at next j + length (get_or bs k []) ≡ number_at starts j + length b)
     → AreStarts (set bs k b) next
 starts_set bs k b starts next within are count before from = record {
   count = let same = length-set bs k b in omega (arith, same, count, are.count);
@@ -41,11 +47,11 @@ starts_set bs k b starts next within are count before from = record {
     order : (j k : ℕ) → (j ≤ k) ⊎ (k < j)
     order j k = grind arith
 
-    by : (j : ℕ) → j < length bs → (j ≤ k) ⊎ (k < j) → slice_index next j ≡ length (nodes_in (take j (set bs k b)))
-    by j less (inl upto) = before j (omega (arith, upto)) ∙ are.each j less ∙ ap (λ l. length (nodes_in l)) (sym (take-set-le j bs k b upto))
+    by : (j : ℕ) → j < length bs → (j ≤ k) ⊎ (k < j) → number_at next j ≡ length (nodes_in (take j (set bs k b)))
+    by j less (inl upto) = before j upto ∙ are.each j less ∙ ap (λ l. length (nodes_in l)) (sym (take-set-le j bs k b upto))
     by j less (inr behind) =
         let is = are.each j less in
-        let more = from j (omega (arith, behind)) (omega (arith, less, are.count)) in
+        let more = from j behind (omega (arith, less, are.count)) in
         let inside = length-take-le j bs (omega (arith, less)) in
         let counted = count_set (take j bs) k b (omega (arith, inside, behind)) in
         let same = ap length (get_or-take j bs k [] behind) in
@@ -53,18 +59,18 @@ starts_set bs k b starts next within are count before from = record {
         omega (arith, is, more, counted, same, there)
 
 -- all have as many
-pub starts_same : (bs next : List (List Node)) (starts : List ℕ) → AreStarts bs starts → length next ≡ length bs → ((j : ℕ) → length (nodes_in (take j next)) ≡ length (nodes_in (take j bs))) → AreStarts next starts
+pub starts_same : (bs next : List (List Node)) (starts : Grouped) → AreStarts bs starts → length next ≡ length bs → ((j : ℕ) → length (nodes_in (take j next)) ≡ length (nodes_in (take j bs))) → AreStarts next starts
 starts_same bs next starts are count same = record {
   count = omega (arith, are.count, count);
   each = λ j less. are.each j (omega (arith, less, count)) ∙ sym (same j);
 }
 
 -- one block more is counted
-pub starts_more : (bs : List (List Node)) (i before : ℕ) (starts next : List ℕ) → i < length bs → AreStarts (take i bs) starts → before ≡ length (nodes_in (take i bs)) → next ≡ starts ++ before ∷ [] → AreStarts (take (i + 1) bs) next
-starts_more bs i before starts next within are is_before is =
+pub starts_more : (bs : List (List Node)) (i before : ℕ) (starts next : Grouped) → i < length bs → AreStarts (take i bs) starts → before ≡ length (nodes_in (take i bs)) → length next.inside ≡ length starts.inside + 1
+    → ((j : ℕ) → j < length starts.inside → number_at next j ≡ number_at starts j) → number_at next (length starts.inside) ≡ before → AreStarts (take (i + 1) bs) next
+starts_more bs i before starts next within are is_before longer others last =
     let old = length-take-le i bs (omega (arith, within)) in
     let new = length-take-le (i + 1) bs (omega (arith, within)) in
-    let longer = ap length is ∙ length-append starts (before ∷ []) in
     record {
       count = omega (arith, old, new, longer, are.count);
       each = λ j less. by j (order j (omega (arith, new, less)));
@@ -73,23 +79,66 @@ starts_more bs i before starts next within are is_before is =
     order : (j : ℕ) → j < i + 1 → (j < i) ⊎ (j ≡ i)
     order j less = grind arith
 
-    size : length starts ≡ i
+    size : length starts.inside ≡ i
     size = let old = length-take-le i bs (omega (arith, within)) in omega (arith, old, are.count)
 
-    by : (j : ℕ) → (j < i) ⊎ (j ≡ i) → slice_index next j ≡ length (nodes_in (take j (take (i + 1) bs)))
+    by : (j : ℕ) → (j < i) ⊎ (j ≡ i) → number_at next j ≡ length (nodes_in (take j (take (i + 1) bs)))
     by j (inl less) =
         let old = length-take-le i bs (omega (arith, within)) in
-        ap (λ l. get_or l j 0) is ∙ get_or_append_left starts (before ∷ []) 0 j (omega (arith, size, less)) ∙ are.each j (omega (arith, old, less))
+        others j (omega (arith, size, less)) ∙ are.each j (omega (arith, old, less))
         ∙ ap (λ l. length (nodes_in l)) (first_of j i bs (omega (arith, less)) ∙ sym (first_of j (i + 1) bs (omega (arith, less))))
     by j (inr same) =
-        ap (λ l. get_or l j 0) is ∙ get_or_at starts before [] 0 j (size ∙ sym same) ∙ is_before
+        ap (number_at next) (same ∙ sym size) ∙ last ∙ is_before
         ∙ ap (λ l. length (nodes_in l)) (sym (first_of i (i + 1) bs (omega arith)) ∙ ap (λ k. take k (take (i + 1) bs)) (sym same))
 
+-- none of those before has more before it
+pub none_above : (bs : List (List Node)) (starts : Grouped) (before : ℕ) → AreStarts bs starts → before ≡ length (nodes_in bs) → (j : ℕ) → j < length starts.inside → number_at starts j ≤ before
+none_above bs starts before are is j less =
+    let count = are.count in
+    let here = are.each j (omega (arith, count, less)) in
+    let upto = before_all bs j in
+    omega (arith, here, upto, is)
+
 -- all are counted
-pub starts_all : (bs : List (List Node)) (i : ℕ) (starts : List ℕ) → length bs ≤ i → AreStarts (take i bs) starts → AreStarts bs starts
+pub starts_all : (bs : List (List Node)) (i : ℕ) (starts : Grouped) → length bs ≤ i → AreStarts (take i bs) starts → AreStarts bs starts
 starts_all bs i starts upto are = subst (λ l. AreStarts l starts) (take_all i bs upto) are
 
 -- as many nodes stand before a block with other places
 pub renamed_before : (new : Place → Option Place) (bs : List (List Node)) (j : ℕ) → length (nodes_in (take j (map (nodes_renamed new) bs))) ≡ length (nodes_in (take j bs))
 renamed_before new bs j =
     ap (λ l. length (nodes_in l)) (take-map (nodes_renamed new) j bs) ∙ ap length (renamed_in new (take j bs)) ∙ length-map (nodes_in (take j bs)) _
+
+-- the seat behind so many nodes, in the last block before which fewer stand
+pub last_seat : (bs : List (List Node)) (starts : Grouped) (k i : ℕ) → AreStarts bs starts → k < length bs → (0 < k → number_at starts k < i) → (k + 1 < length starts.inside → i ≤ number_at starts (k + 1)) → i ≤ length (nodes_in bs)
+    → (number_at starts k ≤ i) × (i ≤ number_at starts k + length (get_or bs k []))
+last_seat bs starts k i are within below next most = (upto (first k), by (last (k + 1) (length bs)))
+  where
+    here : number_at starts k ≡ length (nodes_in (take k bs))
+    here = are.each k within
+
+    first : (k : ℕ) → (k ≡ 0) ⊎ (0 < k)
+    first k = grind arith
+
+    none : (k : ℕ) → k ≡ 0 → length (nodes_in (take k bs)) ≡ 0
+    none k is = ap (λ n. length (nodes_in (take n bs))) is
+
+    upto : (k ≡ 0) ⊎ (0 < k) → number_at starts k ≤ i
+    upto (inl is) = let start = here in let zero = none k is in omega (arith, start, zero)
+    upto (inr some) = let less = below some in omega (arith, less)
+
+    last : (a b : ℕ) → (a < b) ⊎ (b ≤ a)
+    last a b = grind arith
+
+    by : (k + 1 < length bs) ⊎ (length bs ≤ k + 1) → i ≤ number_at starts k + length (get_or bs k [])
+    by (inl more) =
+        let start = here in
+        let count = are.count in
+        let there = are.each (k + 1) more in
+        let bound = next (omega (arith, more, count)) in
+        let behind = count_to bs k within in
+        omega (arith, start, there, bound, behind)
+    by (inr end) =
+        let start = here in
+        let all = ap (λ l. length (nodes_in l)) (take_all (k + 1) bs end) in
+        let behind = count_to bs k within in
+        omega (arith, start, all, behind, most)

@@ -1,5 +1,5 @@
 -- A list of nodes in blocks.
-use Rattle.std.specs.Prelude.{◌≡◌, ℕ, ◌+◌, ◌<◌, ◌≤◌, nat_le, ◌&&◌, Bool, true, List, [], ◌∷◌, length, take, drop, get_or, set, insert, slice_index}
+use Rattle.std.specs.Prelude.{◌≡◌, ℕ, ◌+◌, ◌*◌, ◌/◌, ◌^◌, ◌<◌, ◌≤◌, nat_le, ◌&&◌, Bool, true, List, [], ◌∷◌, length, take, drop, get_or, set, insert, slice_index}
 use Rattle.std.specs.List.{flat_map}
 use Rattle.maptree.specs.declared.node.Node.{Node}
 use Rattle.maptree.specs.declared.blocks.Seat.{Seat}
@@ -23,9 +23,9 @@ pub record IsSeat (bs : List (List Node)) (i : ℕ) (seat : Seat) : Type 0 where
   pub upto : seat.offset ≤ length (get_or bs seat.block [])
   pub before : length (nodes_in (take seat.block bs)) + seat.offset ≡ i
 
--- the blocks with the second half of one in a block of its own behind it
-abbrev pub split_at_half : List (List Node) → ℕ → List (List Node)
-split_at_half bs k = insert (set bs k (take 128 (get_or bs k []))) (k + 1) (drop 128 (get_or bs k []))
+-- the blocks with the nodes of one from a position on in a block of their own behind it
+abbrev pub split_block : ℕ → List (List Node) → ℕ → List (List Node)
+split_block at bs k = insert (set bs k (take at (get_or bs k []))) (k + 1) (drop at (get_or bs k []))
 
 -- a list in blocks: for how many more nodes there is room
 pub record Blocked : Type 0 where
@@ -37,10 +37,38 @@ pub record Listed : Type 0 where
   pub nodes : List Node
   pub room : ℕ
 
+-- numbers in groups of 64, each as what it is more than that of its group, with room for so many
+pub record Grouped : Type 0 where
+  pub groups : List ℕ
+  pub inside : List ℕ
+  pub capacity : ℕ
+
+-- one of the numbers
+abbrev pub number_at : Grouped → ℕ → ℕ
+number_at s k = slice_index s.groups (k / 64) + slice_index s.inside k
+
+-- as many groups as there have to be, and the first number of each is that of the group
+pub record AreGrouped (s : Grouped) : Type 0 where
+  pub enough : length s.inside ≤ 64 * length s.groups
+  pub few : 64 * length s.groups < length s.inside + 64
+  pub first : (g : ℕ) → 64 * g < length s.inside → slice_index s.inside (64 * g) ≡ 0
+  pub fits : (k : ℕ) → k < length s.inside → number_at s k < 2 ^ 64
+
 -- for each block how many nodes stand before it
-pub record AreStarts (bs : List (List Node)) (starts : List ℕ) : Type 0 where
-  pub count : length starts ≡ length bs
-  pub each : (k : ℕ) → k < length bs → slice_index starts k ≡ length (nodes_in (take k bs))
+pub record AreStarts (bs : List (List Node)) (starts : Grouped) : Type 0 where
+  pub count : length starts.inside ≡ length bs
+  pub each : (k : ℕ) → k < length bs → number_at starts k ≡ length (nodes_in (take k bs))
+
+-- a depth for each block, with room for so many
+pub record Bounds : Type 0 where
+  pub leasts : List ℕ
+  pub capacity : ℕ
+
+-- for each group of 64 a number that is no greater than theirs
+pub record AreLow (groups numbers : List ℕ) : Type 0 where
+  pub enough : length numbers ≤ 64 * length groups
+  pub few : 64 * length groups < length numbers + 64
+  pub each : (k : ℕ) → k < length numbers → slice_index groups (k / 64) ≤ slice_index numbers k
 
 -- for each block a depth that none of its nodes goes below
 pub record AreLeasts (bs : List (List Node)) (leasts : List ℕ) : Type 0 where

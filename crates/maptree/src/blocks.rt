@@ -1,12 +1,13 @@
 //! A list of nodes in blocks, so that a change of it touches the blocks that it changes.
 
-ghost use Rattle.std.specs.Prelude.{◌≡◌, ◌≤◌, ◌<◌, ◌+◌, ◌^◌, ℕ, OnOk, length, map, slice_index, vec_capacity};
-ghost use Rattle.maptree.specs.Blocks.{AreLeasts, AreStarts, nodes_in};
+ghost use Rattle.std.specs.Prelude.{◌≡◌, ◌≤◌, ◌<◌, ◌+◌, ◌-◌, ◌^◌, ℕ, [], OnOk, get_or, length, map, vec_capacity};
+ghost use Rattle.maptree.specs.Blocks.{AreLeasts, AreStarts, block_size, nodes_in};
 ghost use Rattle.maptree.specs.PlaceMaps.{place_for};
 ghost use Rattle.maptree.specs.Renamings.{nodes_renamed};
 
 use crate::block::{BLOCK_SIZE, Block};
-use crate::eights::{pass_above, pass_back};
+use crate::block_leasts::Leasts;
+use crate::block_starts::Starts;
 use crate::hints::Hints;
 use crate::node::Node;
 use crate::place_map::PlaceMap;
@@ -19,8 +20,14 @@ use std::ops::Range;
 /// How many nodes a block is given where many are made at once.
 const FILLED: usize = 192;
 
-/// How many nodes stay in a block that is split.
+/// A block of fewer nodes is joined to one beside it, if that has room for them.
+const SPARSE: usize = 64;
+
+/// How many nodes stay in a block that is split in the middle.
 const HALF: usize = 128;
+
+/// How many nodes from either end of a block on are its end.
+const END: usize = 16;
 
 /// A seat in a list of blocks: a block, and how many of its nodes stand before the seat.
 #[derive(Clone, Copy)]
@@ -34,9 +41,9 @@ pub struct Seat {
 pub struct Blocks {
     blocks: Vec<Block>,
     /// For each block, how many nodes stand before it.
-    starts: Vec<usize>,
+    starts: Starts,
     /// For each block, a depth that none of its nodes goes below.
-    leasts: Vec<u32>,
+    leasts: Leasts,
     /// Blocks for nodes to come: at least as many as insertions were promised, each of which may split a block.
     spare: Vec<Block>,
     /// How many insertions will take no memory.
@@ -54,7 +61,7 @@ impl Model for Blocks {
 
     ghost view = { λ b. record { blocks = b.blocks.items; room = b.room } };
 
-    ghost invariant = { λ b. (b.len ≡ length (nodes_in b.blocks.items)) × (0 < length b.blocks.items) × (b.room ≤ length b.spare.items) × (length b.blocks.items + b.room ≤ vec_capacity b.blocks) × (b.len + b.room < 2 ^ 64) × AreStarts b.blocks.items b.starts.items × (length b.blocks.items + b.room ≤ vec_capacity b.starts) × AreLeasts b.blocks.items b.leasts.items × (length b.blocks.items + b.room ≤ vec_capacity b.leasts) };
+    ghost invariant = { λ b. (b.len ≡ length (nodes_in b.blocks.items)) × (0 < length b.blocks.items) × (b.room ≤ length b.spare.items) × (length b.blocks.items + b.room ≤ vec_capacity b.blocks) × (b.len + b.room < 2 ^ 64) × AreStarts b.blocks.items b.starts × (length b.blocks.items + b.room ≤ b.starts.capacity) × AreLeasts b.blocks.items b.leasts.leasts × (length b.blocks.items + b.room ≤ b.leasts.capacity) };
 }
 
 impl Blocks {
@@ -62,7 +69,7 @@ impl Blocks {
     ghost use Rattle.std.specs.List.{slice_range};
     ghost use Rattle.space.specs.Place.{same_place};
     ghost use Rattle.maptree.specs.declared.node.Node.{Node};
-    ghost use Rattle.maptree.specs.Blocks.{block_size, nodes_in, IsSeat, split_at_half};
+    ghost use Rattle.maptree.specs.Blocks.{block_size, nodes_in, IsSeat, split_block};
     ghost use Rattle.maptree.specs.Nodes.{are_distinct, run_len, last_less};
     ghost use Rattle.maptree.specs.Origins.{AreRising};
     ghost use Rattle.maptree.specs.Cuts.{AreGaps, count_of, joined, nodes_of, outside};
@@ -90,20 +97,10 @@ impl Blocks {
         ensures seat { IsSeat self.now.blocks i result }
         ensures behind { 0 < i → 0 < result.offset }
     {
-        // The block is the last one before which fewer nodes stand.
-        let mut block = 0;
-        let mut end = self.starts.len();
-        while end - block > 1 {
-            let middle = block + (end - block) / 2;
-            if self.starts[middle] < i {
-                block = middle;
-            } else {
-                end = middle;
-            }
-        }
+        let block = self.starts.last_below(i);
         Seat {
             block,
-            offset: i - self.starts[block],
+            offset: i - self.starts.get(block),
         }
     }
 
@@ -137,10 +134,12 @@ impl Blocks {
         requires { are_distinct (nodes_in self.now.blocks) ≡ true }
         ensures { result ≡ position (λ n. same_place place n.place) (nodes_in self.now.blocks) }
     {
-        if let Some(block) = self.hints.get(place) {
-            if block < self.blocks.len() {
-                if let Some(offset) = self.blocks[block].find(place) {
-                    return Some(self.starts[block] + offset);
+        for turn in 0..self.hints.turns() {
+            if let Some(block) = self.hints.get(place, turn) {
+                if block < self.blocks.len() {
+                    if let Some(offset) = self.blocks[block].find(place) {
+                        return Some(self.starts.get(block) + offset);
+                    }
                 }
             }
         }
@@ -153,7 +152,7 @@ impl Blocks {
     {
         for k in 0..self.blocks.len() {
             if let Some(offset) = self.blocks[k].find(place) {
-                return Some(self.starts[k] + offset);
+                return Some(self.starts.get(k) + offset);
             }
         }
         None
@@ -179,13 +178,13 @@ impl Blocks {
         requires { block ≤ length self.now.blocks }
         ensures { result ≡ length (nodes_in (take block self.now.blocks)) + run_len depth (nodes_in (drop block self.now.blocks)) }
     {
-        let first = pass_above(&self.leasts, block, depth);
+        let first = self.leasts.pass_above(block, depth);
         for k in first..self.blocks.len() {
-            if self.leasts[k] as usize <= depth {
+            if self.leasts.get(k) as usize <= depth {
                 let block = &self.blocks[k];
                 let deeper = block.deeper(0, depth);
                 if deeper < block.len() {
-                    return self.starts[k] + deeper;
+                    return self.starts.get(k) + deeper;
                 }
             }
         }
@@ -210,12 +209,12 @@ impl Blocks {
         requires { block ≤ length self.now.blocks }
         ensures { result ≡ last_less depth (nodes_in (take block self.now.blocks)) }
     {
-        let end = pass_back(&self.leasts, block, depth);
+        let end = self.leasts.pass_back(block, depth);
         for k in (0..end).rev() {
-            if (self.leasts[k] as usize) < depth {
+            if (self.leasts.get(k) as usize) < depth {
                 let block = &self.blocks[k];
                 if let Some(r) = block.last_above(block.len(), depth) {
-                    return Some(self.starts[k] + r);
+                    return Some(self.starts.get(k) + r);
                 }
             }
         }
@@ -248,9 +247,9 @@ impl Blocks {
         let block = &mut self.blocks[seat.block];
         block.insert(seat.offset, node);
         let number = block.number();
-        self.leasts[seat.block] = block.least();
+        self.leasts.set(seat.block, block.least());
         self.len += 1;
-        add_from(&mut self.starts, seat.block + 1, 1);
+        self.starts.add(seat.block, 1);
         self.hints.put(node.place, number);
     }
 
@@ -270,38 +269,35 @@ impl Blocks {
             self.room -= 1;
             return seat;
         }
-        self.split(seat.block);
-        if seat.offset <= HALF {
+        let front = front_of_split(seat.offset);
+        self.split(seat.block, front);
+        if seat.offset <= front {
             return seat;
         }
         Seat {
             block: seat.block + 1,
-            offset: seat.offset - HALF,
+            offset: seat.offset - front,
         }
     }
 
-    /// Moves the second half of a block to a spare one behind it. One insertion less is promised.
-    fn split(&mut self, block: usize)
+    /// Moves the nodes of a block from a position on to a spare one behind it. One insertion less is promised.
+    fn split(&mut self, block: usize, at: usize)
         requires within { block < length self.old.blocks }
+        requires at { at ≤ length (get_or self.old.blocks block []) }
         requires room { 0 < self.old.room }
-        requires full { length (get_or self.old.blocks block []) ≡ block_size }
-        ensures blocks { self.new.blocks ≡ split_at_half self.old.blocks block }
+        ensures blocks { self.new.blocks ≡ split_block at self.old.blocks block }
         ensures room { self.new.room + 1 ≡ self.old.room }
     {
         let mut back = self.spare.pop().unwrap();
         let front = &mut self.blocks[block];
-        front.split_into(HALF, &mut back);
-        self.leasts[block] = front.least();
-        let noted = self.leasts.insert(block + 1, back.least());
-        prove!(noted.is_ok());
-        let number = self.hints.number();
-        back.set_number(number);
-        hint_nodes(&mut self.hints, &back);
+        front.split_into(at, &mut back);
+        number_parts(&mut self.hints, front, &mut back);
         let inserted = self.blocks.insert(block + 1, back);
         prove!(inserted.is_ok());
         self.room -= 1;
         count(&mut self.starts, &self.blocks);
-        hint_blocks(&mut self.hints, &self.blocks, block + 1);
+        list_leasts(&mut self.leasts, &self.blocks);
+        hint_blocks(&mut self.hints, &self.blocks, block);
     }
 
     /// Memory for so many more nodes: after it so many insertions take none.
@@ -354,9 +350,9 @@ impl Blocks {
             rest = others;
         }
         hint_blocks(&mut hints, &blocks, 0);
-        let mut starts = Vec::with_capacity(alloc, blocks.len())?;
+        let mut starts = Starts::with_capacity(alloc, blocks.len())?;
         count(&mut starts, &blocks);
-        let mut leasts = Vec::with_capacity(alloc, blocks.len())?;
+        let mut leasts = Leasts::with_capacity(alloc, blocks.len())?;
         list_leasts(&mut leasts, &blocks);
         Ok(Blocks {
             blocks,
@@ -410,26 +406,27 @@ impl Blocks {
         forget_nodes(&mut self.hints, &removed.nodes()[from..to]);
         removed.remove(from, to);
         self.len -= to - from;
-        subtract_from(&mut self.starts, block + 1, to - from);
+        self.starts.subtract(block, to - from);
     }
 
-    /// Takes the nodes from a position to another out, and says whether a block has no nodes now.
+    /// Takes the nodes from a position to another out, and says whether a block has few nodes now that had more.
     pub fn remove(&mut self, from: usize, to: usize) -> bool
         requires rising { from ≤ to }
         requires within { to ≤ length (nodes_in self.old.blocks) }
         ensures nodes { nodes_in self.new.blocks ≡ take from (nodes_in self.old.blocks) ++ drop to (nodes_in self.old.blocks) }
         ensures room { self.new.room ≡ self.old.room }
     {
-        let mut emptied = false;
+        let mut sparse = false;
         let mut left = to - from;
         while left > 0 {
             let Seat { block, offset } = self.seat_of(from);
-            let taken = left.min(self.blocks[block].len() - offset);
+            let len = self.blocks[block].len();
+            let taken = left.min(len - offset);
             self.remove_in_block(block, offset, offset + taken);
-            emptied |= self.blocks[block].nodes().is_empty();
+            sparse |= len == taken || len - taken < SPARSE && SPARSE <= len;
             left -= taken;
         }
-        emptied
+        sparse
     }
 
     /// Takes ranges out.
@@ -438,25 +435,26 @@ impl Blocks {
         ensures nodes { nodes_in self.new.blocks ≡ outside 0 ranges.now (nodes_in self.old.blocks) }
         ensures room { self.new.room ≡ self.old.room }
     {
-        let mut emptied = false;
+        let mut sparse = false;
         let mut gone = 0;
         for range in ranges {
-            emptied |= self.remove(range.start - gone, range.end - gone);
+            sparse |= self.remove(range.start - gone, range.end - gone);
             gone += range.end - range.start;
         }
-        if emptied {
-            self.drop_empty();
+        if sparse {
+            self.close_up();
         }
     }
 
-    /// Lets blocks go that have no nodes, if others have some.
-    fn drop_empty(&mut self)
+    /// Joins blocks of few nodes, and lets those go that have none, if others have some.
+    fn close_up(&mut self)
         ensures nodes { nodes_in self.new.blocks ≡ nodes_in self.old.blocks }
         ensures room { self.new.room ≡ self.old.room }
     {
         if self.len == 0 {
             return;
         }
+        join_sparse(&mut self.blocks, &mut self.hints);
         free_empty(&mut self.hints, &self.blocks);
         self.blocks.retain(|block| !block.nodes().is_empty());
         count(&mut self.starts, &self.blocks);
@@ -492,56 +490,74 @@ impl Blocks {
 }
 
 /// How many nodes stand before each of some blocks. This takes no memory.
-fn count(starts: &mut Vec<usize>, blocks: &[Block])
-    requires room { length blocks.now ≤ vec_capacity starts.old }
+fn count(starts: &mut Starts, blocks: &[Block])
+    requires room { length blocks.now ≤ starts.old.capacity }
     requires fits { length (nodes_in blocks.now) < 2 ^ 64 }
-    ensures starts { AreStarts blocks.now starts.new.items }
-    ensures capacity { vec_capacity starts.old ≤ vec_capacity starts.new }
+    ensures starts { AreStarts blocks.now starts.new }
+    ensures capacity { starts.old.capacity ≤ starts.new.capacity }
 {
     starts.clear();
     let mut before = 0;
     for block in blocks {
-        let pushed = starts.push(before);
-        prove!(pushed.is_ok());
+        starts.push(before);
         before += block.len();
     }
 }
 
 /// For each of some blocks a depth that none of its nodes goes below. This takes no memory.
-fn list_leasts(leasts: &mut Vec<u32>, blocks: &[Block])
-    requires room { length blocks.now ≤ vec_capacity leasts.old }
-    ensures leasts { AreLeasts blocks.now leasts.new.items }
-    ensures capacity { vec_capacity leasts.old ≤ vec_capacity leasts.new }
+fn list_leasts(leasts: &mut Leasts, blocks: &[Block])
+    requires room { length blocks.now ≤ leasts.old.capacity }
+    ensures leasts { AreLeasts blocks.now leasts.new.leasts }
+    ensures capacity { leasts.old.capacity ≤ leasts.new.capacity }
 {
     leasts.clear();
     for block in blocks {
-        let pushed = leasts.push(block.least());
-        prove!(pushed.is_ok());
+        leasts.push(block.least());
     }
 }
 
-/// So many more nodes stand before each block from one on.
-fn add_from(starts: &mut [usize], from: usize, n: usize)
-    requires { (k : ℕ) → from ≤ k → k < length starts.old → slice_index starts.old k + n < 2 ^ 64 }
-    ensures count { length starts.new ≡ length starts.old }
-    ensures before { (k : ℕ) → k < from → slice_index starts.new k ≡ slice_index starts.old k }
-    ensures from { (k : ℕ) → from ≤ k → k < length starts.old → slice_index starts.new k ≡ slice_index starts.old k + n }
+/// How many nodes of a full block stay in it when it is split, where a node is put behind so many of them. At the ends of a
+/// block most of them stay together, so that nodes that are put in one behind another, or one before another, leave full blocks.
+fn front_of_split(offset: usize) -> usize
+    ensures some { 0 < result }
+    ensures less { result < 256 }
 {
-    for k in from..starts.len() {
-        starts[k] += n;
+    if offset <= END {
+        offset.max(1)
+    } else if offset >= BLOCK_SIZE - END {
+        offset.min(BLOCK_SIZE - 1)
+    } else {
+        HALF
     }
 }
 
-/// So many nodes less stand before each block from one on.
-fn subtract_from(starts: &mut [usize], from: usize, n: usize)
-    requires { (k : ℕ) → from ≤ k → k < length starts.old → n ≤ slice_index starts.old k }
-    ensures count { length starts.new ≡ length starts.old }
-    ensures before { (k : ℕ) → k < from → slice_index starts.new k ≡ slice_index starts.old k }
-    ensures from { (k : ℕ) → from ≤ k → k < length starts.old → slice_index starts.new k + n ≡ slice_index starts.old k }
+/// Joins blocks that stand side by side, where they have no more nodes together than a block is given.
+fn join_sparse(blocks: &mut Vec<Block>, hints: &mut Hints)
+    ensures nodes { nodes_in blocks.new.items ≡ nodes_in blocks.old.items }
+    ensures fewer { length blocks.new.items ≤ length blocks.old.items }
+    ensures capacity { vec_capacity blocks.old ≤ vec_capacity blocks.new }
 {
-    for k in from..starts.len() {
-        starts[k] -= n;
+    for k in (1..blocks.len()).rev() {
+        if blocks[k - 1].len() + blocks[k].len() <= FILLED {
+            join(blocks, hints, k);
+        }
     }
+}
+
+/// Joins a block to the one before it.
+fn join(blocks: &mut Vec<Block>, hints: &mut Hints, k: usize)
+    requires some { 0 < k }
+    requires within { k < length blocks.old.items }
+    requires few { length (get_or blocks.old.items (k - 1) []) + length (get_or blocks.old.items k []) ≤ block_size }
+    ensures nodes { nodes_in blocks.new.items ≡ nodes_in blocks.old.items }
+    ensures fewer { length blocks.new.items + 1 ≡ length blocks.old.items }
+    ensures capacity { vec_capacity blocks.old ≤ vec_capacity blocks.new }
+{
+    let back = blocks.remove(k);
+    let front = &mut blocks[k - 1];
+    front.extend(back.nodes());
+    hints.free(back.number());
+    hint_nodes(hints, front);
 }
 
 /// Blocks of no nodes, until there are so many.
@@ -565,6 +581,23 @@ fn rename_blocks(blocks: &mut [Block], hints: &mut Hints, new: &PlaceMap)
         forget_nodes(hints, block.nodes());
         block.rename_all(new);
         hint_nodes(hints, block);
+    }
+}
+
+/// A number for each of the two blocks that one became: the one with fewer nodes gets a new one, since that is noted for each of
+/// its nodes.
+fn number_parts(hints: &mut Hints, front: &mut Block, back: &mut Block)
+    ensures front { front.new ≡ front.old }
+    ensures back { back.new ≡ back.old }
+{
+    let number = hints.number();
+    if back.len() <= front.len() {
+        back.set_number(number);
+        hint_nodes(hints, back);
+    } else {
+        back.set_number(front.number());
+        front.set_number(number);
+        hint_nodes(hints, front);
     }
 }
 

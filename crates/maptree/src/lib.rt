@@ -2,9 +2,10 @@
 #![tactic(auto)]
 
 mod block;
+mod block_leasts;
+mod block_starts;
 mod blocks;
 mod cutting;
-mod eights;
 mod ends;
 mod growing;
 mod hints;
@@ -14,6 +15,7 @@ mod node_list;
 mod place_map;
 mod replacing;
 mod scans;
+mod searching;
 mod shifts;
 mod slice;
 #[cfg(test)]

@@ -76,6 +76,16 @@ impl NodeList {
         }
     }
 
+    /// How many nodes there are.
+    pub fn len(&self) -> usize
+        ensures { result ≡ length self.now.nodes }
+    {
+        match &self.form {
+            Form::Few(nodes) => nodes.len(),
+            Form::Many(blocks) => blocks.len(),
+        }
+    }
+
     /// The node at a position.
     pub fn get(&self, i: usize) -> Node
         requires { i < length self.now.nodes }

@@ -8,12 +8,17 @@ ghost use Rattle.maptree.specs.Nodes.{is_forest, origins_of, run_len};
 use crate::node::Node;
 use crate::node_list::NodeList;
 use crate::place_map::PlaceMap;
+use crate::searching::runs_of;
 use crate::slice::Slice;
 use space::{NoMemory, Place};
 use std::alloc::{AllocError, Global};
 use std::collections::BTreeSet;
 use std::marker::Model;
 use std::ops::Range;
+
+/// Places are searched for one by one where the tree has so many nodes for each of them; where it has fewer, one pass over the
+/// tree serves them all.
+const SEARCHED: usize = 16;
 
 /// The derivation tree of one frame.
 ///
@@ -155,6 +160,10 @@ impl Tree {
     {
         if let [place] = places {
             return self.run_of_place(alloc, *place);
+        }
+        if places.len() <= self.nodes.len() / SEARCHED {
+            let found = runs_of(alloc, &self.nodes, places)?;
+            return Ok(found);
         }
         let named = set_of(alloc, places)?;
         let runs = self.nodes.outermost(alloc, &named)?;

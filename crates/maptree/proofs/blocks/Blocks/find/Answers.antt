@@ -17,7 +17,7 @@ overflow_add-result c =
     let within : c.in-Some.block < length bs = search (rules, arith, count) in
     let upto = (counts bs c.in-Some.block block within (read_of c.self.inside.blocks.items bs c.in-Some.block block same c.index.ensures)).upto in
     let inside = found_within (λ n. same_place c.args.place n.place) block c.in-Some-find.offset (sym c.find.ensures ∙ c.in-Some-find.is) in
-    let before = start_read c.self.inside.blocks.items bs c.self.inside.starts.items c.in-Some.block c.index-in-Some-find.result.now same c.self.invariant.5 (search (rules, arith)) c.index-in-Some-find.ensures in
+    let before = start_read c.self.inside.blocks.items bs c.self.inside.starts c.in-Some.block c.get-in-Some-find.result same c.self.invariant.5 (search (rules, arith)) c.get-in-Some-find.ensures in
     search (rules, arith, size, upto, inside, before)
 
 pub returns-in-Some-find : goal.returns-in-Some-find
@@ -27,6 +27,6 @@ returns-in-Some-find c =
     let same : c.self.inside.blocks.items ≡ bs = ap (λ v. v.blocks) c.self.view_is in
     let count = ap length same in
     let within : c.in-Some.block < length bs = search (rules, arith, count) in
-    ap (λ n. Some (n + c.in-Some-find.offset)) (start_read c.self.inside.blocks.items bs c.self.inside.starts.items c.in-Some.block c.index-in-Some-find.result.now same c.self.invariant.5 (search (rules, arith)) c.index-in-Some-find.ensures)
+    ap (λ n. Some (n + c.in-Some-find.offset)) (start_read c.self.inside.blocks.items bs c.self.inside.starts c.in-Some.block c.get-in-Some-find.result same c.self.invariant.5 (search (rules, arith)) c.get-in-Some-find.ensures)
     ∙ sym (stands_in_block bs c.in-Some.block block c.args.place c.in-Some-find.offset c.requires within (read_of c.self.inside.blocks.items bs c.in-Some.block block same c.index.ensures)
     (sym c.find.ensures ∙ c.in-Some-find.is))

@@ -4,8 +4,7 @@ use Rattle.std.specs.Prelude.{insert}
 use Rattle.std.proofs.lemmas.List.{length-set}
 use Rattle.std.proofs.lemmas.List.Edits.{length-insert}
 use Rattle.maptree.specs.Blocks.{nodes_in}
-use Rattle.std.proofs.lemmas.List.{with_items_is}
-use Rattle.maptree.specs.Blocks.{AreStarts}
+use Rattle.maptree.specs.Blocks.{AreLeasts, AreStarts}
 use Rattle.maptree.proofs.InBlocks.{read_of, as_read}
 use Rattle.maptree.proofs.Starts.{starts_set, before_all}
 use Rattle.maptree.proofs.Leasts.{leasts_set}
@@ -30,8 +29,8 @@ returns-clause-nodes c =
     ∙ ap (λ l. insert l c.args.i c.args.node) c.seat_with_room-seat.ensures.nodes
 
 -- before each block stand fewer than there are
-pub add_from-requires : goal.add_from-requires
-add_from-requires c j behind less =
+pub add-requires-clause-fits : goal.add-requires-clause-fits
+add-requires-clause-fits c j behind less =
     let inv = c.self.invariant in
     let items = c.self.inside.blocks.items in
     let count = inv.5.count in
@@ -65,17 +64,16 @@ invariant_of-self c =
     let size = length-set items seat.block new in
     let kept : c.self.inside.room ≡ c.seat_with_room-seat.new.self.room = search rules in
     let inv = c.self.invariant in
-    let starts = c.self.inside.starts.items in
-    let vec = with_items_is c.self.inside.starts c.add_from.new.starts (search (rules, arith)) in
-    let next = c.add_from.new.starts in
-    let same_starts : AreStarts (set items seat.block new) next = starts_set items seat.block new starts next within inv.5 (search (rules, arith)) (λ j less. search rules) (λ j behind less. search (rules, arith)) in (
+    let starts = c.self.inside.starts in
+    let next = c.add.new.self in
+    let same_starts : AreStarts (set items seat.block new) next = starts_set items seat.block new starts next within inv.5 c.add.ensures.count c.add.ensures.upto (λ j behind less. let changed = c.add.ensures.behind j behind less in omega (arith, changed, read, more)) in (
       omega (arith, inv.0, counted, read, more),
       omega (arith, inv.1, size),
       inv.2,
       omega (arith, inv.3, size),
       omega (arith, c.seat_with_room-seat.ensures.fits, c.seat_with_room-seat.ensures.room, inv.0, ap (λ l. length (nodes_in l)) same, kept),
-      subst (AreStarts (set items seat.block new)) (sym vec) same_starts,
+      same_starts,
       search (rules, arith, size, inv.6),
-      leasts_set items seat.block new c.self.inside.leasts.items c.least.result within inv.7 c.least.ensures,
+      subst (AreLeasts (set items seat.block new)) (sym c.set.ensures.leasts) (leasts_set items seat.block new c.self.inside.leasts.leasts c.least.result within inv.7 c.least.ensures),
       search (rules, arith, size, inv.8),
     )

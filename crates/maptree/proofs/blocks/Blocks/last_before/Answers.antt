@@ -1,26 +1,25 @@
 -- A block of which no node is less deep is passed, or the last one stands in it.
-use Rattle.std.proofs.Common.{◌≡◌, ℕ, ◌≤◌, ◌<◌, ◌+◌, ◌-◌, length, take, subst, ap, rules, arith, ◌∙◌, sym, Some, None}
-use Rattle.std.specs.List.{slice_index}
+use Rattle.std.proofs.Common.{◌≡◌, ◌≤◌, ◌<◌, ◌+◌, ◌-◌, length, take, subst, ap, rules, arith, ◌∙◌, sym, Some, None}
 use Rattle.std.proofs.lemmas.List.{take_all}
 use Rattle.maptree.specs.Nodes.{last_less}
 use Rattle.maptree.specs.Blocks.{nodes_in, AreLeasts}
 use Rattle.maptree.proofs.LastLess.{later}
 use Rattle.maptree.proofs.InBlocks.{read_of, last_within, one_back}
 use Rattle.maptree.proofs.Starts.{start_read}
-use Rattle.maptree.proofs.Leasts.{block_not_above, blocks_not_above, least_read}
+use Rattle.maptree.proofs.Leasts.{block_not_above, blocks_not_above}
 use Rattle.maptree.proofs.blocks.Blocks.last_before.Goals as goal
 
 pub loop-k-init : goal.loop-k-init
 loop-k-init c =
     let bs = c.args.self.now.blocks in
-    let ls = c.self.inside.leasts.items in
+    let ls = c.self.inside.leasts.leasts in
     let same : c.self.inside.blocks.items ≡ bs = ap (λ v. v.blocks) c.self.view_is in
     let leasts = subst (λ l. AreLeasts l ls) same c.self.invariant.7 in
     let from = c.pass_back-end.result in
     let upto = c.pass_back-end.ensures.within in
     let end : from + (c.args.block - from) ≡ c.args.block = omega (arith, upto) in
     let within = c.requires in
-    let low = subst (λ l. (k : ℕ) → from ≤ k → k < c.args.block → c.args.depth ≤ slice_index l k) c.deref.ensures.value c.pass_back-end.ensures.not_below in
+    let low = c.pass_back-end.ensures.not_below in
     ap (λ k. last_less c.args.depth (nodes_in (take k bs))) (sym end)
     ∙ blocks_not_above bs ls leasts c.args.depth from (c.args.block - from) (omega (arith, end, within)) (λ k under less. low k under (omega (arith, less, end)))
 
@@ -37,7 +36,7 @@ overflow_add-result c =
     let upto = back.upto in
     let all : take c.len.result block ≡ block = take_all c.len.result block (search (rules, arith)) in
     let inside = last_within c.args.depth block c.in-Some.r (sym (ap (last_less c.args.depth) all) ∙ sym c.last_above.ensures ∙ c.in-Some.is) in
-    let before = start_read items bs c.self.inside.starts.items (c.loop-k.k - 1) c.index-in-Some.result.now same c.self.invariant.5 (search (rules, arith)) c.index-in-Some.ensures in
+    let before = start_read items bs c.self.inside.starts (c.loop-k.k - 1) c.get-in-Some.result same c.self.invariant.5 (search (rules, arith)) c.get-in-Some.ensures in
     search (rules, arith, counted, size, upto, inside, before)
 
 pub returns-in-Some : goal.returns-in-Some
@@ -50,7 +49,7 @@ returns-in-Some c =
     let back = one_back bs c.loop-k.k block c.loop-k-test.true within (read_of items bs (c.loop-k.k - 1) block same c.index-block.ensures) in
     let all : take c.len.result block ≡ block = take_all c.len.result block (search (rules, arith)) in
     let here : last_less c.args.depth block ≡ Some c.in-Some.r = sym (ap (last_less c.args.depth) all) ∙ sym c.last_above.ensures ∙ c.in-Some.is in
-    let before = start_read items bs c.self.inside.starts.items (c.loop-k.k - 1) c.index-in-Some.result.now same c.self.invariant.5 (search (rules, arith)) c.index-in-Some.ensures in
+    let before = start_read items bs c.self.inside.starts (c.loop-k.k - 1) c.get-in-Some.result same c.self.invariant.5 (search (rules, arith)) c.get-in-Some.ensures in
     ap (λ n. Some (n + c.in-Some.r)) before
     ∙ sym (c.loop-k.invariant ∙ back.last c.args.depth ∙ ap (λ o. later (length (nodes_in (take (c.loop-k.k - 1) bs))) o (last_less c.args.depth (nodes_in (take (c.loop-k.k - 1) bs)))) here)
 
@@ -68,11 +67,11 @@ loop-k-preserved-in_default c =
 pub loop-k-preserved : goal.loop-k-preserved
 loop-k-preserved c =
     let bs = c.args.self.now.blocks in
-    let ls = c.self.inside.leasts.items in
+    let ls = c.self.inside.leasts.leasts in
     let k = c.loop-k.k - 1 in
     let same : c.self.inside.blocks.items ≡ bs = ap (λ v. v.blocks) c.self.view_is in
     let within : k < length bs = search (rules, arith) in
     let one : k + 1 ≡ c.loop-k.k = let some = c.loop-k-test.true in omega (arith, some) in
     let leasts = subst (λ l. AreLeasts l ls) same c.self.invariant.7 in
-    let low = subst (λ n. c.args.depth ≤ n) (least_read bs ls k c.index.result.now leasts within c.index.ensures) c.if-index-depth.false in
+    let low = subst (λ n. c.args.depth ≤ n) c.get.ensures c.if-get-depth.false in
     c.loop-k.invariant ∙ ap (λ n. last_less c.args.depth (nodes_in (take n bs))) (sym one) ∙ block_not_above bs ls k leasts within c.args.depth low

@@ -1,9 +1,9 @@
 -- One block has fewer nodes.
-use Rattle.std.proofs.Common.{◌≡◌, ◌<◌, ◌+◌, [], length, get_or, set, take, drop, ap, sym, subst, rules, arith, ◌∙◌}
-use Rattle.std.proofs.lemmas.List.{length-set, length-append, length-take-le, length-drop, with_items_is}
+use Rattle.std.proofs.Common.{◌≡◌, ◌<◌, ◌-◌, [], length, get_or, set, take, drop, ap, rules, arith, ◌∙◌}
+use Rattle.std.proofs.lemmas.List.{length-set, length-append, length-take-le, length-drop}
 use Rattle.maptree.specs.Blocks.{nodes_in}
-use Rattle.maptree.proofs.InBlocks.{read_of, as_read, counts, count_to}
-use Rattle.maptree.proofs.Starts.{starts_set, before_later}
+use Rattle.maptree.proofs.InBlocks.{read_of, as_read, counts}
+use Rattle.maptree.proofs.Starts.{starts_set, has_nodes}
 use Rattle.std.specs.List.{slice_index}
 use Rattle.maptree.specs.Blocks.{AreStarts, is_least}
 use Rattle.maptree.proofs.Depths.{least_append, least_take, least_drop}
@@ -24,22 +24,16 @@ overflow_sub-self-2 c =
     omega (arith, read, upto, size, c.self.invariant.0, c.requires.rising, c.requires.within)
 
 -- before each later block stand the nodes of this one
-pub subtract_from-requires : goal.subtract_from-requires
-subtract_from-requires c j behind less =
+pub subtract-requires-clause-has : goal.subtract-requires-clause-has
+subtract-requires-clause-has c =
     let items = c.self.inside.blocks.items in
     let bs = c.args.self.now.blocks in
     let same : items ≡ bs = ap (λ v. v.blocks) c.self.view_is in
     let size = ap length same in
     let within_bs = c.requires.block in
-    let within : c.args.block < length items = omega (arith, size, within_bs) in
-    let count = c.self.invariant.5.count in
-    let inside : j < length items = search (rules, arith, count) in
-    let is = c.self.invariant.5.each j inside in
-    let next = count_to items c.args.block within in
-    let later = before_later items (c.args.block + 1) j behind in
     let there = ap (λ l. length (get_or l c.args.block [])) same in
     let in_block = c.requires.within in
-    search (rules, arith, is, next, later, there, in_block)
+    has_nodes items c.self.inside.starts c.args.block (c.args.to - c.args.from) c.self.invariant.5 (omega (arith, size, within_bs)) (omega (arith, there, in_block))
 
 pub invariant_of-self : goal.invariant_of-self
 invariant_of-self c =
@@ -61,22 +55,21 @@ invariant_of-self c =
     let back = length-drop c.args.to block in
     let size = length-set items c.args.block new in
     let inv = c.self.invariant in
-    let starts = c.self.inside.starts.items in
-    let vec = with_items_is c.self.inside.starts c.subtract_from.new.starts (search (rules, arith)) in
-    let next = c.subtract_from.new.starts in
-    let ls = c.self.inside.leasts.items in
+    let starts = c.self.inside.starts in
+    let next = c.subtract.new.self in
+    let ls = c.self.inside.leasts.leasts in
     let a = slice_index ls c.args.block in
     let least = least_of_block items ls c.args.block block inv.7 within c.index_mut-removed.ensures.value in
     let same_leasts = leasts_kept items c.args.block new ls within inv.7
     (ap (is_least a) c.remove.ensures ∙ least_append a (take c.args.from block) (drop c.args.to block) (least_take a c.args.from block least) (least_drop a c.args.to block least)) in
-    let same_starts : AreStarts (set items c.args.block new) next = starts_set items c.args.block new starts next within inv.5 (search (rules, arith)) (λ j less. search rules)
-    (λ j behind less. let changed = c.subtract_from.ensures.from j behind (search (rules, arith, less)) in search (rules, arith, changed, read, fewer, front, back, in_block, rising, there)) in (
+    let same_starts : AreStarts (set items c.args.block new) next = starts_set items c.args.block new starts next within inv.5 c.subtract.ensures.count c.subtract.ensures.upto
+    (λ j behind less. let changed = c.subtract.ensures.behind j behind less in omega (arith, changed, read, fewer, front, back, in_block, rising, there)) in (
       omega (arith, inv.0, counted, read, there, fewer, front, back, in_block, rising),
       omega (arith, inv.1, size),
       inv.2,
       omega (arith, inv.3, size),
       omega (arith, inv.4),
-      subst (AreStarts (set items c.args.block new)) (sym vec) same_starts,
+      same_starts,
       search (rules, arith, size, inv.6),
       same_leasts,
       search (rules, arith, size, inv.8),

@@ -22,15 +22,15 @@ invariant_of-self c =
     let all = ap (λ l. length (nodes_in l)) (now ∙ is) ∙ ap length (renamed_in (place_for c.args.new.now) items) in
     let kept : length (nodes_renamed (place_for c.args.new.now) (nodes_in items)) ≡ length (nodes_in items) = length-map (nodes_in items) _ in
     let inv = c.self.invariant in
-    let starts = starts_same items (map (nodes_renamed (place_for c.args.new.now)) items) c.self.inside.starts.items inv.5 (length-map items _) (renamed_before (place_for c.args.new.now) items) in (
+    let starts = starts_same items (map (nodes_renamed (place_for c.args.new.now)) items) c.self.inside.starts inv.5 (length-map items _) (renamed_before (place_for c.args.new.now) items) in (
       search (rules, arith, inv.0, all, kept),
       search (rules, arith, inv.1, count, size),
       inv.2,
       search (rules, arith, inv.3, count, size),
       inv.4,
-      subst (λ l. AreStarts l c.self.inside.starts.items) (sym (now ∙ is)) starts,
+      subst (λ l. AreStarts l c.self.inside.starts) (sym (now ∙ is)) starts,
       search (rules, arith, inv.6, count, size),
-      subst (λ l. AreLeasts l c.self.inside.leasts.items) (sym (now ∙ is)) (leasts_renamed (place_for c.args.new.now) items c.self.inside.leasts.items inv.7),
+      subst (λ l. AreLeasts l c.self.inside.leasts.leasts) (sym (now ∙ is)) (leasts_renamed (place_for c.args.new.now) items c.self.inside.leasts.leasts inv.7),
       search (rules, arith, inv.8, count, size),
     )
 

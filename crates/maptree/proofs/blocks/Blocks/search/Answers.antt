@@ -16,7 +16,7 @@ overflow_add-result c =
     let within : c.loop-k.k < length bs = search (rules, arith, count) in
     let upto = (counts bs c.loop-k.k block within (read_of c.self.inside.blocks.items bs c.loop-k.k block same c.index.ensures)).upto in
     let inside = found_within (λ n. same_place c.args.place n.place) block c.in-Some.offset (sym c.find.ensures ∙ c.in-Some.is) in
-    let before = start_read c.self.inside.blocks.items bs c.self.inside.starts.items c.loop-k.k c.index-in-Some.result.now same c.self.invariant.5 (search (rules, arith)) c.index-in-Some.ensures in
+    let before = start_read c.self.inside.blocks.items bs c.self.inside.starts c.loop-k.k c.get.result same c.self.invariant.5 (search (rules, arith)) c.get.ensures in
     search (rules, arith, size, upto, inside, before)
 
 pub returns-in-Some : goal.returns-in-Some
@@ -28,7 +28,7 @@ returns-in-Some c =
     let within : c.loop-k.k < length bs = search (rules, arith, count) in
     let found = found_in_block (λ n. same_place c.args.place n.place) bs c.loop-k.k block c.in-Some.offset within (read_of c.self.inside.blocks.items bs c.loop-k.k block same c.index.ensures)
     c.loop-k.invariant (sym c.find.ensures ∙ c.in-Some.is) in
-    let before = start_read c.self.inside.blocks.items bs c.self.inside.starts.items c.loop-k.k c.index-in-Some.result.now same c.self.invariant.5 (search (rules, arith)) c.index-in-Some.ensures in
+    let before = start_read c.self.inside.blocks.items bs c.self.inside.starts c.loop-k.k c.get.result same c.self.invariant.5 (search (rules, arith)) c.get.ensures in
     ap (λ n. Some (n + c.in-Some.offset)) before ∙ sym found
 
 pub loop-k-preserved : goal.loop-k-preserved

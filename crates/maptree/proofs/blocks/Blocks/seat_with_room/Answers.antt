@@ -10,8 +10,8 @@ use Rattle.maptree.proofs.blocks.Blocks.seat_with_room.Goals as goal
 full : (bs items : List (List Node)) (k : ℕ) (b : List Node) (len : ℕ) → items ≡ bs → k < length bs → b ≡ get_or items k b → len ≡ length b → len ≤ 256 → 256 ≤ len → length (get_or bs k []) ≡ 256
 full bs items k b len same within is size low high = let read = ap length (as_read bs k b within (read_of items bs k b same is)) in omega (arith, read, size, low, high)
 
-pub split-requires-clause-full : goal.split-requires-clause-full
-split-requires-clause-full c =
+pub split-requires-clause-at : goal.split-requires-clause-at
+split-requires-clause-at c =
     let items = c.self.inside.blocks.items in
     let bs = c.args.self.now.blocks in
     let seat = c.seat-seat.result in
@@ -33,37 +33,37 @@ returns-then-len-lt-BLOCK_SIZE-clause-few c =
     let there = ap (λ l. length (get_or l seat.block [])) same in
     search (rules, arith, read, there)
 
-pub returns-then-seat-le-HALF-clause-nodes : goal.returns-then-seat-le-HALF-clause-nodes
-returns-then-seat-le-HALF-clause-nodes c =
-    ap nodes_in c.split.ensures.blocks ∙ split_nodes c.args.self.now.blocks c.seat-seat.result.block c.seat-seat.ensures.seat.within
+pub returns-then-seat-front-clause-nodes : goal.returns-then-seat-front-clause-nodes
+returns-then-seat-front-clause-nodes c =
+    ap nodes_in c.split.ensures.blocks ∙ split_nodes c.args.self.now.blocks c.seat-seat.result.block c.front_of_split-front.result c.seat-seat.ensures.seat.within
 
-pub returns-then-seat-le-HALF-clause-seat : goal.returns-then-seat-le-HALF-clause-seat
-returns-then-seat-le-HALF-clause-seat c =
+pub returns-then-seat-front-clause-seat : goal.returns-then-seat-front-clause-seat
+returns-then-seat-front-clause-seat c =
     subst (λ bs. IsSeat bs c.args.i c.seat-seat.result) (sym c.split.ensures.blocks)
-    (first_half c.args.self.now.blocks c.seat-seat.result.block c.args.i c.seat-seat.result.offset c.seat-seat.ensures.seat (full c.args.self.now.blocks c.self.inside.blocks.items c.seat-seat.result.block c.index.result.now c.len.result (ap (λ v. v.blocks) c.self.view_is) c.seat-seat.ensures.seat.within c.index.ensures c.len.ensures.len c.len.ensures.most c.if-len-lt-BLOCK_SIZE.false) c.if-seat-le-HALF.true).0
+    (first_half c.args.self.now.blocks c.seat-seat.result.block c.front_of_split-front.result c.args.i c.seat-seat.result.offset c.front_of_split-front.ensures.some c.front_of_split-front.ensures.less c.seat-seat.ensures.seat (full c.args.self.now.blocks c.self.inside.blocks.items c.seat-seat.result.block c.index.result.now c.len.result (ap (λ v. v.blocks) c.self.view_is) c.seat-seat.ensures.seat.within c.index.ensures c.len.ensures.len c.len.ensures.most c.if-len-lt-BLOCK_SIZE.false) c.if-seat-front.true).0
 
-pub returns-then-seat-le-HALF-clause-few : goal.returns-then-seat-le-HALF-clause-few
-returns-then-seat-le-HALF-clause-few c =
+pub returns-then-seat-front-clause-few : goal.returns-then-seat-front-clause-few
+returns-then-seat-front-clause-few c =
     subst (λ bs. length (get_or bs c.seat-seat.result.block []) < 256) (sym c.split.ensures.blocks)
-    (first_half c.args.self.now.blocks c.seat-seat.result.block c.args.i c.seat-seat.result.offset c.seat-seat.ensures.seat (full c.args.self.now.blocks c.self.inside.blocks.items c.seat-seat.result.block c.index.result.now c.len.result (ap (λ v. v.blocks) c.self.view_is) c.seat-seat.ensures.seat.within c.index.ensures c.len.ensures.len c.len.ensures.most c.if-len-lt-BLOCK_SIZE.false) c.if-seat-le-HALF.true).1
+    (first_half c.args.self.now.blocks c.seat-seat.result.block c.front_of_split-front.result c.args.i c.seat-seat.result.offset c.front_of_split-front.ensures.some c.front_of_split-front.ensures.less c.seat-seat.ensures.seat (full c.args.self.now.blocks c.self.inside.blocks.items c.seat-seat.result.block c.index.result.now c.len.result (ap (λ v. v.blocks) c.self.view_is) c.seat-seat.ensures.seat.within c.index.ensures c.len.ensures.len c.len.ensures.most c.if-len-lt-BLOCK_SIZE.false) c.if-seat-front.true).1
 
 pub returns-clause-nodes : goal.returns-clause-nodes
 returns-clause-nodes c =
-    ap nodes_in c.split.ensures.blocks ∙ split_nodes c.args.self.now.blocks c.seat-seat.result.block c.seat-seat.ensures.seat.within
+    ap nodes_in c.split.ensures.blocks ∙ split_nodes c.args.self.now.blocks c.seat-seat.result.block c.front_of_split-front.result c.seat-seat.ensures.seat.within
 
 pub returns-clause-seat : goal.returns-clause-seat
 returns-clause-seat c =
-    subst (λ bs. IsSeat bs c.args.i (record { block = c.seat-seat.result.block + 1; offset = c.seat-seat.result.offset - 128 })) (sym c.split.ensures.blocks)
-    (second_half c.args.self.now.blocks c.seat-seat.result.block c.args.i c.seat-seat.result.offset c.seat-seat.ensures.seat (full c.args.self.now.blocks c.self.inside.blocks.items c.seat-seat.result.block c.index.result.now c.len.result (ap (λ v. v.blocks) c.self.view_is) c.seat-seat.ensures.seat.within c.index.ensures c.len.ensures.len c.len.ensures.most c.if-len-lt-BLOCK_SIZE.false) c.if-seat-le-HALF.false).0
+    subst (λ bs. IsSeat bs c.args.i (record { block = c.seat-seat.result.block + 1; offset = c.seat-seat.result.offset - c.front_of_split-front.result })) (sym c.split.ensures.blocks)
+    (second_half c.args.self.now.blocks c.seat-seat.result.block c.front_of_split-front.result c.args.i c.seat-seat.result.offset c.front_of_split-front.ensures.some c.front_of_split-front.ensures.less c.seat-seat.ensures.seat (full c.args.self.now.blocks c.self.inside.blocks.items c.seat-seat.result.block c.index.result.now c.len.result (ap (λ v. v.blocks) c.self.view_is) c.seat-seat.ensures.seat.within c.index.ensures c.len.ensures.len c.len.ensures.most c.if-len-lt-BLOCK_SIZE.false) c.if-seat-front.false).0
 
 pub returns-clause-few : goal.returns-clause-few
 returns-clause-few c =
     subst (λ bs. length (get_or bs (c.seat-seat.result.block + 1) []) < 256) (sym c.split.ensures.blocks)
-    (second_half c.args.self.now.blocks c.seat-seat.result.block c.args.i c.seat-seat.result.offset c.seat-seat.ensures.seat (full c.args.self.now.blocks c.self.inside.blocks.items c.seat-seat.result.block c.index.result.now c.len.result (ap (λ v. v.blocks) c.self.view_is) c.seat-seat.ensures.seat.within c.index.ensures c.len.ensures.len c.len.ensures.most c.if-len-lt-BLOCK_SIZE.false) c.if-seat-le-HALF.false).1
+    (second_half c.args.self.now.blocks c.seat-seat.result.block c.front_of_split-front.result c.args.i c.seat-seat.result.offset c.front_of_split-front.ensures.some c.front_of_split-front.ensures.less c.seat-seat.ensures.seat (full c.args.self.now.blocks c.self.inside.blocks.items c.seat-seat.result.block c.index.result.now c.len.result (ap (λ v. v.blocks) c.self.view_is) c.seat-seat.ensures.seat.within c.index.ensures c.len.ensures.len c.len.ensures.most c.if-len-lt-BLOCK_SIZE.false) c.if-seat-front.false).1
 
-pub returns-then-seat-le-HALF-clause-fits : goal.returns-then-seat-le-HALF-clause-fits
-returns-then-seat-le-HALF-clause-fits c =
-    let same = ap length (ap nodes_in c.split.ensures.blocks ∙ split_nodes c.args.self.now.blocks c.seat-seat.result.block c.seat-seat.ensures.seat.within) in
+pub returns-then-seat-front-clause-fits : goal.returns-then-seat-front-clause-fits
+returns-then-seat-front-clause-fits c =
+    let same = ap length (ap nodes_in c.split.ensures.blocks ∙ split_nodes c.args.self.now.blocks c.seat-seat.result.block c.front_of_split-front.result c.seat-seat.ensures.seat.within) in
     let size = ap (λ v. length (nodes_in v.blocks)) c.self.view_is in
     let room = ap (λ v. v.room) c.self.view_is in
     let inv = c.self.invariant in
@@ -71,7 +71,7 @@ returns-then-seat-le-HALF-clause-fits c =
 
 pub returns-clause-fits : goal.returns-clause-fits
 returns-clause-fits c =
-    let same = ap length (ap nodes_in c.split.ensures.blocks ∙ split_nodes c.args.self.now.blocks c.seat-seat.result.block c.seat-seat.ensures.seat.within) in
+    let same = ap length (ap nodes_in c.split.ensures.blocks ∙ split_nodes c.args.self.now.blocks c.seat-seat.result.block c.front_of_split-front.result c.seat-seat.ensures.seat.within) in
     let size = ap (λ v. length (nodes_in v.blocks)) c.self.view_is in
     let room = ap (λ v. v.room) c.self.view_is in
     let inv = c.self.invariant in
