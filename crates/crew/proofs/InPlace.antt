@@ -7,22 +7,19 @@ use Rattle.std.specs.Int.Bits.{or_zero_r}
 use Rattle.std.proofs.lemmas.Grind.{flat_map-append}
 use Rattle.std.proofs.lemmas.List.{take_more, map-append, append-nil, length-take, take-append-drop}
 use Rattle.std.proofs.Math.Seq.{drop-cons}
-use Rattle.fpage.specs.Rights.{marks, join}
+use Rattle.fpage.specs.Rights.{marks}
 use Rattle.fpage.specs.declared.rights.Rights.{Rights}
-use Rattle.fpage.proofs.RightSets.{join_nothing}
-use Rattle.space.specs.Entries.{status_of}
 use Rattle.space.specs.Word.{word_of, entry_of}
 use Rattle.pieces.specs.Distinct.{is_none_of, are_distinct}
 use Rattle.pieces.specs.DistinctParts.{distinct_split}
 use Rattle.pieces.specs.Effects.{Effect, keeps, adds, writes, words_from, words_after, writes_at, write_at}
 use Rattle.pieces.specs.Contents.{puts_of, ends_of}
-use Rattle.pieces.specs.Steps.{effect, effects, entry_in, narrowed_by, linked, store_step, without_status, pair_steps, may_access, access_steps, status_in, status_bits, narrow, see, mark}
+use Rattle.pieces.specs.Steps.{effect, effects, narrowed_by, linked, store_step, without_status, pair_steps, may_access, access_steps, status_bits, narrow, see, mark}
 use Rattle.pieces.specs.declared.link.Store.{Store}
 use Rattle.pieces.specs.declared.moving.Pair.{Pair}
 use Rattle.pieces.specs.declared.touch.WordAccess.{WordAccess}
 use Rattle.pieces.specs.declared.piece.Piece.TheVariants as piece
 use Rattle.pieces.proofs.AllSteps.{words_none}
-use Rattle.pieces.proofs.InPieces.{status_append}
 use Rattle.pieces.proofs.InTurn.{one_step_more, write_more, add_more, add_from}
 use Rattle.pieces.proofs.OneByOne.{distinct_apart, eqb_turned}
 use Rattle.pieces.proofs.Packs.{same_word_after}

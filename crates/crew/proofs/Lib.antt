@@ -5,3 +5,8 @@ pub mod EditLists
 pub mod EditsOfPieces
 pub mod Finishing
 pub mod PiecesInPlace
+pub mod Balances
+pub mod Places
+pub mod Lots
+pub mod Crosses
+pub mod Dealings

@@ -1,7 +1,5 @@
 -- One piece worked in place.
-use Rattle.std.proofs.Common.{◌≡◌, ℕ, zero, suc, ◌<◌, Bool, true, false, ◌&&◌, List, [], ◌∷◌, ◌++◌, map, Some, None, refl, ap, ◌∙◌, sym, subst, arith, nat_lt}
-use Rattle.std.specs.List.{flat_map, list_all, All}
-use Rattle.std.proofs.lemmas.Bool.{ltb-true}
+use Rattle.std.proofs.Common.{◌≡◌, ℕ, Bool, true, false, ◌&&◌, List, [], ◌∷◌, ◌++◌, map, Some, None, refl, ap, ◌∙◌, sym, subst}
 use Rattle.std.proofs.lemmas.List.{map-append, append-nil}
 use Rattle.fpage.specs.declared.rights.Rights.{Rights}
 use Rattle.pieces.specs.Contents.{StripContent, IsStrip, is_fold_apart}
@@ -9,9 +7,6 @@ use Rattle.pieces.specs.Distinct.{is_none_of}
 use Rattle.pieces.specs.Effects.{adds, words_after, writes_at}
 use Rattle.pieces.specs.Steps.{effect, effects, fold_of, status_in, status_bits, narrow}
 use Rattle.std.specs.List.{zip}
-use Rattle.pieces.specs.declared.link.Store.{Store}
-use Rattle.pieces.specs.declared.moving.Pair.{Pair}
-use Rattle.pieces.specs.declared.touch.WordAccess.{WordAccess}
 use Rattle.pieces.specs.declared.piece.Piece.TheVariants as piece
 use Rattle.pieces.proofs.InTurn.{one_step_more}
 use Rattle.pieces.proofs.Writers.{narrows_write}

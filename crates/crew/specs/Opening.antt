@@ -1,10 +1,10 @@
 -- Pieces worked in place, on the words as they stand.
-use Rattle.std.specs.Prelude.{◌≡◌, ◌≤◌, ℕ, nat_lt, Bool, true, false, List, [], ◌∷◌, ◌++◌, length, map, if◌then◌else◌}
-use Rattle.std.specs.List.{zip, list_all, list_any}
+use Rattle.std.specs.Prelude.{◌≡◌, ◌≤◌, ℕ, Bool, true, false, List, [], ◌∷◌, ◌++◌, map, if◌then◌else◌}
+use Rattle.std.specs.List.{zip, list_any}
 use Rattle.fpage.specs.Rights.{marks}
 use Rattle.fpage.specs.declared.rights.Rights.{Rights}
 use Rattle.pieces.specs.Effects.{Effect, keeps, adds}
-use Rattle.pieces.specs.Phases.{named, is_link, length_of}
+use Rattle.pieces.specs.Phases.{is_link, length_of}
 use Rattle.pieces.specs.Steps.{narrow, effect, status_bits}
 use Rattle.pieces.specs.declared.piece.Piece.{Piece}
 use Rattle.pieces.specs.declared.touch.WordAccess.{WordAccess}

@@ -2,13 +2,20 @@
 #![tactic(auto)]
 
 mod alone;
+mod bench;
 mod beside;
 mod crew;
+mod dealing;
 mod edits;
 mod error;
 mod finding;
 mod gate;
+mod hand;
 mod in_place;
+mod lot;
+mod own;
+mod settling;
+mod team;
 #[cfg(test)]
 mod tests;
 mod workers;

@@ -1,5 +1,5 @@
 -- One word more.
-use Rattle.std.proofs.Common.{◌≡◌, ◌+◌, ◌<◌, ◌∙◌, length, sym, ap, subst, refl, get_or, arith}
+use Rattle.std.proofs.Common.{◌+◌, ◌<◌, ◌∙◌, length, sym, ap, subst, refl, get_or, arith}
 use Rattle.std.specs.Option.{is_some}
 use Rattle.fpage.specs.Rights.{no_rights, join}
 use Rattle.maptree.specs.declared.node.Node.{Node}

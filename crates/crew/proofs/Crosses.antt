@@ -1,0 +1,70 @@
+-- Workers go from thread to thread with all that they hold.
+use mathlib.Core.List.{[], ◌∷◌}
+use denote.RattleType.{RattleType}
+use mir.Syntax.{Lifetime, Sym}
+use base.Fml.{Lft}
+use denote.Ref.{NamedLft, ShrRef}
+use denote.Param.Send.{IsSend, IsSync, sendable, view_send, view_sync}
+use denote.Param.SendFields.{declared_send, declared_sync}
+use Rattle.std.proofs.Crossing.{crosses, send, sync, frees}
+use Rattle.std.proofs.marker.PhantomData.TheSendSync as phantom
+use Rattle.std.proofs.option.Option.TheSendSync as option
+use Rattle.crossbeam_deque.proofs.handles.Worker.TheSendSync as worker
+use Rattle.crossbeam_deque.proofs.handles.Stealer.TheSendSync as stealer
+use Rattle.atomic_blocks.proofs.rows.shared.Seat.TheSendSync as seat
+use Rattle.std.specs.contracts.alloc.Global as global
+use Rattle.std.specs.contracts.impls.GlobalAllocator.TheImpl.{ghosts}
+use denote.Struct.Tuple.{Tuple, TupleAt, type_at}
+use Rattle.turns.specs.contracts.turn.Turn as turn
+use Rattle.turns.proofs.Crosses.{turn_send, open_sync}
+use Rattle.crew.specs.declared.hand.Which as Which
+use Rattle.crew.specs.declared.own.Crewed as Crewed
+use Rattle.crew.specs.contracts.hand.Hand as hand
+use Rattle.crew.specs.contracts.hand.Fair as fair
+use Rattle.crew.specs.contracts.hand.FairProtocolTurnHand.TheImpl as rule
+use Rattle.crew.specs.contracts.own.Own as own
+use Rattle.crew.specs.contracts.own.Own.TheInside as own_inside
+use Rattle.crew.specs.contracts.own.Claim as claim
+use Rattle.crew.specs.contracts.own.Claim.TheInside as claim_inside
+use Rattle.crew.specs.contracts.lot.Lot as lot
+use Rattle.crew.specs.contracts.lot.Lot.TheInside as lot_inside
+use Rattle.crew.specs.contracts.lot.Emptied as emptied
+use Rattle.crew.specs.contracts.lot.Emptied.TheInside as emptied_inside
+use Rattle.crew.specs.contracts.bench.Bench as bench
+use Rattle.crew.specs.contracts.bench.Bench.TheInside as bench_inside
+
+module _ (T T' : RattleType) (g : Which.Ghosts T.Denot) (g' : Crewed.Ghosts T'.Denot) where
+  own_inside_send : IsSend (own_inside.the_row T T' g g')
+  own_inside_send = declared_send (own_inside.the_type T T' g g') (worker.the_send turn.the_row global.the_row hand.the_row (fair.the_row T) ghosts (rule.ghosts T g rule.no_dict) turn_send send sync frees, (search sendable, (phantom.the_send T', tt)))
+
+  pub own_send : IsSend (own.the_row T T' g g')
+  own_send = search (own_inside_send, view_send)
+
+  claim_inside_send : IsSend (claim_inside.the_row T T' g g')
+  claim_inside_send = declared_send (claim_inside.the_type T T' g g') (seat.the_send _ _ _ _ (option.the_send _ turn_send) send frees, (search sendable, (phantom.the_send (Tuple (T ∷ T' ∷ [])), tt)))
+
+  pub claim_send : IsSend (claim.the_row T T' g g')
+  claim_send = search (claim_inside_send, view_send)
+
+  lot_inside_send : IsSend (lot_inside.the_row T T' g g')
+  lot_inside_send = declared_send (lot_inside.the_type T T' g g') (own_send, (search (claim_send, crosses), (search (turn_send, crosses), tt)))
+
+  pub lot_send : IsSend (lot.the_row T T' g g')
+  lot_send = search (lot_inside_send, view_send)
+
+  emptied_inside_send : IsSend (emptied_inside.the_row T T' g g')
+  emptied_inside_send = declared_send (emptied_inside.the_type T T' g g') (lot_send, tt)
+
+  pub emptied_send : IsSend (emptied.the_row T T' g g')
+  emptied_send = search (emptied_inside_send, view_send)
+
+module _ (a : NamedLft) (T T' T'' : RattleType) (g : Which.Ghosts T.Denot) (g' : Crewed.Ghosts T'.Denot) where
+  bench_inside_sync : IsSync T'' → IsSync (bench_inside.the_row a T T' T'' g g')
+  bench_inside_sync y = declared_sync (bench_inside.the_type a T T' T'' g g') (search (open_sync, sendable), (search (y, sendable), (search (stealer.the_sync, turn_send, send, sync, frees, crosses), (phantom.the_sync T', tt))))
+
+  pub bench_sync : IsSync T'' → IsSync (bench.the_row a T T' T'' g g')
+  bench_sync y = search (bench_inside_sync y, view_sync)
+
+  -- what a worker's thread begins with
+  pub closure_send : IsSync T'' → (ν : Sym) (ℓ : Lifetime) (κ : Lft) → IsSend (TupleAt ν (lot.the_row T T' g g' ∷ ShrRef ℓ κ (bench.the_row a T T' T'' g g') ∷ []))
+  closure_send y ν ℓ κ = declared_send (type_at ν (lot.the_row T T' g g' ∷ ShrRef ℓ κ (bench.the_row a T T' T'' g g') ∷ [])) (search (lot_send T T' g g', sendable), (search (bench_sync y, sendable), tt))

@@ -1,0 +1,116 @@
+//! The threads of the workers of a phase.
+
+ghost use denote.Param.Send.{IsSync};
+ghost use Rattle.std.specs.Prelude.{◌≡◌, ◌+◌, ◌++◌, ◌∷◌, [], length, IfOk, OnOk};
+ghost use Rattle.crew.specs.Crews.{ArePlacedFrom};
+
+use crate::bench::Bench;
+use crate::error::CrewError;
+use crate::gate::Gate;
+use crate::hand::Which;
+use crate::lot::{Emptied, Lot};
+use crate::own::Crewed;
+use std::alloc::{AllocError, Global};
+use std::sync::Wait;
+use std::thread;
+use std::thread::{Promise, PromisedHandle, Scope, Threads};
+
+/// The number of a worker. Its own deque stays where it is.
+#[derive(Clone, Copy)]
+pub struct OfPlace(usize);
+
+impl<N: Which, M: Crewed> Promise<Result<Emptied<N, M>, AllocError>> for OfPlace {
+    ghost use Rattle.std.specs.Prelude.{◌≡◌, IfOk};
+
+    ghost kept_by = { λ p r. IfOk r (λ e. e.own.place ≡ p.0) };
+}
+
+/// Starts a worker on a thread of its own.
+fn start<'s, 'e, N: Which + Send + Sync + 'e, M: Crewed + Send + Sync + 'e, G: Gate + 'e>(
+    scope: &'s Scope<'s, &'e ()>,
+    bench: &'e Bench<'e, N, M, G>,
+    lot: Lot<N, M>,
+) -> Result<PromisedHandle<Result<Emptied<N, M>, AllocError>, OfPlace>, CrewError>
+    ensures { IfOk result (λ h. h.promise.0 ≡ lot.own.place) }
+{
+    let promise = OfPlace(lot.place());
+    match scope.spawn_with(promise, move || lot.work_all(bench)) {
+        Ok(handle) => Ok(handle),
+        Err(_) => Err(CrewError::NoWorker),
+    }
+}
+
+/// The workers work, each on a thread of its own but the first, which is the calling thread. With one no thread is started.
+///
+/// Refused: `NoMemory`; `NoWorker`, where a thread could not be started. Those that were started have ended by then.
+pub fn work_together<
+    N: Which + Send + Sync,
+    M: Crewed + Send + Sync,
+    R: Threads + Wait + Sync,
+    G: Gate,
+>(
+    rt: &R,
+    alloc: Global,
+    bench: &Bench<'_, N, M, G>,
+    first: Lot<N, M>,
+    others: Vec<Lot<N, M>>,
+) -> Result<Vec<Emptied<N, M>>, CrewError>
+    requires ready { IsSync R.row }
+    requires first { first.own.place ≡ 0 }
+    requires others { ArePlacedFrom 1 others.items }
+    ensures { IfOk result (λ lots. ArePlacedFrom 0 lots.items × (length lots.items ≡ length others.items + 1)) }
+{
+    if others.is_empty() {
+        let mut lots = Vec::with_capacity(alloc, 1)?;
+        add(&mut lots, first.work_all(bench)?)?;
+        return Ok(lots);
+    }
+    thread::scope(
+        thread::scope_env(),
+        rt,
+        move |scope| -> Result<Vec<Emptied<N, M>>, CrewError>
+            requires { (first.own.place ≡ 0) × ArePlacedFrom 1 others.items }
+            ensures { IfOk result (λ lots. ArePlacedFrom 0 lots.items × (length lots.items ≡ length others.items + 1)) }
+        { work_in(scope, rt, alloc, bench, first, others) },
+    )
+}
+
+/// The workers work: the first on the calling thread, each other on a thread of its own.
+fn work_in<
+    's,
+    'e,
+    N: Which + Send + Sync + 'e,
+    M: Crewed + Send + Sync + 'e,
+    R: Threads,
+    G: Gate + 'e,
+>(
+    scope: &'s Scope<'s, &'e ()>,
+    rt: &R,
+    alloc: Global,
+    bench: &'e Bench<'e, N, M, G>,
+    first: Lot<N, M>,
+    others: Vec<Lot<N, M>>,
+) -> Result<Vec<Emptied<N, M>>, CrewError>
+    requires first { first.own.place ≡ 0 }
+    requires others { ArePlacedFrom 1 others.items }
+    ensures { IfOk result (λ lots. ArePlacedFrom 0 lots.items × (length lots.items ≡ length others.items + 1)) }
+{
+    let mut lots = Vec::with_capacity(alloc, others.len())?;
+    let mut handles = Vec::with_capacity(alloc, others.len())?;
+    for lot in others {
+        add(&mut handles, start(scope, bench, lot)?)?;
+    }
+    add(&mut lots, first.work_all(bench)?)?;
+    for handle in handles {
+        add(&mut lots, handle.join(rt)?)?;
+    }
+    Ok(lots)
+}
+
+/// Adds an element at the end.
+fn add<T: Drop>(list: &mut Vec<T>, element: T) -> Result<(), AllocError>
+    ensures { OnOk result (list.new.items ≡ list.old.items ++ element ∷ []) }
+{
+    list.push(element)?;
+    Ok(())
+}
