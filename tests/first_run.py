@@ -196,7 +196,7 @@ def check_without_kit(cases, copy, room):
 def check_build(cases, copy, room):
     """build.sh asks `rt` for each crate in turn, with a command in its place that does nothing or fails at one crate."""
     with open(os.path.join(copy, "crates.txt"), encoding="ascii") as file:
-        crates = [line.split(":")[0] for line in file if not line.startswith("#")]
+        crates = [line.split(":")[0].split()[0] for line in file if not line.startswith("#")]
     asked = os.path.join(room, "asked")
     env = stand_in(room, f'echo "$(basename "$PWD") $*" >> {asked}\n')
     got = run(["./build.sh"], env=env, cwd=copy)
