@@ -11,3 +11,4 @@ pub mod Packs
 pub mod OneByOne
 pub mod Keeping
 pub mod NamedWords
+pub mod OfOneKind
