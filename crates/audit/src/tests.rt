@@ -1,7 +1,7 @@
 //! Lines that are lawful or not, and the audit of a small database, worked out by hand.
 
 use crate::{Line, check, check_database, lines, report};
-use crew::Alone;
+use crew::{Crew, NoGate};
 use fpage::{Access, Fpage, Item, Rights};
 use mapdb::Database;
 use space::Place;
@@ -90,10 +90,21 @@ fn reports_a_small_database(rt: HostRuntime) -> Result<(), Fail> {
     // Page 0 of space 0 to page 3 of space 1, read and write, and a write there.
     let window = Fpage::read(0x30c0, 18)?;
     let item = Item::read(8, 0xc6, 18)?;
-    let sent = database.send(alloc, 0, 1, &window, &[item], &Alone::new(1))?;
+    let sent = database.send(
+        alloc,
+        0,
+        1,
+        &window,
+        &[item],
+        &Crew::new(&rt, 1, 1, &NoGate),
+    )?;
     assert_eq!(rt; sent.linked, 1);
     let page = Place { space: 1, page: 3 };
-    let made = database.access_all(alloc, &[(page, Access::Write)], &Alone::new(1))?;
+    let made = database.access_all(
+        alloc,
+        &[(page, Access::Write)],
+        &Crew::new(&rt, 1, 1, &NoGate),
+    )?;
     assert_eq!(rt; made.as_slice(), [true].as_slice());
 
     let text = report(&rt, &database)?;

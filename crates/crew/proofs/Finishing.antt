@@ -10,7 +10,7 @@ use Rattle.pieces.specs.Dones.{DoneContent}
 use Rattle.pieces.specs.Phases.{IsPiece, CanBeWorked, named}
 use Rattle.pieces.specs.declared.piece.Piece.{Piece}
 use Rattle.crew.specs.Parts.{IsPartOf}
-use Rattle.crew.specs.declared.beside.Part.{Part}
+use Rattle.crew.specs.declared.parts.Part.{Part}
 use Rattle.crew.proofs.EditsOfPieces.{CanBeMade, can_be_made, zip_at, zip_length}
 use Rattle.crew.proofs.Results.{AreWorked, names_in}
 

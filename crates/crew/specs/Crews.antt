@@ -1,6 +1,7 @@
 -- The deques of a crew, and what its workers hold.
-use Rattle.std.specs.Prelude.{◌≡◌, ℕ, ◌+◌, ◌-◌, ◌%◌, ◌==◌, ◌<◌, List, [], ◌∷◌, length, map, filter, get_or, Some, slice_get}
+use Rattle.std.specs.Prelude.{◌≡◌, ℕ, ◌+◌, ◌-◌, ◌%◌, ◌==◌, ◌<◌, List, [], ◌∷◌, length, map, filter, get_or, Some, slice_get, if◌then◌else◌}
 use Rattle.std.specs.List.{All, range_with_len}
+use Rattle.std.specs.Option.{option_map_or}
 use Rattle.std.specs.declared.alloc.Global.{Global}
 use Rattle.std.specs.declared.vec.Vec.{Vec}
 use Rattle.atomic_blocks.specs.Lent.{RowsId}
@@ -111,3 +112,29 @@ pub record IsLot (s : SheetContent) (crew : List DealtContent) (own : OwnContent
   -- it has one claim on each deque
   pub many : length claims ≡ length crew
   pub places : (k : ℕ) (d : ClaimContent) → k < length claims → (get_or claims k d).place ≡ k
+
+-- what was dealt to the deque of a place
+abbrev pub dealt_to : List DealtContent → ℕ → List ℕ
+dealt_to crew k = option_map_or (λ d. d.put) (slice_get crew k) []
+
+-- how many of these claims are on the deque of a place
+abbrev pub claims_on : ℕ → List ClaimContent → ℕ
+claims_on k claims = summed {X = ClaimContent} (λ c. if c.place == k then 1 else 0) claims
+
+-- what so many workers held, taken apart: their own deques, and the claims and turns of all
+pub record AreApart (s : SheetContent) (crew : List DealtContent) (n : ℕ) (owns : List OwnContent) (claims : List ClaimContent) (turns : List PostContent) : Type 0 where
+  pub ended : All (IsEnded s) turns
+  pub sums : (h : ℕ → ℕ) → weigh h (numbers_of turns) ≡ took h owns + stolen h claims
+  pub many : length owns ≡ n
+  pub places : ArePlaced owns
+  pub parts : (k : ℕ) (d : OwnContent) → k < length owns → (get_or owns k d).hand.parts + length crew ≡ 1024
+  -- each worker had a claim on each deque
+  pub each : (k : ℕ) → k < length crew → claims_on k claims ≡ n
+  pub within : All (λ c. c.place < length crew) claims
+
+-- own deques when these claims were taken back
+pub record AreTakenBack (owns : List OwnContent) (claims : List ClaimContent) (after : List OwnContent) : Type 0 where
+  pub many : length after ≡ length owns
+  pub places : ArePlaced after
+  pub parts : (k : ℕ) (d : OwnContent) → k < length owns → (get_or after k d).hand.parts ≡ (get_or owns k d).hand.parts + claims_on k claims
+  pub sums : (h : ℕ → ℕ) → took h after ≡ took h owns + stolen h claims

@@ -4,7 +4,7 @@ use Rattle.pieces.specs.Dones.{found_as}
 use Rattle.pieces.specs.Values.{value}
 use Rattle.pieces.specs.declared.piece.Piece.{Piece}
 use Rattle.crew.specs.Edits.{AreEditsOf}
-use Rattle.crew.specs.declared.beside.Part.{Part}
+use Rattle.crew.specs.declared.parts.Part.{Part}
 
 -- what it found out and its edits, by the words at opening
 pub record IsPartOf (w : List ℕ) (p : Piece) (part : Part) : Type 0 where

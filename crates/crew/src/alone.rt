@@ -14,50 +14,13 @@ ghost use Rattle.crew.specs.Opening.{IsInPlace};
 ghost use Rattle.crew.specs.Parts.{IsPartOf};
 ghost use Rattle.crew.specs.Worked.{IsWorked};
 
-use crate::beside::{Part, finish, part_of};
-use crate::error::CrewError;
 use crate::finding::{Found, answers, no_nodes, nothing};
 use crate::in_place::{fold, mark, narrow_and_keep, put, transfer};
-use crate::workers::Workers;
+use crate::parts::{Part, finish, part_of};
 use fpage::Rights;
 use pieces::{Done, Piece, Strip, are_pieces};
 use std::alloc::{AllocError, Global};
 use std::snapshot::Snapshot;
-
-/// The calling thread alone: it works piece after piece, in place.
-#[derive(Clone, Copy, Debug, PartialEq, Eq)]
-pub struct Alone {
-    piece_length: usize,
-    ghost some: { 1 ≤ piece_length },
-}
-
-impl Alone {
-    /// The calling thread, with the most nodes, stores, pairs or accesses of a piece.
-    pub fn new(piece_length: usize) -> Alone
-        requires { 1 ≤ piece_length }
-        ensures { result.piece_length ≡ piece_length }
-    {
-        Alone { piece_length }
-    }
-}
-
-impl Workers for Alone {
-    ghost ready = { λ _. Unit {0} };
-
-    fn piece_length(&self) -> usize {
-        self.piece_length
-    }
-
-    fn work(
-        &self,
-        alloc: Global,
-        words: Vec<u64>,
-        pieces: Vec<Piece>,
-    ) -> Result<(Vec<u64>, Vec<Done>), CrewError> {
-        let worked = work_alone(alloc, words, pieces)?;
-        Ok(worked)
-    }
-}
 
 /// Works the pieces of a phase one after another.
 pub fn work_alone(

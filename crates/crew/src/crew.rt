@@ -1,17 +1,9 @@
 ghost use Rattle.std.specs.Prelude.{◌≡◌, ◌≤◌};
 
-use crate::alone::work_alone;
-use crate::beside::work_beside;
-use crate::error::CrewError;
 use crate::gate::Gate;
 use crate::workers::Workers;
-use pieces::{Done, Piece};
-use std::alloc::Global;
+use std::sync::Wait;
 use std::thread::Threads;
-
-/// A thread is started where the work comes to so many pieces of full length. With less, to start it takes longer than to do
-/// the work.
-const ENOUGH_PIECES: usize = 16;
 
 /// Worker threads, who work the pieces of a phase beside one another.
 #[derive(Drop)]
@@ -21,9 +13,11 @@ pub struct Crew<'a, R, G> {
     workers: usize,
     piece_length: usize,
     ghost some: { 1 ≤ piece_length },
+    ghost workers_some: { 1 ≤ workers },
+    ghost workers_most: { workers ≤ 64 },
 }
 
-impl<'a, R: Threads + Sync, G: Gate> Crew<'a, R, G> {
+impl<'a, R: Threads + Wait + Sync, G: Gate> Crew<'a, R, G> {
     /// So many workers, at most 64, with the most nodes, stores, pairs or accesses of a piece. The gate will hear of their work.
     pub fn new(rt: &'a R, workers: usize, piece_length: usize, gate: &'a G) -> Crew<'a, R, G>
         requires some { 1 ≤ workers }
@@ -41,41 +35,24 @@ impl<'a, R: Threads + Sync, G: Gate> Crew<'a, R, G> {
     }
 }
 
-impl<'a, R: Threads + Sync, G: Gate> Workers for Crew<'a, R, G> {
-    ghost use denote.Param.Send.{IsSync};
+impl<'a, R: Threads + Wait + Sync, G: Gate> Workers for Crew<'a, R, G> {
+    type Runtime = R;
 
-    ghost ready = { λ _. IsSync R.row };
+    type Listener = G;
+
+    fn runtime(&self) -> &R {
+        self.rt
+    }
+
+    fn gate(&self) -> &G {
+        self.gate
+    }
+
+    fn most(&self) -> usize {
+        self.workers
+    }
 
     fn piece_length(&self) -> usize {
         self.piece_length
     }
-
-    /// Works all pieces of a phase. With one worker, of one piece, and of little work, the calling thread works alone. Where a
-    /// thread cannot be started, others work its pieces.
-    fn work(
-        &self,
-        alloc: Global,
-        words: Vec<u64>,
-        pieces: Vec<Piece>,
-    ) -> Result<(Vec<u64>, Vec<Done>), CrewError> {
-        let enough = self.piece_length.saturating_mul(ENOUGH_PIECES);
-        let worked = if self.workers == 1 || pieces.len() == 1 || !have(&pieces, enough) {
-            work_alone(alloc, words, pieces)?
-        } else {
-            work_beside(self.rt, alloc, words, pieces)?
-        };
-        Ok(worked)
-    }
-}
-
-/// Whether pieces have so many nodes, stores, pairs and accesses.
-fn have(pieces: &[Piece], enough: usize) -> bool {
-    let mut count: usize = 0;
-    for piece in pieces {
-        count = count.saturating_add(piece.len());
-        if count >= enough {
-            return true;
-        }
-    }
-    false
 }

@@ -3,7 +3,6 @@
 
 mod alone;
 mod bench;
-mod beside;
 mod crew;
 mod dealing;
 mod edits;
@@ -14,14 +13,15 @@ mod hand;
 mod in_place;
 mod lot;
 mod own;
+mod parts;
 mod settling;
+mod shared;
 mod team;
 #[cfg(test)]
 mod tests;
 mod workers;
 
-pub use alone::Alone;
 pub use crew::Crew;
 pub use error::CrewError;
 pub use gate::{Gate, NoGate};
-pub use workers::Workers;
+pub use workers::{Workers, work};

@@ -90,7 +90,7 @@ impl<N: Which, M: Crewed> Model for Own<N, M> {
 }
 
 impl<N: Which, M: Crewed> Own<N, M> {
-    ghost use Rattle.crew.specs.Crews.{deques_of};
+    ghost use Rattle.crew.specs.Crews.{deques_of, dealt_to};
     ghost use Rattle.crossbeam_deque.specs.Handles.{stealer_deque};
 
     /// The deque of a place.
@@ -109,6 +109,7 @@ impl<N: Which, M: Crewed> Own<N, M> {
     pub fn place(&self) -> usize
         ensures place { result ≡ self.now.place }
         ensures below { result < length M.crew }
+        ensures dealt { dealt_to M.crew self.now.place ≡ self.now.hand.put }
     {
         self.place
     }

@@ -1,10 +1,11 @@
-//! Phases worked by hand, by the calling thread and by crews.
+//! Phases worked by hand, by crews of one worker and of several.
 
-ghost use Rattle.std.specs.Prelude.{◌≡◌, ◌<◌, ◌≤◌, length, IfOk, ◌∷◌, []};
+ghost use Rattle.std.specs.Prelude.{◌≡◌, ◌<◌, ◌≤◌, nat_lt, true, length, map, IfOk, ◌∷◌, []};
+ghost use Rattle.std.specs.List.{list_all};
 ghost use Rattle.pieces.specs.Phases.{CanBeWorked};
 
-use crate::beside::work_beside;
-use crate::{Alone, Crew, CrewError, NoGate, Workers};
+use crate::alone::work_alone;
+use crate::{Crew, CrewError, Gate, NoGate, Workers, work};
 use fpage::{Access, Rights};
 use maptree::{Node, Slice};
 use pieces::{
@@ -12,8 +13,11 @@ use pieces::{
 };
 use space::{NoMemory, Place};
 use std::alloc::{AllocError, Global};
+use std::sync::Wait;
+use std::sync::atomic::{AtomicU64, Ordering};
 use std::test::Fail;
-use std::thread::Threads;
+use std::thread::{Threads, yield_now};
+use turns::{Open, Turn};
 
 /// The right to write.
 const W: Rights = Rights {
@@ -115,20 +119,6 @@ fn node(space: u16) -> Node {
     }
 }
 
-/// The work of any workers.
-fn worked_by<T: Workers>(
-    workers: &T,
-    alloc: Global,
-    words: Vec<u64>,
-    pieces: Vec<Piece>,
-) -> Result<(Vec<u64>, Vec<Done>), CrewError>
-    requires ready { T.ready workers.now }
-    requires some { 0 < length pieces.items }
-    requires can { CanBeWorked words.items pieces.items }
-{
-    workers.work(alloc, words, pieces)
-}
-
 /// The results of so many pieces, in order.
 fn found(alloc: Global, dones: Vec<Done>, pieces: usize) -> Result<Gathered, NoMemory> {
     match gather(alloc, dones, pieces) {
@@ -137,21 +127,8 @@ fn found(alloc: Global, dones: Vec<Done>, pieces: usize) -> Result<Gathered, NoM
     }
 }
 
-/// The words of a link after worker threads, however little there is to do, and the words and answers of a touch.
-fn by_threads<R: Threads + Sync>(
-    rt: &R,
-    alloc: Global,
-) -> Result<(Vec<u64>, Vec<u64>, Vec<bool>), CrewError> {
-    let (words, pieces) = link_case(alloc)?;
-    let (linked, _) = work_beside(rt, alloc, words, pieces)?;
-    let (words, pieces) = touch_case(alloc)?;
-    let (touched, dones) = work_beside(rt, alloc, words, pieces)?;
-    let gathered = found(alloc, dones, 3)?;
-    Ok((linked, touched, gathered.answers))
-}
-
-/// The same after a crew of so many workers.
-fn by_crew<R: Threads + Sync>(
+/// The words of a link after its work, and the words and answers of a touch.
+fn by_crew<R: Threads + Wait + Sync>(
     rt: &R,
     alloc: Global,
     workers: usize,
@@ -161,9 +138,9 @@ fn by_crew<R: Threads + Sync>(
 {
     let crew = Crew::new(rt, workers, 2, &NoGate);
     let (words, pieces) = link_case(alloc)?;
-    let (linked, _) = crew.work(alloc, words, pieces)?;
+    let (linked, _) = work(&crew, alloc, words, pieces)?;
     let (words, pieces) = touch_case(alloc)?;
-    let (touched, dones) = crew.work(alloc, words, pieces)?;
+    let (touched, dones) = work(&crew, alloc, words, pieces)?;
     let gathered = found(alloc, dones, 3)?;
     Ok((linked, touched, gathered.answers))
 }
@@ -175,7 +152,6 @@ fn crews_read_words_at_opening_and_add_marks_up(rt: HostRuntime) -> Result<(), F
         by_crew(&rt, alloc, 1)?,
         by_crew(&rt, alloc, 4)?,
         by_crew(&rt, alloc, 64)?,
-        by_threads(&rt, alloc)?,
     ] {
         assert_eq!(rt;
             linked.as_slice(),
@@ -186,23 +162,22 @@ fn crews_read_words_at_opening_and_add_marks_up(rt: HostRuntime) -> Result<(), F
     }
     let crew = Crew::new(&rt, 64, 7, &NoGate);
     assert_eq!(rt; crew.piece_length(), 7);
+    assert_eq!(rt; crew.most(), 64);
     Ok(())
 }
 
 #[test]
-fn one_thread_links_and_moves(rt: HostRuntime) -> Result<(), Fail> {
+fn the_calling_thread_links_and_moves(rt: HostRuntime) -> Result<(), Fail> {
     let alloc = rt.alloc();
-    let alone = Alone::new(3);
-    assert_eq!(rt; alone.piece_length(), 3);
     let (words, pieces) = link_case(alloc)?;
-    let (after, dones) = worked_by(&alone, alloc, words, pieces)?;
+    let (after, dones) = work_alone(alloc, words, pieces)?;
     assert_eq!(rt;
         after.as_slice(),
         [0x1_0000_0926, 0x1_0000_0902, 0x1_0000_0907, 0x1_0000_0505].as_slice()
     );
     assert_eq!(rt; dones.len(), 2);
     let (words, pieces) = move_case(alloc)?;
-    let (after, dones) = worked_by(&alone, alloc, words, pieces)?;
+    let (after, dones) = work_alone(alloc, words, pieces)?;
     assert_eq!(rt;
         after.as_slice(),
         [0, 0x1_0000_0904, 0, 0x1_0000_0506].as_slice()
@@ -212,11 +187,11 @@ fn one_thread_links_and_moves(rt: HostRuntime) -> Result<(), Fail> {
 }
 
 #[test]
-fn one_thread_strips_and_marks(rt: HostRuntime) -> Result<(), Fail> {
+fn one_worker_strips_and_marks(rt: HostRuntime) -> Result<(), Fail> {
     let alloc = rt.alloc();
-    let alone = Alone::new(1);
+    let crew = Crew::new(&rt, 1, 1, &NoGate);
     let (words, pieces) = strip_case(alloc)?;
-    let (after, dones) = worked_by(&alone, alloc, words, pieces)?;
+    let (after, dones) = work(&crew, alloc, words, pieces)?;
     assert_eq!(rt;
         after.as_slice(),
         [0x1_00ff_f53f, 0, 0, 0x1_00ff_f502].as_slice()
@@ -232,9 +207,127 @@ fn one_thread_strips_and_marks(rt: HostRuntime) -> Result<(), Fail> {
     }
     assert_eq!(rt; kept, 1);
     let (words, pieces) = touch_case(alloc)?;
-    let (after, dones) = worked_by(&alone, alloc, words, pieces)?;
+    let (after, dones) = work_alone(alloc, words, pieces)?;
     assert_eq!(rt; after.as_slice(), [0x1_0000_053f, 0].as_slice());
     let gathered = found(alloc, dones, 3)?;
     assert_eq!(rt; gathered.answers.as_slice(), [true, false, true].as_slice());
+    Ok(())
+}
+
+/// Hears of a phase of two workers: how many pieces began and ended, who worked, and how many pieces were stolen. The second
+/// worker waits with each piece until the first has begun one, and the first until the second has stolen one from it.
+#[derive(Drop)]
+struct Meeting {
+    begun: AtomicU64,
+    ended: AtomicU64,
+    /// How many pieces the first worker began.
+    first: AtomicU64,
+    /// How many pieces the second worker began.
+    second: AtomicU64,
+    stolen: AtomicU64,
+}
+
+impl Meeting {
+    fn new() -> Meeting {
+        Meeting {
+            begun: AtomicU64::new(0),
+            ended: AtomicU64::new(0),
+            first: AtomicU64::new(0),
+            second: AtomicU64::new(0),
+            stolen: AtomicU64::new(0),
+        }
+    }
+}
+
+impl Gate for Meeting {
+    fn begin(&self, worker: usize, piece: usize) {
+        self.begun.fetch_add(1, Ordering::SeqCst);
+        if worker != piece % 2 {
+            self.stolen.fetch_add(1, Ordering::SeqCst);
+        }
+        if worker == 0 {
+            self.first.fetch_add(1, Ordering::SeqCst);
+            wait_for(&self.stolen);
+        } else {
+            self.second.fetch_add(1, Ordering::SeqCst);
+            wait_for(&self.first);
+        }
+    }
+
+    fn end(&self, _worker: usize, _turn: &Turn, _shared: &Open) {
+        self.ended.fetch_add(1, Ordering::SeqCst);
+    }
+}
+
+/// Waits until a count is not 0, giving the processor away, or for some seconds.
+fn wait_for(count: &AtomicU64) {
+    for _ in 0..10_000_000u64 {
+        if count.load(Ordering::SeqCst) != 0 {
+            return;
+        }
+        yield_now();
+    }
+}
+
+/// Eighteen accesses, by turns of the first of two words and of the other.
+fn eighteen_accesses(alloc: Global) -> Result<Vec<WordAccess>, AllocError>
+    ensures some { IfOk result (λ list. 0 < length list.items) }
+    ensures within { IfOk result (λ list. list_all (λ i. nat_lt i 2) (map (λ x. x.index) list.items) ≡ true) }
+{
+    let mut list = Vec::with_capacity(alloc, 18)?;
+    for number in 0..18 {
+        list.push(WordAccess {
+            index: number % 2,
+            access: Access::Execute,
+        })?;
+    }
+    Ok(list)
+}
+
+/// Eighteen accesses, in pieces of one: by turns of a page that is there and of one that is not.
+fn eighteen_touches(alloc: Global) -> Result<(Vec<u64>, Vec<Piece>), NoMemory>
+    ensures { IfOk result (λ r. (0 < length r.1.items) × CanBeWorked r.0.items r.1.items) }
+{
+    let words = Vec::from_slice(alloc, &[0x1_0000_0507, 0])?;
+    let pieces = touches(alloc, eighteen_accesses(alloc)?, 1)?;
+    Ok((words, pieces))
+}
+
+#[test]
+fn two_of_four_workers_work_eighteen_pieces_and_one_steals(rt: HostRuntime) -> Result<(), Fail> {
+    let alloc = rt.alloc();
+    let gate = Meeting::new();
+    let crew = Crew::new(&rt, 4, 1, &gate);
+    let (words, pieces) = eighteen_touches(alloc)?;
+    let (after, dones) = work(&crew, alloc, words, pieces)?;
+    assert_eq!(rt; after.as_slice(), [0x1_0000_052f, 0].as_slice());
+    let gathered = found(alloc, dones, 18)?;
+    for (number, answer) in gathered.answers.iter().enumerate() {
+        assert_eq!(rt; *answer, number % 2 == 0, "{number}");
+    }
+    assert_eq!(rt; gathered.answers.len(), 18);
+    assert_eq!(rt; gate.begun.load(Ordering::SeqCst), 18);
+    assert_eq!(rt; gate.ended.load(Ordering::SeqCst), 18);
+    assert!(rt; gate.first.load(Ordering::SeqCst) != 0);
+    assert!(rt; gate.second.load(Ordering::SeqCst) > 9);
+    assert!(rt; gate.stolen.load(Ordering::SeqCst) != 0);
+    Ok(())
+}
+
+#[test]
+fn a_gate_that_listens_hears_of_a_single_piece(rt: HostRuntime) -> Result<(), Fail> {
+    let alloc = rt.alloc();
+    let gate = Meeting::new();
+    gate.stolen.store(1, Ordering::SeqCst);
+    let crew = Crew::new(&rt, 4, 1, &gate);
+    let (words, pieces) = strip_case(alloc)?;
+    let (after, _) = work(&crew, alloc, words, pieces)?;
+    assert_eq!(rt;
+        after.as_slice(),
+        [0x1_00ff_f53f, 0, 0, 0x1_00ff_f502].as_slice()
+    );
+    assert_eq!(rt; gate.begun.load(Ordering::SeqCst), 1);
+    assert_eq!(rt; gate.ended.load(Ordering::SeqCst), 1);
+    assert_eq!(rt; gate.first.load(Ordering::SeqCst), 1);
     Ok(())
 }

@@ -23,7 +23,6 @@ impl Holdings {
         accesses: &[(Place, Access)],
         workers: &W,
     ) -> Result<(Self, Vec<bool>), CrewError>
-        requires workers { W.ready workers.now }
         requires within { All (λ access. IsWithin self.limits access.0) accesses.now }
         ensures { IfOk result (AreAccessed self accesses.now) }
     {

@@ -28,7 +28,6 @@ impl Holdings {
         rights: Rights,
         workers: &W,
     ) -> Result<(Self, TransferCounts), CrewError>
-        requires workers { W.ready workers.now }
         requires planned { ArePlanned self.limits transfers.now }
         requires ready { AreReady self.holdings rights transfers.now }
         ensures { IfOk result (AreMapped self transfers.now rights) }

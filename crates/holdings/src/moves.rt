@@ -27,7 +27,6 @@ impl Holdings {
         transfers: &[Transfer],
         workers: &W,
     ) -> Result<(Self, TransferCounts), CrewError>
-        requires workers { W.ready workers.now }
         requires planned { ArePlanned self.limits transfers.now }
         requires all_go { AllGo transfers.now }
         requires free { AreFree self.holdings transfers.now }

@@ -5,7 +5,7 @@ ghost use Rattle.space.specs.Shards.{is_taken};
 ghost use Rattle.pieces.specs.Gathering.{all_found, fault_in, IsGathered};
 ghost use Rattle.holdings.specs.Inner.Words.{CanBeWorkedIn, IsPhaseWorked};
 
-use crew::{CrewError, Workers};
+use crew::{CrewError, Workers, work};
 use pieces::{Done, Gathered, Piece, gather};
 use space::Shards;
 use std::alloc::Global;
@@ -17,7 +17,6 @@ pub fn work_phase<W: Workers>(
     pieces: Vec<Piece>,
     workers: &W,
 ) -> Result<Gathered, CrewError>
-    requires workers { W.ready workers.now }
     requires some { 0 < length pieces.items }
     requires present { IsFalse (is_taken shards.old) }
     requires can { CanBeWorkedIn shards.old pieces.items }
@@ -25,7 +24,7 @@ pub fn work_phase<W: Workers>(
 {
     let count = pieces.len();
     let words = shards.take_words();
-    let (words, dones) = workers.work(alloc, words, pieces)?;
+    let (words, dones) = work(workers, alloc, words, pieces)?;
     shards.put_words(words);
     gathered(alloc, dones, count)
 }

@@ -30,7 +30,6 @@ impl Holdings {
         flush: bool,
         workers: &W,
     ) -> Result<(Self, Rights), CrewError>
-        requires workers { W.ready workers.now }
         requires within { All (IsWithin self.limits) places.now }
         ensures { IfOk result (IsStripped self (any_of places.now) revoked flush) }
     {

@@ -4,7 +4,7 @@ ghost use Rattle.std.specs.Prelude.{OnOk, IsFalse};
 ghost use Rattle.space.specs.Shards.{is_taken};
 ghost use Rattle.holdings.specs.Inner.Words.{CanBeWorkedIn, IsWritten};
 
-use crew::{CrewError, Workers};
+use crew::{CrewError, Workers, work};
 use pieces::Piece;
 use space::Shards;
 use std::alloc::Global;
@@ -16,7 +16,6 @@ pub fn write_phase<W: Workers>(
     pieces: Vec<Piece>,
     workers: &W,
 ) -> Result<(), CrewError>
-    requires workers { W.ready workers.now }
     requires present { IsFalse (is_taken shards.old) }
     requires can { CanBeWorkedIn shards.old pieces.items }
     ensures { OnOk result (IsWritten shards.old shards.new pieces.items) }
@@ -25,7 +24,7 @@ pub fn write_phase<W: Workers>(
         return Ok(());
     }
     let words = shards.take_words();
-    let (words, _) = workers.work(alloc, words, pieces)?;
+    let (words, _) = work(workers, alloc, words, pieces)?;
     shards.put_words(words);
     Ok(())
 }

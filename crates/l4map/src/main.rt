@@ -17,6 +17,7 @@ use std::alloc::AllocError;
 use std::env::Env;
 use std::io::{BufWriter, ErrorKind};
 use std::process::ExitCode;
+use std::sync::Wait;
 use std::thread::Threads;
 use std::{env, io};
 use trace::{Sink, Std};
@@ -49,7 +50,7 @@ fn read_command_line(rt: &(impl AllocGlobal + Env)) -> Result<Options, OptionsEr
 
 /// Replays the trace on standard input to standard output.
 fn replay_input(
-    rt: &(impl AllocGlobal + Input + Print + Threads + Sync),
+    rt: &(impl AllocGlobal + Input + Print + Threads + Wait + Sync),
     options: &Options,
 ) -> Result<(), RunError>
     requires { AreServed options.now }

@@ -148,7 +148,6 @@ impl Database {
         accesses: &[(Place, Access)],
         workers: &W,
     ) -> Result<Vec<bool>, DbError>
-        requires workers { W.ready workers.now }
         requires within { All (λ access. IsWithin self.old.limits access.0) accesses.now }
         ensures halted { IsErrOf result Halted ↔ (self.old.is_halted ≡ true) }
         ensures errors { IfErr result (λ e. (e ≡ Halted) ⊎ (e ≡ NoMemory) ⊎ (e ≡ NoWorker)) }
@@ -180,7 +179,6 @@ impl Database {
         items: &[Item],
         workers: &W,
     ) -> Result<SendReply, DbError>
-        requires workers { W.ready workers.now }
         requires window { IsFpageOf self.old.limits.bits window.now }
         requires items { All (λ item. IsFpageOf self.old.limits.bits item.sent) items.now }
         ensures refused { IsRefused (refusal self.old (send from to window.now items.now)) self.old self.new result }
@@ -225,7 +223,6 @@ impl Database {
         fpages: &[Fpage],
         workers: &W,
     ) -> Result<Vec<Rights>, DbError>
-        requires workers { W.ready workers.now }
         requires bits { All (IsFpageOf self.old.limits.bits) fpages.now }
         ensures halted { IsErrOf result Halted ↔ (self.old.is_halted ≡ true) }
         ensures no_such_space { IsErrOf result NoSuchSpace ↔ ((self.old.is_halted ≡ false) × (self.old.limits.spaces ≤ space)) }

@@ -22,7 +22,6 @@ pub fn grant_pages<W: Workers>(
     rights: Rights,
     workers: &W,
 ) -> Result<(Holdings, TransferCounts), CrewError>
-    requires workers { W.ready workers.now }
     requires lawful { is_lawful held.holdings ≡ true }
     requires planned { ArePlanned held.limits transfers.now }
     requires all_go { AllGo transfers.now }

@@ -28,7 +28,6 @@ pub fn work_items<W: Workers>(
     items: &[Item],
     workers: &W,
 ) -> Result<(Holdings, SendReply), CrewError>
-    requires workers { W.ready workers.now }
     requires from { from < held.limits.spaces }
     requires to { to < held.limits.spaces }
     requires differ { from ≡ to → ⊥ }
@@ -62,7 +61,6 @@ fn work_item<W: Workers>(
     pages: &ItemPages,
     workers: &W,
 ) -> Result<(Holdings, SendReply), CrewError>
-    requires workers { W.ready workers.now }
     requires pages { AreItemPages held.limits pages.now }
     ensures sent { IfOk result (IsSent held (item_answer held.holdings (job_of_pages pages.now)).left (item_answer held.holdings (job_of_pages pages.now)).counts) }
     ensures few { IfOk result (λ r. total (counts_of r.1) < 2 ^ 32) }
@@ -90,7 +88,6 @@ fn map_or_grant<W: Workers>(
     transfers: &[Transfer],
     workers: &W,
 ) -> Result<(Holdings, TransferCounts), CrewError>
-    requires workers { W.ready workers.now }
     requires lawful { is_lawful held.holdings ≡ true }
     requires planned { ArePlanned held.limits transfers.now }
     requires all_go { pages.now.kind ≡ Grant → AllGo transfers.now }

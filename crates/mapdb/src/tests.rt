@@ -7,15 +7,18 @@ ghost use Rattle.fpage.specs.Fpage.{IsSpaceBits};
 mod accesses;
 mod chains;
 mod frames;
+mod together;
 mod unmaps;
 
 use crate::{Database, DbError, Limits, SendReply};
-use crew::{Alone, Workers};
+use crew::{Crew, NoGate, Workers};
 use fpage::{Fpage, Item, Rights};
 use space::{Entry, Place};
 use std::alloc::Global;
 use std::process::Abort;
+use std::sync::Wait;
 use std::test::Fail;
+use std::thread::Threads;
 
 /// A place within the smallest limits.
 fn place(space: u16, page: u32) -> Place
@@ -75,7 +78,6 @@ fn send_page<T: Workers>(
     target: Place,
     rights: Rights,
 ) -> Result<SendReply, DbError>
-    requires workers { T.ready workers.now }
     requires bits { IsSpaceBits bits }
     requires limits { database.old.limits.bits ≡ bits }
     requires source { source.page < 4096 }
@@ -93,7 +95,7 @@ fn send_page<T: Workers>(
 
 /// Maps a page to a page of the other space, and looks at the reply.
 fn expect_map(
-    rt: &impl Abort,
+    rt: &(impl Abort + Threads + Wait + Sync),
     database: &mut Database,
     alloc: Global,
     source: Place,
@@ -110,7 +112,7 @@ fn expect_map(
         rt,
         database,
         alloc,
-        &Alone::new(256),
+        &Crew::new(rt, 1, 256, &NoGate),
         18,
         source,
         target,

@@ -24,7 +24,6 @@ pub fn unmap_words<W: Workers>(
     fpages: &[Fpage],
     workers: &W,
 ) -> Result<(Holdings, Vec<Rights>), CrewError>
-    requires workers { W.ready workers.now }
     requires space { space < held.limits.spaces }
     requires fpages { All (IsFpageOf held.limits.bits) fpages.now }
     ensures left { IfOk result (λ r. r.0 ≡ left_with held (unmap_left space flush fpages.now held.holdings)) }
@@ -79,7 +78,6 @@ fn unmap_word<W: Workers>(
     fpage: &Fpage,
     workers: &W,
 ) -> Result<(Holdings, Rights), CrewError>
-    requires workers { W.ready workers.now }
     requires space { space < held.limits.spaces }
     requires fpage { IsFpageOf held.limits.bits fpage.now }
     ensures { IfOk result (IsStripped held (pages_in space fpage.now) fpage.now.rights flush) }

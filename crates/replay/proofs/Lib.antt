@@ -1,4 +1,5 @@
 mod Unmaps
 mod Streams
+mod Answering
 mod Replays
 mod Runs

@@ -1,26 +1,39 @@
 -- What a run writes, and what it leaves where it ends early.
-use Rattle.std.specs.Prelude.{◌≡◌, ℕ, zero, suc, ◌≤◌, ⊤, Bool, true, false, List, map, length, take, Option, Ok, Err}
+use Rattle.std.specs.Prelude.{◌≡◌, ℕ, zero, suc, ◌≤◌, ⊤, Bool, true, false, List, ◌∷◌, map, length, take, Option, Ok, Err}
 use Rattle.std.specs.Io.KnownBytes.{Appends, Keeps}
+use Rattle.fpage.specs.declared.rights.Access.{Access}
+use Rattle.space.specs.declared.place.Place.{Place}
 use Rattle.model.specs.Holdings.{Holdings}
-use Rattle.model.specs.Calls.{Limits}
+use Rattle.model.specs.Calls.{Limits, access, Request}
 use Rattle.model.specs.Answers.{answer}
 use Rattle.model.specs.Replay.{Told, replay}
 use Rattle.model.specs.Records.{Fields, Trace, are_limits, bad_header, bad_limits, request, trace_of}
-use Rattle.model.specs.Text.{text, told, reply_line, reply_lines, is_refused, refused_count}
+use Rattle.model.specs.Text.{text, told, reply_lines, refused_count}
 use Rattle.mapdb.specs.State.{State, new_state}
 use Rattle.replay.specs.declared.replay.Summary.{Summary}
 use Rattle.replay.specs.declared.error.RunError.{RunError}
 use Rattle.replay.specs.declared.error.RunError.TheVariants.{BadHeader, BadLimits, NoMemory, NoWorker, Unreadable, WriteFailed}
 
--- one record is answered: its reply line, whether it was refused, and what is held after it
-pub record Answers (limits : Limits) (old : Holdings) (fields : Fields) (number : ℕ) (new : Holdings) (line : List ℕ) (refused : Bool) : Type 0 where
-  pub left : new ≡ (answer limits old (request limits fields)).left
-  pub line_is : line ≡ reply_line number (answer limits old (request limits fields)).reply
-  pub refused_is : refused ≡ is_refused (answer limits old (request limits fields)).reply
-
 -- the replies to these records, and the last holdings
 abbrev pub told_of : Limits → List Fields → Holdings → Told
 told_of limits rows h = replay (answer limits) h (map (request limits) rows)
+
+-- records are answered: their reply lines, from this number on, how many were refused, and what is held after them
+pub record Answers (limits : Limits) (old : Holdings) (rows : List Fields) (number : ℕ) (new : Holdings) (lines : List ℕ) (refused : ℕ) : Type 0 where
+  pub left : new ≡ (told_of limits rows old).last
+  pub lines_are : lines ≡ reply_lines number (told_of limits rows old).replies
+  pub refused_is : refused ≡ refused_count (told_of limits rows old).replies
+
+-- the accesses that records ask for
+abbrev pub asked : Place × Access → Request
+asked a = Ok (access a.0 a.1)
+
+-- an access, with those that the first of these records ask for
+pub record AreAsked (limits : Limits) (first : Place × Access) (rows : List Fields) (accesses : List (Place × Access)) : Type 0 where
+  pub others : List (Place × Access)
+  pub are : accesses ≡ first ∷ others
+  pub within : length others ≤ length rows
+  pub requests : map (request limits) (take (length others) rows) ≡ map asked others
 
 -- the reply lines of the records before number k + 1 were written, and nothing else
 pub record StopsBefore (t : Told) (old new : Option (List ℕ)) (k : ℕ) : Type 0 where

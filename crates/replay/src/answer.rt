@@ -1,43 +1,55 @@
-//! One request, answered.
+//! Records, answered.
 
-ghost use Rattle.std.specs.Prelude.{◌≡◌, Ok, map, length, IfOk, OnOk};
+ghost use Rattle.std.specs.Prelude.{◌≡◌, ◌<◌, ◌≤◌, ◌∷◌, [], true, false, Ok, map, take, length, IfOk, OnOk};
 ghost use Rattle.std.specs.List.{All, zip};
 ghost use Rattle.fpage.specs.Fpage.{IsFpageOf};
 ghost use Rattle.fpage.specs.Control.{with_status};
-ghost use Rattle.model.specs.Calls.{send, access, unmap};
+ghost use Rattle.model.specs.Calls.{send, unmap, accessed};
 ghost use Rattle.model.specs.Answers.{answer};
+ghost use Rattle.model.specs.Records.{are_limits};
+ghost use Rattle.holdings.specs.Contents.{access_answers, touched_all};
+ghost use Rattle.holdings.specs.Meaning.{limits_of};
 ghost use Rattle.holdings.specs.Places.{IsWithin};
 ghost use Rattle.mapdb.specs.State.{left_with};
-ghost use Rattle.trace.specs.Meaning.{request_of, IsWithinLimits, reply_of};
+ghost use Rattle.trace.specs.Meaning.{reply_of};
+ghost use Rattle.replay.specs.Run.{AreAsked, told_of};
 
 use crew::{CrewError, Workers};
 use fpage::{Access, Control, Fpage, Item, Rights, with_status};
-use mapdb::{Database, DbError};
-use space::Place;
+use mapdb::{Database, DbError, Limits};
+use space::{NoMemory, Place};
 use std::alloc::{AllocError, Global};
-use trace::{Call, Refusal, Reply};
+use trace::{Call, Record, Refusal, Reply};
 
-/// Answers a request, and leaves what it changed; an unmap by recursion if `plain`.
+/// Answers the first of these records, and leaves what it changed; an unmap by recursion if `plain`. Where that is an access, the
+/// accesses right behind it are answered too: they are one call of the database. The replies are put in place of those that
+/// were there.
 ///
 /// Not answered where memory or a worker is refused: `NoMemory`, `NoWorker`.
-pub fn answer<W: Workers>(
+pub fn answer_first<W: Workers>(
     alloc: Global,
     database: &mut Database,
-    request: &Result<Call, Refusal>,
+    records: &[Record],
     workers: &W,
     plain: bool,
-) -> Result<Reply, CrewError>
-    requires workers { W.ready workers.now }
-    requires request { IfOk request.now (IsWithinLimits database.old.limits) }
-    ensures ok { IfOk result (λ reply. answer database.old.limits database.old.holdings (request_of request.now)
-        ≡ record { reply = reply_of reply; left = database.new.holdings }) }
+    replies: &mut Vec<Reply>,
+) -> Result<(), CrewError>
+    requires running { database.old.is_halted ≡ false }
+    requires records { 0 < length records.now }
+    ensures some { OnOk result (0 < length replies.new.items) }
+    ensures within { OnOk result (length replies.new.items ≤ length records.now) }
+    ensures told { OnOk result (told_of database.old.limits (take (length replies.new.items) records.now) database.old.holdings
+        ≡ record { replies = map reply_of replies.new.items; last = database.new.holdings }) }
     ensures keeps { OnOk result (database.new ≡ left_with database.old database.new.holdings) }
 {
-    match request {
-        Err(refusal) => Ok(Reply::Refused(*refusal)),
-        Ok(Call::Access { place, access }) => access_page(
-            alloc, database, workers, *place, *access,
-        ),
+    let limits = database.limits();
+    let request = records[0].call(alloc, &limits)?;
+    match &request {
+        Err(refusal) => only(replies, Reply::Refused(*refusal)),
+        Ok(Call::Access { place, access }) => {
+            let accesses = accesses_from(alloc, &limits, (*place, *access), &records[1..])?;
+            access_pages(alloc, database, workers, &accesses, replies)
+        }
         Ok(
             Call::Send {
                 from,
@@ -45,7 +57,10 @@ pub fn answer<W: Workers>(
                 window,
                 items,
             },
-        ) => send_items(alloc, database, workers, *from, *to, window, items),
+        ) => {
+            let reply = send_items(alloc, database, workers, *from, *to, window, items)?;
+            only(replies, reply)
+        }
         Ok(
             Call::Unmap {
                 space,
@@ -53,30 +68,78 @@ pub fn answer<W: Workers>(
                 words,
                 fpages,
             },
-        ) => unmap_pages(
-            alloc, database, workers, plain, *space, *control, words, fpages,
-        ),
+        ) => {
+            let reply = unmap_pages(
+                alloc, database, workers, plain, *space, *control, words, fpages,
+            )?;
+            only(replies, reply)
+        }
     }
 }
 
-/// An access of a page.
-fn access_page<W: Workers>(
+/// Puts one reply in place of those that were there.
+fn only(replies: &mut Vec<Reply>, reply: Reply) -> Result<(), CrewError>
+    ensures { OnOk result (replies.new.items ≡ reply ∷ []) }
+{
+    replies.clear();
+    match replies.push(reply) {
+        Ok(()) => Ok(()),
+        Err(_) => Err(CrewError::NoMemory),
+    }
+}
+
+/// An access, with the accesses of the records behind its own, up to the first record that asks for none.
+fn accesses_from(
+    alloc: Global,
+    limits: &Limits,
+    first: (Place, Access),
+    others: &[Record],
+) -> Result<Vec<(Place, Access)>, NoMemory>
+    requires limits { are_limits (limits_of limits.now) ≡ true }
+    requires first { IsWithin (limits_of limits.now) first.0 }
+    ensures within { IfOk result (λ list. All (λ access. IsWithin (limits_of limits.now) access.0) list.items) }
+    ensures asked { IfOk result (λ list. AreAsked (limits_of limits.now) first others.now list.items) }
+{
+    let mut accesses = Vec::from_slice(alloc, &[first])?;
+    let mut left = others;
+    while let [record, rest @ ..] = left {
+        let request = record.call(alloc, limits)?;
+        let Ok(Call::Access { place, access }) = &request else {
+            return Ok(accesses);
+        };
+        match accesses.push((*place, *access)) {
+            Ok(()) => (),
+            Err(_) => return Err(NoMemory),
+        }
+        left = rest;
+    }
+    Ok(accesses)
+}
+
+/// Accesses of pages, one after another.
+fn access_pages<W: Workers>(
     alloc: Global,
     database: &mut Database,
     workers: &W,
-    place: Place,
-    kind: Access,
-) -> Result<Reply, CrewError>
-    requires workers { W.ready workers.now }
-    requires within { IsWithin database.old.limits place }
-    ensures ok { IfOk result (λ reply. answer database.old.limits database.old.holdings (Ok (access place kind))
-        ≡ record { reply = reply_of reply; left = database.new.holdings }) }
-    ensures keeps { OnOk result (database.new ≡ left_with database.old database.new.holdings) }
+    accesses: &[(Place, Access)],
+    replies: &mut Vec<Reply>,
+) -> Result<(), CrewError>
+    requires within { All (λ access. IsWithin database.old.limits access.0) accesses.now }
+    ensures ok { OnOk result (map reply_of replies.new.items ≡ map accessed (access_answers database.old.holdings accesses.now)) }
+    ensures left { OnOk result (database.new ≡ left_with database.old (touched_all database.old.holdings accesses.now)) }
 {
-    match database.access_all(alloc, &[(place, kind)], workers) {
-        Ok(answers) => Ok(Reply::Accessed(answers[0])),
-        Err(error) => Err(unanswered(error)),
+    let answers = match database.access_all(alloc, accesses, workers) {
+        Ok(answers) => answers,
+        Err(error) => return Err(unanswered(error)),
+    };
+    replies.clear();
+    for answer in &answers {
+        match replies.push(Reply::Accessed(*answer)) {
+            Ok(()) => (),
+            Err(_) => return Err(CrewError::NoMemory),
+        }
     }
+    Ok(())
 }
 
 /// A send, whose items are worked in order.
@@ -89,7 +152,6 @@ fn send_items<W: Workers>(
     window: &Fpage,
     items: &[Item],
 ) -> Result<Reply, CrewError>
-    requires workers { W.ready workers.now }
     requires window { IsFpageOf database.old.limits.bits window.now }
     requires items { All (λ item. IsFpageOf database.old.limits.bits item.sent) items.now }
     ensures ok { IfOk result (λ reply. answer database.old.limits database.old.holdings (Ok (send from to window.now items.now))
@@ -116,7 +178,6 @@ fn unmap_pages<W: Workers>(
     words: &[u32],
     fpages: &[Fpage],
 ) -> Result<Reply, CrewError>
-    requires workers { W.ready workers.now }
     requires within { All (IsFpageOf database.old.limits.bits) fpages.now }
     requires count { length fpages.now ≡ length words.now }
     ensures ok { IfOk result (λ reply. answer database.old.limits database.old.holdings (Ok (unmap space control.flush (zip words.now fpages.now)))

@@ -1,20 +1,23 @@
 //! A run: from the bytes of a trace to the text of its replay.
 
-ghost use Rattle.std.specs.Prelude.{◌≡◌, ◌++◌, false, IfOk, IfErr, IfSome, OnOk, string_bytes};
-ghost use Rattle.model.specs.Text.{audit_lines, end_line};
+ghost use Rattle.std.specs.Prelude.{◌≡◌, ◌<◌, ◌≤◌, ◌+◌, ◌++◌, false, map, take, length, IfOk, IfErr, IfSome, OnOk, string_bytes};
+ghost use Rattle.model.specs.Text.{reply_lines, is_refused, refused_count, audit_lines, end_line};
 ghost use Rattle.holdings.specs.Meaning.{limits_of};
 ghost use Rattle.mapdb.specs.State.{left_with};
+ghost use Rattle.trace.specs.Meaning.{reply_of};
 ghost use Rattle.replay.specs.Options.{AreServed};
 ghost use Rattle.replay.specs.Run.{Answers, told_of, WritesText, StopsAt, StopsEarly, IsStarted, StartsNot};
 ghost use Rattle.replay.specs.Run.{WritesReplay, EndsEarly, WritesNothing, TellsStreams};
 
-use crate::answer::answer;
+use crate::answer::answer_first;
 use crate::error::RunError;
 use crate::options::Options;
 use audit::report;
 use crew::{Crew, CrewError, Gate, Workers};
 use mapdb::{Database, DbError, Limits};
+use space::NoMemory;
 use std::alloc::{AllocError, Global};
+use std::sync::Wait;
 use std::thread::Threads;
 use trace::{Record, Reply, Sink, Source, push_reply, read_all};
 
@@ -27,28 +30,52 @@ pub struct Summary {
     pub refused: u64,
 }
 
-/// Answers one record, and writes its reply line over `line`.
-fn reply_line<C: Workers>(
+/// Answers the first of these records, or the accesses with which they begin, and writes the reply lines over `lines`. Returns
+/// how many of these were refused.
+fn reply_lines<C: Workers>(
     alloc: Global,
     database: &mut Database,
-    asked: &Record,
+    records: &[Record],
     workers: &C,
     plain: bool,
     number: u64,
-    line: &mut String,
-) -> Result<bool, CrewError>
-    requires workers { C.ready workers.now }
+    replies: &mut Vec<Reply>,
+    lines: &mut String,
+) -> Result<u64, CrewError>
     requires running { database.old.is_halted ≡ false }
-    ensures answers { IfOk result (λ refused. Answers database.old.limits database.old.holdings asked.now number
-        database.new.holdings (string_bytes line.new) refused) }
+    requires records { 0 < length records.now }
+    requires few { number + length records.now ≤ 18446744073709551616 }
+    ensures some { OnOk result (0 < length replies.new.items) }
+    ensures within { OnOk result (length replies.new.items ≤ length records.now) }
+    ensures answers { IfOk result (λ refused. Answers database.old.limits database.old.holdings
+        (take (length replies.new.items) records.now) number database.new.holdings (string_bytes lines.new) refused) }
     ensures keeps { OnOk result (database.new ≡ left_with database.old database.new.holdings) }
 {
-    let limits = database.limits();
-    let request = asked.call(alloc, &limits)?;
-    let reply = answer(alloc, database, &request, workers, plain)?;
-    line.clear();
-    push_reply(line, number, &reply)?;
-    Ok(matches!(reply, Reply::Refused(_)))
+    answer_first(alloc, database, records, workers, plain, replies)?;
+    let refused = write_lines(lines, number, replies)?;
+    Ok(refused)
+}
+
+/// Writes the lines of replies over `lines`, numbered from this number on. Returns how many of them are refusals.
+fn write_lines(lines: &mut String, number: u64, replies: &[Reply]) -> Result<u64, NoMemory>
+    requires few { number + length replies.now ≤ 18446744073709551616 }
+    ensures lines { OnOk result (string_bytes lines.new ≡ reply_lines number (map reply_of replies.now)) }
+    ensures refused { IfOk result (λ refused. refused ≡ refused_count (map reply_of replies.now)) }
+{
+    lines.clear();
+    let mut refused = 0;
+    for (i, reply) in replies.iter().enumerate() {
+        push_reply(lines, number + i as u64, reply)?;
+        refused += u64::from(is_refused(reply));
+    }
+    Ok(refused)
+}
+
+/// Whether a reply is a refusal.
+fn is_refused(reply: &Reply) -> bool
+    ensures { result ≡ is_refused (reply_of reply.now) }
+{
+    matches!(reply, Reply::Refused(_))
 }
 
 /// The audit lines and the end line.
@@ -73,7 +100,7 @@ fn closing_text(
 /// works all calls, and the gate hears of its work; with `plain` the crew is one worker.
 ///
 /// Where memory runs out at a record, or a thread cannot be started, the reply lines before it have been written and flushed.
-pub fn run<T: AllocGlobal + Threads + Sync, R: Source, W: Sink, G: Gate>(
+pub fn run<T: AllocGlobal + Threads + Wait + Sync, R: Source, W: Sink, G: Gate>(
     rt: &T,
     reader: &mut R,
     writer: &mut W,
@@ -136,7 +163,6 @@ pub fn replay_records<W: Sink, C: Workers>(
     plain: bool,
     writer: &mut W,
 ) -> Result<Summary, RunError>
-    requires workers { C.ready workers.now }
     requires running { database.old.is_halted ≡ false }
     ensures ok { IfOk result (WritesText (told_of database.old.limits records.now database.old.holdings)
         (W.contents writer.old) (W.contents writer.new)) }
@@ -145,30 +171,41 @@ pub fn replay_records<W: Sink, C: Workers>(
         (W.contents writer.old) (W.contents writer.new) (W.failed writer.old) (W.failed writer.new)) }
 {
     let alloc = rt.alloc();
-    let mut line = String::new(alloc);
+    let mut replies = Vec::new(alloc);
+    let mut lines = String::new(alloc);
+    let mut left = records;
+    let mut answered = 0;
     let mut refused = 0;
-    for (i, asked) in records.iter().enumerate() {
-        let number = i as u64 + 1;
-        let is_refused = match reply_line(
-            alloc, database, asked, workers, plain, number, &mut line,
+    while !left.is_empty() {
+        let number = answered + 1;
+        let refusals = match reply_lines(
+            alloc,
+            database,
+            left,
+            workers,
+            plain,
+            number,
+            &mut replies,
+            &mut lines,
         ) {
-            Ok(is_refused) => is_refused,
+            Ok(refusals) => refusals,
             Err(why) => return Err(stop_at(writer, number, why)),
         };
-        if writer.write_all(line.as_bytes()).is_err() {
+        if writer.write_all(lines.as_bytes()).is_err() {
             return Err(RunError::WriteFailed);
         }
-        refused += u64::from(is_refused);
+        left = &left[replies.len()..];
+        answered += replies.len() as u64;
+        refused += refusals;
     }
-    let count = records.len() as u64;
-    let Ok(text) = closing_text(rt, database, count, refused) else {
-        return Err(stop_at(writer, count + 1, CrewError::NoMemory));
+    let Ok(text) = closing_text(rt, database, answered, refused) else {
+        return Err(stop_at(writer, answered + 1, CrewError::NoMemory));
     };
     if writer.write_all(&text).is_err() || writer.flush().is_err() {
         return Err(RunError::WriteFailed);
     }
     Ok(Summary {
-        records: count,
+        records: answered,
         refused,
     })
 }

@@ -5,19 +5,21 @@ ghost use Rattle.replay.specs.Options.{AreServed};
 
 mod worked;
 
-use crate::answer::answer;
+use crate::answer::answer_first;
 use crate::error::RunError;
 use crate::options::Options;
-use crate::replay::{Summary, replay_records, run};
+use crate::replay::{Summary, run};
 use audit::{Line, check, lines};
-use crew::{Alone, CrewError, NoGate, Workers};
+use crew::{Crew, Gate, NoGate};
 use mapdb::Database;
-use pieces::{Done, Piece};
 use space::NoMemory;
 use std::alloc::Global;
+use std::sync::Wait;
+use std::sync::atomic::{AtomicU64, Ordering};
 use std::test::Fail;
 use std::thread::Threads;
 use trace::{Failed, Sink, Std, read_all};
+use turns::{Open, Turn};
 use worked::TRACES;
 
 /// The audit lines of sixteen frames that no call has changed.
@@ -50,7 +52,7 @@ const PLAIN: Options = Options {
 
 /// What a run over memory came to, and what it wrote.
 fn outcome_of(
-    rt: &(impl AllocGlobal + Threads + Sync),
+    rt: &(impl AllocGlobal + Threads + Wait + Sync),
     input: &str,
     options: &Options,
 ) -> (Result<Summary, RunError>, Vec<u8>)
@@ -138,17 +140,30 @@ fn writes_the_replies_and_the_audit(rt: HostRuntime) -> Result<(), Fail> {
 }
 
 /// The lines of the audit after a trace.
-fn lines_after(alloc: Global, input: &str) -> Result<Vec<Line>, Fail> {
+fn lines_after(
+    rt: &(impl AllocGlobal + Threads + Wait + Sync),
+    input: &str,
+) -> Result<Vec<Line>, Fail> {
+    let alloc = rt.alloc();
     let trace = read_all(alloc, &mut Std::new(input.as_bytes()))?;
     let limits = trace.limits;
     let mut database = Database::new(alloc, limits.spaces, limits.bits, limits.frames)?;
-    for asked in &trace.records {
-        if database.is_halted() {
+    let mut left = trace.records.as_slice();
+    let mut replies = Vec::new(alloc);
+    for _ in 0..trace.records.len() {
+        if left.is_empty() || database.is_halted() {
             break;
         }
-        let limits = database.limits();
-        let request = asked.call(alloc, &limits)?;
-        answer(alloc, &mut database, &request, &Alone::new(256), false)?;
+        answer_first(
+            alloc,
+            &mut database,
+            left,
+            &Crew::new(rt, 1, 256, &NoGate),
+            false,
+            &mut replies,
+        )?;
+        let (_, others) = left.split_at(replies.len());
+        left = others;
     }
     Ok(lines(alloc, &database)?)
 }
@@ -157,10 +172,52 @@ fn lines_after(alloc: Global, input: &str) -> Result<Vec<Line>, Fail> {
 fn audits_of_worked_traces_pass_the_check(rt: HostRuntime) -> Result<(), Fail> {
     for (header, records, count) in TRACES {
         let input = format!(in rt.alloc(); "{header}\n{records}")?;
-        let lines = lines_after(rt.alloc(), input.as_str())?;
+        let lines = lines_after(&rt, input.as_str())?;
         assert_eq!(rt; lines.len(), count, "{input}");
         assert!(rt; check(&lines), "{input}");
     }
+    Ok(())
+}
+
+/// Counts the pieces that begin.
+#[derive(Drop)]
+struct Counter {
+    begun: AtomicU64,
+}
+
+impl Gate for Counter {
+    fn begin(&self, _worker: usize, _piece: usize) {
+        self.begun.fetch_add(1, Ordering::SeqCst);
+    }
+
+    fn end(&self, _worker: usize, _turn: &Turn, _shared: &Open) {}
+}
+
+/// Three accesses, a refused one, two accesses: two calls, each of one piece.
+#[test]
+fn accesses_in_a_row_are_one_call(rt: HostRuntime) -> Result<(), Fail> {
+    let mut output = Std::new(Vec::new(rt.alloc()));
+    let counter = Counter {
+        begun: AtomicU64::new(0),
+    };
+    let input =
+        "l4map,1,2,18,4\naccess,0,0,r\naccess,0,1000,w\naccess,0,4000,x\naccess,0,40000,r\naccess,1,0,r\naccess,0,0,x\n";
+    let outcome = run(
+        &rt,
+        &mut Std::new(input.as_bytes()),
+        &mut output,
+        &OPTIONS,
+        &counter,
+    );
+    let summary = Summary {
+        records: 6,
+        refused: 1,
+    };
+    assert_eq!(rt; outcome, Ok(summary));
+    let text =
+        "1 access ok\n2 access ok\n3 access fault\n4 refused OutOfSpace\n5 access fault\n6 access ok\n0,0,0,rwx,R-X,-\n0,1,1,rwx,RW-,-\n0,2,2,rwx,---,-\n0,3,3,rwx,---,-\nend 6 1\n";
+    assert_eq!(rt; output.into_inner().as_slice(), text.as_bytes());
+    assert_eq!(rt; counter.begun.load(Ordering::SeqCst), 2);
     Ok(())
 }
 
@@ -315,49 +372,4 @@ fn flushes_what_it_has_written_where_memory_runs_out(rt: HostRuntime) -> Result<
         }
         Err(error) => Err(error)?,
     }
-}
-
-/// Workers for whom no thread can be started.
-struct NoneStarts;
-
-impl Workers for NoneStarts {
-    ghost ready = { λ _. Unit {0} };
-
-    fn piece_length(&self) -> usize {
-        1
-    }
-
-    fn work(
-        &self,
-        alloc: Global,
-        words: Vec<u64>,
-        pieces: Vec<Piece>,
-    ) -> Result<(Vec<u64>, Vec<Done>), CrewError> {
-        Err(CrewError::NoWorker)
-    }
-}
-
-#[test]
-fn flushes_what_it_has_written_where_no_thread_starts(rt: HostRuntime) -> Result<(), Fail> {
-    let alloc = rt.alloc();
-    let input = "l4map,1,2,18,1\naccess,2,0,r\nsend,0,1,10,3008,c6\n";
-    let trace = read_all(alloc, &mut Std::new(input.as_bytes()))?;
-    let mut database = Database::new(alloc, 2, 18, 1)?;
-    let mut output = sink(&rt, 0);
-    let outcome = replay_records(
-        &rt,
-        &mut database,
-        &trace.records,
-        &NoneStarts,
-        false,
-        &mut output,
-    );
-    assert_eq!(rt; outcome, Err(RunError::NoWorker(2)));
-    assert_eq!(rt;
-        output.kept.as_slice(),
-        "1 refused NoSuchSpace\n".as_bytes()
-    );
-    assert_eq!(rt; output.flushed, output.kept.len());
-    assert!(rt; database.is_halted());
-    Ok(())
 }

@@ -1,5 +1,5 @@
 -- The phase of some accesses.
-use Rattle.std.proofs.Common.{◌≡◌, ℕ, suc, ◌≤◌, List, [], ◌∷◌, length, map, refl, sym, ap, ◌∙◌, subst, arith}
+use Rattle.std.proofs.Common.{◌≡◌, ℕ, ◌≤◌, List, [], ◌∷◌, length, map, refl, sym, ap, ◌∙◌, subst, arith}
 use Rattle.std.specs.List.{All, flat_map}
 use Rattle.fpage.specs.declared.rights.Access.{Access}
 use Rattle.space.specs.declared.place.Place.{Place}
@@ -7,11 +7,10 @@ use Rattle.space.specs.declared.shards.Shards.{Shards}
 use Rattle.maptree.specs.Cuts.{pieces}
 use Rattle.maptree.specs.Origins.{Shape}
 use Rattle.pieces.specs.Phases.{CanBeWorked}
-use Rattle.pieces.specs.Values.{Value, value}
+use Rattle.pieces.specs.Values.{value}
 use Rattle.pieces.specs.declared.gathering.Gathered.{Gathered}
 use Rattle.pieces.specs.declared.piece.Piece.{Piece}
 use Rattle.pieces.specs.declared.piece.Piece.TheVariants as piece
-use Rattle.pieces.specs.declared.touch.WordAccess.{WordAccess}
 use Rattle.pieces.proofs.InPieces.{flat_of_map}
 use Rattle.holdings.specs.Contents.{left_with, touched_all, access_answers}
 use Rattle.holdings.specs.Places.{IsWithin}

@@ -1,18 +1,16 @@
 -- Accesses worked as a touch are accesses made one after another.
-use Rattle.std.proofs.Common.{◌≡◌, ◌≢◌, ℕ, suc, ◌<◌, true, false, Bool, List, [], ◌∷◌, length, map, Option, Some, None, slice_index, get_or, refl, sym, ap, ◌∙◌, subst, arith, ◌⊎◌, inl, inr, if◌then◌else◌}
-use Rattle.std.specs.Prelude.{IsFalse, ◌==◌}
-use Rattle.std.proofs.lemmas.Bool.{ne_eqb, eqb-true, true≢false, false_from_ne_true, cases_order}
-use Rattle.std.specs.List.{All, AllPass}
+use Rattle.std.proofs.Common.{◌≡◌, ℕ, suc, true, false, Bool, List, [], ◌∷◌, map, Option, Some, None, slice_index, refl, sym, ap, ◌∙◌, subst, arith}
+use Rattle.std.specs.Prelude.{◌==◌}
+use Rattle.std.proofs.lemmas.Bool.{ne_eqb}
+use Rattle.std.specs.List.{All}
 use Rattle.std.specs.Option.{option_map, option_map_or}
 use Rattle.fpage.specs.Rights.{has, join, marks}
 use Rattle.fpage.specs.declared.rights.Access.{Access}
 use Rattle.space.specs.declared.place.Place.{Place}
 use Rattle.space.specs.declared.place.Entry.{Entry}
 use Rattle.space.specs.declared.shards.Shards.{Shards}
-use Rattle.space.specs.Place.{same_place}
-use Rattle.space.specs.Word.{is_pack, entry_of}
-use Rattle.space.specs.Shards.{IsPlace, index_of, word_count, entry_at, is_taken, IsLaidOutAs}
-use Rattle.space.proofs.Places.{same_or_apart, same_self}
+use Rattle.space.specs.Word.{entry_of}
+use Rattle.space.specs.Shards.{IsPlace, index_of, entry_at}
 use Rattle.space.proofs.ShardWords.{places_have_words, words_are_their_own}
 use Rattle.maptree.specs.Origins.{Shape}
 use Rattle.model.specs.Calls.{Limits}

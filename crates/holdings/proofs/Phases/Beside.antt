@@ -1,8 +1,8 @@
 -- The pieces of accesses, of a MapItem and of a GrantItem can be worked beside one another.
-use Rattle.std.proofs.Common.{◌≡◌, ℕ, zero, suc, ◌+◌, ◌-◌, ◌<◌, ◌≤◌, nat_lt, true, false, Bool, ◌&&◌, ◌||◌, not, List, [], ◌∷◌, ◌++◌, length, map, Option, Some, None, slice_index, get_or, refl, sym, ap, ◌∙◌, subst, arith, ◌⊎◌, inl, inr, if◌then◌else◌, pow_pos}
+use Rattle.std.proofs.Common.{◌≡◌, ℕ, zero, suc, ◌-◌, ◌<◌, ◌≤◌, nat_lt, true, false, Bool, ◌||◌, not, List, [], ◌∷◌, ◌++◌, length, map, get_or, refl, sym, ap, ◌∙◌, arith, if◌then◌else◌, pow_pos}
 use Rattle.std.specs.Prelude.{is_some, ◌==◌}
 use Rattle.std.specs.List.{All, list_any, list_all, flat_map}
-use Rattle.std.proofs.lemmas.Bool.{and_parts, and_from, ne_eqb, eq-eqb, lt-ltb}
+use Rattle.std.proofs.lemmas.Bool.{and_from, ne_eqb, lt-ltb}
 use Rattle.std.proofs.lemmas.Grind.{flat_map-append}
 use Rattle.std.proofs.lemmas.List.{map-append, append-nil}
 use Rattle.fpage.specs.declared.rights.Rights.{Rights}
@@ -10,60 +10,24 @@ use Rattle.fpage.specs.declared.rights.Access.{Access}
 use Rattle.space.specs.declared.place.Place.{Place}
 use Rattle.space.specs.declared.shards.Shards.{Shards}
 use Rattle.space.specs.Place.{same_place}
-use Rattle.space.specs.Shards.{IsPlace, index_of, entry_at}
+use Rattle.space.specs.Shards.{IsPlace, index_of}
 use Rattle.space.proofs.Places.{same_self}
 use Rattle.space.proofs.ShardWords.{places_have_words, words_are_their_own}
 use Rattle.maptree.specs.Cuts.{pieces}
-use Rattle.model.specs.Calls.{Limits}
 use Rattle.pieces.specs.Contents.{puts_of, ends_of}
 use Rattle.pieces.specs.Distinct.{is_none_of, are_distinct}
 use Rattle.pieces.specs.Phases.{CanBeWorked, changes, folds, held, named, is_touch, are_alike}
 use Rattle.pieces.specs.Steps.{entry_in}
-use Rattle.pieces.specs.declared.link.Store.{Store}
-use Rattle.pieces.specs.declared.moving.Pair.{Pair}
 use Rattle.pieces.specs.declared.touch.WordAccess.{WordAccess}
 use Rattle.pieces.specs.declared.piece.Piece.TheVariants as piece
 use Rattle.pieces.specs.declared.piece.Piece.{Piece}
 use Rattle.pieces.proofs.InPieces.{flat_pieces, flat_of_map, links_change, moves_change}
+use Rattle.pieces.proofs.OfOneKind.{none_folded, none_touch, not_touches, accesses_can}
 use Rattle.holdings.specs.declared.transfer.Transfer.{Transfer}
-use Rattle.holdings.specs.Sending.{ArePaired, IsApartFrom}
+use Rattle.holdings.specs.Sending.{ArePaired}
 use Rattle.holdings.specs.Inner.Held.{has_entry}
 use Rattle.holdings.specs.Inner.Planning.{word_access, store_of, stores_of, word_pair, word_pairs}
 use Rattle.holdings.specs.Inner.Words.{AreWordsOf}
-
--- ---- lists of one kind
-
-none_folded : {A : Type 0} (make : A → Piece) → ((x : A) → folds (make x) ≡ []) → (xs : List A) → flat_map folds (map make xs) ≡ []
-none_folded make none [] = refl
-none_folded make none (x ∷ xs) = ap (λ is. is ++ flat_map folds (map make xs)) (none x) ∙ none_folded make none xs
-
-none_touch : {A : Type 0} (make : A → Piece) → ((x : A) → is_touch (make x) ≡ false) → (xs : List A) → list_any is_touch (map make xs) ≡ false
-none_touch make none [] = refl
-none_touch make none (x ∷ xs) = ap (λ b. b || list_any is_touch (map make xs)) (none x) ∙ none_touch make none xs
-
-all_touch : (xs : List (List WordAccess)) → list_all is_touch (map piece.Touch xs) ≡ true
-all_touch [] = refl
-all_touch (x ∷ xs) = all_touch xs
-
-not_touches : (ps : List Piece) → list_any is_touch ps ≡ false → are_alike ps ≡ true
-not_touches ps none = ap (λ b. list_all is_touch ps || not b) none ∙ either (list_all is_touch ps)
-  where
-    either : (x : Bool) → (x || not false) ≡ true
-    either x = grind arith
-
-only_touches : (ps : List Piece) → list_all is_touch ps ≡ true → are_alike ps ≡ true
-only_touches ps all = ap (λ b. b || not (list_any is_touch ps)) all
-
-touched_indexes : (xs ys : List WordAccess) → map (λ t. t.index) (xs ++ ys) ≡ map (λ t. t.index) xs ++ map (λ t. t.index) ys
-touched_indexes xs ys = map-append (λ t. t.index) xs ys
-
-none_changed : (xs : List (List WordAccess)) → flat_map changes (map piece.Touch xs) ≡ []
-none_changed [] = refl
-none_changed (x ∷ xs) = none_changed xs
-
-none_held : (xs : List (List WordAccess)) → flat_map held (map piece.Touch xs) ≡ []
-none_held [] = refl
-none_held (x ∷ xs) = none_held xs
 
 module _ (s : Shards) (w : List ℕ) (are : AreWordsOf s w) where
   some_words : 0 < length w
@@ -88,18 +52,7 @@ module _ (s : Shards) (w : List ℕ) (are : AreWordsOf s w) where
   accesses_within (t ∷ ts) places = and_from _ _ (index_within t.0 (places 0 t (omega arith))) (accesses_within ts (λ k d less. places (suc k) d (omega (arith, less))))
 
   pub touches_can : (ts : List (Place × Access)) → All (λ t. IsPlace s t.0) ts → (most : ℕ) → 1 ≤ most → CanBeWorked w (map piece.Touch (pieces (length (map (word_access s) ts)) most (map (word_access s) ts)))
-  touches_can ts places most some =
-      let xs = map (word_access s) ts in
-      let parts = pieces (length xs) most xs in
-      record {
-        some = some_words;
-        packs = are.packs;
-        within = ap (list_all (λ i. nat_lt i (length w))) (flat_of_map piece.Touch named parts ∙ flat_pieces (map (λ x. x.index)) refl touched_indexes (length xs) most xs some (omega arith)) ∙ accesses_within ts places;
-        entries = ap (list_all (λ i. is_some (entry_in w i))) (none_held parts);
-        distinct = ap are_distinct (none_changed parts);
-        apart = ap (list_all (is_none_of (flat_map changes (map piece.Touch parts)))) (none_folded piece.Touch (λ x. refl) parts);
-        alike = only_touches (map piece.Touch parts) (all_touch parts);
-      }
+  touches_can ts places most some = accesses_can w some_words are.packs (map (word_access s) ts) (accesses_within ts places) most some
 
   -- ---- links
 

@@ -1,11 +1,9 @@
 -- The nodes that the pieces of a planned strip keep are those whose pages are held afterwards.
-use Rattle.std.proofs.Common.{◌≡◌, ℕ, zero, suc, ◌+◌, ◌<◌, ◌≤◌, true, false, Bool, ◌&&◌, not, List, [], ◌∷◌, ◌++◌, length, map, filter, Option, Some, None, slice_index, get_or, unwrap_or, bit_or, refl, sym, ap, ◌∙◌, subst, arith, ◌⊎◌, inl, inr, if◌then◌else◌, zero-add}
+use Rattle.std.proofs.Common.{◌≡◌, ℕ, zero, suc, ◌+◌, ◌<◌, true, false, Bool, not, List, [], ◌∷◌, ◌++◌, length, map, filter, Some, None, slice_index, get_or, unwrap_or, bit_or, refl, sym, ap, ◌∙◌, subst, arith, if◌then◌else◌, zero-add}
 use Rattle.std.specs.Prelude.{is_some, ◌==◌}
-use Rattle.std.specs.List.{All, list_all, flat_map, zip}
-use Rattle.std.proofs.lemmas.Bool.{and_parts, eq-eqb, eqb-true, ne_eqb}
-use Rattle.std.proofs.lemmas.Grind.{flat_map-append}
+use Rattle.std.specs.List.{All, flat_map, zip}
+use Rattle.std.proofs.lemmas.Bool.{and_parts, eq-eqb, ne_eqb}
 use Rattle.std.proofs.lemmas.List.{map-append}
-use Rattle.std.proofs.lemmas.List.Elements.{All-append}
 use Rattle.fpage.specs.declared.rights.Rights.{Rights}
 use Rattle.space.specs.declared.place.Place.{Place}
 use Rattle.space.specs.declared.shards.Shards.{Shards}
@@ -16,7 +14,7 @@ use Rattle.space.proofs.Words.{unpack_gives_back}
 use Rattle.maptree.specs.declared.node.Node.{Node}
 use Rattle.pieces.specs.Contents.{StripContent, IsStrip}
 use Rattle.pieces.specs.Distinct.{is_none_of, are_distinct}
-use Rattle.pieces.specs.Effects.{written, gained, word_after}
+use Rattle.pieces.specs.Effects.{gained, word_after}
 use Rattle.pieces.specs.Steps.{entry_in, effects, narrowed_by}
 use Rattle.pieces.specs.Applied.{worked}
 use Rattle.pieces.specs.Values.{remains, kept_nodes}

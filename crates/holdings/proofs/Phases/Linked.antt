@@ -1,42 +1,37 @@
 -- Stores worked as a link are the pages of a MapItem mapped one after another.
-use Rattle.std.proofs.Common.{◌≡◌, ℕ, zero, suc, ◌+◌, ◌<◌, ◌≤◌, nat_lt, true, false, Bool, ◌&&◌, not, List, [], ◌∷◌, ◌++◌, length, drop, map, Option, Some, None, slice_index, get_or, refl, sym, ap, ◌∙◌, subst, arith, ◌⊎◌, inl, inr, if◌then◌else◌, zero-add, pow_pos, ◌-◌}
+use Rattle.std.proofs.Common.{◌≡◌, ℕ, zero, suc, ◌+◌, ◌<◌, ◌≤◌, true, false, Bool, ◌&&◌, not, List, [], ◌∷◌, length, drop, map, Option, Some, None, slice_index, get_or, refl, sym, ap, ◌∙◌, subst, arith, if◌then◌else◌, zero-add}
 use Rattle.std.specs.Prelude.{is_some, ◌==◌, ◌^◌, unwrap_or, bit_or}
 use Rattle.pieces.specs.Effects.{gained}
-use Rattle.std.specs.List.{All, AllPass, list_any, list_all, flat_map}
+use Rattle.std.specs.List.{All, list_all, flat_map}
 use Rattle.std.specs.Option.{option_map}
 use Rattle.std.specs.Int.Bits.{or_zero_r}
-use Rattle.std.proofs.lemmas.Bool.{and_parts, and_from, ne_eqb, eq-eqb, lt-ltb, eqb-true}
+use Rattle.std.proofs.lemmas.Bool.{and_parts, and_from, ne_eqb, eq-eqb}
 use Rattle.std.proofs.lemmas.List.{append-nil, drop_more, drop_all}
-use Rattle.fpage.specs.Rights.{no_rights, meet, join}
+use Rattle.fpage.specs.Rights.{meet, join}
 use Rattle.fpage.specs.declared.rights.Rights.{Rights}
 use Rattle.space.specs.declared.place.Place.{Place}
 use Rattle.space.specs.declared.place.Entry.{Entry}
 use Rattle.space.specs.declared.shards.Shards.{Shards}
-use Rattle.space.specs.Place.{same_place}
 use Rattle.space.specs.Word.{word_of, entry_of, FrameFits}
-use Rattle.space.specs.Entries as word
 use Rattle.space.specs.Shards.{IsPlace, IsLaidOutAs, index_of, entry_at}
-use Rattle.space.proofs.Places.{same_self, same_is}
 use Rattle.space.proofs.ShardWords.{places_have_words, words_are_their_own, entries_fit}
 use Rattle.space.proofs.Words.{unpack_gives_back}
 use Rattle.maptree.specs.Origins.{Shape}
-use Rattle.model.specs.Holdings.{Held, Holdings, at}
-use Rattle.model.specs.Items.{Job, Counts, no_counts, add_counts, counts_of, goes}
-use Rattle.model.proofs.LawfulParts.{IsOrigin, lawful_parts}
+use Rattle.model.specs.Holdings.{Held, Holdings}
+use Rattle.model.specs.Items.{Counts, no_counts, add_counts, counts_of, goes}
+use Rattle.model.proofs.LawfulParts.{lawful_parts}
 use Rattle.pieces.specs.Contents.{puts_of}
 use Rattle.pieces.specs.Distinct.{is_none_of, are_distinct}
-use Rattle.pieces.specs.Effects.{Effect, writes, word_after, words_after}
-use Rattle.pieces.specs.Phases.{CanBeWorked, IsPiece, changes, held, named}
+use Rattle.pieces.specs.Effects.{writes, word_after}
+use Rattle.pieces.specs.Phases.{CanBeWorked, IsPiece, held}
 use Rattle.pieces.specs.Steps.{entry_in, effects, linked}
 use Rattle.pieces.specs.Applied.{worked}
 use Rattle.pieces.specs.Laws.{spare_held}
 use Rattle.pieces.specs.declared.link.Store.{Store}
 use Rattle.pieces.specs.declared.piece.Piece.TheVariants as piece
-use Rattle.pieces.specs.declared.piece.Piece.{Piece}
 use Rattle.pieces.proofs.AllSteps.{length_words, word_at, worked_all, words_none}
 use Rattle.pieces.proofs.OneByOne.{one_after_another, others_can}
 use Rattle.holdings.specs.declared.transfer.Transfer.{Transfer}
-use Rattle.holdings.specs.Places.{IsWithin}
 use Rattle.holdings.specs.Sending.{ArePlanned, ArePaired, IsReady, IsTransferWithin, fate_in, map_transfers}
 use Rattle.holdings.specs.Inner.Held.{limits_in, holdings_in, holdings_of, has_entry, held_of}
 use Rattle.holdings.specs.Inner.Links.{AreLinked, links_of, IsPageLost, IsPageMapped}
@@ -44,7 +39,7 @@ use Rattle.holdings.specs.Inner.Links as page
 use Rattle.holdings.specs.Inner.Planning.{store_of, stores_of}
 use Rattle.holdings.specs.Inner.Sound.{IsSound, AreSound}
 use Rattle.std.proofs.lemmas.List.Elements.{All-drop}
-use Rattle.holdings.proofs.Contents.Holders.{place_within, present_within}
+use Rattle.holdings.proofs.Contents.Holders.{present_within}
 use Rattle.holdings.proofs.Contents.WordChanges.{place_kept}
 use Rattle.holdings.proofs.Links.LinkedTrees.{no_transfer}
 use Rattle.holdings.proofs.Maps.MapAll.{sources_in}

@@ -1,13 +1,12 @@
 -- Pairs worked as a move are the pages of a GrantItem moved.
-use Rattle.std.proofs.Common.{◌≡◌, ℕ, zero, suc, ◌+◌, ◌<◌, ◌≤◌, true, false, Bool, ◌&&◌, not, List, [], ◌∷◌, ◌++◌, length, take, drop, map, Option, Some, None, slice_index, get_or, unwrap_or, bit_or, refl, sym, ap, ◌∙◌, subst, arith, ◌⊎◌, inl, inr, if◌then◌else◌, zero-add}
+use Rattle.std.proofs.Common.{◌≡◌, ℕ, zero, suc, ◌+◌, ◌<◌, ◌≤◌, true, false, Bool, ◌&&◌, not, List, [], ◌∷◌, length, drop, Option, Some, None, slice_index, get_or, unwrap_or, bit_or, refl, sym, ap, ◌∙◌, subst, arith, ◌⊎◌, inl, inr, if◌then◌else◌, zero-add}
 use Rattle.std.specs.Prelude.{is_some, ◌==◌, ◌^◌, IsFalse}
 use Rattle.std.proofs.lemmas.Option.{same_Some}
-use Rattle.std.specs.List.{All, list_all, flat_map}
+use Rattle.std.specs.List.{All, flat_map}
 use Rattle.std.specs.Option.{option_map}
 use Rattle.std.specs.Int.Bits.{or_zero_r}
 use Rattle.std.proofs.lemmas.Bool.{and_parts, ne_eqb, eq-eqb}
 use Rattle.std.proofs.lemmas.List.{append-nil, drop_more, drop_all}
-use Rattle.fpage.specs.Rights.{no_rights}
 use Rattle.space.specs.declared.place.Place.{Place}
 use Rattle.space.specs.declared.place.Entry.{Entry}
 use Rattle.space.specs.declared.shards.Shards.{Shards}
@@ -29,22 +28,21 @@ use Rattle.model.specs.Items.{Counts, no_counts, add_counts, counts_of, goes, so
 use Rattle.model.specs.SendLaws.{In}
 use Rattle.pieces.specs.Contents.{ends_of}
 use Rattle.pieces.specs.Distinct.{is_none_of, are_distinct}
-use Rattle.pieces.specs.Effects.{Effect, writes, gained, word_after, words_after}
+use Rattle.pieces.specs.Effects.{word_after}
 use Rattle.pieces.specs.Phases.{CanBeWorked, IsPiece, changes}
 use Rattle.pieces.specs.Steps.{entry_in, effects, without_status}
 use Rattle.pieces.specs.Applied.{worked}
-use Rattle.pieces.specs.Laws.{spare_held}
 use Rattle.pieces.specs.declared.moving.Pair.{Pair}
 use Rattle.pieces.specs.declared.piece.Piece.TheVariants as piece
 use Rattle.pieces.proofs.AllSteps.{length_words, word_at, worked_all, words_none}
 use Rattle.pieces.proofs.OneByOne.{one_after_another, others_can, all_held_apart, changes_apart, folds_of_others_apart}
 use Rattle.holdings.specs.declared.transfer.Transfer.{Transfer}
 use Rattle.holdings.specs.Sending.{ArePlanned, AllGo, moving_of}
-use Rattle.holdings.specs.Inner.Held.{limits_in, holdings_in, holdings_of, has_entry}
-use Rattle.holdings.specs.Inner.Links.{links_of, last_target, IsPageLost}
+use Rattle.holdings.specs.Inner.Held.{limits_in, holdings_in, has_entry}
+use Rattle.holdings.specs.Inner.Links.{links_of, last_target}
 use Rattle.holdings.specs.Inner.Renamings.{AreRenamed, IsPageMoved}
 use Rattle.holdings.specs.Inner.Planning.{word_pair, word_pairs}
-use Rattle.holdings.specs.Inner.Sound.{IsSound, AreSound}
+use Rattle.holdings.specs.Inner.Sound.{AreSound}
 use Rattle.holdings.proofs.Contents.WordChanges.{place_kept}
 use Rattle.holdings.proofs.Links.LinkedTrees.{no_transfer}
 use Rattle.holdings.proofs.Renamings.MovedPages.{AreWordsMoved}
@@ -52,7 +50,7 @@ use Rattle.holdings.proofs.Renamings.MovingWords.{AreMoving, none_moved, ends_ap
 use Rattle.holdings.proofs.Renamings.MovingTrees.{pairs_within, all_left, all_sound, same_limits}
 use Rattle.holdings.proofs.Stripping.Walks.{same_layouts}
 use Rattle.holdings.specs.Inner.Words.{AreWordsOf, IsWith}
-use Rattle.holdings.proofs.Phases.Words.{with_words, same_holdings, same_sound}
+use Rattle.holdings.proofs.Phases.Words.{with_words}
 
 -- ---- one pair
 

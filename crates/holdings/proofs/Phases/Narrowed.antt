@@ -1,28 +1,26 @@
 -- The words of some pages after a strip of them: each page has lost its rights, and no other word has changed but the fold word.
-use Rattle.std.proofs.Common.{◌≡◌, ◌≢◌, ℕ, zero, suc, zero-add, ◌+◌, ◌^◌, ◌<◌, true, false, Bool, ◌&&◌, ◌||◌, not, List, [], ◌∷◌, ◌++◌, length, map, replicate, Option, Some, None, slice_index, unwrap_or, bit_or, refl, sym, ap, ◌∙◌, subst, arith, ◌⊎◌, inl, inr, if◌then◌else◌}
+use Rattle.std.proofs.Common.{◌≡◌, ℕ, suc, zero-add, ◌^◌, ◌<◌, true, false, Bool, ◌&&◌, ◌||◌, not, List, [], ◌∷◌, ◌++◌, length, map, replicate, Option, Some, None, slice_index, unwrap_or, bit_or, refl, sym, ap, ◌∙◌, subst, arith, ◌⊎◌, inl, inr, if◌then◌else◌}
 use Rattle.std.specs.Prelude.{◌==◌, is_some}
-use Rattle.std.specs.List.{All, list_any}
-use Rattle.std.specs.Option.{option_and_then, option_map, option_map_or}
+use Rattle.std.specs.List.{All}
+use Rattle.std.specs.Option.{option_and_then, option_map}
 use Rattle.std.specs.Int.Bits.{or_zero_l, or_zero_r}
-use Rattle.std.proofs.lemmas.Bool.{eq-eqb, ne_eqb, eqb-true}
-use Rattle.std.proofs.lemmas.List.{length-map, append-nil}
-use Rattle.std.proofs.Math.Bool.{or-false}
-use Rattle.fpage.specs.Rights.{no_rights, is_empty, join, has, without}
+use Rattle.std.proofs.lemmas.Bool.{eq-eqb, ne_eqb}
+use Rattle.std.proofs.lemmas.List.{append-nil}
+use Rattle.fpage.specs.Rights.{no_rights, is_empty, has, without}
 use Rattle.fpage.specs.declared.rights.Rights.{Rights}
-use Rattle.fpage.specs.declared.rights.Access.{Access}
-use Rattle.fpage.proofs.RightSets.{has-join, has-without, has-none, same_rights}
+use Rattle.fpage.proofs.RightSets.{has-without, has-none, same_rights}
 use Rattle.space.specs.declared.place.Place.{Place}
 use Rattle.space.specs.declared.place.Entry.{Entry}
 use Rattle.space.specs.declared.shards.Shards.{Shards}
 use Rattle.space.specs.Place.{same_place}
 use Rattle.space.specs.Word.{word_of, entry_of, FrameFits}
-use Rattle.space.specs.Entries.{narrowed, status_of, with_status}
-use Rattle.space.specs.Shards.{IsPlace, IsSetAt, index_of, entry_at}
+use Rattle.space.specs.Entries.{narrowed, with_status}
+use Rattle.space.specs.Shards.{IsPlace, index_of, entry_at}
 use Rattle.space.proofs.Places.{same_or_apart, same_self}
 use Rattle.space.proofs.ShardWords.{places_have_words, words_are_their_own, entries_fit}
 use Rattle.space.proofs.Words.{unpack_gives_back, pack_gains_status}
 use Rattle.pieces.specs.Contents.{StripContent}
-use Rattle.pieces.specs.Effects.{Effect, writes, gained, written, word_after, words_after}
+use Rattle.pieces.specs.Effects.{Effect, gained, written, word_after, words_after}
 use Rattle.pieces.specs.Masks.{masks_of}
 use Rattle.pieces.specs.Steps.{entry_in, effects, narrowed_by, status_bits, status_in}
 use Rattle.pieces.specs.Applied.{worked}

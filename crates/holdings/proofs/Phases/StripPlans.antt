@@ -1,8 +1,8 @@
 -- A planned strip can be worked, and is the strip of the definition.
-use Rattle.std.proofs.Common.{◌≡◌, ℕ, zero, suc, ◌+◌, ◌-◌, ◌<◌, ◌≤◌, nat_lt, true, false, Bool, ◌&&◌, ◌||◌, not, List, [], ◌∷◌, ◌++◌, length, map, filter, Option, Some, None, slice_index, get_or, refl, sym, ap, ◌∙◌, subst, arith, ◌⊎◌, inl, inr, if◌then◌else◌, pow_pos}
+use Rattle.std.proofs.Common.{◌≡◌, ℕ, zero, suc, ◌-◌, ◌<◌, nat_lt, true, false, Bool, ◌&&◌, ◌||◌, not, List, [], ◌∷◌, ◌++◌, length, map, Option, Some, None, get_or, refl, sym, ap, ◌∙◌, subst, arith, ◌⊎◌, inl, inr, pow_pos}
 use Rattle.std.specs.Prelude.{is_some, ◌==◌}
-use Rattle.std.specs.List.{All, AllPass, list_any, list_all, flat_map, slice_range, zip}
-use Rattle.std.specs.Option.{option_map, option_to_list}
+use Rattle.std.specs.List.{All, list_any, list_all, flat_map, slice_range}
+use Rattle.std.specs.Option.{option_to_list}
 use Rattle.std.proofs.lemmas.Bool.{and_parts, and_from, or_cases, ne_eqb, lt-ltb}
 use Rattle.std.proofs.lemmas.Grind.{flat_map-append}
 use Rattle.std.proofs.lemmas.List.{map-append}
@@ -12,32 +12,27 @@ use Rattle.fpage.specs.declared.rights.Rights.{Rights}
 use Rattle.space.specs.declared.place.Place.{Place}
 use Rattle.space.specs.declared.shards.Shards.{Shards}
 use Rattle.space.specs.Place.{same_place}
-use Rattle.space.specs.Word.{is_pack, entry_of}
 use Rattle.space.specs.Shards.{IsPlace, index_of, entry_at}
 use Rattle.space.proofs.Places.{same_is, same_self}
 use Rattle.space.proofs.ShardWords.{places_have_words, words_are_their_own}
 use Rattle.maptree.specs.declared.node.Node.{Node}
-use Rattle.maptree.specs.Origins.{Shape, place_at}
-use Rattle.model.specs.Holdings.{PlaceSet, is_held}
-use Rattle.model.specs.Derived.{is_below}
+use Rattle.maptree.specs.Origins.{Shape}
+use Rattle.model.specs.Holdings.{PlaceSet}
 use Rattle.model.specs.Lawful.{is_lawful}
 use Rattle.model.specs.Records.{are_limits}
 use Rattle.model.specs.Strip.{strip, strip_word}
 use Rattle.std.specs.Option.{option_and_then}
-use Rattle.std.specs.FinMap.Entries.{find}
 use Rattle.space.specs.Shards.{spaces_of, bits_of}
-use Rattle.space.specs.Place.{place_cmp}
 use Rattle.space.specs.declared.place.Entry.{Entry}
-use Rattle.maptree.specs.Origins.{Origins, origin_in}
+use Rattle.maptree.specs.Origins.{origin_in}
 use Rattle.model.proofs.LawfulParts.{lawful_parts}
-use Rattle.pieces.specs.Contents.{StripContent, IsStrip}
+use Rattle.pieces.specs.Contents.{StripContent}
 use Rattle.pieces.specs.Distinct.{is_none_of, are_distinct}
 use Rattle.pieces.specs.Phases.{CanBeWorked, IsPiece, changes, folds, held, named, is_touch, are_alike}
 use Rattle.pieces.specs.Steps.{entry_in}
 use Rattle.pieces.specs.Applied.{worked}
 use Rattle.pieces.specs.Laws.{joined_strips}
 use Rattle.pieces.specs.declared.piece.Piece.TheVariants as piece
-use Rattle.pieces.specs.declared.piece.Piece.{Piece}
 use Rattle.holdings.specs.Places.{any_of}
 use Rattle.holdings.specs.Inner.Held.{links_in, is_listed, is_place, holdings_of, holdings_in, limits_in, has_frame, has_entry}
 use Rattle.holdings.specs.Inner.Stripping.{pruned}
@@ -47,13 +42,13 @@ use Rattle.std.proofs.lemmas.Bool.{eq-eqb}
 use Rattle.holdings.specs.Inner.Planning.{strip_of, strips_of_run, all_places, RunPlan, IsRunPlan, strips_of_runs, first_of, places_of_runs, come_once, IsStripPlan}
 use Rattle.holdings.specs.Inner.Sound.{AreSound}
 use Rattle.holdings.proofs.Contents.WordChanges.{frame_from}
-use Rattle.holdings.proofs.Trees.Chains.{is_among, among_at, listed_at}
+use Rattle.holdings.proofs.Trees.Chains.{among_at, listed_at}
 use Rattle.holdings.proofs.Stripping.Frames.{loose_from, listed_kept, find_kept, kept_listed}
 use Rattle.holdings.proofs.Stripping.Outer.{outer_word, outer_strip}
 use Rattle.holdings.proofs.Stripping.Sequences.{AreStripped}
 use Rattle.holdings.proofs.Stripping.Walks.{standing_place}
 use Rattle.holdings.specs.Inner.Words.{AreWordsOf, IsWith}
-use Rattle.holdings.proofs.Phases.StrippedRun.{slice_of_map, each_listed, rest_indexes, whole_indexes}
+use Rattle.holdings.proofs.Phases.StrippedRun.{slice_of_map, each_listed, whole_indexes}
 use Rattle.holdings.proofs.Phases.StrippedRuns.{changes_of_strips, runs_stripped, status_found}
 
 -- ---- indexes of places

@@ -1,11 +1,11 @@
 -- One run stripped in pieces is stripped as the definition strips its first page.
-use Rattle.std.proofs.Common.{◌≡◌, ℕ, zero, suc, zero-add, ◌+◌, ◌-◌, ◌<◌, ◌≤◌, true, false, Bool, ◌||◌, not, List, [], ◌∷◌, ◌++◌, length, map, take, drop, replicate, Option, Some, None, slice_index, get_or, refl, sym, ap, ◌∙◌, subst, arith, ◌⊎◌, inl, inr, if◌then◌else◌}
+use Rattle.std.proofs.Common.{◌≡◌, ℕ, zero, suc, zero-add, ◌+◌, ◌-◌, ◌<◌, ◌≤◌, true, false, Bool, ◌||◌, not, List, [], ◌∷◌, ◌++◌, length, map, take, drop, replicate, Option, Some, None, get_or, refl, sym, ap, ◌∙◌, subst, arith, if◌then◌else◌}
 use Rattle.std.specs.Prelude.{is_some}
-use Rattle.std.specs.List.{All, AllPass, list_any, list_all, flat_map, slice_range}
-use Rattle.std.specs.Option.{option_map, option_map_or}
+use Rattle.std.specs.List.{All, AllPass, list_any, flat_map, slice_range}
+use Rattle.std.specs.Option.{option_map}
 use Rattle.std.specs.declared.ops.Range.{Range}
 use Rattle.std.proofs.lemmas.Bool.{or_left, or_right}
-use Rattle.std.proofs.lemmas.List.{length-map, map-append, append-nil, length-drop}
+use Rattle.std.proofs.lemmas.List.{map-append}
 use Rattle.fpage.specs.Rights.{no_rights, is_empty, join, has}
 use Rattle.fpage.specs.declared.rights.Rights.{Rights}
 use Rattle.fpage.proofs.RightSets.{has-join, same_rights}
@@ -21,12 +21,9 @@ use Rattle.space.proofs.ShardWords.{words_are_their_own}
 use Rattle.std.proofs.lemmas.Option.{same_Some}
 use Rattle.maptree.specs.declared.node.Node.{Node}
 use Rattle.maptree.specs.Origins.{Origins, Shape, origin_in, place_at, IsRun}
-use Rattle.maptree.specs.Cuts.{pieces}
-use Rattle.model.specs.Holdings.{Holdings, at}
 use Rattle.model.specs.Strip.{status_over}
-use Rattle.model.proofs.LawfulParts.{IsLawful, lawful_parts}
+use Rattle.model.proofs.LawfulParts.{lawful_parts}
 use Rattle.pieces.specs.Contents.{StripContent, IsStrip}
-use Rattle.pieces.specs.Effects.{words_after}
 use Rattle.pieces.specs.Masks.{masks_of}
 use Rattle.pieces.specs.Steps.{entry_in, effects, status_in}
 use Rattle.pieces.specs.Applied.{worked}
@@ -34,7 +31,7 @@ use Rattle.pieces.specs.Values.{value}
 use Rattle.pieces.specs.Gathering.{union_of}
 use Rattle.pieces.specs.Laws.{joined_strips}
 use Rattle.pieces.specs.declared.piece.Piece.TheVariants as piece
-use Rattle.pieces.proofs.InPieces.{status_joined, flat_pieces}
+use Rattle.pieces.proofs.InPieces.{status_joined}
 use Rattle.pieces.proofs.AllSteps.{length_words, worked_all}
 use Rattle.pieces.proofs.Packs.{packs_after_steps, pieces_suit}
 use Rattle.pieces.proofs.WholeStrips.{strips_in_pieces}
@@ -46,7 +43,7 @@ use Rattle.holdings.specs.Inner.Planning.{strip_of, strips_of_run, all_places}
 use Rattle.holdings.specs.Inner.Sound.{AreLoose}
 use Rattle.holdings.proofs.Contents.Holders.{present_within}
 use Rattle.holdings.proofs.Trees.Chains.{is_among, among_at, listed_at, place_at_drop}
-use Rattle.holdings.proofs.Stripping.Walks.{IsStripped, AreTaken, IsWalked, walked, same_taken, over_more, over_none, status_held, place_any, standing_place, run_without_origin, run_with_origin}
+use Rattle.holdings.proofs.Stripping.Walks.{IsStripped, IsWalked, walked, same_taken, over_more, over_none, status_held, standing_place, run_without_origin, run_with_origin}
 use Rattle.holdings.specs.Inner.Words.{AreWordsOf, IsWith}
 use Rattle.holdings.proofs.Phases.Words.{with_words}
 use Rattle.holdings.proofs.Phases.Narrowed.{lost_inside, kept_outside, gained_outside}

@@ -1,9 +1,9 @@
 -- Runs of any trees stripped in pieces are stripped as the definition strips their first pages.
-use Rattle.std.proofs.Common.{◌≡◌, ℕ, zero, suc, ◌+◌, ◌<◌, ◌≤◌, true, false, Bool, ◌||◌, not, List, [], ◌∷◌, ◌++◌, length, map, Option, Some, None, slice_index, get_or, refl, sym, ap, ◌∙◌, subst, arith, ◌⊎◌, inl, inr}
+use Rattle.std.proofs.Common.{◌≡◌, ℕ, zero, suc, true, false, Bool, ◌||◌, not, List, [], ◌∷◌, ◌++◌, length, map, Option, Some, None, slice_index, refl, sym, ap, ◌∙◌, subst, arith}
 use Rattle.std.specs.Prelude.{is_some, ◌==◌}
-use Rattle.std.specs.List.{All, AllPass, list_any, list_all, flat_map, slice_range}
-use Rattle.std.specs.Option.{option_map, option_to_list}
-use Rattle.std.proofs.lemmas.Bool.{and_parts, eq-eqb, false_from_ne_true}
+use Rattle.std.specs.List.{All, list_any, list_all, flat_map, slice_range}
+use Rattle.std.specs.Option.{option_map}
+use Rattle.std.proofs.lemmas.Bool.{and_parts, eq-eqb}
 use Rattle.std.proofs.lemmas.List.{map-append}
 use Rattle.fpage.specs.Rights.{no_rights, join}
 use Rattle.fpage.specs.declared.rights.Rights.{Rights}
@@ -11,28 +11,25 @@ use Rattle.fpage.proofs.RightSets.{join_assoc, join_nothing}
 use Rattle.space.specs.declared.place.Place.{Place}
 use Rattle.space.specs.declared.shards.Shards.{Shards}
 use Rattle.space.specs.Place.{same_place}
-use Rattle.space.specs.Word.{is_pack, entry_of}
-use Rattle.space.specs.Shards.{IsPlace, IsLaidOutAs, index_of, entry_at}
+use Rattle.space.specs.Word.{entry_of}
+use Rattle.space.specs.Shards.{IsPlace, index_of, entry_at}
 use Rattle.space.proofs.Places.{same_is}
 use Rattle.maptree.specs.declared.node.Node.{Node}
-use Rattle.maptree.specs.Origins.{Shape, place_at}
-use Rattle.model.specs.Holdings.{PlaceSet, only}
+use Rattle.maptree.specs.Origins.{Shape}
+use Rattle.model.specs.Holdings.{only}
 use Rattle.model.specs.Lawful.{is_lawful}
 use Rattle.model.specs.Strip.{strip, strip_word}
 use Rattle.model.proofs.LawfulParts.{lawful_parts}
 use Rattle.model.proofs.StripUnions.{strip-union, word-union, strip_same, word_same}
 use Rattle.pieces.specs.Contents.{StripContent, IsStrip}
 use Rattle.pieces.specs.Distinct.{is_none_of}
-use Rattle.pieces.specs.Effects.{words_after}
 use Rattle.pieces.specs.Phases.{CanBeWorked, IsPiece, changes, folds, held, is_link}
 use Rattle.pieces.specs.Steps.{entry_in, effects}
 use Rattle.pieces.specs.Applied.{worked}
 use Rattle.pieces.specs.Values.{value}
 use Rattle.pieces.specs.Gathering.{union_of}
 use Rattle.pieces.specs.declared.piece.Piece.TheVariants as piece
-use Rattle.pieces.specs.declared.piece.Piece.{Piece}
 use Rattle.pieces.proofs.AllSteps.{length_words, worked_all, words_none}
-use Rattle.pieces.proofs.Packs.{packs_after_steps, pieces_suit}
 use Rattle.pieces.proofs.OneByOne.{first_can, all_first, all_second, changes_apart, folds_of_others_apart, one_after_another, others_can, others_find_the_same, all_held_apart}
 use Rattle.holdings.specs.Places.{any_of}
 use Rattle.holdings.specs.Inner.Held.{links_in, holdings_in, holdings_of, limits_in}

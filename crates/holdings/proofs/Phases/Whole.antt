@@ -1,25 +1,18 @@
 -- Whole phases: the lemmas of accesses, strips, links and moves, as the laws say them.
 use Rattle.std.proofs.Common.{◌≡◌, ℕ, List, [], ◌∷◌, length, map, get_or, refl, sym, ap, ◌∙◌, subst}
-use Rattle.std.specs.List.{All, flat_map}
-use Rattle.fpage.specs.declared.rights.Rights.{Rights}
-use Rattle.space.specs.declared.place.Place.{Place}
+use Rattle.std.specs.List.{All}
 use Rattle.space.specs.declared.shards.Shards.{Shards}
 use Rattle.space.specs.Shards.{IsPlace, IsLaidOutAs}
-use Rattle.maptree.specs.Cuts.{pieces}
 use Rattle.maptree.specs.Origins.{Shape}
-use Rattle.model.specs.Calls.{Limits}
-use Rattle.pieces.specs.Applied.{worked}
 use Rattle.pieces.specs.Contents.{StripContent}
-use Rattle.pieces.specs.Values.{Value, value, kept_nodes}
+use Rattle.pieces.specs.Values.{value, kept_nodes}
 use Rattle.pieces.specs.Gathering.{union_of}
-use Rattle.pieces.specs.declared.piece.Piece.{Piece}
 use Rattle.pieces.specs.declared.piece.Piece.TheVariants as piece
 use Rattle.pieces.proofs.InOrder.{words_in_order, answers_one_by_one}
 use Rattle.pieces.proofs.InPieces.{touches_in_pieces, answers_in_pieces, links_in_pieces, moves_in_pieces}
-use Rattle.holdings.specs.Places.{IsWithin}
 use Rattle.holdings.specs.Sending.{IsTransferWithin}
 use Rattle.holdings.specs.declared.transfer.Transfer.{Transfer}
-use Rattle.holdings.specs.Inner.Held.{holdings_in, holdings_of, limits_in}
+use Rattle.holdings.specs.Inner.Held.{holdings_of, limits_in}
 use Rattle.holdings.specs.Inner.Phases.{TouchesAreAccesses, PlannedStripsAreStrips, StoresAreMapped, PairsAreMoved}
 use Rattle.holdings.specs.Inner.Planning.{word_access, stores_of, word_pairs, strips_of_runs}
 use Rattle.holdings.specs.Inner.Sound.{IsSound, AreSound}

@@ -1,5 +1,5 @@
 -- Words that are taken, worked and put back.
-use Rattle.std.proofs.Common.{◌≡◌, ℕ, List, length, map, Ok, Err, slice_index, refl, sym, ap, ◌∙◌, subst}
+use Rattle.std.proofs.Common.{◌≡◌, ℕ, List, length, Ok, Err, slice_index, sym, ap, ◌∙◌, subst}
 use Rattle.std.specs.Prelude.{Result, IfOk, IsFalse}
 use Rattle.std.specs.List.{AllPass}
 use Rattle.space.specs.declared.place.Place.{Place}
@@ -8,10 +8,8 @@ use Rattle.space.specs.Word.{is_pack, word_of, entry_of}
 use Rattle.space.specs.Shards.{IsPlace, IsLaidOutAs, index_of, word_count, entry_at, is_taken}
 use Rattle.space.proofs.ShardWords.{entries_fit}
 use Rattle.space.proofs.Words.{unpack_gives_back}
-use Rattle.pieces.specs.Applied.{worked}
 use Rattle.pieces.specs.Dones.{DoneContent}
 use Rattle.pieces.specs.Gathering.{IsGathered, all_found}
-use Rattle.pieces.specs.Values.{value}
 use Rattle.pieces.specs.declared.gathering.Gathered.{Gathered}
 use Rattle.pieces.specs.declared.piece.Piece.{Piece}
 use Rattle.pieces.proofs.Placed.{gathered}

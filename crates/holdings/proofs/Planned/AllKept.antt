@@ -1,6 +1,6 @@
 -- A strip that keeps all nodes: no page is gone, and the trees stay as they are.
 use Rattle.std.proofs.Common.{◌≡◌, ℕ, zero, suc, ◌+◌, ◌-◌, ◌<◌, ◌≤◌, ◌==◌, true, false, Bool, ◌&&◌, ◌||◌, List, [], ◌∷◌, ◌++◌, length, take, drop, map, filter, Option, get_or, refl, sym, ap, ◌∙◌, subst, arith, if◌then◌else◌}
-use Rattle.std.specs.List.{All, flat_map, list_all, slice_range}
+use Rattle.std.specs.List.{All, list_all, slice_range}
 use Rattle.std.specs.declared.ops.Range.{Range}
 use Rattle.std.proofs.lemmas.Bool.{and_parts, eqb-true}
 use Rattle.std.proofs.lemmas.Grind.{flat_map-append}
@@ -18,7 +18,7 @@ use Rattle.holdings.specs.declared.planning.FrameRuns.{FrameRuns}
 use Rattle.holdings.specs.Inner.Held.{links_in, has_entry}
 use Rattle.holdings.specs.Inner.Planning.{RunPlan, IsRunPlan, all_places, places_of_runs, strip_of, strips_of_run, strips_of_runs}
 use Rattle.holdings.specs.Inner.Stripping.{pruned}
-use Rattle.holdings.specs.Inner.StripPlans.{AreRunPlans, AreFramePlans, CanBePruned, AllCanBePruned, AreKeptNodes, ArePruned, in_runs, in_frames, count_in_runs, count_in_frames, is_planned}
+use Rattle.holdings.specs.Inner.StripPlans.{AreFramePlans, CanBePruned, AllCanBePruned, AreKeptNodes, ArePruned, in_runs, in_frames, count_in_runs, count_in_frames, is_planned}
 use Rattle.holdings.proofs.Trees.Pruning.{none_gone, all_pass}
 
 -- ---- what the counts count

@@ -1,22 +1,21 @@
 -- A planned strip, worked as one phase.
-use Rattle.std.proofs.Common.{◌≡◌, ℕ, suc, ◌≤◌, true, false, Bool, List, [], ◌∷◌, ◌++◌, length, map, filter, refl, sym, ap, ◌∙◌, subst, arith}
+use Rattle.std.proofs.Common.{◌≡◌, Bool, List, [], ◌∷◌, ◌++◌, length, map, filter, refl, sym, ap, ◌∙◌, subst, arith}
 use Rattle.std.specs.List.{All}
 use Rattle.fpage.specs.Rights.{no_rights}
 use Rattle.fpage.specs.declared.rights.Rights.{Rights}
-use Rattle.space.specs.declared.place.Place.{Place}
 use Rattle.space.specs.declared.shards.Shards.{Shards}
 use Rattle.maptree.specs.Cuts.{nodes_of, kept_of}
 use Rattle.maptree.specs.Origins.{Shape}
 use Rattle.model.specs.Holdings.{PlaceSet}
 use Rattle.model.specs.Strip.{strip, strip_word}
 use Rattle.model.proofs.Chains.{below_empty}
-use Rattle.model.proofs.LawfulParts.{IsLawful, lawful_parts}
+use Rattle.model.proofs.LawfulParts.{lawful_parts}
 use Rattle.model.proofs.StripUnions.{strip_nothing, word_nothing}
 use Rattle.pieces.specs.Applied.{worked}
 use Rattle.pieces.specs.Contents.{StripContent}
 use Rattle.pieces.specs.Gathering.{union_of}
 use Rattle.pieces.specs.Phases.{CanBeWorked, IsPiece}
-use Rattle.pieces.specs.Values.{Value, value}
+use Rattle.pieces.specs.Values.{value}
 use Rattle.pieces.specs.declared.gathering.Gathered.{Gathered}
 use Rattle.pieces.specs.declared.piece.Piece.{Piece}
 use Rattle.pieces.specs.declared.piece.Piece.TheVariants as piece
@@ -24,7 +23,7 @@ use Rattle.holdings.specs.Contents.{IsStripped}
 use Rattle.holdings.specs.Places.{any_of}
 use Rattle.holdings.specs.Inner.Held.{contents_of, holdings_in, limits_in, has_entry}
 use Rattle.holdings.specs.Inner.Phases.{IsPhaseLeft}
-use Rattle.holdings.specs.Inner.Planning.{RunPlan, IsRunPlan, IsStripPlan, first_of, strips_of_run, strips_of_runs}
+use Rattle.holdings.specs.Inner.Planning.{RunPlan, IsRunPlan, IsStripPlan, strips_of_run, strips_of_runs}
 use Rattle.holdings.specs.Inner.Sound.{AreSound}
 use Rattle.holdings.specs.Inner.StripPlans.{IsPlanned, AllCanBePruned, AreKeptNodes, ArePruned}
 use Rattle.holdings.specs.Inner.Words.{CanBeWorkedIn, IsPhaseWorked, IsWith}

@@ -1,10 +1,9 @@
 -- The trees after a planned strip: they can lose the places that are held no more, and those of other frames have none.
 use Rattle.std.proofs.Common.{◌≡◌, ℕ, zero, suc, ◌+◌, ◌<◌, ◌≤◌, ◌==◌, true, false, Bool, ◌||◌, List, [], ◌∷◌, ◌++◌, length, take, drop, map, filter, Option, Some, None, is_some, get_or, refl, sym, ap, ◌∙◌, subst, arith, ◌⊎◌, inl, inr, if◌then◌else◌}
-use Rattle.std.specs.List.{All, list_any, list_all}
+use Rattle.std.specs.List.{All}
 use Rattle.std.specs.declared.ops.Range.{Range}
 use Rattle.std.proofs.lemmas.Bool.{or_cases, or_left, or_right, false_from_ne_true, eqb-true, eq-eqb}
 use Rattle.std.proofs.lemmas.List.{take_more}
-use Rattle.std.proofs.lemmas.List.Elements.{All-append}
 use Rattle.std.proofs.lemmas.List.Folds.{list_any-append}
 use Rattle.fpage.specs.declared.rights.Rights.{Rights}
 use Rattle.space.specs.declared.place.Place.{Place}
@@ -12,8 +11,7 @@ use Rattle.space.specs.declared.place.Entry.{Entry}
 use Rattle.space.specs.declared.shards.Shards.{Shards}
 use Rattle.space.specs.Shards.{IsPlace, entry_at}
 use Rattle.maptree.specs.Origins.{Origins, Shape, place_at, are_once, LiesInOne}
-use Rattle.maptree.specs.Cuts.{outside}
-use Rattle.model.specs.Holdings.{at, is_held}
+use Rattle.model.specs.Holdings.{at}
 use Rattle.model.specs.Derived.{is_below}
 use Rattle.model.proofs.Derivations.{below_is_a_chain}
 use Rattle.model.proofs.LawfulParts.{IsLawful, lawful_parts}
@@ -27,7 +25,7 @@ use Rattle.holdings.specs.Places.{any_of}
 use Rattle.holdings.specs.Inner.Held.{links_in, is_listed, limits_in, holdings_in, has_entry}
 use Rattle.holdings.specs.Inner.Links.{IsTreeSet}
 use Rattle.holdings.specs.Inner.Planning.{RunPlan, IsRunPlan, all_places, first_of, places_of_runs}
-use Rattle.holdings.specs.Inner.Sound.{AreSound, AreLoose}
+use Rattle.holdings.specs.Inner.Sound.{AreSound}
 use Rattle.holdings.specs.Inner.Stripping.{pruned}
 use Rattle.holdings.specs.Inner.StripPlans.{AreFrameRuns, AreRunPlans, AreFramePlans, HaveRuns, CanBePruned, AllCanBePruned, ArePruned, is_planned}
 use Rattle.holdings.specs.declared.pages.HeldPage.{HeldPage}
@@ -41,7 +39,7 @@ use Rattle.holdings.proofs.Stripping.Walks.{standing_place}
 use Rattle.holdings.proofs.Trees.Chains.{among_at, listed_at, chains_agree}
 use Rattle.holdings.proofs.Trees.Pruning.{all_pass}
 use Rattle.holdings.proofs.Planned.Apart.{any_cases, one_tree, run_among, run_listed, below_run, first_listed}
-use Rattle.holdings.proofs.Planned.Plan.{frames_differ, have_runs, each_planned, each_once, plans_differ, in_plan, position_once}
+use Rattle.holdings.proofs.Planned.Plan.{frames_differ, have_runs, each_planned, plans_differ, in_plan, position_once}
 
 -- ---- trees that lose places, frame after frame
 

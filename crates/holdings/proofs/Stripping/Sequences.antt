@@ -1,27 +1,24 @@
 -- Runs stripped one after another are stripped at once; and the first places of outermost runs stand for all named places.
-use Rattle.std.proofs.Common.{◌≡◌, ℕ, zero, suc, ◌+◌, ◌<◌, ◌≤◌, false, Bool, ◌||◌, List, [], ◌∷◌, ◌++◌, length, take, get_or, refl, sym, ap, ◌∙◌, arith, ◌⊎◌, inl, inr}
+use Rattle.std.proofs.Common.{◌≡◌, ℕ, zero, suc, ◌<◌, ◌≤◌, false, Bool, ◌||◌, List, [], ◌∷◌, ◌++◌, length, get_or, refl, sym, ap, ◌∙◌, arith, ◌⊎◌, inl, inr}
 use Rattle.std.specs.declared.ops.Range.{Range}
-use Rattle.std.proofs.lemmas.List.{take_more, map-append}
 use Rattle.std.proofs.lemmas.List.Folds.{list_any-append}
 use Rattle.std.proofs.Math.Bool.{or-false}
-use Rattle.fpage.specs.Rights.{no_rights, join}
+use Rattle.fpage.specs.Rights.{no_rights}
 use Rattle.fpage.specs.declared.rights.Rights.{Rights}
 use Rattle.space.specs.declared.place.Place.{Place}
 use Rattle.space.specs.declared.shards.Shards.{Shards}
 use Rattle.space.specs.Place.{same_place}
 use Rattle.space.specs.Shards.{IsLaidOutAs}
 use Rattle.space.proofs.Places.{same_or_apart, apart_back}
-use Rattle.maptree.specs.Origins.{Origins, Shape, place_at, AreRising}
+use Rattle.maptree.specs.Origins.{Shape, AreRising}
 use Rattle.model.specs.Holdings.{only}
 use Rattle.model.specs.Strip.{strip, strip_word}
 use Rattle.model.proofs.LawfulParts.{IsLawful, lawful_parts}
 use Rattle.model.proofs.Chains.{below_empty}
-use Rattle.model.proofs.StripUnions.{strip-union, word-union, strip_same, word_same, strip_nothing, word_nothing}
+use Rattle.model.proofs.StripUnions.{strip_nothing, word_nothing}
 use Rattle.holdings.specs.Inner.Held.{holdings_in}
 use Rattle.holdings.specs.Places.{any_of}
-use Rattle.holdings.specs.Inner.Stripping.{firsts}
 use Rattle.holdings.specs.Inner.Sound.{AreLoose}
-use Rattle.holdings.proofs.Stripping.Walks.{same_layouts}
 
 -- ---- ranges
 

@@ -1,5 +1,5 @@
 -- Whole phases worked in pieces, whatever works them: what the words and trees say afterwards.
-use Rattle.std.specs.Prelude.{◌≡◌, ℕ, ◌≤◌, Bool, List, [], ◌∷◌, length, map, filter, None}
+use Rattle.std.specs.Prelude.{◌≡◌, ℕ, ◌≤◌, Bool, List, [], length, map, filter, None}
 use Rattle.std.specs.List.{All, flat_map}
 use Rattle.fpage.specs.declared.item.ItemKind.TheVariants.{Map}
 use Rattle.fpage.specs.declared.rights.Access.{Access}

@@ -4,16 +4,14 @@ ghost use Rattle.std.specs.Prelude.{◌≡◌};
 
 use super::{expect_page, held, place, rights};
 use crate::Database;
-use crew::{Alone, Crew, NoGate, Workers};
+use crew::{Crew, NoGate, Workers};
 use fpage::Access;
 use std::alloc::Global;
 use std::process::Abort;
 use std::test::Fail;
 
 /// Six accesses, worked by these workers, and what they leave; and none.
-fn access_six<T: Workers>(rt: &impl Abort, alloc: Global, workers: &T) -> Result<(), Fail>
-    requires { T.ready workers.now }
-{
+fn access_six<T: Workers>(rt: &impl Abort, alloc: Global, workers: &T) -> Result<(), Fail> {
     let mut database = Database::new(alloc, 2, 18, 4)?;
     let answers = database.access_all(
         alloc,
@@ -49,9 +47,9 @@ fn access_six<T: Workers>(rt: &impl Abort, alloc: Global, workers: &T) -> Result
 
 #[test]
 fn marks_the_status_of_accesses_in_turn(rt: HostRuntime) -> Result<(), Fail> {
-    access_six(&rt, rt.alloc(), &Alone::new(1))?;
-    access_six(&rt, rt.alloc(), &Alone::new(4))?;
-    access_six(&rt, rt.alloc(), &Alone::new(256))
+    access_six(&rt, rt.alloc(), &Crew::new(&rt, 1, 1, &NoGate))?;
+    access_six(&rt, rt.alloc(), &Crew::new(&rt, 1, 4, &NoGate))?;
+    access_six(&rt, rt.alloc(), &Crew::new(&rt, 1, 256, &NoGate))
 }
 
 #[test]

@@ -5,12 +5,14 @@ ghost use Rattle.space.specs.Directory.{pages_of};
 
 use super::send_page;
 use crate::Database;
-use crew::Alone;
+use crew::{Crew, NoGate};
 use fpage::{Control, Fpage, Rights};
 use space::{Entry, Place};
 use std::alloc::Global;
 use std::process::Abort;
+use std::sync::Wait;
 use std::test::Fail;
+use std::thread::Threads;
 
 /// How many mappings stand below the root.
 const LENGTH: u32 = 10_000;
@@ -34,7 +36,12 @@ fn place(below: u32) -> Place
 }
 
 /// Maps the last page of a chain of so many mappings on, to a page that holds nothing.
-fn extend(rt: &impl Abort, database: &mut Database, alloc: Global, below: u32) -> Result<(), Fail>
+fn extend(
+    rt: &(impl Abort + Threads + Wait + Sync),
+    database: &mut Database,
+    alloc: Global,
+    below: u32,
+) -> Result<(), Fail>
     requires limits { database.old.limits ≡ record { spaces = 4; bits = 24; frames = 1 } }
     requires below { below < 10000 }
     ensures { OnOk result (database.new.limits ≡ record { spaces = 4; bits = 24; frames = 1 }) }
@@ -45,7 +52,7 @@ fn extend(rt: &impl Abort, database: &mut Database, alloc: Global, below: u32) -
         rt,
         database,
         alloc,
-        &Alone::new(256),
+        &Crew::new(rt, 1, 256, &NoGate),
         24,
         source,
         target,

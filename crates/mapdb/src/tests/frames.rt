@@ -4,11 +4,13 @@ ghost use Rattle.std.specs.Prelude.{◌≡◌, ◌<◌, OnOk};
 
 use super::{NONE, expect_page, held, place, rights, send_page};
 use crate::{Database, SendReply};
-use crew::Alone;
+use crew::{Crew, NoGate};
 use fpage::{Fpage, Item, Rights};
 use std::alloc::Global;
 use std::process::Abort;
+use std::sync::Wait;
 use std::test::Fail;
+use std::thread::Threads;
 
 /// The word of pages 0 and 1, with all rights.
 const TWO: u32 = 0xd7;
@@ -27,7 +29,7 @@ const GRANT: u32 = 10;
 
 /// Sends pages, and looks at the reply.
 fn send(
-    rt: &impl Abort,
+    rt: &(impl Abort + Threads + Wait + Sync),
     database: &mut Database,
     alloc: Global,
     from: u16,
@@ -43,13 +45,24 @@ fn send(
     let (Ok(window), Ok(item)) = (Fpage::read(window, 18), Item::read(kind, pages, 18)) else {
         panic!(rt; "a word is refused");
     };
-    let answer = database.send(alloc, from, to, &window, &[item], &Alone::new(2))?;
+    let answer = database.send(
+        alloc,
+        from,
+        to,
+        &window,
+        &[item],
+        &Crew::new(rt, 1, 2, &NoGate),
+    )?;
     assert_eq!(rt; answer, reply, "{kind} {pages} from {from}");
     Ok(())
 }
 
 /// The root's page, passed on to pages 0 to 15 of the other space, one after another.
-fn passed_on(rt: &impl Abort, database: &mut Database, alloc: Global) -> Result<(), Fail>
+fn passed_on(
+    rt: &(impl Abort + Threads + Wait + Sync),
+    database: &mut Database,
+    alloc: Global,
+) -> Result<(), Fail>
     requires { database.old.limits ≡ record { spaces = 2; bits = 18; frames = 1 } }
     ensures { OnOk result (database.new.limits ≡ record { spaces = 2; bits = 18; frames = 1 }) }
 {
@@ -59,7 +72,7 @@ fn passed_on(rt: &impl Abort, database: &mut Database, alloc: Global) -> Result<
             rt,
             database,
             alloc,
-            &Alone::new(2),
+            &Crew::new(rt, 1, 2, &NoGate),
             18,
             place(0, 0),
             place(1, page),

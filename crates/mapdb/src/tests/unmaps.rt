@@ -7,7 +7,7 @@ ghost use Rattle.fpage.specs.Fpage.{IsFpageOf};
 
 use super::send_page;
 use crate::{Database, DbError, SendReply};
-use crew::{Alone, Crew, NoGate, Workers};
+use crew::{Crew, NoGate, Workers};
 use fpage::{Access, Control, Fpage, Item, Rights, with_status};
 use space::{Entry, Place};
 use std::alloc::Global;
@@ -74,7 +74,7 @@ const LINKED: SendReply = SendReply {
 
 /// What is done, one after another.
 #[derive(Clone, Copy)]
-enum Step {
+pub enum Step {
     /// Maps a page to a page of another space that holds nothing, with all its rights.
     Map((u16, u32), (u16, u32)),
     /// The same, with these of its rights.
@@ -102,7 +102,7 @@ struct Case {
 }
 
 /// Frame 5 goes from 0:5 to 1:0 and on to 2:0, before the steps of each case.
-const CHAIN: [Step; 2] = [Step::Map((0, 5), (1, 0)), Step::Map((1, 0), (2, 0))];
+pub const CHAIN: [Step; 2] = [Step::Map((0, 5), (1, 0)), Step::Map((1, 0), (2, 0))];
 
 const CASES: [Case; 17] = [
     Case {
@@ -361,7 +361,6 @@ fn map<T: Workers>(
     target: (u16, u32),
     rights: Rights,
 ) -> Result<(), Fail>
-    requires workers { T.ready workers.now }
     requires limits { database.old.limits ≡ record { spaces = 3; bits = 18; frames = 16 } }
     ensures { OnOk result (database.new.limits ≡ record { spaces = 3; bits = 18; frames = 16 }) }
 {
@@ -387,7 +386,6 @@ fn send<T: Workers>(
     item: (u32, u32),
     reply: SendReply,
 ) -> Result<(), Fail>
-    requires workers { T.ready workers.now }
     requires limits { database.old.limits ≡ record { spaces = 3; bits = 18; frames = 16 } }
     ensures { OnOk result (database.new.limits ≡ record { spaces = 3; bits = 18; frames = 16 }) }
 {
@@ -414,7 +412,6 @@ fn touch<T: Workers>(
     at: (u16, u32),
     access: Access,
 ) -> Result<(), Fail>
-    requires workers { T.ready workers.now }
     requires limits { database.old.limits ≡ record { spaces = 3; bits = 18; frames = 16 } }
     ensures { OnOk result (database.new.limits ≡ record { spaces = 3; bits = 18; frames = 16 }) }
 {
@@ -466,7 +463,6 @@ fn unmap<T: Workers>(
     reply: &[u32],
     plain: bool,
 ) -> Result<(), Fail>
-    requires workers { T.ready workers.now }
     requires limits { database.old.limits ≡ record { spaces = 3; bits = 18; frames = 16 } }
     ensures { OnOk result (database.new.limits ≡ record { spaces = 3; bits = 18; frames = 16 }) }
 {
@@ -494,7 +490,7 @@ fn unmap<T: Workers>(
 }
 
 /// Does one step.
-fn work<T: Workers>(
+pub fn work<T: Workers>(
     rt: &impl Abort,
     database: &mut Database,
     alloc: Global,
@@ -502,7 +498,6 @@ fn work<T: Workers>(
     step: Step,
     plain: bool,
 ) -> Result<(), Fail>
-    requires workers { T.ready workers.now }
     requires limits { database.old.limits ≡ record { spaces = 3; bits = 18; frames = 16 } }
     ensures { OnOk result (database.new.limits ≡ record { spaces = 3; bits = 18; frames = 16 }) }
 {
@@ -576,9 +571,7 @@ fn work_case<T: Workers>(
     workers: &T,
     case: Case,
     plain: bool,
-) -> Result<(), Fail>
-    requires { T.ready workers.now }
-{
+) -> Result<(), Fail> {
     let mut database = Database::new(alloc, 3, 18, 16)?;
     for step in CHAIN {
         work(rt, &mut database, alloc, workers, step, plain)?;
@@ -599,9 +592,7 @@ fn work_cases<T: Workers>(
     alloc: Global,
     workers: &T,
     plain: bool,
-) -> Result<(), Fail>
-    requires { T.ready workers.now }
-{
+) -> Result<(), Fail> {
     for case in CASES {
         work_case(rt, alloc, workers, case, plain)?;
     }
@@ -610,7 +601,7 @@ fn work_cases<T: Workers>(
 
 #[test]
 fn revokes_what_derives(rt: HostRuntime) -> Result<(), Fail> {
-    work_cases(&rt, rt.alloc(), &Alone::new(1), false)
+    work_cases(&rt, rt.alloc(), &Crew::new(&rt, 1, 1, &NoGate), false)
 }
 
 #[test]
@@ -620,5 +611,5 @@ fn revokes_what_derives_with_a_crew(rt: HostRuntime) -> Result<(), Fail> {
 
 #[test]
 fn revokes_by_recursion(rt: HostRuntime) -> Result<(), Fail> {
-    work_cases(&rt, rt.alloc(), &Alone::new(256), true)
+    work_cases(&rt, rt.alloc(), &Crew::new(&rt, 1, 256, &NoGate), true)
 }

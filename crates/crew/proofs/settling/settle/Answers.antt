@@ -1,20 +1,40 @@
-use Rattle.std.proofs.Common.{◌≡◌, ℕ, ◌+◌, length, MatchBool, ap, ◌∙◌, subst, arith}
-use Rattle.turns.specs.Closing.{numbers_of}
-use Rattle.crew.specs.Hands.{weigh, IsWithin, WasEmpty}
-use Rattle.crew.proofs.Balances.{all_taken}
+use Rattle.std.proofs.Common.{◌+◌, ◌<◌, List, length, get_or, ◌∙◌, ap, sym, subst}
+use Rattle.crew.specs.Crews.{OwnContent, ArePlaced, claims_on, stolen, took}
+use Rattle.crew.proofs.Yields.{over_all, all_back}
 use Rattle.crew.proofs.settling.settle.Goals as goal
 
-pub returns-clause-sums : goal.returns-clause-sums
-returns-clause-sums g c =
-    λ h.
-    let s = g.N.Which.sheet in let old = c.loop-own.own.hand in let new = c.settle_one.new.own.hand in let first = c.args.own.hand in
-    let seen : WasEmpty s new = subst (λ b. MatchBool b ((length new.taken ≡ length old.taken + 1) × IsWithin new) (WasEmpty s new)) c.if-branch.false c.in_ok-settle_one.ensures.worked in
-    let parts = c.in_ok-settle_one.ensures.parts in
-    let same = all_taken s new seen (parts.0 ∙ c.loop-own.invariant.1) h in
-    let a : ℕ = weigh h (numbers_of c.settle_one.new.turns.items) in let b : ℕ = weigh h (numbers_of c.loop-own.turns.items) in let z : ℕ = weigh h (numbers_of c.args.turns.now.items) in
-    let d : ℕ = weigh h old.taken in let e : ℕ = weigh h new.taken in let f : ℕ = weigh h first.taken in let p : ℕ = weigh h first.put in let q : ℕ = weigh h new.put in
-    let put : q ≡ p = ap (weigh h) (parts.1 ∙ c.loop-own.invariant.2) in
-    let whole : q ≡ e = same in
-    let step : a + d ≡ b + e = c.in_ok-settle_one.ensures.sums h in
-    let so_far : b + f ≡ z + d = c.loop-own.invariant.3 h in
-    let goal : a + f ≡ z + p = omega arith in goal
+pub take_back-requires-clause-within : goal.take_back-requires-clause-within
+take_back-requires-clause-within g c =
+    let are = c.in_ok-owns.ensures in
+    let same = are.many ∙ c.requires.each in let value = ap length c.as_mut_slice.ensures.value in
+    λ k d less. subst (λ n. (get_or c.in_ok-owns.claims.items k d).place < n) (sym (value ∙ same)) (are.within k d less)
+
+pub settle_all-requires-clause-each : goal.settle_all-requires-clause-each
+settle_all-requires-clause-each g c =
+    let items = c.in_ok-owns.owns.items in let after = c.take_back.new.owns in let many = c.take_back.ensures.many ∙ ap length c.as_mut_slice.ensures.value in
+    λ _ _. ap length (over_all c.in_ok-owns.owns.len after items c.in_ok-owns.owns.ok.0 many) ∙ many ∙ c.in_ok-owns.ensures.many ∙ c.requires.each
+
+pub settle_all-requires-clause-places : goal.settle_all-requires-clause-places
+settle_all-requires-clause-places g c =
+    let items = c.in_ok-owns.owns.items in let after = c.take_back.new.owns in let many = c.take_back.ensures.many ∙ ap length c.as_mut_slice.ensures.value in
+    λ _ _. subst ArePlaced (sym (over_all c.in_ok-owns.owns.len after items c.in_ok-owns.owns.ok.0 many)) c.take_back.ensures.places
+
+pub settle_all-requires-clause-all : goal.settle_all-requires-clause-all
+settle_all-requires-clause-all g c =
+    λ _ _ k d less.
+    let crew = g.M.Crewed.crew in let items = c.in_ok-owns.owns.items in let claims = c.in_ok-owns.claims.items in let now = c.as_mut_slice.result.now in let after = c.take_back.new.owns in
+    let are = c.in_ok-owns.ensures in let back = c.take_back.ensures in let value = c.as_mut_slice.ensures.value in
+    let whole = over_all c.in_ok-owns.owns.len after items c.in_ok-owns.owns.ok.0 (back.many ∙ ap length value) in
+    let low : k < length now = subst (λ n. k < n) back.many (subst (λ (os : List OwnContent). k < length os) whole less) in
+    let there : k < length items = subst (λ n. k < n) (ap length value) low in
+    let below : k < length crew = subst (λ n. k < n) (are.many ∙ c.requires.each) there in
+    let parts = back.parts k d low ∙ ap (λ (os : List OwnContent). (get_or os k d).hand.parts + claims_on k claims) value in
+    ap (λ (os : List OwnContent). (get_or os k d).hand.parts) whole
+    ∙ all_back crew (length c.args.lots.items) k (get_or items k d).hand.parts (get_or after k d).hand.parts (claims_on k claims) c.requires.each (are.parts k d there) (are.each k below) parts
+
+pub settle_all-requires-clause-sums : goal.settle_all-requires-clause-sums
+settle_all-requires-clause-sums g c =
+    λ _ _ h.
+    let items = c.in_ok-owns.owns.items in let after = c.take_back.new.owns in let are = c.in_ok-owns.ensures in let back = c.take_back.ensures in let value = c.as_mut_slice.ensures.value in
+    let whole = over_all c.in_ok-owns.owns.len after items c.in_ok-owns.owns.ok.0 (back.many ∙ ap length value) in
+    are.sums h ∙ sym (back.sums h ∙ ap (λ (os : List OwnContent). took h os + stolen h c.in_ok-owns.claims.items) value) ∙ sym (ap (took h) whole)

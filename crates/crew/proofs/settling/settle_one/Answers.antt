@@ -1,24 +1,20 @@
-use Rattle.std.proofs.Common.{◌≡◌, ℕ, ◌+◌, ◌++◌, ◌∷◌, [], ap, ◌∙◌, sym, subst, arith}
-use Rattle.std.specs.List.{All}
-use Rattle.std.proofs.lemmas.List.Elements.{All-push}
+use Rattle.std.proofs.Common.{◌≡◌, ℕ, ◌+◌, length, MatchBool, ap, ◌∙◌, subst, arith}
 use Rattle.turns.specs.Closing.{numbers_of}
-use Rattle.crew.specs.Crews.{IsEnded}
-use Rattle.crew.specs.Hands.{weigh}
-use Rattle.crew.specs.declared.hand.Hand.{Hand}
-use Rattle.crew.proofs.Lots.{one_more, weigh_more}
+use Rattle.crew.specs.Crews.{dealt_to}
+use Rattle.crew.specs.Hands.{weigh, IsWithin, WasEmpty}
+use Rattle.crew.proofs.Balances.{all_taken}
 use Rattle.crew.proofs.settling.settle_one.Goals as goal
-
-pub returns-clause-ended : goal.returns-clause-ended
-returns-clause-ended g c =
-    let s = g.N.Which.sheet in let turns = c.args.turns.now.items in let t = c.work-turn.result in
-    subst (All (IsEnded s)) (sym (c.push_reserved.ensures.items ∙ ap (λ ts. ts ++ t ∷ []) c.in_ok-reserve.ensures.items)) (All-push (IsEnded s) turns t c.requires c.work-turn.ensures.ended)
 
 pub returns-clause-sums : goal.returns-clause-sums
 returns-clause-sums g c =
     λ h.
-    let turns = c.args.turns.now.items in let t = c.work-turn.result in let own = c.args.own.now in
-    let a : ℕ = weigh h (numbers_of c.push_reserved.new.self.items) in let b : ℕ = weigh h (numbers_of turns) in let m : ℕ = h t.number in
-    let e : a ≡ b + m = ap (λ ts. weigh h (numbers_of ts)) (c.push_reserved.ensures.items ∙ ap (λ ts. ts ++ t ∷ []) c.in_ok-reserve.ensures.items) ∙ one_more h turns t in
-    let x : ℕ = weigh h c.take.new.self.hand.taken in let y : ℕ = weigh h own.hand.taken in
-    let f : x ≡ y + m = ap (λ (v : Hand). weigh h v.taken) c.in-Some.ensures.taken.1 ∙ ap (λ n. weigh h (own.hand.taken ++ n ∷ [])) (sym c.work-turn.ensures.number) ∙ weigh_more h own.hand.taken t.number in
-    let goal : a + y ≡ b + x = omega arith in goal
+    let s = g.N.Which.sheet in let old = c.loop-own.own.hand in let new = c.work_next.new.own.hand in let first = c.args.own.hand in
+    let seen : WasEmpty s new = subst (λ b. MatchBool b ((length new.taken ≡ length old.taken + 1) × IsWithin new) (WasEmpty s new)) c.if-branch.false c.in_ok-work_next.ensures.worked in
+    let same = all_taken s new seen (c.in_ok-work_next.ensures.parts ∙ c.loop-own.invariant.1) h in
+    let a : ℕ = weigh h (numbers_of c.work_next.new.turns.items) in let b : ℕ = weigh h (numbers_of c.loop-own.turns.items) in let z : ℕ = weigh h (numbers_of c.args.turns.now.items) in
+    let d : ℕ = weigh h old.taken in let e : ℕ = weigh h new.taken in let f : ℕ = weigh h first.taken in let p : ℕ = weigh h (dealt_to g.M.Crewed.crew c.args.own.place) in let q : ℕ = weigh h new.put in
+    let put : q ≡ p = ap (weigh h) (c.in_ok-work_next.ensures.put.0 ∙ c.in_ok-work_next.ensures.put.1 ∙ ap (dealt_to g.M.Crewed.crew) c.loop-own.invariant.2) in
+    let whole : q ≡ e = same in
+    let step : a + d ≡ b + e = c.in_ok-work_next.ensures.sums h in
+    let so_far : b + f ≡ z + d = c.loop-own.invariant.3 h in
+    let goal : a + f ≡ z + p = omega arith in goal

@@ -1,9 +1,7 @@
 -- A permutation has the same pages, with their frames.
-use Rattle.std.proofs.Common.{◌≡◌, Bool, List, ◌&&◌, sym, ap, ◌∙◌, rules}
+use Rattle.std.proofs.Common.{◌≡◌, Bool, List, sym, ap, ◌∙◌, rules}
 use Rattle.holdings.specs.declared.pages.HeldPage.{HeldPage}
-use Rattle.holdings.specs.Inner.Held.{has_entry}
-use Rattle.holdings.specs.Inner.Stripping.{AreHeldPages, HasItsFrame, any_page}
-use Rattle.holdings.specs.Places.{any_of}
+use Rattle.holdings.specs.Inner.Stripping.{HasItsFrame, any_page}
 use Rattle.space.specs.Place.{same_place}
 use Rattle.std.specs.List.Sorted.{IsPermutation}
 use Rattle.std.proofs.lemmas.List.Sorted.{All-permutation, IsNonDecreasingBy-from_sort_by_key, list_any-IsPermutation}

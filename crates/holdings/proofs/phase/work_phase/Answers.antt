@@ -1,5 +1,5 @@
 -- The words are taken, worked, and put back.
-use Rattle.std.proofs.Common.{ap, ◌∙◌, sym, subst}
+use Rattle.std.proofs.Common.{◌∙◌, subst}
 use Rattle.std.specs.Prelude.{IfOk}
 use Rattle.pieces.specs.Gathering.{IsGathered, all_found}
 use Rattle.holdings.proofs.Phases.WorkedPhase.{words_taken, phase_worked}
@@ -8,7 +8,7 @@ use Rattle.holdings.proofs.phase.work_phase.Goals as goal
 pub work-requires-clause-can : goal.work-requires-clause-can
 work-requires-clause-can g c =
     let t = c.take_words-words in
-    c.requires.can t.result.items (words_taken c.args.shards.now t.result.items t.ensures.count t.ensures.packs t.ensures.words)
+    λ _ _. c.requires.can t.result.items (words_taken c.args.shards.now t.result.items t.ensures.count t.ensures.packs t.ensures.words)
 
 pub returns : goal.returns
 returns g c =

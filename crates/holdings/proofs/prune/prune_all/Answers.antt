@@ -1,6 +1,5 @@
 -- One tree more.
-use Rattle.std.proofs.Common.{◌≡◌, ℕ, ◌<◌, true, List, length, get_or, slice_set, sym, ap, ◌∙◌, subst}
-use Rattle.std.specs.List.{All, list_all}
+use Rattle.std.proofs.Common.{◌≡◌, ℕ, ◌<◌, List, length, get_or, slice_set, sym, ap, ◌∙◌, subst}
 use Rattle.std.specs.declared.ops.Range.{Range}
 use Rattle.space.specs.declared.shards.Shards.{Shards}
 use Rattle.maptree.specs.Origins.{Shape}
@@ -11,7 +10,7 @@ use Rattle.holdings.specs.Inner.Stripping.{pruned}
 use Rattle.holdings.specs.Inner.StripPlans.{CanBePruned}
 use Rattle.holdings.proofs.Contents.Holders.{links_read}
 use Rattle.holdings.proofs.Links.NewMappings.{tree_set}
-use Rattle.holdings.proofs.Planned.Trees.{ArePrunedUpTo, next_tree, one_pruned, none_pruned, all_pruned}
+use Rattle.holdings.proofs.Planned.Trees.{ArePrunedUpTo, next_tree, one_pruned}
 use Rattle.holdings.proofs.prune.prune_all.Goals as goal
 
 -- the tree that is read can lose its places

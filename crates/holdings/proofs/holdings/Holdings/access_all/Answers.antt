@@ -1,5 +1,5 @@
 -- The accesses are one phase.
-use Rattle.std.proofs.Common.{◌≡◌, ℕ, List, [], length, map, sym, ap, ◌∙◌, subst, arith}
+use Rattle.std.proofs.Common.{◌≡◌, ℕ, List, length, map, sym, ap, ◌∙◌, subst}
 use Rattle.std.specs.List.{All}
 use Rattle.std.proofs.lemmas.Bool.{eqb-true}
 use Rattle.fpage.specs.declared.rights.Access.{Access}
@@ -10,7 +10,7 @@ use Rattle.pieces.specs.declared.piece.Piece.TheVariants as piece
 use Rattle.pieces.specs.declared.touch.WordAccess.{WordAccess}
 use Rattle.holdings.specs.Contents.{Contents, AreAccessed}
 use Rattle.holdings.specs.Places.{IsWithin}
-use Rattle.holdings.specs.Inner.Held.{limits_in, contents_of}
+use Rattle.holdings.specs.Inner.Held.{contents_of}
 use Rattle.holdings.proofs.Phases.AccessPhase.{no_access, accesses_can, accesses_left, accesses_sound, accesses_answered}
 use Rattle.holdings.proofs.holdings.Holdings.access_all.Goals as goal
 
@@ -22,7 +22,7 @@ pub work_phase-requires-clause-can : goal.work_phase-requires-clause-can
 work_phase-requires-clause-can g c =
     let d = c.self.inside in
     let within = subst (λ (s : Contents). All (λ (t : Place × Access). IsWithin s.limits t.0) c.args.accesses.now) (sym c.self.view_is) c.requires.within in
-    accesses_can d.shards d.trees.items c.self.invariant c.args.accesses.now within c.piece_length.result c.piece_length.ensures c.in_ok-pieces.pieces.items
+    λ _ _. accesses_can d.shards d.trees.items c.self.invariant c.args.accesses.now within c.piece_length.result c.piece_length.ensures c.in_ok-pieces.pieces.items
     (are_pieces c.in_ok-list.list.items _ c.piece_length.result c.in_ok-pieces.pieces.items c.in_ok-list.ensures c.in_ok-pieces.ensures)
 
 pub invariant_of-result-2 : goal.invariant_of-result-2

@@ -1,5 +1,5 @@
 -- The strip is planned and worked as one phase, and then the trees are pruned.
-use Rattle.std.proofs.Common.{◌≡◌, List, length, sym, ap, ◌∙◌, subst, arith}
+use Rattle.std.proofs.Common.{◌≡◌, List, length, sym, ◌∙◌, subst, arith}
 use Rattle.std.specs.Vec.{with_items}
 use Rattle.std.proofs.lemmas.Bool.{eqb-true}
 use Rattle.std.proofs.lemmas.List.{with_items_is}
@@ -10,7 +10,7 @@ use Rattle.maptree.specs.Origins.{Shape}
 use Rattle.maptree.specs.declared.slice.Slice.{Slice}
 use Rattle.holdings.specs.Contents.{Contents, IsStripped}
 use Rattle.holdings.specs.Places.{any_of}
-use Rattle.holdings.specs.Inner.Held.{contents_of, limits_in}
+use Rattle.holdings.specs.Inner.Held.{contents_of}
 use Rattle.holdings.specs.Inner.Sound.{AreSound}
 use Rattle.holdings.specs.Inner.StripPlans.{IsPlanned, AllCanBePruned, AreKeptNodes, ArePruned}
 use Rattle.holdings.specs.declared.planning.FrameRuns.{FrameRuns}
@@ -35,7 +35,7 @@ pub work_phase-requires-clause-can : goal.work_phase-requires-clause-can
 work_phase-requires-clause-can g c =
     let d = c.self.inside in
     let is = planned d.shards d.trees.items c.deref.result.now (any_of c.args.places.now) c.args.revoked c.args.flush c.in_ok-plan.plan c.deref.ensures.value c.in_ok-plan.ensures in
-    plan_can d.shards d.trees.items c.self.invariant (any_of c.args.places.now) c.args.revoked c.args.flush c.in_ok-plan.plan is
+    λ _ _. plan_can d.shards d.trees.items c.self.invariant (any_of c.args.places.now) c.args.revoked c.args.flush c.in_ok-plan.plan is
 
 pub prune_gone-requires-clause-can : goal.prune_gone-requires-clause-can
 prune_gone-requires-clause-can g c =

@@ -28,6 +28,6 @@ access_all-requires-clause-within g c =
     let four = c.place-4.ensures in
     let five = c.place-5.ensures in
     let six = c.place-6.ensures in
-    within c.in_ok-database.database.limits (ap (λ s. s.limits) c.in_ok-database.ensures.ok)
+    λ _ _. within c.in_ok-database.database.limits (ap (λ s. s.limits) c.in_ok-database.ensures.ok)
     ((c.place.result, Read) ∷ (c.place-2.result, Read) ∷ (c.place-3.result, Write) ∷ (c.place-4.result, Execute) ∷ (c.place-5.result, Execute) ∷ (c.place-6.result, Execute) ∷ [])
     (one.space, one.page, (two.space, two.page, (three.space, three.page, (four.space, four.page, (five.space, five.page, (six.space, six.page, tt))))))

@@ -1,4 +1,4 @@
-//! Pieces worked side by side.
+//! What a piece finds out and its edits, made of the words at opening.
 
 ghost use Rattle.std.specs.Prelude.{◌≡◌, ◌<◌, map, length, IfOk};
 ghost use Rattle.std.specs.List.{All, AllPass, AllZip};
@@ -15,58 +15,17 @@ ghost use Rattle.crew.specs.Worked.{IsWorked};
 use crate::edits::{Edit, apply, link_edits, move_edits, strip_edits, touch_edits};
 use crate::finding::{Found, answers, keep, no_nodes, nothing, status_at};
 use fpage::Rights;
-use pieces::{Done, Piece, Strip, are_pieces};
-use rayon::prelude::*;
+use pieces::{Done, Piece, Strip};
 use std::alloc::{AllocError, Global};
 use std::snapshot::Snapshot;
-use std::thread::Threads;
 
-/// What a worker hands in for a piece: what the piece finds out, and what it does to words.
+/// What a piece finds out, and what it does to words.
 #[derive(Drop)]
 pub struct Part {
     found: Found,
     edits: Vec<Edit>,
     of: Snapshot<Piece>,
     words: Snapshot<Vec<u64>>,
-}
-
-/// Works the pieces of a phase side by side: each makes its edits of the words at opening; then all are made in order.
-pub fn work_beside(
-    rt: &(impl Threads + Sync),
-    alloc: Global,
-    words: Vec<u64>,
-    pieces: Vec<Piece>,
-) -> Result<(Vec<u64>, Vec<Done>), AllocError>
-    requires { CanBeWorked words.items pieces.items }
-    ensures { IfOk result (λ r. IsWorked words.items pieces.items r.0.items r.1.items) }
-{
-    are_pieces(&pieces);
-    let opening = Snapshot::of(&pieces);
-    let parts = parts_of(rt, alloc, &words, pieces)?;
-    finish(alloc, words, parts, opening)
-}
-
-/// The parts of all pieces, in their order.
-fn parts_of(
-    rt: &(impl Threads + Sync),
-    alloc: Global,
-    words: &Vec<u64>,
-    pieces: Vec<Piece>,
-) -> Result<Vec<Part>, AllocError>
-    requires each { All IsPiece pieces.items }
-    requires can { CanBeWorked words.now.items pieces.items }
-    ensures { IfOk result (λ parts. AllZip (IsPartOf words.now.items) pieces.items parts.items) }
-{
-    pieces
-        .into_par_iter()
-        .map(
-            |piece: Piece| -> Result<Part, AllocError>
-                requires { AllPass is_pack words.now.items × NamesWords words.now.items piece × IsPiece piece }
-                ensures { IfOk result (IsPartOf words.entry.now.items piece) }
-            { part_of(alloc, words, piece) },
-        )
-        .with_min_len(1)
-        .collect::<Result<Vec<Part>, AllocError>>(rt, alloc)?
 }
 
 /// The part of one piece.

@@ -4,7 +4,7 @@ use Rattle.pieces.specs.Steps.{effect, fold_of, status_in}
 use Rattle.crew.specs.Edits.{effect_of}
 use Rattle.crew.specs.Opening.{narrows}
 use Rattle.crew.proofs.EditLists.{strip_changes}
-use Rattle.crew.proofs.beside.find_in_strip.Goals as goal
+use Rattle.crew.proofs.parts.find_in_strip.Goals as goal
 
 pub returns-clause-edits : goal.returns-clause-edits
 returns-clause-edits c =

@@ -2,7 +2,7 @@
 use Rattle.std.proofs.Common.{subst, length}
 use Rattle.pieces.specs.Phases.{NamesWords}
 use Rattle.pieces.proofs.NamedWords.{stores_within, pairs_within, accesses_within}
-use Rattle.crew.proofs.beside.find_out.Goals as goal
+use Rattle.crew.proofs.parts.find_out.Goals as goal
 
 pub link_edits-requires-clause-within : goal.link_edits-requires-clause-within
 link_edits-requires-clause-within c = stores_within (length c.args.words.now) c.in-Link.link (subst (NamesWords c.args.words.now) c.in-Link.is c.requires.names)

@@ -13,8 +13,8 @@ use Rattle.crew.specs.Edits.{effect_of, index_of}
 use Rattle.crew.proofs.EditsOfPieces.{zip_length}
 use Rattle.crew.proofs.Finishing.{IsNext, next_part}
 use Rattle.crew.proofs.Results.{AreWorked, none_worked, one_worked, all_worked, written_over, same_result}
-use Rattle.crew.proofs.beside.finish.Goals as goal
-use Rattle.crew.proofs.beside.finish.Goals.{After-deref}
+use Rattle.crew.proofs.parts.finish.Goals as goal
+use Rattle.crew.proofs.parts.finish.Goals.{After-deref}
 
 pub loop-part-init : goal.loop-part-init
 loop-part-init c = subst (AreWorked c.args.words.items c.args.pieces.value.items 0 c.args.words.items) (sym c.in_ok-dones.ensures.items) (none_worked c.args.words.items c.args.pieces.value.items)

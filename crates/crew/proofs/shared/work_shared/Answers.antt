@@ -1,0 +1,29 @@
+use Rattle.std.proofs.Common.{length, ◌∙◌, ap, sym, subst}
+use Rattle.std.specs.List.{All, range_with_len}
+use Rattle.pieces.specs.Phases.{CanBeWorked}
+use Rattle.turns.specs.Closing.{numbers_of}
+use Rattle.crew.specs.Hands.{IsFresh, weigh}
+use Rattle.crew.specs.Worked.{IsWorked}
+use Rattle.crew.proofs.Wholes.{numbers_new, new_fresh, all_there, all_worked, none_wanting}
+use Rattle.crew.proofs.shared.work_shared.Goals as goal
+
+pub work_turns-requires-clause-fresh : goal.work_turns-requires-clause-fresh
+work_turns-requires-clause-fresh g c =
+    let s = c.in_ok-shared.shared in λ _ _. subst (All (IsFresh s)) (sym c.in_ok-shared.ensures.turns) (new_fresh s (length c.args.pieces.items))
+
+pub unreachable-requires : goal.unreachable-requires
+unreachable-requires g c =
+    let s = c.in_ok-shared.shared in let ended = c.in_ok-turns.turns.items in
+    let numbers = ap numbers_of c.in_ok-shared.ensures.turns ∙ numbers_new s (length c.args.pieces.items) ∙ ap (λ ps. range_with_len 0 (length ps)) (sym c.in_ok-shared.ensures.pieces) in
+    none_wanting s ended (all_there s ended (λ h. c.in_ok-turns.ensures.sums h ∙ ap (weigh h) numbers)) c.in-Err.ensures.wanting
+
+pub returns : goal.returns
+returns g c =
+    let s = c.in_ok-shared.shared in let o = s.opening in let ended = c.in_ok-turns.turns.items in let w = c.args.words.items in let ps = c.args.pieces.items in
+    let words = c.in_ok-shared.ensures.words in let pieces = c.in_ok-shared.ensures.pieces in
+    let numbers = ap numbers_of c.in_ok-shared.ensures.turns ∙ numbers_new s (length ps) ∙ ap (λ qs. range_with_len 0 (length qs)) (sym pieces) in
+    let can : CanBeWorked o.words o.pieces = subst (λ v. CanBeWorked v o.pieces) (sym words) (subst (CanBeWorked w) (sym pieces) c.requires.can) in
+    let all = all_worked s ended can c.in_ok-turns.ensures.ended (λ h. c.in_ok-turns.ensures.sums h ∙ ap (weigh h) numbers) in
+    subst (λ v. IsWorked v ps c.in-Ok.words.items c.in-Ok.dones.items) words
+    (subst (λ qs. IsWorked o.words qs c.in-Ok.words.items c.in-Ok.dones.items) pieces
+    (subst (λ v. IsWorked o.words o.pieces v c.in-Ok.dones.items) (sym c.in-Ok.ensures.words) (subst (IsWorked o.words o.pieces _) (sym c.in-Ok.ensures.dones) all)))
