@@ -4,7 +4,7 @@
     tests/refused_memory_in_crates.py [CRATE..]
 
 The tests that `rt ci`, or `rt test` in the crate, builds are run one by one. Each must end as the undisturbed one, or with
-the error `NoMemory`, or `AllocFailed` where a list of its own was refused. Where a call is refused memory, the tests themselves look at what it left, and end otherwise if that is
+the error `NoMemory` or `AllocError`, or `AllocFailed` where a list of its own was refused. Where a call is refused memory, the tests themselves look at what it left, and end otherwise if that is
 not what its contract says: a tree that `reserve`, `outer_runs` or `cut` changed, results that `gather` does not hand back, a
 database that is not halted; or at what no contract says: reply lines that are not flushed. Allocations are refused by the
 preloaded library of support/fail_alloc.c.
@@ -35,8 +35,8 @@ TESTS = {
     ],
     "crew": [
         "crews_read_words_at_opening_and_add_marks_up",
-        "one_thread_links_and_moves",
-        "one_thread_strips_and_marks",
+        "the_calling_thread_links_and_moves",
+        "one_worker_strips_and_marks",
     ],
     "mapdb": [
         "holds_each_frame_once_at_the_start",
@@ -48,7 +48,7 @@ TESTS = {
     "replay": ["flushes_what_it_has_written_where_memory_runs_out"],
 }
 # What a test ends with that was refused memory: by a call, or for a list of its own.
-OUT_OF_MEMORY = [b"error: NoMemory\n", b"error: AllocFailed { .. }\n"]
+OUT_OF_MEMORY = [b"error: NoMemory\n", b"error: AllocError\n", b"error: AllocFailed { .. }\n"]
 
 
 def built_tests(crate):

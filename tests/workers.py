@@ -5,10 +5,11 @@
 
 Each trace of replays/ and examples/ runs with every choice of options, and must end as the answer beside it says. Random
 traces, made from a fixed table of seeds, run with some of the choices each; their answers are not known, so all runs of a
-trace must end as the first does, with status 0. Then, of some traces whose calls are in many pieces, starts of threads are
+trace must end as the first does, with status 0. A trace whose calls are worked by up to 64 threads each runs a thousand times,
+several runs at once, and must always end the same. Then, of some traces whose calls are in many pieces, starts of threads are
 refused, one after another, alone and with all after it, and so are allocations of the first of them: such a run must end as
 the undisturbed one, or with status 3 and `NoMemory` or `NoWorker` at some record, having written exactly the reply lines of
-the records before it.
+the records before it. Of each of these traces a thread of some call must have been refused.
 """
 
 import glob
@@ -32,12 +33,17 @@ RECORDS = 40
 SPACES = 3
 PAGES = 8
 
-# Traces by whose runs threads and memory are refused, with options by which the work of a call is in many pieces.
+# Traces by whose runs threads and memory are refused, with options by which the work of a call is in many pieces. There is a
+# worker for every eight pieces at most.
 REFUSED = [
-    ("tests/replays/unmaps/16-pages-of-one-frame", ["--workers", "4", "--piece", "2"]),
+    ("tests/replays/unmaps/16-pages-of-one-frame", ["--workers", "4", "--piece", "1"]),
     ("tests/replays/windows/complete-space-granted-to-and-fro", ["--workers", "64", "--piece", "1"]),
-    ("tests/replays/phases/each-of-the-six-counts", ["--workers", "2", "--piece", "1"]),
+    ("tests/replays/windows/complete-space-granted-and-mapped-on", ["--workers", "2", "--piece", "1"]),
 ]
+
+RUNS = 1000
+RUNS_AT_ONCE = 3 * (os.cpu_count() or 1)
+RECEIVERS = 8
 
 
 def names():
@@ -115,6 +121,41 @@ def random_trace(seed):
     return "".join(record + "\n" for record in records).encode()
 
 
+def trace_for_many_workers():
+    """A trace, and its answer by the definitions: 64 pages go to eight spaces, are read, and lose a right in 576 places."""
+    pages, receivers = range(64), range(1, RECEIVERS + 1)
+    trace, answer = [f"l4map,1,{RECEIVERS + 1},18,64"], []
+
+    def call(record, reply):
+        trace.append(record)
+        answer.append(f"{len(trace) - 1} {reply}")
+
+    for space in receivers:
+        call(f"send,0,{space},10,8,17", "send absent=0 norights=0 origin=0 lost=0 extended=0 linked=64")
+    for space in receivers:
+        call(f"access,{space},{space * 4096:x},r", "access ok")
+    call("unmap,0,0,12", "unmap 00000014")
+    call("access,3,5000,x", "access ok")
+    call("access,3,5000,w", "access fault")
+    call("unmap,0,0,10", "unmap 00000015")
+    call("unmap,0,40,50c1", "unmap 000050c0")
+    for space in [0, *receivers]:
+        for page in pages:
+            rights = "r" + ("w" if space == 0 else "-") + ("x" if page != 5 else "-")
+            origin = "-" if space == 0 else f"0:{page}"
+            answer.append(f"{space},{page},{page},{rights},---,{origin}")
+    answer.append(f"end {len(trace) - 1} 0")
+    return ["".join(line + "\n" for line in lines).encode() for lines in (trace, answer)]
+
+
+def check_many_runs(program, pool):
+    """What is wrong with one of a thousand runs, of which several are at work at once."""
+    given, answer = trace_for_many_workers()
+    words = [program, "--workers", "64", "--piece", "1"]
+    wrong = [difference(Ended(0, answer, b""), got) for got in pool.map(lambda _: run(words, given), range(RUNS))]
+    return next(filter(None, wrong), "")
+
+
 def check_stored(program, name):
     """What is wrong with the runs of a stored trace, choice by choice."""
     given, wanted = read(name + ".csv"), Ended(0, read(name + ".txt"), b"")
@@ -131,6 +172,10 @@ def check_random(program, seed):
     yield f"seed {seed}", difference(wanted, first) or ("" if first.stdout else "nothing was written")
     for choice in choices:
         yield f"seed {seed} {' '.join(choice)}", difference(wanted, run([program] + choice, given))
+
+
+# How standard error ends where a call was refused what it asked for. The audit does without threads that it cannot start.
+STOPPED_BY = {"thread": b": NoWorker\n", "allocation": b": NoMemory\n"}
 
 
 def what_is_wrong(lines, got):
@@ -150,14 +195,14 @@ def what_is_wrong(lines, got):
 
 def check_refused(cases, program, library, what, traces):
     """Refuses allocations, or starts of threads, in turn, and looks whether any was refused at all."""
-    effect = False
     for name, options in traces:
         given, lines = read(name + ".csv"), read(name + ".txt").splitlines(True)
+        stopped = False
         for and_rest, extent in EXTENTS:
             for it in runs_refusing([program] + options, given, library, what, and_rest):
                 cases.check(f"{name}: {what} {it.at} {extent} is refused", what_is_wrong(lines, it.got))
-                effect = effect or it.was_refused
-    cases.check(f"{what}: some were refused", "" if effect else "the library has no effect")
+                stopped = stopped or it.got.stderr.endswith(STOPPED_BY[what])
+        cases.check(f"{name}: a call was refused a {what}", "" if stopped else "no run ended at a record for it")
 
 
 def main():
@@ -168,6 +213,8 @@ def main():
     for checks in found:
         for name, why in checks:
             cases.check(name, why)
+    with ThreadPoolExecutor(max_workers=RUNS_AT_ONCE) as pool:
+        cases.check(f"{RUNS} runs with 64 workers and the least pieces", check_many_runs(program, pool))
     with tempfile.TemporaryDirectory() as room:
         library = build_library("fail_alloc.c", room)
         check_refused(cases, program, library, "thread", REFUSED)
