@@ -17,28 +17,35 @@ import tempfile
 from support.program import TOP, Cases, build_library, give_up, run
 from support.refusals import EXTENTS, runs_refusing
 
-# A crate, and those of its tests that take memory. One line makes a further crate part of this.
+# A crate that has tests, and those of them that take memory. One line makes a further crate part of this.
 TESTS = {
     "space": ["keeps_entries_at_the_least_limits", "keeps_entries_at_the_largest_limits"],
-    "maptree": [
+    "maptree_tests": [
         "has_outer_runs",
         "cuts::puts_back_one_node_of_a_run_of_three",
         "cuts::stays_as_the_last_cut_left_it_where_nothing_is_put_back",
         "cuts::cuts_runs_and_puts_back_what_is_kept",
     ],
-    "pieces": [
+    "pieces_tests": [
         "masks_spare_the_first_node_of_a_run",
         "cuts_lists_in_their_order",
         "gathers_by_number",
         "tells_distinct_indexes",
         "links_and_moves_in_pieces",
     ],
-    "crew": [
+    "turns_tests": [
+        "two_strips_closed_at_each_pair_of_counts",
+        "an_access_is_seen_and_then_marked",
+        "a_page_is_taken_and_then_put",
+    ],
+    "crew_tests": [
         "crews_read_words_at_opening_and_add_marks_up",
-        "the_calling_thread_links_and_moves",
+        "one_worker_links_and_moves_in_several_pieces",
+        "one_worker_links_in_a_single_piece",
+        "one_worker_moves_and_marks_in_a_single_piece",
         "one_worker_strips_and_marks",
     ],
-    "mapdb": [
+    "mapdb_tests": [
         "holds_each_frame_once_at_the_start",
         "maps_a_page_on",
         "accesses::marks_the_same_with_a_crew",

@@ -5,8 +5,6 @@ mod audit;
 mod checker;
 mod error;
 mod line;
-#[cfg(test)]
-mod tests;
 
 pub use audit::{check_database, lines, report};
 pub use checker::check;

@@ -1,4 +1,4 @@
--- Steps made in place, one after another.
+-- The steps of a piece made in place, one after another.
 use Rattle.std.proofs.Common.{◌≡◌, ℕ, zero, suc, ◌+◌, ◌<◌, ◌≤◌, Bool, true, false, ◌&&◌, not, List, [], ◌∷◌, ◌++◌, length, map, take, drop, get_or, set, bit_or, refl, ap, ◌∙◌, sym, subst, arith, append_assoc, add-one, if◌then◌else◌, zero-add}
 use Rattle.std.specs.Prelude.{◌==◌}
 use Rattle.std.specs.List.{flat_map, list_all}
@@ -14,7 +14,7 @@ use Rattle.pieces.specs.Distinct.{is_none_of, are_distinct}
 use Rattle.pieces.specs.DistinctParts.{distinct_split}
 use Rattle.pieces.specs.Effects.{Effect, keeps, adds, writes, words_from, words_after, writes_at, write_at}
 use Rattle.pieces.specs.Contents.{puts_of, ends_of}
-use Rattle.pieces.specs.Steps.{effect, effects, narrowed_by, linked, store_step, without_status, pair_steps, may_access, access_steps, status_bits, narrow, see, mark}
+use Rattle.pieces.specs.Steps.{effect, effects, narrowed_by, store_step, without_status, pair_steps, may_access, access_steps, status_bits, narrow, see, mark}
 use Rattle.pieces.specs.declared.link.Store.{Store}
 use Rattle.pieces.specs.declared.moving.Pair.{Pair}
 use Rattle.pieces.specs.declared.touch.WordAccess.{WordAccess}
@@ -24,7 +24,7 @@ use Rattle.pieces.proofs.InTurn.{one_step_more, write_more, add_more, add_from}
 use Rattle.pieces.proofs.OneByOne.{distinct_apart, eqb_turned}
 use Rattle.pieces.proofs.Packs.{same_word_after}
 use Rattle.pieces.proofs.Writers.{narrows_write, narrows_add, links_write, moves_write, moves_add}
-use Rattle.crew.specs.Opening.{narrows, marks_made}
+use Rattle.crew.specs.Opening.{narrows, linked_word, marks_made}
 
 both : (a b : Bool) → (a && b) ≡ true → (a ≡ true) × (b ≡ true)
 both true true h = (refl, refl)
@@ -34,18 +34,18 @@ both false b h = absurd (cc)
 -- ---- lists
 
 -- a list around one of its elements
-pub around : {A : Type 0} (xs : List A) (k : ℕ) (d : A) → k < length xs → xs ≡ take k xs ++ get_or xs k d ∷ drop (k + 1) xs
+around : {A : Type 0} (xs : List A) (k : ℕ) (d : A) → k < length xs → xs ≡ take k xs ++ get_or xs k d ∷ drop (k + 1) xs
 around xs k d within = sym (take-append-drop k xs) ∙ ap (λ ys. take k xs ++ ys) (drop-cons xs k d within ∙ ap (λ n. get_or xs k d ∷ drop n xs) (sym (add-one k)))
 
 -- ---- narrows
 
-pub narrows_append : (w is : List ℕ) (ms : List Rights) (js : List ℕ) (ns : List Rights) → length is ≡ length ms → narrows w (is ++ js) (ms ++ ns) ≡ narrows w is ms ++ narrows w js ns
+narrows_append : (w is : List ℕ) (ms : List Rights) (js : List ℕ) (ns : List Rights) → length is ≡ length ms → narrows w (is ++ js) (ms ++ ns) ≡ narrows w is ms ++ narrows w js ns
 narrows_append w [] [] js ns same = refl
 narrows_append w [] (m ∷ ms) js ns same = absurd (omega (arith, same))
 narrows_append w (i ∷ is) [] js ns same = absurd (omega (arith, same))
 narrows_append w (i ∷ is) (m ∷ ms) js ns same = ap (λ es. effect w (narrow i m) ∷ es) (narrows_append w is ms js ns (omega (arith, same)))
 
-pub taken_length : {A : Type 0} (xs : List A) (k : ℕ) → k ≤ length xs → length (take k xs) ≡ k
+taken_length : {A : Type 0} (xs : List A) (k : ℕ) → k ≤ length xs → length (take k xs) ≡ k
 taken_length xs k within = let l = length-take k xs in omega (arith, l, within)
 
 module _ (old now is : List ℕ) (ms : List Rights) (k : ℕ) (m : Rights) (once : are_distinct is ≡ true) (each : length ms ≡ length is) (within : k < length is)
@@ -81,13 +81,12 @@ fold_next w i bits b within is = ap (λ c. set w i (bit_or (get_or w i 0) c)) is
 -- ---- links
 
 -- one store more
-pub links_more : (w : List ℕ) (xs : List Store) (k : ℕ) (d : Store) → k < length xs → effects w (piece.Link (take (k + 1) xs)) ≡ effects w (piece.Link (take k xs)) ++ effect w (store_step w (get_or xs k d)) ∷ []
+links_more : (w : List ℕ) (xs : List Store) (k : ℕ) (d : Store) → k < length xs → effects w (piece.Link (take (k + 1) xs)) ≡ effects w (piece.Link (take k xs)) ++ effect w (store_step w (get_or xs k d)) ∷ []
 links_more w xs k d within =
     ap (λ ys. map (effect w) (map (store_step w) ys)) (take_more xs k d within) ∙ ap (map (effect w)) (map-append (store_step w) (take k xs) (get_or xs k d ∷ []))
     ∙ map-append (effect w) (map (store_step w) (take k xs)) (store_step w (get_or xs k d) ∷ [])
 
-module _ (old now : List ℕ) (xs : List Store) (k : ℕ) (d : Store) (once : are_distinct (puts_of xs) ≡ true) (few : length xs ≤ 1) (within : k < length xs)
-    (so_far : now ≡ words_after old (effects old (piece.Link (take k xs)))) where
+module _ (old now : List ℕ) (xs : List Store) (k : ℕ) (d : Store) (once : are_distinct (puts_of xs) ≡ true) (within : k < length xs) (so_far : now ≡ words_after old (effects old (piece.Link (take k xs)))) where
   put_fresh : is_none_of (puts_of (take k xs)) (get_or xs k d).put ≡ true
   put_fresh =
       (both (is_none_of (puts_of (take k xs)) (get_or xs k d).put) (list_all (is_none_of (puts_of (take k xs))) (puts_of (drop (k + 1) xs)))
@@ -97,37 +96,33 @@ module _ (old now : List ℕ) (xs : List Store) (k : ℕ) (d : Store) (once : ar
   put_unwritten : is_none_of (writes_at (effects old (piece.Link (take k xs)))) (get_or xs k d).put ≡ true
   put_unwritten = ap (λ js. is_none_of js (get_or xs k d).put) (links_write old (take k xs)) ∙ put_fresh
 
-  -- whatever is read is as it was: nothing was put yet
-  pub put_reads : (i : ℕ) → get_or now i 0 ≡ get_or old i 0
-  put_reads i =
-      let first : k ≡ 0 = omega (arith, few, within) in
-      ap (λ v. get_or v i 0) (so_far ∙ ap (λ n. words_after old (effects old (piece.Link (take n xs)))) first ∙ words_none 0 old)
-
-  pub put_next : (x : ℕ)
-      → x ≡ word_of (option_map (linked (get_or xs k d).rights (entry_of (get_or now (get_or xs k d).put 0))) (entry_of (get_or now (get_or xs k d).read 0)))
-      → (get_or xs k d).put < length old → set now (get_or xs k d).put x ≡ words_after old (effects old (piece.Link (take (k + 1) xs)))
+  put_next : (x : ℕ) → x ≡ linked_word old (get_or xs k d) → (get_or xs k d).put < length old → set now (get_or xs k d).put x ≡ words_after old (effects old (piece.Link (take (k + 1) xs)))
   put_next x is_word there =
       ap (λ v. set v (get_or xs k d).put x) so_far ∙ write_more old (effects old (piece.Link (take k xs))) (get_or xs k d).put x put_unwritten there
-      ∙ ap (words_after old)
-      (ap (λ y. effects old (piece.Link (take k xs)) ++ writes (get_or xs k d).put y ∷ [])
-      (is_word ∙ ap (λ t. word_of (option_map (linked (get_or xs k d).rights (entry_of t)) (entry_of (get_or now (get_or xs k d).read 0)))) (put_reads (get_or xs k d).put)
-      ∙ ap (λ t. word_of (option_map (linked (get_or xs k d).rights (entry_of (get_or old (get_or xs k d).put 0))) (entry_of t))) (put_reads (get_or xs k d).read))
-      ∙ sym (links_more old xs k d within))
+      ∙ ap (words_after old) (ap (λ y. effects old (piece.Link (take k xs)) ++ writes (get_or xs k d).put y ∷ []) is_word ∙ sym (links_more old xs k d within))
 
 -- the same of the store that was read from the list
-pub put_next_of : (old now : List ℕ) (xs : List Store) (k : ℕ) (s : Store) → s ≡ get_or xs k s → are_distinct (puts_of xs) ≡ true → length xs ≤ 1 → k < length xs
-    → now ≡ words_after old (effects old (piece.Link (take k xs))) → (x target source : ℕ) → x ≡ word_of (option_map (linked s.rights (entry_of target)) (entry_of source)) → target ≡ get_or now s.put 0
-    → source ≡ get_or now s.read 0 → s.put < length old → set now s.put x ≡ words_after old (effects old (piece.Link (take (k + 1) xs)))
-put_next_of old now xs k s is once few within so_far x target source is_word at_target at_source there =
+pub put_next_of : (old now : List ℕ) (xs : List Store) (k : ℕ) (s : Store) → s ≡ get_or xs k s → are_distinct (puts_of xs) ≡ true → k < length xs → now ≡ words_after old (effects old (piece.Link (take k xs)))
+    → (x : ℕ) → x ≡ linked_word old s → s.put < length old → set now s.put x ≡ words_after old (effects old (piece.Link (take (k + 1) xs)))
+put_next_of old now xs k s is once within so_far x is_word there =
     subst (λ (t : Store). set now t.put x ≡ words_after old (effects old (piece.Link (take (k + 1) xs)))) (sym is)
-    (put_next old now xs k s once few within so_far x
-    (subst (λ (t : Store). x ≡ word_of (option_map (linked t.rights (entry_of (get_or now t.put 0))) (entry_of (get_or now t.read 0)))) is
-    (is_word ∙ ap (λ y. word_of (option_map (linked s.rights (entry_of y)) (entry_of source))) at_target ∙ ap (λ y. word_of (option_map (linked s.rights (entry_of (get_or now s.put 0))) (entry_of y))) at_source))
-    (subst (λ (t : Store). t.put < length old) is there))
+    (put_next old now xs k s once within so_far x (is_word ∙ ap (linked_word old) is) (subst (λ (t : Store). t.put < length old) is there))
+
+-- before the only store nothing was put
+pub nothing_put : (old now : List ℕ) (xs : List Store) (k : ℕ) → length xs ≤ 1 → k < length xs → now ≡ words_after old (effects old (piece.Link (take k xs))) → now ≡ old
+nothing_put old now xs k few within so_far =
+    let first : k ≡ 0 = omega (arith, few, within) in
+    so_far ∙ ap (λ n. words_after old (effects old (piece.Link (take n xs)))) first ∙ words_none 0 old
+
+-- the word that was made for a store
+pub made_for : (w : List ℕ) (xs : List Store) (k : ℕ) (s : Store) → s ≡ get_or xs k s → k < length xs → get_or (map (linked_word w) xs) k 0 ≡ linked_word w s
+made_for w [] k s is within = absurd (omega (arith, within))
+made_for w (t ∷ xs) zero s is within = ap (linked_word w) (sym is)
+made_for w (t ∷ xs) (suc k) s is within = made_for w xs k s is (omega (arith, within))
 
 -- ---- moves
 
-pub moves_more : (w : List ℕ) (xs : List Pair) (k : ℕ) (d : Pair) → k < length xs → effects w (piece.Move (take (k + 1) xs)) ≡ effects w (piece.Move (take k xs)) ++ map (effect w) (pair_steps w (get_or xs k d))
+moves_more : (w : List ℕ) (xs : List Pair) (k : ℕ) (d : Pair) → k < length xs → effects w (piece.Move (take (k + 1) xs)) ≡ effects w (piece.Move (take k xs)) ++ map (effect w) (pair_steps w (get_or xs k d))
 moves_more w xs k d within =
     ap (λ ys. map (effect w) (flat_map (pair_steps w) ys)) (take_more xs k d within) ∙ ap (map (effect w)) (flat_map-append (pair_steps w) (take k xs) (get_or xs k d ∷ []))
     ∙ map-append (effect w) (flat_map (pair_steps w) (take k xs)) (pair_steps w (get_or xs k d))

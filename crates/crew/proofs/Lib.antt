@@ -1,10 +1,6 @@
 pub mod InPlace
-pub mod Results
+pub mod OnePiece
 pub mod Working
-pub mod EditLists
-pub mod EditsOfPieces
-pub mod Finishing
-pub mod PiecesInPlace
 pub mod Balances
 pub mod Places
 pub mod Lots

@@ -1,6 +1,6 @@
 -- What workers held is put together, and every sum stays.
-use Rattle.std.proofs.Common.{◌≡◌, ◌≢◌, ℕ, zero, suc, ◌+◌, ◌<◌, ◌≤◌, ◌==◌, List, [], ◌∷◌, ◌++◌, length, take, drop, set, get_or, refl, ap, ◌∙◌, sym, subst, arith, zero-add, ⊎_elim, if◌then◌else◌}
-use Rattle.std.proofs.lemmas.List.{get_or-set_same, get_or-set_other, length-set, length-append, take-append-le, take_all}
+use Rattle.std.proofs.Common.{◌≡◌, ◌≢◌, ℕ, zero, suc, ◌+◌, ◌<◌, ◌≤◌, ◌==◌, List, [], ◌∷◌, ◌++◌, length, set, get_or, refl, ap, ◌∙◌, sym, subst, arith, zero-add, ⊎_elim, if◌then◌else◌}
+use Rattle.std.proofs.lemmas.List.{get_or-set_same, get_or-set_other, length-set, length-append}
 use Rattle.std.proofs.lemmas.List.Elements.{All-push, All-append}
 use Rattle.std.proofs.lemmas.Option.{slice_get-get_or}
 use Rattle.std.proofs.lemmas.Bool.{cases_eq, eq-eqb, ne_eqb}
@@ -178,7 +178,3 @@ all_dealt h owns crew many places =
 -- all parts are there again
 pub all_back : (crew : List DealtContent) (n k p q m : ℕ) → n ≡ length crew → p + length crew ≡ 1024 → m ≡ n → q ≡ p + m → q ≡ 1024
 all_back crew n k p q m many parts each is = omega (arith, many, parts, each, is)
-
--- a list that is written over its own place
-pub over_all : {A : Type 0} → (n : ℕ) (xs ys : List A) → n ≡ length ys → length xs ≡ length ys → take n (xs ++ drop (length xs) ys) ≡ xs
-over_all n xs ys many same = take-append-le n xs (drop (length xs) ys) (omega (arith, many, same)) ∙ take_all n xs (omega (arith, many, same))

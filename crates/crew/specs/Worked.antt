@@ -1,11 +1,10 @@
 -- What comes of the work of a phase.
-use Rattle.std.specs.Prelude.{◌≡◌, ℕ, ◌+◌, List, [], ◌∷◌, length}
+use Rattle.std.specs.Prelude.{◌≡◌, ℕ, List, length}
 use Rattle.std.specs.List.{AllPass}
 use Rattle.space.specs.Word.{is_pack}
 use Rattle.pieces.specs.Applied.{worked}
 use Rattle.pieces.specs.Dones.{DoneContent}
 use Rattle.pieces.specs.Laws.{AreDone}
-use Rattle.pieces.specs.Values.{value}
 use Rattle.pieces.specs.declared.piece.Piece.{Piece}
 
 -- the words with all steps of all pieces done, and the result of each piece
@@ -15,8 +14,3 @@ pub record IsWorked (w : List ℕ) (ps : List Piece) (after : List ℕ) (ds : Li
   pub many : length after ≡ length w
   pub packs : AllPass is_pack after
   pub dones : AreDone w ps ds
-
--- the results of pieces in order, the first of which has this number
-abbrev pub results_from : ℕ → List ℕ → List Piece → List DoneContent
-results_from n w [] = []
-results_from n w (p ∷ ps) = record { number = n; found = value w p; of = p; words = w } ∷ results_from (n + 1) w ps

@@ -3,7 +3,6 @@
 ghost use Rattle.std.specs.Prelude.{◌≡◌, ◌<◌, ◌++◌, ◌∷◌, [], length, map, IfOk};
 ghost use Rattle.crossbeam_deque.specs.Handles.{stealer_deque};
 ghost use Rattle.crossbeam_deque.specs.Steals.{MatchSteal};
-ghost use Rattle.turns.specs.Turns.{steps_to_do};
 ghost use Rattle.crew.specs.Crews.{IsEnded, ArePlaced, deques_of};
 ghost use Rattle.crew.specs.Hands.{IsFresh};
 
@@ -13,7 +12,7 @@ use crate::own::{Claim, Crewed, Own};
 use crossbeam_deque::{Steal, Stealer};
 use std::alloc::{AllocError, Global};
 use std::marker::{Model, PhantomData};
-use turns::{Open, Progress, Turn};
+use turns::{Open, Turn};
 
 /// The words of the phase, the gate that hears of its pieces, and what workers steal by from one another.
 #[derive(Drop)]
@@ -72,7 +71,7 @@ impl<'a, N: Which, M: Crewed, G: Gate> Bench<'a, N, M, G> {
         ensures number { result.number ≡ turn.number }
     {
         self.gate.begin(worker, turn.piece());
-        step_to_end(&mut turn, self.shared);
+        turn.step_to_end(self.shared);
         self.gate.end(worker, &turn, self.shared);
         turn
     }
@@ -101,14 +100,4 @@ fn stealers_of<N: Which, M: Crewed>(
         stealers.push(own.stealer()?)?;
     }
     Ok(stealers)
-}
-
-/// Makes all steps that the piece of a turn has.
-fn step_to_end(turn: &mut Turn, shared: &Open)
-    requires of { turn.old.sheet ≡ shared.now }
-    requires fresh { turn.old.steps ≡ 0 }
-    ensures same { (turn.new.sheet ≡ turn.old.sheet) × (turn.new.number ≡ turn.old.number) }
-    ensures ended { turn.new.steps ≡ steps_to_do turn.new }
-{
-    while let Progress::More = turn.step(shared) {}
 }

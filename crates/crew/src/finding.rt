@@ -1,18 +1,17 @@
 //! What a piece finds out of the words at opening.
 
-ghost use Rattle.std.specs.Prelude.{◌≡◌, ◌<◌, ◌≤◌, true, map, take, length, get_or, set, IfOk, []};
+ghost use Rattle.std.specs.Prelude.{◌≡◌, ◌<◌, map, length, get_or, set, IfOk, []};
 ghost use Rattle.std.specs.List.{All, AllPass};
 ghost use Rattle.space.specs.Word.{is_pack};
 ghost use Rattle.maptree.specs.declared.node.Node.{Node};
-ghost use Rattle.pieces.specs.Steps.{status_in, may_access};
+ghost use Rattle.pieces.specs.Steps.{may_access};
 ghost use Rattle.pieces.specs.Dones.{found_as};
 ghost use Rattle.pieces.specs.Values.{no_value};
-ghost use Rattle.pieces.specs.Kept.{nodes_kept};
 
 use fpage::Rights;
 use maptree::{Node, Slice};
-use pieces::steps::{permits, remains, status};
-use pieces::{Masks, Touch};
+use pieces::Touch;
+use pieces::steps::permits;
 use std::alloc::{AllocError, Global};
 
 /// What a piece found out.
@@ -41,38 +40,6 @@ pub fn no_nodes(alloc: Global) -> Slice
     Slice {
         nodes: Vec::new(alloc),
     }
-}
-
-/// The union of the status of the words at some indexes.
-pub fn status_at(words: &[u64], indexes: &[usize]) -> Rights
-    requires packs { AllPass is_pack words.now }
-    requires within { All (λ i. i < length words.now) indexes.now }
-    ensures { result ≡ status_in words.now indexes.now }
-{
-    let mut found = Rights::none();
-    for index in indexes {
-        found = found.join(status(words[*index]));
-    }
-    found
-}
-
-/// Moves the nodes that are left with a right to the front, in their order, and returns how many there are.
-pub fn keep(words: &[u64], nodes: &mut [Node], masks: &Masks, indexes: &[usize]) -> usize
-    requires packs { AllPass is_pack words.now }
-    requires within { All (λ i. i < length words.now) indexes.now }
-    requires masks { length masks.now ≡ length nodes.old }
-    requires indexes { length indexes.now ≡ length nodes.old }
-    ensures most { result ≤ length nodes.old }
-    ensures kept { take result nodes.new ≡ nodes_kept words.now nodes.old indexes.now masks.now }
-{
-    let mut kept = 0;
-    for k in 0..nodes.len() {
-        if remains(words[indexes[k]], masks.get(k)) {
-            move_node(nodes, k, kept);
-            kept += 1;
-        }
-    }
-    kept
 }
 
 /// Puts the node at a position at another too. Where they are the same it is left alone: most strips keep all their nodes, and

@@ -1,6 +1,6 @@
-//! Pieces worked in place: the steps of each, one after another, on the words themselves.
+//! The steps of a piece, one after another, on the words themselves.
 
-ghost use Rattle.std.specs.Prelude.{◌≡◌, ◌<◌, ◌≤◌, true, false, map, take, length, ◌∷◌, []};
+ghost use Rattle.std.specs.Prelude.{◌≡◌, ◌<◌, ◌≤◌, true, false, map, take, length, ◌∷◌, [], IfOk};
 ghost use Rattle.std.specs.List.{All, AllPass};
 ghost use Rattle.space.specs.Word.{is_pack};
 ghost use Rattle.pieces.specs.Distinct.{are_distinct};
@@ -8,13 +8,14 @@ ghost use Rattle.pieces.specs.Effects.{words_after, adds};
 ghost use Rattle.pieces.specs.Steps.{effects, status_bits, status_in};
 ghost use Rattle.pieces.specs.declared.piece.Piece.TheVariants as piece;
 ghost use Rattle.pieces.specs.Kept.{nodes_kept};
-ghost use Rattle.crew.specs.Opening.{narrows, marks_made};
+ghost use Rattle.crew.specs.Opening.{narrows, linked_word, marks_made};
 
 use crate::finding::move_node;
 use fpage::Rights;
 use maptree::Node;
 use pieces::steps::{bits, linked, moved, narrowed, remains, status};
 use pieces::{Link, Masks, Move, Touch};
+use std::alloc::{AllocError, Global};
 
 /// Narrows the words at some indexes, each by its mask. The nodes whose words are left with a right move to the front, in
 /// their order. Returns how many these are, and the union of the status that the words had.
@@ -70,6 +71,32 @@ pub fn put(words: &mut [u64], link: &Link)
         let source = words[store.read];
         let target = words[store.put];
         words[store.put] = linked(target, source, store.rights);
+    }
+}
+
+/// The words that stores put, one for each.
+pub fn words_to_put(alloc: Global, words: &[u64], link: &Link) -> Result<Vec<u64>, AllocError>
+    requires packs { AllPass is_pack words.now }
+    requires within { All (λ s. (s.read < length words.now) × (s.put < length words.now)) link.now }
+    ensures { IfOk result (λ made. made.items ≡ map (linked_word words.now) link.now) }
+{
+    let mut made = Vec::with_capacity(alloc, link.len())?;
+    for k in 0..link.len() {
+        let store = link.store(k);
+        made.push(linked(words[store.put], words[store.read], store.rights))?;
+    }
+    Ok(made)
+}
+
+/// Puts the words that were made for stores.
+pub fn put_words(words: &mut [u64], link: &Link, made: &[u64])
+    requires within { All (λ s. (s.read < length words.old) × (s.put < length words.old)) link.now }
+    requires made { made.now ≡ map (linked_word words.old) link.now }
+    ensures { words.new ≡ words_after words.old (effects words.old (piece.Link link.now)) }
+{
+    for k in 0..link.len() {
+        let store = link.store(k);
+        words[store.put] = made[k];
     }
 }
 

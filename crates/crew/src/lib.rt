@@ -5,7 +5,6 @@ mod alone;
 mod bench;
 mod crew;
 mod dealing;
-mod edits;
 mod error;
 mod finding;
 mod gate;
@@ -13,12 +12,9 @@ mod hand;
 mod in_place;
 mod lot;
 mod own;
-mod parts;
 mod settling;
 mod shared;
 mod team;
-#[cfg(test)]
-mod tests;
 mod workers;
 
 pub use crew::Crew;

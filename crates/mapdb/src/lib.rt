@@ -8,8 +8,6 @@ mod item;
 mod item_pages;
 mod plan;
 mod reply;
-#[cfg(test)]
-mod tests;
 mod unmap;
 
 pub use database::Database;

@@ -18,8 +18,6 @@ mod scans;
 mod searching;
 mod shifts;
 mod slice;
-#[cfg(test)]
-mod tests;
 mod tree;
 
 pub use node::Node;

@@ -1,13 +1,13 @@
 -- Steps and pieces one after another.
-use Rattle.std.proofs.Common.{◌≡◌, ◌≢◌, ℕ, zero, suc, ◌+◌, ◌<◌, ◌≤◌, ◌⊎◌, inl, inr, Bool, true, false, ◌&&◌, not, List, [], ◌∷◌, ◌++◌, length, map, get_or, set, Option, Some, None, unwrap_or, bit_or, refl, ap, ◌∙◌, sym, subst, arith, if◌then◌else◌}
+use Rattle.std.proofs.Common.{◌≡◌, ℕ, zero, suc, ◌+◌, ◌<◌, Bool, true, false, ◌&&◌, not, List, [], ◌∷◌, ◌++◌, length, get_or, set, Option, Some, None, unwrap_or, bit_or, refl, ap, ◌∙◌, sym, subst, arith, if◌then◌else◌}
 use Rattle.std.specs.Prelude.{◌==◌}
-use Rattle.std.specs.List.{flat_map, list_all}
+use Rattle.std.specs.List.{list_all}
 use Rattle.std.specs.Int.Bits.{or_zero_r}
 use Rattle.std.proofs.lemmas.Bool.{eq-eqb, eqb-true, ne_eqb}
 use Rattle.std.proofs.lemmas.Grind.{flat_map-append}
 use Rattle.pieces.specs.Distinct.{is_none_of, are_distinct}
 use Rattle.pieces.specs.DistinctParts.{all_split}
-use Rattle.pieces.specs.Effects.{Effect, keeps, adds, writes, gained, bits_at, written, word_after, words_from, words_after, write_at, add_at, writes_at, adds_at}
+use Rattle.pieces.specs.Effects.{Effect, keeps, adds, writes, gained, written, word_after, words_from, words_after, write_at, add_at, writes_at, adds_at}
 use Rattle.pieces.proofs.AllSteps.{length_words}
 use Rattle.pieces.proofs.InOrder.{or_assoc, gained_append}
 use Rattle.pieces.proofs.Writers.{written_none}

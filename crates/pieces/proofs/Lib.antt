@@ -12,3 +12,4 @@ pub mod OneByOne
 pub mod Keeping
 pub mod NamedWords
 pub mod OfOneKind
+pub mod ReadyTests

@@ -1,9 +1,9 @@
 -- Pieces one after another.
-use Rattle.std.proofs.Common.{◌≡◌, ℕ, zero, suc, ◌+◌, ◌<◌, ◌≤◌, Bool, true, false, ◌&&◌, ◌||◌, not, List, [], ◌∷◌, ◌++◌, length, map, filter, get_or, Option, Some, None, option_map, is_some, refl, ap, ◌∙◌, sym, subst, arith, cond, if◌then◌else◌}
+use Rattle.std.proofs.Common.{◌≡◌, ℕ, zero, suc, Bool, true, false, ◌&&◌, ◌||◌, not, List, [], ◌∷◌, ◌++◌, length, map, filter, get_or, Option, Some, None, option_map, is_some, refl, ap, ◌∙◌, sym, subst, arith, cond, if◌then◌else◌}
 use Rattle.std.specs.Prelude.{◌==◌, nat_lt}
 use Rattle.std.specs.List.{flat_map, list_all, list_any, zip, All, AllPass}
-use Rattle.std.specs.Option.{option_to_list, option_map_or}
-use Rattle.std.proofs.lemmas.Bool.{eqb-true, eq-eqb, ne_eqb}
+use Rattle.std.specs.Option.{option_map_or}
+use Rattle.std.proofs.lemmas.Bool.{eqb-true, eq-eqb}
 use Rattle.std.proofs.lemmas.Grind.{flat_map-append}
 use Rattle.std.proofs.lemmas.List.{map-append}
 use Rattle.fpage.specs.Rights.{has, join}
@@ -15,13 +15,13 @@ use Rattle.space.specs.Entries.{status_of}
 use Rattle.space.specs.Word.{is_pack, entry_of}
 use Rattle.pieces.specs.Distinct.{is_none_of, are_distinct}
 use Rattle.pieces.specs.DistinctParts.{all_split, distinct_split}
-use Rattle.pieces.specs.Effects.{Effect, words_after, writes_at, adds_at}
-use Rattle.pieces.specs.Contents.{StripContent, puts_of, ends_of}
+use Rattle.pieces.specs.Effects.{words_after, writes_at, adds_at}
+use Rattle.pieces.specs.Contents.{puts_of, ends_of}
 use Rattle.pieces.specs.Steps.{Step, narrow, effect, effects, fold_of, status_in, entry_in, linked, store_step, without_status, pair_steps, may_access, access_steps}
 use Rattle.pieces.specs.Steps as step
 use Rattle.pieces.specs.Phases.{changes, folds, named, held, is_touch, is_link, are_alike, IsPiece, CanBeWorked}
 use Rattle.pieces.specs.Applied.{worked}
-use Rattle.pieces.specs.Values.{value, kept_nodes, remains, no_value}
+use Rattle.pieces.specs.Values.{value, remains}
 use Rattle.pieces.specs.Laws.{spare_held}
 use Rattle.pieces.specs.declared.link.Store.{Store}
 use Rattle.pieces.specs.declared.moving.Pair.{Pair}

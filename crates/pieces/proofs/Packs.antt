@@ -1,5 +1,5 @@
 -- What pieces make of words that stand for entries: such words again; and where none writes, the same frame and rights.
-use Rattle.std.proofs.Common.{◌≡◌, ◌≢◌, ℕ, zero, suc, ◌+◌, ◌*◌, ◌^◌, ◌<◌, ◌≤◌, ◌⊎◌, inl, inr, Bool, true, false, ◌&&◌, List, [], ◌∷◌, ◌++◌, length, map, get_or, Option, Some, None, option_map, is_some, unwrap_or, bit_or, refl, ap, ◌∙◌, sym, subst, arith, if◌then◌else◌, zero-add}
+use Rattle.std.proofs.Common.{◌≡◌, ◌≢◌, ℕ, ◌^◌, ◌<◌, ◌≤◌, ◌⊎◌, inl, inr, Bool, true, false, ◌&&◌, List, [], ◌∷◌, ◌++◌, length, map, get_or, Option, Some, None, option_map, is_some, unwrap_or, bit_or, refl, ap, ◌∙◌, sym, subst, arith, if◌then◌else◌, zero-add}
 use Rattle.std.specs.Prelude.{◌==◌}
 use Rattle.std.specs.List.{flat_map, list_all, zip, AllPass}
 use Rattle.std.specs.Option.{option_to_list}
@@ -9,13 +9,12 @@ use Rattle.std.proofs.lemmas.List.{map-append, get_or_past, get_or_default}
 use Rattle.fpage.specs.Rights.{is_empty, marks}
 use Rattle.fpage.specs.declared.rights.Rights.{Rights}
 use Rattle.space.specs.declared.place.Entry.{Entry}
-use Rattle.space.specs.Word.{is_pack, entry_of, word_of, marked, FrameFits}
+use Rattle.space.specs.Word.{is_pack, entry_of, marked, FrameFits}
 use Rattle.space.specs.Entries.{rights_left}
 use Rattle.space.proofs.Words.{pack_gains_status, unpack_gives_back, unpacked_fits}
 use Rattle.pieces.specs.Distinct.{is_none_of}
 use Rattle.pieces.specs.DistinctParts.{all_split}
-use Rattle.pieces.specs.Effects.{Effect, keeps, adds, writes, gained, written, word_after, words_from, words_after, writes_at, adds_at}
-use Rattle.pieces.specs.Contents.{StripContent}
+use Rattle.pieces.specs.Effects.{Effect, keeps, adds, writes, gained, written, word_after, words_after, writes_at, adds_at}
 use Rattle.pieces.specs.Steps.{Step, narrow, effect, effects, steps, strip_steps, fold_of, status_in, status_bits, entry_in, narrowed_by, linked, store_step, without_status, pair_steps, may_access, access_steps}
 use Rattle.pieces.specs.Steps as step
 use Rattle.pieces.specs.Phases.{held}

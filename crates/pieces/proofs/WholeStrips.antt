@@ -1,5 +1,5 @@
 -- Strips whose status goes to one fold word work as one strip of all their nodes.
-use Rattle.std.proofs.Common.{◌≡◌, ℕ, suc, ◌+◌, ◌*◌, ◌^◌, ◌<◌, Bool, true, false, List, [], ◌∷◌, ◌++◌, length, map, Option, Some, None, unwrap_or, bit_or, refl, ap, ◌∙◌, sym, subst, arith, if◌then◌else◌}
+use Rattle.std.proofs.Common.{◌≡◌, ℕ, suc, ◌+◌, ◌*◌, ◌^◌, Bool, true, false, List, [], ◌∷◌, ◌++◌, length, map, Option, Some, None, unwrap_or, bit_or, refl, ap, ◌∙◌, sym, arith, if◌then◌else◌}
 use Rattle.std.specs.Prelude.{◌==◌}
 use Rattle.std.specs.List.{flat_map, zip, All}
 use Rattle.std.specs.Int.Bits.{or_zero_l, or_zero_r}
@@ -9,7 +9,7 @@ use Rattle.fpage.specs.Rights.{no_rights, number, join}
 use Rattle.fpage.specs.declared.rights.Rights.{Rights}
 use Rattle.space.proofs.Words.{or_number}
 use Rattle.pieces.specs.Contents.{StripContent, IsStrip}
-use Rattle.pieces.specs.Effects.{Effect, keeps, adds, writes, gained, bits_at, or_written, written, word_after, words_from, words_after}
+use Rattle.pieces.specs.Effects.{Effect, gained, or_written, written, word_after, words_from, words_after}
 use Rattle.pieces.specs.Steps.{narrow, fold_of, effect, effects, status_in, status_bits}
 use Rattle.pieces.specs.Applied.{worked}
 use Rattle.pieces.specs.Laws.{joined_strips}

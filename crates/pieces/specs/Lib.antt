@@ -13,4 +13,5 @@ pub mod Gathering
 pub mod Places
 pub mod Masks
 pub mod Phases
+pub mod Readiness
 pub mod Laws

@@ -1,7 +1,9 @@
 //! A test of what pieces require of indexes.
 
-ghost use Rattle.std.specs.Prelude.{◌≡◌, IfOk};
-ghost use Rattle.pieces.specs.Distinct.{are_distinct};
+ghost use Rattle.std.specs.Prelude.{◌≡◌, ℕ, not, is_some, IfOk, IfSome};
+ghost use Rattle.std.specs.List.{list_any};
+ghost use Rattle.std.specs.Ordering.{nat_cmp, is_eq};
+ghost use Rattle.pieces.specs.Distinct.{is_none_of, are_distinct};
 
 use space::NoMemory;
 use std::alloc::Global;
@@ -14,15 +16,27 @@ use std::collections::BTreeSet;
 pub fn are_distinct(alloc: Global, indexes: &[usize]) -> Result<bool, NoMemory>
     ensures { IfOk result (λ distinct. distinct ≡ are_distinct indexes.now) }
 {
+    let set = distinct_set(alloc, indexes)?;
+    Ok(set.is_some())
+}
+
+/// The set of these indexes, if none comes twice.
+pub(crate) fn distinct_set(
+    alloc: Global,
+    indexes: &[usize],
+) -> Result<Option<BTreeSet<usize>>, NoMemory>
+    ensures distinct { IfOk result (λ set. is_some set ≡ are_distinct indexes.now) }
+    ensures set { IfOk result (λ set. IfSome set (λ s. (i : ℕ) → list_any (λ k. is_eq (nat_cmp i k)) s.keys ≡ not (is_none_of indexes.now i))) }
+{
     let mut seen = BTreeSet::new(alloc);
     let mut i = indexes.len();
     while i > 0 {
         i -= 1;
         match seen.insert(indexes[i]) {
             Ok(true) => {}
-            Ok(false) => return Ok(false),
+            Ok(false) => return Ok(None),
             Err(_) => return Err(NoMemory),
         }
     }
-    Ok(true)
+    Ok(Some(seen))
 }

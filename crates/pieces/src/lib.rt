@@ -11,10 +11,9 @@ mod link;
 mod masks;
 mod moving;
 mod piece;
+mod readiness;
 pub mod steps;
 mod strip;
-#[cfg(test)]
-mod tests;
 mod touch;
 mod worked;
 
@@ -27,6 +26,7 @@ pub use link::{Link, Store};
 pub use masks::Masks;
 pub use moving::{Move, Pair};
 pub use piece::{Piece, are_pieces};
+pub use readiness::can_be_worked;
 pub use strip::Strip;
 pub use touch::{Touch, WordAccess};
 pub use worked::rows_of_pieces;

@@ -67,4 +67,11 @@ impl Link {
     {
         self.stores[i]
     }
+
+    /// All stores, in order.
+    pub fn stores(&self) -> &[Store]
+        ensures { result.now ≡ self.now }
+    {
+        &self.stores
+    }
 }

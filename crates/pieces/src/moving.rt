@@ -64,4 +64,11 @@ impl Move {
     {
         self.pairs[i]
     }
+
+    /// All pairs, in order.
+    pub fn pairs(&self) -> &[Pair]
+        ensures { result.now ≡ self.now }
+    {
+        &self.pairs
+    }
 }

@@ -30,7 +30,7 @@ impl Model for Strip {
 }
 
 impl Strip {
-    ghost use Rattle.std.specs.Prelude.{◌≡◌, ◌<◌, ◌==◌, true, length, get_or, slice_index};
+    ghost use Rattle.std.specs.Prelude.{◌≡◌, ◌<◌, ◌==◌, true, length, get_or};
     ghost use Rattle.pieces.specs.Distinct.{are_distinct};
     ghost use Rattle.pieces.specs.Masks.{masks_of};
     ghost use Rattle.pieces.specs.Contents.{IsStrip, is_fold_apart};
@@ -103,12 +103,11 @@ impl Strip {
         self.masks.get(i)
     }
 
-    /// The index of the word of the node at a position.
-    pub fn index(&self, i: usize) -> usize
-        requires { i < length self.now.nodes }
-        ensures { result ≡ slice_index self.now.indexes i }
+    /// The indexes of the words of all nodes, in order.
+    pub fn indexes(&self) -> &[usize]
+        ensures { result.now ≡ self.now.indexes }
     {
-        self.indexes[i]
+        &self.indexes
     }
 
     /// The index of the fold word, if there is one.

@@ -56,4 +56,11 @@ impl Touch {
     {
         self.list[i]
     }
+
+    /// All accesses, in order.
+    pub fn accesses(&self) -> &[WordAccess]
+        ensures { result.now ≡ self.now }
+    {
+        &self.list
+    }
 }

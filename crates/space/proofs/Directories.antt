@@ -1,19 +1,24 @@
 -- Shards of 64 pages, the directory that finds them, and the index of each place's word.
-use Rattle.std.proofs.Common.{◌≡◌, ◌∙◌, ap, arith, ℕ, ◌+◌, ◌-◌, ◌*◌, ◌/◌, ◌%◌, ◌^◌, ◌<◌, ◌≤◌, List, length, get_or, map, Option, Some, None}
+use Rattle.std.proofs.Common.{◌≡◌, ◌∙◌, refl, sym, ap, arith, pow_pos, nat_lt, Bool, true, false, if◌then◌else◌, ℕ, ◌+◌, ◌-◌, ◌*◌, ◌/◌, ◌%◌, ◌^◌, ◌<◌, ◌≤◌, List, length, get_or, map, Option, Some, None}
 use Rattle.std.specs.Option.{unwrap_or, is_some}
 use Rattle.std.specs.List.{range_with_len}
+use Rattle.std.proofs.Math.Nat.{mod-lt, div-add-mod, div-lt_iff_lt-mul}
 use Rattle.std.proofs.Math.Pow.{pow-add, pow_mono}
+use Rattle.std.proofs.lemmas.Bool.{ltb-true, ltb-false}
 use Rattle.std.proofs.lemmas.Nat.{mul-add-lt, mul-le, same_from_place, shl_whole}
 use Rattle.std.proofs.lemmas.List.FromFn.{get_or-map-range_with_len, length-map-range_with_len}
 use Rattle.space.specs.declared.place.Place.{Place}
-use Rattle.space.specs.Directory.{pages_of, shards_of, shard_of, position_of, place_index, words_in, AreLimits, IsDirectory}
+use Rattle.space.specs.Directory.{pages_of, shards_of, shard_of, position_of, place_index, words_in, wrapped, turned, AreLimits, IsDirectory}
 
 -- 64 pages of 4096 bytes are 2^18 bytes
 pages_are : (bits : ℕ) → 18 ≤ bits → pages_of bits ≡ 64 * shards_of bits
 pages_are bits low = let split : bits - 12 ≡ 6 + (bits - 18) = omega arith in ap (λ n. 2 ^ n) split ∙ pow-add 2 6 (bits - 18)
 
-shards_few : (bits : ℕ) → bits ≤ 24 → shards_of bits ≤ 64
+pub shards_few : (bits : ℕ) → bits ≤ 24 → shards_of bits ≤ 64
 shards_few bits high = let few : bits - 18 ≤ 6 = omega arith in pow_mono few
+
+pub shards_some : (bits : ℕ) → 0 < shards_of bits
+shards_some bits = pow_pos (bits - 18)
 
 -- at most 2^15 shards
 pub all_few : (spaces bits : ℕ) → AreLimits spaces bits → spaces * shards_of bits ≤ 32768
@@ -57,26 +62,65 @@ module _ (spaces bits : ℕ) (directory : List (Option ℕ)) (limits : AreLimits
       same_shard bits limits.low p q p_page q_page
       (found.distinct at_p at_q (shard_within p p_space p_page) (shard_within q q_space q_page) position) rest
 
--- the directory of a new value: each shard's words stand at its own number
-module _ (n : ℕ) where
-  at_order : (k : ℕ) → k < n → get_or (map Some (range_with_len 0 n)) k None ≡ Some k
-  at_order k within = get_or-map-range_with_len Some 0 n k k None within (omega arith)
+-- ---- the directory of a new value
 
-  pub order_length : length (map Some (range_with_len 0 n)) ≡ n
-  order_length = length-map-range_with_len Some 0 n
+module _ (each : ℕ) (some : 0 < each) where
+  wrapped_below : (at : ℕ) → at < each + each → wrapped each at < each
+  wrapped_below at below = by (nat_lt at each) refl
+    where
+      by : (b : Bool) → nat_lt at each ≡ b → (if b then at else at - each) < each
+      by true is = ltb-true at each is
+      by false is = omega (arith, below, ltb-false at each is)
 
-pub in_order_found : (spaces bits n : ℕ) (directory : List (Option ℕ)) → n ≡ spaces * shards_of bits → directory ≡ map Some (range_with_len 0 n) → IsDirectory spaces bits directory
-in_order_found spaces bits n directory all is =
-    let count : length directory ≡ n = ap length is ∙ order_length n in
-    let at : (k : ℕ) → k < length directory → get_or directory k None ≡ Some k =
-    λ k within. ap (λ (xs : List (Option ℕ)). get_or xs k None) is ∙ at_order n k (omega arith) in
-    let position : (k : ℕ) → k < length directory → position_of directory k ≡ k =
+  -- of two numbers that are moved on alike and are wrapped to the same
+  wrapped_same : (r s t : ℕ) → r < each → s < each → t < each → wrapped each (r + t) ≡ wrapped each (s + t) → r ≡ s
+  wrapped_same r s t r_below s_below t_below = by (nat_lt (r + t) each) (nat_lt (s + t) each) refl refl
+    where
+      by : (a b : Bool) → nat_lt (r + t) each ≡ a → nat_lt (s + t) each ≡ b → (if a then (r + t) else ((r + t) - each)) ≡ (if b then (s + t) else ((s + t) - each)) → r ≡ s
+      by true true _ _ same = omega (arith, same)
+      by true false _ s_is same = omega (arith, same, ltb-false (s + t) each s_is, s_below, t_below, r_below)
+      by false true r_is _ same = omega (arith, same, ltb-false (r + t) each r_is, s_below, t_below, r_below)
+      by false false r_is s_is same = omega (arith, same, ltb-false (r + t) each r_is, ltb-false (s + t) each s_is)
+
+  rest_below : (k : ℕ) → k % each < each
+  rest_below k = mod-lt k some
+
+  at_below : (k : ℕ) → wrapped each (k % each + k / each % each) < each
+  at_below k = wrapped_below (k % each + k / each % each) (omega (arith, rest_below k, rest_below (k / each)))
+
+  -- it stays among the shards of its space
+  turned_below : (spaces k : ℕ) → k < spaces * each → turned each k < spaces * each
+  turned_below spaces k within =
+      let l = mul-add-lt (k / each) each (wrapped each (k % each + k / each % each)) spaces ((div-lt_iff_lt-mul {k = each} {x = k} {y = spaces} some).1 within) (at_below k) in
+      omega (arith, l)
+
+  -- no two shards meet
+  turned_apart : (j k : ℕ) → turned each j ≡ turned each k → j ≡ k
+  turned_apart j k same =
+      let parts = same_from_place (j / each) (wrapped each (j % each + j / each % each)) (k / each) (wrapped each (k % each + k / each % each)) each (at_below j) (at_below k) same in
+      let rests = wrapped_same (j % each) (k % each) (j / each % each) (rest_below j) (rest_below k) (rest_below (j / each)) (parts.1 ∙ ap (λ q. wrapped each (k % each + q % each)) (sym parts.0)) in
+      sym (div-add-mod j each) ∙ ap (λ q. each * q + j % each) parts.0 ∙ ap (λ r. each * (k / each) + r) rests ∙ div-add-mod k each
+
+module _ (each n : ℕ) where
+  at_turn : (k : ℕ) → k < n → get_or (map (λ k. Some (turned each k)) (range_with_len 0 n)) k None ≡ Some (turned each k)
+  at_turn k within = get_or-map-range_with_len (λ k. Some (turned each k)) 0 n k k None within (omega arith)
+
+  pub turns_length : length (map (λ k. Some (turned each k)) (range_with_len 0 n)) ≡ n
+  turns_length = length-map-range_with_len (λ k. Some (turned each k)) 0 n
+
+pub in_turn_found : (spaces bits n : ℕ) (directory : List (Option ℕ)) → 0 < shards_of bits → n ≡ spaces * shards_of bits → directory ≡ map (λ k. Some (turned (shards_of bits) k)) (range_with_len 0 n) → IsDirectory spaces bits directory
+in_turn_found spaces bits n directory some all is =
+    let each = shards_of bits in
+    let count : length directory ≡ n = ap length is ∙ turns_length each n in
+    let at : (k : ℕ) → k < length directory → get_or directory k None ≡ Some (turned each k) =
+    λ k within. ap (λ (xs : List (Option ℕ)). get_or xs k None) is ∙ at_turn each n k (omega (arith, within, count)) in
+    let position : (k : ℕ) → k < length directory → position_of directory k ≡ turned each k =
     λ k within. ap (λ (o : Option ℕ). unwrap_or o 0) (at k within) in
     record {
       shards = count ∙ all;
       present = λ k within. ap is_some (at k within);
-      in_range = λ k within. omega (arith, position k within);
-      distinct = λ j k j_within k_within same. omega (arith, position j j_within, position k k_within);
+      in_range = λ k within. let low = turned_below each some spaces k (omega (arith, within, count, all)) in omega (arith, position k within, low, count, all);
+      distinct = λ j k j_within k_within same. turned_apart each some j k (sym (position j j_within) ∙ same ∙ position k k_within);
     }
 
 -- a shift of a small number is the product of the definition

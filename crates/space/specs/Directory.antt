@@ -1,5 +1,5 @@
 -- Where the word of a place stands: words lie in shards of 64 pages of one space, found through a directory (profile).
-use Rattle.std.specs.Prelude.{◌≡◌, ℕ, ◌+◌, ◌-◌, ◌*◌, ◌/◌, ◌%◌, ◌^◌, ◌<◌, ◌≤◌, IsTrue, List, length, Option, None, unwrap_or, is_some}
+use Rattle.std.specs.Prelude.{◌≡◌, ℕ, ◌+◌, ◌-◌, ◌*◌, ◌/◌, ◌%◌, ◌^◌, ◌<◌, ◌≤◌, nat_lt, if◌then◌else◌, IsTrue, List, length, Option, None, unwrap_or, is_some}
 use Rattle.std.specs.List.{slice_index_or, AllPass}
 use Rattle.space.specs.declared.place.Place.{Place}
 use Rattle.space.specs.Word.{is_pack}
@@ -27,6 +27,15 @@ place_index bits directory p = position_of directory (shard_of bits p) * 64 + p.
 -- how many words a directory finds
 abbrev pub words_in : List (Option ℕ) → ℕ
 words_in directory = length directory * 64
+
+-- a number below twice another, wrapped to be below that
+abbrev pub wrapped : ℕ → ℕ → ℕ
+wrapped each at = if nat_lt at each then at else at - each
+
+-- the shards of a space stand together, each space's from another one on: where the words of a shard stand, counted in shards, if
+-- each space has so many
+abbrev pub turned : ℕ → ℕ → ℕ
+turned each shard = shard / each * each + wrapped each (shard % each + shard / each % each)
 
 -- 2 to 512 spaces of 2^18 to 2^24 bytes (profile)
 pub record AreLimits (spaces bits : ℕ) : Type 0 where

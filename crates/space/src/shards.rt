@@ -1,7 +1,7 @@
-ghost use Rattle.std.specs.Prelude.{◌≡◌, IfOk, Some, map};
+ghost use Rattle.std.specs.Prelude.{◌≡◌, ◌<◌, ◌≤◌, IfOk, Some, map};
 ghost use Rattle.std.specs.List.{range_with_len};
 ghost use Rattle.std.specs.Option.{ForSome};
-ghost use Rattle.space.specs.Directory.{AreLimits, IsDirectory, AreWords};
+ghost use Rattle.space.specs.Directory.{AreLimits, IsDirectory, AreWords, turned};
 
 use crate::error::NoMemory;
 use crate::place::{Entry, Place};
@@ -52,7 +52,7 @@ impl Shards {
         ensures present { IfOk result (λ s. IsFalse (is_taken s)) }
     {
         let shards = spaces << (bits - SHARD_BITS);
-        let directory = in_order(alloc, shards)?;
+        let directory = in_turn(alloc, shards, 1 << (bits - SHARD_BITS))?;
         let words = vec![in alloc; 0; shards as usize * SHARD_PAGES]?;
         Ok(Shards {
             spaces,
@@ -191,9 +191,34 @@ impl Shards {
     }
 }
 
-/// A directory of so many shards whose words stand in the order of the shards.
-fn in_order(alloc: Global, shards: u32) -> Result<Vec<Option<u32>>, AllocError>
-    ensures { IfOk result (λ directory. directory.items ≡ map Some (range_with_len 0 shards)) }
+/// A directory of so many shards, of which each space has some. The words of a space's shards stand together, one shard further
+/// on from space to space. Were they alike in each space, the words of one page in many spaces would stand a power of two apart,
+/// and crowd into a few lines of a cache.
+fn in_turn(alloc: Global, shards: u32, each: u32) -> Result<Vec<Option<u32>>, AllocError>
+    requires some { 0 < each }
+    requires few { each ≤ 64 }
+    requires all { shards ≤ 32768 }
+    ensures { IfOk result (λ directory. directory.items ≡ map (λ k. Some (turned each k)) (range_with_len 0 shards)) }
 {
-    (0..shards).map(Some).collect(alloc)
+    let mut directory = Vec::with_capacity(alloc, shards as usize)?;
+    for shard in 0..shards {
+        directory.push(Some(turned(shard, each)))?;
+    }
+    Ok(directory)
+}
+
+/// Where the words of a shard stand, counted in shards, if each space has so many.
+fn turned(shard: u32, each: u32) -> u32
+    requires some { 0 < each }
+    requires few { each ≤ 64 }
+    requires below { shard < 32768 }
+    ensures { result ≡ turned each shard }
+{
+    let space = shard / each;
+    let at = shard % each + space % each;
+    if at < each {
+        space * each + at
+    } else {
+        space * each + (at - each)
+    }
 }

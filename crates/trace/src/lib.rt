@@ -8,8 +8,6 @@ mod records;
 mod reply;
 mod request;
 mod stream;
-#[cfg(test)]
-mod tests;
 
 pub use call::{Call, Refusal};
 pub use read::{Trace, TraceError, read_all};

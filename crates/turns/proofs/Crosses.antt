@@ -65,7 +65,7 @@ table_sync =
     (shared_sync unit view.the_row fixed.the_row rule.the_row rules_of.ghosts (search sendable), (search sendable, (search sendable, (lease_sync u64 global.the_row heaps.ghosts (search sendable) (search (sendable, crosses)), (lease_sync unit global.the_row heaps.ghosts (search sendable) (search (sendable, crosses)), (search (sendable, crosses) depth 20, tt))))))
 
 sheet_inside_sync : IsSync sheet_inside.the_row
-sheet_inside_sync = declared_sync sheet_inside.the_type (table_sync, (search (sendable, crosses) depth 20, (search (sendable, crosses) depth 20, (search sendable, tt))))
+sheet_inside_sync = declared_sync sheet_inside.the_type (table_sync, (search (sendable, crosses) depth 20, (search (sendable, crosses) depth 20, (search (sendable, crosses) depth 20, (search sendable, tt)))))
 
 pub sheet_sync : IsSync sheet.the_row
 sheet_sync = search (sheet_inside_sync, view_sync)

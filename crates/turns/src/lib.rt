@@ -10,10 +10,6 @@ mod rule;
 mod sharing;
 mod sheet;
 mod strip_work;
-#[cfg(test)]
-mod tests;
-#[cfg(test)]
-mod threads;
 mod touch_work;
 mod turn;
 mod view;

@@ -20,8 +20,9 @@ pub(crate) fn step(link: &Link, hint: usize, post: &mut Post, sheet: &Sheet)
         sheet.can_be_worked();
         let store = link.store(k);
         let source = sheet.word(store.read);
-        let target = sheet.word(store.put);
+        let hint = hint.wrapping_add(k);
+        let target = sheet.shared_word(store.put, hint);
         let word = linked(target, source, store.rights);
-        post.write(sheet, store.put, word, hint.wrapping_add(k));
+        post.write(sheet, store.put, word, hint);
     }
 }

@@ -23,20 +23,22 @@ pub(crate) fn indexes(alloc: Global, pieces: &[Piece]) -> Result<(Vec<usize>, us
     ensures some { IfOk result (λ r. 0 < length r.0.items) }
     ensures within { IfOk result (λ r. (test : ℕ → Bool) → test 0 ≡ true → list_all test (flat_map changes pieces.now) ≡ true → list_all test (flat_map common pieces.now) ≡ true → list_all test r.0.items ≡ true) }
 {
-    let own = own_indexes(alloc, pieces)?;
-    let first = own.len();
-    let mut at = with_others(own, rising(common_indexes(alloc, pieces)?))?;
+    let common = rising(common_indexes(alloc, pieces)?);
+    let mut at = own_indexes(alloc, pieces, common.len())?;
+    let own = at.len();
+    at.extend_from_slice(&common)?;
     if at.is_empty() {
         at.push(0)?;
     }
-    Ok((at, first))
+    Ok((at, own))
 }
 
-/// The indexes of the words that one piece alone has a step about, in the order of the pieces and of their steps.
-fn own_indexes(alloc: Global, pieces: &[Piece]) -> Result<Vec<usize>, AllocError>
+/// The indexes of the words that one piece alone has a step about, in the order of the pieces and of their steps, with room for so
+/// many more.
+fn own_indexes(alloc: Global, pieces: &[Piece], more: usize) -> Result<Vec<usize>, AllocError>
     ensures { IfOk result (λ r. r.items ≡ flat_map changes pieces.now) }
 {
-    let mut at = Vec::with_capacity(alloc, own_count(pieces))?;
+    let mut at = Vec::with_capacity(alloc, own_count(pieces).saturating_add(more))?;
     for piece in pieces {
         match piece {
             Piece::Strip(strip) => push_nodes(&mut at, strip)?,
@@ -83,16 +85,6 @@ fn common_indexes(alloc: Global, pieces: &[Piece]) -> Result<Vec<usize>, AllocEr
     Ok(at)
 }
 
-/// Some indexes, and others behind them.
-fn with_others(mut at: Vec<usize>, others: Vec<usize>) -> Result<Vec<usize>, AllocError>
-    ensures { IfOk result (λ r. r.items ≡ at.items ++ others.items) }
-{
-    for index in others {
-        at.push(index)?;
-    }
-    Ok(at)
-}
-
 /// The same indexes, rising, each once.
 fn rising(mut at: Vec<usize>) -> Vec<usize>
     ensures distinct { are_distinct result.items ≡ true }
@@ -108,10 +100,7 @@ fn rising(mut at: Vec<usize>) -> Vec<usize>
 fn push_nodes(at: &mut Vec<usize>, strip: &Strip) -> Result<(), AllocError>
     ensures { OnOk result (at.new.items ≡ at.old.items ++ strip.now.indexes) }
 {
-    for k in 0..strip.len() {
-        at.push(strip.index(k))?;
-    }
-    Ok(())
+    at.extend_from_slice(strip.indexes())
 }
 
 /// Adds the index of a fold word, if there is one.

@@ -26,6 +26,8 @@ pub(crate) struct Sheet {
     words: Vec<u64>,
     /// The index of each shared word.
     at: Vec<usize>,
+    /// The shared words, as they were at opening: a step finds its own here beside those of the steps around it.
+    then: Vec<u64>,
     /// How many of these stand in front that one piece alone has a step about. The others rise. No proof rests on it.
     own: usize,
 }
@@ -35,12 +37,13 @@ impl Model for Sheet {
 
     ghost Value = { SheetContent };
 
+    ghost use Rattle.std.specs.Prelude.{◌≡◌, map, slice_index};
     ghost use Rattle.turns.specs.Tables.{opened};
     ghost use Rattle.turns.specs.Sheets.{IsSheet};
 
     ghost view = { λ s. record { id = s.table.shared.table_id; opening = opened s.table.shared.key } };
 
-    ghost invariant = { λ s. IsSheet (record { id = s.table.shared.table_id; opening = opened s.table.shared.key }) s.words.items s.at.items };
+    ghost invariant = { λ s. IsSheet (record { id = s.table.shared.table_id; opening = opened s.table.shared.key }) s.words.items s.at.items × (s.then.items ≡ map (slice_index s.words.items) s.at.items) };
 }
 
 impl Sheet {
@@ -70,13 +73,14 @@ impl Sheet {
             pieces,
             at: Snapshot::of(&at),
         };
-        let shared = gathered(alloc, &words, &at)?;
-        let (table, seat) = Table::of_words(alloc, &shared, &fixed)?;
+        let then = gathered(alloc, &words, &at)?;
+        let (table, seat) = Table::of_words(alloc, &then, &fixed)?;
         Ok((
             Sheet {
                 table,
                 words,
                 at,
+                then,
                 own,
             },
             seat,
@@ -128,6 +132,7 @@ impl Sheet {
             table,
             mut words,
             at,
+            then: _,
             own: _,
         } = self;
         let closed = table.close_with(seat);
@@ -188,6 +193,17 @@ impl Sheet {
         requires { index < length self.now.opening.words }
         ensures { result ≡ slice_index self.now.opening.words index }
     {
+        self.words[index]
+    }
+
+    /// The same of a word that is shared. The hint says where.
+    pub(crate) fn shared_word(&self, index: usize, hint: usize) -> u64
+        requires { index < length self.now.opening.words }
+        ensures { result ≡ slice_index self.now.opening.words index }
+    {
+        if hint < self.at.len() && self.at[hint] == index {
+            return self.then[hint];
+        }
         self.words[index]
     }
 }

@@ -113,13 +113,9 @@ impl StripWork {
         sheet.can_be_worked();
         let index = self.indexes[k];
         let mask = self.masks.get(k);
-        let word = sheet.word(index);
-        let found = post.write(
-            sheet,
-            index,
-            narrowed(word, mask),
-            self.hint.wrapping_add(k),
-        );
+        let hint = self.hint.wrapping_add(k);
+        let word = sheet.shared_word(index, hint);
+        let found = post.write(sheet, index, narrowed(word, mask), hint);
         self.status = self.status.join(status(found));
         if remains(found, mask) {
             self.slice.nodes[self.kept] = self.slice.nodes[k];

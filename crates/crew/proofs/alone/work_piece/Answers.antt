@@ -8,8 +8,8 @@ use Rattle.crew.proofs.InPlace.{marks_are_effects}
 use Rattle.pieces.proofs.NamedWords.{stores_within, pairs_within, accesses_within}
 use Rattle.crew.proofs.alone.work_piece.Goals as goal
 
-pub put-requires-clause-within : goal.put-requires-clause-within
-put-requires-clause-within c = stores_within (length c.args.words.now) c.in-Link.link (subst (NamesWords c.args.words.now) c.in-Link.is c.requires.names)
+pub work_link-requires-clause-within : goal.work_link-requires-clause-within
+work_link-requires-clause-within c = stores_within (length c.args.words.now) c.in-Link.link (subst (NamesWords c.args.words.now) c.in-Link.is c.requires.names)
 
 pub transfer-requires-clause-within : goal.transfer-requires-clause-within
 transfer-requires-clause-within c = pairs_within (length c.args.words.now) c.in-Move.pairs (subst (NamesWords c.args.words.now) c.in-Move.is c.requires.names)

@@ -1,6 +1,7 @@
 use Rattle.std.proofs.Common.{◌+◌, ◌<◌, List, length, get_or, ◌∙◌, ap, sym, subst}
 use Rattle.crew.specs.Crews.{OwnContent, ArePlaced, claims_on, stolen, took}
-use Rattle.crew.proofs.Yields.{over_all, all_back}
+use Rattle.crew.proofs.Places.{over_all}
+use Rattle.crew.proofs.Yields.{all_back}
 use Rattle.crew.proofs.settling.settle.Goals as goal
 
 pub take_back-requires-clause-within : goal.take_back-requires-clause-within

@@ -1,5 +1,5 @@
 -- Of any words and pieces.
-use Rattle.std.proofs.Common.{◌∙◌, sym, subst, ap}
+use Rattle.std.proofs.Common.{sym, subst}
 use Rattle.std.specs.List.{flat_map, AllPass}
 use Rattle.space.specs.Word.{is_pack}
 use Rattle.pieces.specs.Phases.{changes}

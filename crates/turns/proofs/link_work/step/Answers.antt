@@ -8,8 +8,8 @@ pub word-source-requires : goal.word-source-requires
 word-source-requires c =
     (store_within c.args.sheet.now.opening c.can_be_worked.ensures c.args.post.now.number c.steps-k.result c.args.link.now c.requires.piece (subst (λ n. c.steps-k.result < n) c.len.ensures.len c.if-k-len.true) c.store-store.result c.store-store.ensures).0
 
-pub word-target-requires : goal.word-target-requires
-word-target-requires c =
+pub shared_word-target-requires : goal.shared_word-target-requires
+shared_word-target-requires c =
     (store_within c.args.sheet.now.opening c.can_be_worked.ensures c.args.post.now.number c.steps-k.result c.args.link.now c.requires.piece (subst (λ n. c.steps-k.result < n) c.len.ensures.len c.if-k-len.true) c.store-store.result c.store-store.ensures).1
 
 pub write-requires-clause-next : goal.write-requires-clause-next
@@ -17,4 +17,4 @@ write-requires-clause-next c =
     ap (λ (s : SheetContent). next_step s.opening ((c.args.post.now.number, c.args.post.now.steps) ∷ [])) c.requires.of
     ∙ ap (λ k. next_step c.args.sheet.now.opening ((c.args.post.now.number, k) ∷ [])) (sym c.steps-k.ensures)
     ∙ put_next c.args.sheet.now.opening c.can_be_worked.ensures c.args.post.now.number c.steps-k.result c.args.link.now c.requires.piece (subst (λ n. c.steps-k.result < n) c.len.ensures.len c.if-k-len.true) c.store-store.result
-    c.store-store.ensures c.linked-word.result c.word-source.result c.word-target.result c.word-source.ensures c.word-target.ensures c.linked-word.ensures
+    c.store-store.ensures c.linked-word.result c.word-source.result c.shared_word-target.result c.word-source.ensures c.shared_word-target.ensures c.linked-word.ensures

@@ -11,5 +11,5 @@ of_words-requires c =
     subst (λ ws. Holds o ws (first_view o ∷ []))
     (ap (λ v. map (λ i. get_or v.items i 0) c.of-2.result.value.items) c.of.ensures ∙ ap (λ v. map (λ i. get_or c.args.words.items i 0) v.items) c.of-2.ensures
     ∙ ap (λ ws. map (λ i. get_or ws i 0) c.args.at.items) (sym c.deref.ensures.value) ∙ ap (map (λ i. get_or c.deref.result.now i 0)) (sym c.deref-2.ensures.value)
-    ∙ sym (c.deref-3.ensures.value ∙ c.in_ok-shared.ensures))
+    ∙ sym (c.deref-3.ensures.value ∙ c.in_ok-then.ensures))
     (opens o)

@@ -10,11 +10,11 @@ use Rattle.turns.proofs.sheet.Sheet.look.Goals as goal
 pub position-at-requires : goal.position-at-requires
 position-at-requires c =
     ap (λ is. is_none_of is c.args.index) c.deref.ensures.value
-    ∙ shared _ _ _ c.self.invariant _ _ (subst (λ s. IsSeat s c.args.seat.now.table_id c.args.seat.now.me) (sym c.self.view_is) c.requires.seat) (keeps c.args.index) c.requires.next
+    ∙ shared _ _ _ c.self.invariant.0 _ _ (subst (λ s. IsSeat s c.args.seat.now.table_id c.args.seat.now.me) (sym c.self.view_is) c.requires.seat) (keeps c.args.index) c.requires.next
 
 pub load-requires : goal.load-requires
 load-requires c =
-    may _ _ _ c.self.invariant _ _ _ _ (subst (λ s. IsSeat s c.args.seat.now.table_id c.args.seat.now.me) (sym c.self.view_is) c.requires.seat) (keeps c.args.index) c.requires.next _
+    may _ _ _ c.self.invariant.0 _ _ _ _ (subst (λ s. IsSeat s c.args.seat.now.table_id c.args.seat.now.me) (sym c.self.view_is) c.requires.seat) (keeps c.args.index) c.requires.next _
     (ap (λ is. slice_get is c.position-at.result) (sym c.deref.ensures.value) ∙ c.position-at.ensures)
 
 pub returns-clause-seat : goal.returns-clause-seat
@@ -24,6 +24,6 @@ pub returns-clause-made : goal.returns-clause-made
 returns-clause-made c =
     subst
     (λ i. IsMade i c.args.seat.now.me.0 c.load.result c.load.new.seat.me.0)
-    (placed _ _ _ c.self.invariant _ _ (subst (λ s. IsSeat s c.args.seat.now.table_id c.args.seat.now.me) (sym c.self.view_is) c.requires.seat) _ _
+    (placed _ _ _ c.self.invariant.0 _ _ (subst (λ s. IsSeat s c.args.seat.now.table_id c.args.seat.now.me) (sym c.self.view_is) c.requires.seat) _ _
     (ap (λ is. slice_get is c.position-at.result) (sym c.deref.ensures.value) ∙ c.position-at.ensures))
     c.load.ensures.2.1

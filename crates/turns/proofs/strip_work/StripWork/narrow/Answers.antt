@@ -8,8 +8,8 @@ use Rattle.turns.specs.Works.{IsStripWork}
 use Rattle.turns.proofs.StripSteps.{is_within, narrow_next, status_more, node_kept, node_gone}
 use Rattle.turns.proofs.strip_work.StripWork.narrow.Goals as goal
 
-pub word-word-requires : goal.word-word-requires
-word-word-requires c =
+pub shared_word-word-requires : goal.shared_word-word-requires
+shared_word-word-requires c =
     let work = subst (IsStripWork c.args.sheet.now.opening.words c.args.self.now) c.requires.next c.requires.work in
     is_within c.args.sheet.now.opening c.can_be_worked.ensures c.args.post.now.number c.args.k c.args.self.now c.requires.piece work c.requires.within c.index-index.result.now c.index-index.ensures
 
@@ -18,8 +18,8 @@ write-found-requires-clause-next c =
     let work = subst (IsStripWork c.args.sheet.now.opening.words c.args.self.now) c.requires.next c.requires.work in
     ap (λ (s : SheetContent). next_step s.opening ((c.args.post.now.number, c.args.post.now.steps) ∷ [])) c.requires.of
     ∙ ap (λ k. next_step c.args.sheet.now.opening ((c.args.post.now.number, k) ∷ [])) c.requires.next
-    ∙ narrow_next c.args.sheet.now.opening c.can_be_worked.ensures c.args.post.now.number c.args.k c.args.self.now c.requires.piece work c.requires.within c.index-index.result.now c.narrowed.result c.word-word.result
-    c.get-mask.result c.index-index.ensures c.get-mask.ensures c.word-word.ensures c.narrowed.ensures
+    ∙ narrow_next c.args.sheet.now.opening c.can_be_worked.ensures c.args.post.now.number c.args.k c.args.self.now c.requires.piece work c.requires.within c.index-index.result.now c.narrowed.result c.shared_word-word.result
+    c.get-mask.result c.index-index.ensures c.get-mask.ensures c.shared_word-word.ensures c.narrowed.ensures
 
 pub returns-then-remains-clause-work : goal.returns-then-remains-clause-work
 returns-then-remains-clause-work c =

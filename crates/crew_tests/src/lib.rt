@@ -1,0 +1,5 @@
+//! Tests of workers, as their callers see them.
+#![tactic(auto)]
+
+#[cfg(test)]
+mod tests;

@@ -1,0 +1,13 @@
+-- The runs are those of a cut.
+use Rattle.std.proofs.Common.{sym, subst}
+use Rattle.std.specs.List.{All}
+use Rattle.maptree.specs.Origins.{IsRun}
+use Rattle.maptree_tests.proofs.tests.cuts.cuts_and_leaves.Goals as goal
+
+pub cut-requires-clause-runs : goal.cut-requires-clause-runs
+cut-requires-clause-runs g c =
+    subst (λ rs. All (IsRun c.args.tree.now.links) rs) (sym c.deref.ensures.value) c.in_ok-runs.ensures.whole
+
+pub put_back-requires-clause-runs : goal.put_back-requires-clause-runs
+put_back-requires-clause-runs g c =
+    subst (λ rs. All (IsRun c.cut.new.self.links) rs) (sym c.deref-2.ensures.value) c.in_ok-rest.ensures.whole

@@ -1,0 +1,174 @@
+//! Trees, parts and runs as the tables of the tests write them: the tree `0:5/0 1:0/1` has the place 0:5 at depth 0 and
+//! behind it 1:0 at depth 1, `1..4` is a run, and ` | ` stands between parts.
+
+ghost use Rattle.std.specs.Prelude.{◌≡◌, ◌<◌, ◌+◌, IfOk, length};
+
+use super::{position, put_below};
+use maptree::{Node, Slice, Tree};
+use space::{NoMemory, Place};
+use std::alloc::{AllocError, Global};
+use std::ops::Range;
+use std::process::Abort;
+
+/// The place that a text names.
+pub fn place_of(rt: &impl Abort, text: &str) -> Place {
+    if let Some((space, page)) = text.split_once(':') {
+        if let (Ok(space), Ok(page)) = (space.parse(), page.parse()) {
+            return Place { space, page };
+        }
+    }
+    panic!(rt; "{text} is no place")
+}
+
+/// The node that a text names.
+fn node_of(rt: &impl Abort, text: &str) -> Node {
+    if let Some((place, depth)) = text.split_once('/') {
+        if let Ok(depth) = depth.parse() {
+            let place = place_of(rt, place);
+            return Node { place, depth };
+        }
+    }
+    panic!(rt; "{text} is no node")
+}
+
+/// The places that a text lists.
+pub fn places_of(rt: &impl Abort, alloc: Global, list: &str) -> Result<Vec<Place>, NoMemory> {
+    let mut places = Vec::new(alloc);
+    for text in list.split_whitespace() {
+        places.push(place_of(rt, text)).map_err(AllocError::from)?;
+    }
+    Ok(places)
+}
+
+/// The nodes that a text lists.
+fn nodes_of(rt: &impl Abort, alloc: Global, list: &str) -> Result<Vec<Node>, NoMemory> {
+    let mut nodes = Vec::new(alloc);
+    for text in list.split_whitespace() {
+        nodes.push(node_of(rt, text)).map_err(AllocError::from)?;
+    }
+    Ok(nodes)
+}
+
+/// The place from which the node at a position derives in such a list.
+fn origin_of(rt: &impl Abort, nodes: &[Node], i: usize) -> Place
+    requires { i < length nodes.now }
+{
+    let node = nodes[i];
+    for before in nodes[..i].iter().rev() {
+        if before.depth < node.depth {
+            return before.place;
+        }
+    }
+    panic!(rt; "{} has no origin", node.place)
+}
+
+/// Puts a place below another, in a tree of so many nodes; how many there are then.
+pub fn grown(
+    rt: &impl Abort,
+    tree: &mut Tree,
+    len: usize,
+    origin: Place,
+    place: Place,
+) -> Result<usize, NoMemory>
+    requires { len ≡ length tree.old.links }
+    ensures { IfOk result (λ len. len ≡ length tree.new.links) }
+{
+    tree.reserve(1)?;
+    put_below(rt, tree, origin, place);
+    match len.checked_add(1) {
+        Some(more) => Ok(more),
+        None => panic!(rt; "the tree is full"),
+    }
+}
+
+/// The tree that a text lists, and how many nodes it has. What derives from a node is put below it from the last to the
+/// first, since each is put right behind its origin.
+pub fn tree_of(rt: &impl Abort, alloc: Global, list: &str) -> Result<(Tree, usize), NoMemory>
+    ensures { IfOk result (λ made. made.1 ≡ length made.0.links) }
+{
+    let nodes = nodes_of(rt, alloc, list)?;
+    let Some(root) = nodes.first() else {
+        panic!(rt; "a tree has a root");
+    };
+    let mut tree = Tree::root(alloc, root.place);
+    let mut len = 1;
+    for depth in 1..nodes.len() {
+        for i in (0..nodes.len()).rev() {
+            if nodes[i].depth == depth {
+                len = grown(rt, &mut tree, len, origin_of(rt, &nodes, i), nodes[i].place)?;
+            }
+        }
+    }
+    Ok((tree, len))
+}
+
+/// Whether a text lists a place.
+fn lists(rt: &impl Abort, list: &str, place: Place) -> bool {
+    for text in list.split_whitespace() {
+        if node_of(rt, text).place == place {
+            return true;
+        }
+    }
+    false
+}
+
+/// A tree has the nodes that a text lists, in this order, and no other place of those that another text lists. This takes
+/// no memory.
+pub fn assert_tree(rt: &impl Abort, tree: &Tree, list: &str, all: &str) {
+    let mut len = 0_usize;
+    for text in list.split_whitespace() {
+        let wanted = node_of(rt, text);
+        let at = position(rt, tree, wanted.place);
+        assert_eq!(rt; tree.node(at), wanted, "in {list}");
+        assert_eq!(rt; at, len, "{text} in {list}");
+        len = len.wrapping_add(1);
+    }
+    if let Some(root) = list.split_whitespace().next() {
+        let at = position(rt, tree, node_of(rt, root).place);
+        assert_eq!(rt; tree.run_of(at), 0..len, "{list}");
+    }
+    for text in all.split_whitespace() {
+        let place = node_of(rt, text).place;
+        let found = tree.find(place);
+        assert_eq!(rt; found.is_some(), lists(rt, list, place), "{text} in {list}");
+    }
+}
+
+/// The runs are those that a text lists. This takes no memory.
+pub fn assert_runs(rt: &impl Abort, runs: &[Range<usize>], list: &str) {
+    let mut wanted = list.split_whitespace();
+    for run in runs {
+        let Some((start, end)) = wanted.next().and_then(|text| text.split_once("..")) else {
+            panic!(rt; "more runs than {list}");
+        };
+        assert_eq!(rt;
+            (Ok(run.start), Ok(run.end)),
+            (start.parse(), end.parse()),
+            "in {list}"
+        );
+    }
+    assert!(rt; wanted.next().is_none(), "fewer runs than {list}");
+}
+
+/// The parts are those that a text lists. This takes no memory.
+pub fn assert_parts(rt: &impl Abort, parts: &[Slice], list: &str) {
+    if list.is_empty() {
+        assert!(rt; parts.is_empty(), "parts of an empty list");
+        return;
+    }
+    let mut wanted = list.split(" | ");
+    for part in parts {
+        let Some(nodes) = wanted.next() else {
+            panic!(rt; "more parts than {list}");
+        };
+        let mut texts = nodes.split_whitespace();
+        for node in &part.nodes {
+            let Some(text) = texts.next() else {
+                panic!(rt; "a longer part than {nodes}");
+            };
+            assert_eq!(rt; *node, node_of(rt, text), "in {list}");
+        }
+        assert!(rt; texts.next().is_none(), "a shorter part than {nodes}");
+    }
+    assert!(rt; wanted.next().is_none(), "fewer parts than {list}");
+}

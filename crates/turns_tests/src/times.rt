@@ -1,0 +1,325 @@
+//! What phases cost that are worked turn by turn. Where a number of nodes is asked for behind the test's name, it tells how many
+//! nanoseconds what took: bench/turns.py reads these lines.
+
+ghost use Rattle.std.specs.Prelude.{◌≡◌, IfOk};
+ghost use Rattle.std.specs.List.{All};
+ghost use Rattle.pieces.specs.Phases.{CanBeWorked};
+
+use fpage::Rights;
+use maptree::{Node, Slice};
+use pieces::{Piece, Strip, are_distinct, can_be_worked};
+use space::{NoMemory, Place};
+use std::alloc::{AllocError, Global};
+use std::env;
+use std::rt::Runtime;
+use std::test::Fail;
+use std::thread::{self, Threads};
+use std::time::Instant;
+use turns::{Open, Turn};
+
+/// The right to write, which all nodes lose.
+const W: Rights = Rights {
+    read: false,
+    write: true,
+    execute: false,
+};
+
+/// The bits of a word that are rights, the right to write, and status.
+const RIGHTS: u64 = 0x7;
+
+const WRITE: u64 = 0x2;
+
+const STATUS: u64 = 0x38;
+
+/// The word of a page that is held with all rights, before it loses one, and after that.
+const HELD: u64 = 0x1_0000_0507;
+
+const LEFT: u64 = 0x1_0000_0505;
+
+/// How often the phase of one node is worked.
+const CALLS: u32 = 100;
+
+/// Nanoseconds of the parts of a phase.
+#[derive(Clone, Copy)]
+struct Spent {
+    open: u128,
+    steps: u128,
+    close: u128,
+}
+
+impl Spent {
+    fn total(self) -> u128 {
+        self.open
+            .saturating_add(self.steps)
+            .saturating_add(self.close)
+    }
+}
+
+/// A strip of the nodes whose words stand at these indexes.
+fn strip(alloc: Global, from: usize, to: usize) -> Result<Strip, NoMemory> {
+    let mut nodes = Vec::with_capacity(alloc, to.saturating_sub(from))?;
+    let mut indexes = Vec::with_capacity(alloc, to.saturating_sub(from))?;
+    for index in from..to {
+        let place = Place {
+            space: 1,
+            page: (index % 4096) as u32,
+        };
+        nodes
+            .push(Node { place, depth: 1 })
+            .map_err(AllocError::from)?;
+        indexes.push(index).map_err(AllocError::from)?;
+    }
+    if nodes.len() != indexes.len() || !are_distinct(alloc, &indexes)? {
+        return Err(NoMemory);
+    }
+    Ok(Strip::of_part(Slice { nodes }, indexes, None, W, false))
+}
+
+/// Strips of so many nodes at most, of the words from an index on.
+fn strips(alloc: Global, from: usize, to: usize, most: usize) -> Result<Vec<Piece>, NoMemory> {
+    let mut pieces = Vec::new(alloc);
+    let mut at = from;
+    for _ in from..to {
+        if at < to {
+            let end = to.min(at.saturating_add(most));
+            pieces
+                .push(Piece::Strip(strip(alloc, at, end)?))
+                .map_err(AllocError::from)?;
+            at = end;
+        }
+    }
+    Ok(pieces)
+}
+
+/// Turns after all their steps.
+fn ended(alloc: Global, phase: &Open, turns: Vec<Turn>) -> Result<Vec<Turn>, AllocError>
+    requires { All (λ t. t.sheet ≡ phase.now) turns.items }
+    ensures { IfOk result (λ after. All (λ t. t.sheet ≡ phase.now) after.items) }
+{
+    let mut after = Vec::with_capacity(alloc, turns.len())?;
+    for turn in turns {
+        after.push(stepped(phase, turn))?;
+    }
+    Ok(after)
+}
+
+/// A turn after all its steps.
+fn stepped(phase: &Open, mut turn: Turn) -> Turn
+    requires { turn.sheet ≡ phase.now }
+    ensures { result.sheet ≡ phase.now }
+{
+    turn.step_to_end(phase);
+    turn
+}
+
+/// The words of a phase that is worked to its end, and what that took.
+fn worked(
+    rt: &impl Runtime,
+    alloc: Global,
+    words: Vec<u64>,
+    pieces: Vec<Piece>,
+) -> Result<(Vec<u64>, Spent), Fail>
+    requires { CanBeWorked words.items pieces.items }
+{
+    let start = Instant::now(rt)?;
+    let (phase, turns) = Open::open(alloc, words, pieces)?;
+    let opened = start.elapsed(rt)?.as_nanos();
+    let turns = ended(alloc, &phase, turns)?;
+    let stepped = start.elapsed(rt)?.as_nanos();
+    let Ok((words, _, _)) = phase.close(turns) else {
+        return Err(Fail::from(NoMemory));
+    };
+    let closed = start.elapsed(rt)?.as_nanos();
+    let spent = Spent {
+        open: opened,
+        steps: stepped.saturating_sub(opened),
+        close: closed.saturating_sub(stepped),
+    };
+    Ok((words, spent))
+}
+
+/// Turns dealt out into two lists.
+fn halves(
+    alloc: Global,
+    phase: &Open,
+    turns: Vec<Turn>,
+) -> Result<(Vec<Turn>, Vec<Turn>), AllocError>
+    requires { All (λ t. t.sheet ≡ phase.now) turns.items }
+    ensures first { IfOk result (λ r. All (λ t. t.sheet ≡ phase.now) r.0.items) }
+    ensures second { IfOk result (λ r. All (λ t. t.sheet ≡ phase.now) r.1.items) }
+{
+    let _ = phase;
+    let mut first = Vec::with_capacity(alloc, turns.len())?;
+    let mut second = Vec::with_capacity(alloc, turns.len())?;
+    let mut is_first = false;
+    for turn in turns {
+        is_first = !is_first;
+        if is_first {
+            first.push(turn)?;
+        } else {
+            second.push(turn)?;
+        }
+    }
+    Ok((first, second))
+}
+
+/// Turns after all their steps, which two threads made.
+fn ended_by_two<R: Threads + Sync>(
+    rt: &R,
+    alloc: Global,
+    phase: &Open,
+    turns: Vec<Turn>,
+) -> Result<Vec<Turn>, AllocError>
+    requires { All (λ t. t.sheet ≡ phase.now) turns.items }
+    ensures { IfOk result (λ after. All (λ t. t.sheet ≡ phase.now) after.items) }
+{
+    let (first, second) = halves(alloc, phase, turns)?;
+    let (first, second) = thread::join(
+        rt,
+        || -> Result<Vec<Turn>, AllocError>
+            requires { All (λ t. t.sheet ≡ phase.now) first.items }
+            ensures { IfOk result (λ after. All (λ t. t.sheet ≡ phase.entry.now) after.items) }
+        { ended(alloc, phase, first) },
+        || -> Result<Vec<Turn>, AllocError>
+            requires { All (λ t. t.sheet ≡ phase.now) second.items }
+            ensures { IfOk result (λ after. All (λ t. t.sheet ≡ phase.entry.now) after.items) }
+        { ended(alloc, phase, second) },
+    );
+    joined(phase, first?, second?)
+}
+
+/// Turns of two lists in one.
+fn joined(
+    phase: &Open,
+    mut first: Vec<Turn>,
+    mut second: Vec<Turn>,
+) -> Result<Vec<Turn>, AllocError>
+    requires first { All (λ t. t.sheet ≡ phase.now) first.items }
+    requires second { All (λ t. t.sheet ≡ phase.now) second.items }
+    ensures { IfOk result (λ after. All (λ t. t.sheet ≡ phase.now) after.items) }
+{
+    let _ = phase;
+    for turn in second {
+        first.push(turn)?;
+    }
+    Ok(first)
+}
+
+/// The status of some words in a row, which lose the right to write: a plain loop.
+fn narrow_all(words: &mut [u64], from: usize, to: usize) -> u64 {
+    let mut found = 0;
+    for index in from..to {
+        if let Some(word) = words.get_mut(index) {
+            found |= *word & STATUS;
+            *word &= !(STATUS | WRITE);
+            if *word & RIGHTS == 0 {
+                *word = 0;
+            }
+        }
+    }
+    found
+}
+
+/// Nanoseconds that the plain loop takes.
+fn times_plain(rt: &impl Runtime, words: &mut [u64], nodes: usize) -> Result<u128, Fail> {
+    let start = Instant::now(rt)?;
+    let found = narrow_all(words, 0, nodes);
+    let nanos = start.elapsed(rt)?.as_nanos();
+    if found != 0 {
+        return Err(Fail::from(NoMemory));
+    }
+    Ok(nanos)
+}
+
+/// Nanoseconds that a phase takes of one node among so many words, from `open` to the end of `close`: the least of some calls.
+fn times_one(rt: &impl Runtime, alloc: Global, nodes: usize) -> Result<u128, Fail> {
+    let mut words = vec![in alloc; HELD; nodes]?;
+    let mut least = u128::MAX;
+    for call in 0..CALLS {
+        let index = (call as usize).wrapping_mul(7919) % nodes.max(1);
+        let mut pieces = Vec::with_capacity(alloc, 1)?;
+        pieces.push(Piece::Strip(strip(alloc, index, index.saturating_add(1))?))?;
+        if !can_be_worked(alloc, &words, &pieces)? {
+            return Err(Fail::from(NoMemory));
+        }
+        let (after, spent) = worked(rt, alloc, words, pieces)?;
+        words = after;
+        least = least.min(spent.total());
+    }
+    Ok(least)
+}
+
+/// What a phase took of the first words of some, in strips of so many nodes at most, and the words after it.
+fn times_strips(
+    rt: &impl Runtime,
+    alloc: Global,
+    nodes: usize,
+    most: usize,
+) -> Result<(Vec<u64>, Spent), Fail> {
+    let words = vec![in alloc; HELD; nodes]?;
+    let pieces = strips(alloc, 0, nodes, most)?;
+    if !can_be_worked(alloc, &words, &pieces)? {
+        return Err(Fail::from(NoMemory));
+    }
+    worked(rt, alloc, words, pieces)
+}
+
+/// Nanoseconds that two threads take for the steps of such a phase.
+fn times_two<R: Runtime + Threads + Sync>(
+    rt: &R,
+    alloc: Global,
+    nodes: usize,
+    most: usize,
+) -> Result<u128, Fail> {
+    let words = vec![in alloc; HELD; nodes]?;
+    let pieces = strips(alloc, 0, nodes, most)?;
+    if !can_be_worked(alloc, &words, &pieces)? {
+        return Err(Fail::from(NoMemory));
+    }
+    let (phase, turns) = Open::open(alloc, words, pieces)?;
+    let start = Instant::now(rt)?;
+    let turns = ended_by_two(rt, alloc, &phase, turns)?;
+    let nanos = start.elapsed(rt)?.as_nanos();
+    match phase.close(turns) {
+        Ok(_) => Ok(nanos),
+        Err(_) => Err(Fail::from(NoMemory)),
+    }
+}
+
+/// The words that have lost a right, of some.
+fn count_left(words: &[u64]) -> usize {
+    let mut count: usize = 0;
+    for word in words {
+        if *word == LEFT {
+            count = count.wrapping_add(1);
+        }
+    }
+    count
+}
+
+/// Tells what phases of so many nodes cost.
+fn tells<R: Runtime + Threads + Sync>(rt: &R, alloc: Global, nodes: usize) -> Result<(), Fail> {
+    println!(rt; "one {}", times_one(rt, alloc, nodes)?)?;
+    let mut words = vec![in alloc; HELD; nodes]?;
+    println!(rt; "plain {}", times_plain(rt, &mut words, nodes)?)?;
+    let (_, spent) = times_strips(rt, alloc, nodes, 256)?;
+    println!(rt; "open {}", spent.open)?;
+    println!(rt; "steps {}", spent.steps)?;
+    println!(rt; "close {}", spent.close)?;
+    println!(rt; "steps_by_two {}", times_two(rt, alloc, nodes, 256)?)?;
+    Ok(())
+}
+
+#[test]
+fn works_a_thousand_nodes_or_as_many_as_are_asked_for(rt: HostRuntime) -> Result<(), Fail> {
+    if let Some(nodes) = env::args(&rt)?.nth(2) {
+        return tells(&rt, rt.alloc(), nodes.parse()?);
+    }
+    let alloc = rt.alloc();
+    let (words, _) = times_strips(&rt, alloc, 1_000, 256)?;
+    assert_eq!(rt; count_left(&words), 1_000);
+    let mut plain = vec![in alloc; HELD; 1_000]?;
+    times_plain(&rt, &mut plain, 1_000)?;
+    assert_eq!(rt; plain.as_slice(), words.as_slice());
+    Ok(())
+}
