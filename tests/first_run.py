@@ -194,9 +194,10 @@ def check_without_kit(cases, copy, room):
 
 
 def check_build(cases, copy, room):
-    """build.sh asks `rt` for each crate in turn, with a command in its place that does nothing or fails at one crate."""
+    """build.sh asks `rt` for each crate in turn but those of tests, with a command in its place that does nothing or fails."""
     with open(os.path.join(copy, "crates.txt"), encoding="ascii") as file:
         crates = [line.split(":")[0].split()[0] for line in file if not line.startswith("#")]
+    crates = [crate for crate in crates if not crate.endswith("_tests")]
     asked = os.path.join(room, "asked")
     env = stand_in(room, f'echo "$(basename "$PWD") $*" >> {asked}\n')
     got = run(["./build.sh"], env=env, cwd=copy)
