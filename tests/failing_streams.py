@@ -3,7 +3,8 @@
 
     tests/failing_streams.py [PROGRAM]
 
-A failed read ends the run with `Unreadable` and nothing written, a failed write with `WriteFailed`; both with status 4.
+A failed read ends the run with `Unreadable` and nothing written, a failed write with `WriteFailed`; both with status 4. Where the
+system raises SIGXFSZ for a write past a limit of files, and it is not ignored, that signal ends the run.
 """
 
 import os
@@ -121,6 +122,32 @@ def run_to_limited_file(program, given, path, limit):
         return got._replace(stdout=output.read())
 
 
+def check_signals(cases, program, room):
+    """What comes of the signals that the system raises for a write that fails, where they are not ignored from outside.
+
+    SIGPIPE, for a pipe whose reader has gone, the program ignores itself. SIGXFSZ, for a file that would pass its limit, ends it as
+    it ends any other, before it can tell of the write.
+    """
+
+    def limit_files():
+        signal.signal(signal.SIGXFSZ, signal.SIG_DFL)
+        resource.setrlimit(resource.RLIMIT_FSIZE, (1, 1))
+        resource.setrlimit(resource.RLIMIT_CORE, (0, 0))
+
+    def end_by_broken_pipes():
+        signal.signal(signal.SIGPIPE, signal.SIG_DFL)
+
+    for name, given, _ in OUTPUTS:
+        reader, writer = os.pipe()
+        os.close(reader)
+        got = run(program, given, stdout=writer, preexec_fn=end_by_broken_pipes)
+        os.close(writer)
+        cases.compare(f"{name} to a pipe whose reader has gone, with SIGPIPE", WRITE_FAILED, got)
+        with open(os.path.join(room, "output"), "wb") as output:
+            got = run(program, given, stdout=output, preexec_fn=limit_files)
+        cases.compare(f"{name} to a file of at most 1 byte, with SIGXFSZ", Ended(-signal.SIGXFSZ, b"", b""), got)
+
+
 def run_to_leaving_reader(program, given):
     """Runs the program with its output in a pipe whose reader takes a few bytes and goes."""
     with tempfile.TemporaryFile() as trace:
@@ -136,9 +163,12 @@ def run_to_leaving_reader(program, given):
 
 
 def check_each_write(cases, program, room):
-    """One write of a long output fails, and those after it would not: by the preloaded library of support/fail_write.c."""
+    """One write of an output fails, and those after it would not: by the preloaded library of support/fail_write.c.
+
+    The only write of the short output is made by the last flush.
+    """
     library = build_library("fail_write.c", room)
-    for name, given, answer in OUTPUTS[1:]:
+    for name, given, answer in OUTPUTS:
         fail_at, ended_early = 0, True
         while ended_early and fail_at < MOST_WRITES:
             fail_at += 1
@@ -188,6 +218,7 @@ def main():
         check_reading(cases, program, room)
         check_pieces(cases, program)
         check_writing(cases, program, room)
+        check_signals(cases, program, room)
         check_each_write(cases, program, room)
         check_interruptions(cases, program, room)
         check_silent_errors(cases, program)

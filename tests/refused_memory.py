@@ -1,95 +1,116 @@
 #!/usr/bin/env python3
-"""The program out of memory: each allocation of short runs is refused, alone and with all after it; so is each thread.
+"""The program out of memory: each allocation of short runs is refused, alone and with all after it; so is each start of a thread.
 
     tests/refused_memory.py [PROGRAM]
 
-Where an allocation is refused, a run must end as the undisturbed one, or with status 3 and `NoMemory` at some record,
-having written exactly the reply lines of the records before it. Where a thread is refused, it must end as the undisturbed
-one: the audit is then made with fewer. Allocations and starts of threads are refused by the preloaded library of
+A run in which something was refused must end as the undisturbed one, or with status 3 and `NoMemory` or `NoWorker` at some record,
+having written exactly the reply lines of the records before it. Where a thread is refused to the audit, the audit is made with fewer;
+where it is refused to a call, that is `NoWorker`. No run may hang. Of each trace some run must end before its first record,
+some at one of its records, and some at the audit. Allocations and starts of threads are refused by the preloaded library of
 support/fail_alloc.c.
 """
 
 import os
-import re
 import tempfile
+from concurrent.futures import ThreadPoolExecutor
 from typing import NamedTuple
 
-from support.program import TOP, Cases, Ended, build_library, difference, program_path, run
-from support.refusals import EXTENTS, runs_refusing
+from support.program import TOP, Cases, Ended, build_library, program_path, run
+from support.refusals import EXTENTS, fault_of_refused, record_told, runs_refusing
 
-# Traces of replays/, with their answers beside them.
-TRACES = [
+# By how many workers a trace of small phases is worked, each in pieces of one. There is a worker for every eight pieces at most, so
+# that these start no threads for a call.
+WORKERS = [["--workers", str(workers), "--piece", "1"] for workers in (1, 4, 64)]
+
+# Traces of replays/ whose phases are small, with their answers beside them.
+SMALL = [
     "unmaps/after-a-write",
+    "unmaps/narrows-a-nested-mapping",
+    "unmaps/two-branches-add-to-one-origin",
     "single-pages/mapped-accessed-unmapped-and-refused",
     "grants/fewer-rights-narrow-what-derives",
     "grants/two-pages-of-one-chain",
     "phases/map-whose-flush-removes-a-source",
 ]
 
+# Those of whole fpages, whose phases are in many pieces.
+LARGE = [
+    "unmaps/16-pages-of-one-frame",
+    "windows/complete-space-granted-to-and-fro",
+    "windows/complete-space-granted-and-mapped-on",
+]
+
+# All traces, each with the options by which it runs, and whether its calls start threads then.
+RUNS = [
+    *((trace, [], False) for trace in SMALL),
+    *((trace, options, False) for trace in SMALL for options in WORKERS),
+    *((trace, ["--plain"], False) for trace in SMALL),
+    *((trace, options, options != WORKERS[0]) for trace in LARGE for options in WORKERS),
+]
+
 
 class Replay(NamedTuple):
-    """A trace, the reply lines to its records, and its whole answer."""
+    """A trace with its options, the lines of its whole answer, and whether its calls start threads."""
 
     name: str
+    options: list
     trace: bytes
-    replies: list
-    undisturbed: Ended
+    lines: list
+    starts_threads: bool
 
 
-def read_replay(name):
-    path = os.path.join(TOP, "tests", "replays", name)
-    with open(path + ".csv", "rb") as trace, open(path + ".txt", "rb") as answer:
-        given, lines = trace.read(), answer.readlines()
-    records = int(lines[-1].split()[1])
-    return Replay(name, given, lines[:records], Ended(0, b"".join(lines), b""))
+def read_replay(trace, options, starts_threads):
+    path = os.path.join(TOP, "tests", "replays", trace)
+    with open(path + ".csv", "rb") as records, open(path + ".txt", "rb") as answer:
+        return Replay(" ".join([trace, *options]), options, records.read(), answer.readlines(), starts_threads)
 
 
-def what_is_wrong(replay, got):
-    """What is wrong with how a run ended in which an allocation was refused, or an empty text."""
-    if got == replay.undisturbed:
-        return ""
-    told = re.fullmatch(rb"l4map: record (\d+): NoMemory\n", got.stderr)
-    if got.status != 3 or not told:
-        return f"neither the undisturbed run nor out of memory: status {got.status}, standard error {got.stderr[:200]!r}"
-    record = int(told[1])
-    if record > len(replay.replies) + 1:
-        return f"there is no record {record}"
-    written = b"".join(replay.replies[: max(record - 1, 0)])
-    return difference(Ended(3, written, got.stderr), got)
+def spaces_in_audit(replay):
+    """How many spaces the audit lists: the lines of each are made beside those of others."""
+    records = int(replay.lines[-1].split()[1])
+    return len({line.split(b",")[0] for line in replay.lines[records:-1]})
 
 
-def check_allocations(cases, program, replay, library):
-    for and_rest, extent in EXTENTS:
-        runs = list(runs_refusing(program, replay.trace, library, "allocation", and_rest))
-        for it in runs:
-            cases.check(f"{replay.name}: allocation {it.at} {extent} is refused", what_is_wrong(replay, it.got))
-        effect = any(it.got.status == 3 for it in runs)
-        check_extent(cases, f"{replay.name}: allocations, {extent}", runs[-1].was_refused, effect)
+def wanting(replay, what, runs):
+    """What the runs of a trace must come to between them and did not, or an empty text."""
+    if runs[-1].was_refused:
+        return f"there are more than {len(runs)}"
+    told = {record_told(what, it.got) for it in runs} - {None}
+    last = int(replay.lines[-1].split()[1])
+    at_record = any(1 <= record <= last for record in told)
+    if what == "allocation":
+        return "" if 0 in told and at_record and last + 1 in told else f"runs ended at the records {sorted(told)} alone"
+    if at_record != replay.starts_threads:
+        return f"a call was refused a thread: {at_record}"
+    starts = replay.starts_threads or spaces_in_audit(replay) > 1
+    return "" if runs[0].was_refused == starts else f"a thread was refused: {runs[0].was_refused}"
 
 
-def check_threads(cases, program, replay, library):
-    for and_rest, extent in EXTENTS:
-        runs = list(runs_refusing(program, replay.trace, library, "thread", and_rest))
-        for it in runs:
-            cases.compare(f"{replay.name}: thread {it.at} {extent} is refused", replay.undisturbed, it.got)
-        check_extent(cases, f"{replay.name}: threads, {extent}", runs[-1].was_refused, runs[0].was_refused)
-
-
-def check_extent(cases, name, more, effect):
-    """The last run had nothing left to refuse, and some run before it was affected."""
-    cases.check(f"{name}: none is left to refuse", "there are more" if more else "")
-    cases.check(f"{name}: some were refused", "" if effect else "the library has no effect")
+def check_refusing(program, library, replay, what, and_rest, extent):
+    """The cases of all runs of a trace in which allocations, or threads, are refused in turn."""
+    words = [program, *replay.options]
+    runs = list(runs_refusing(words, replay.trace, library, what, and_rest))
+    found = [(f"{replay.name}: {what} {it.at} {extent} is refused", fault_of_refused(what, replay.lines, it.got)) for it in runs]
+    return found + [(f"{replay.name}: {what}s, {extent}, are refused in turn", wanting(replay, what, runs))]
 
 
 def main():
     program, cases = program_path(), Cases()
-    with tempfile.TemporaryDirectory() as room:
+    replays = [read_replay(*row) for row in RUNS]
+    for replay in replays:
+        undisturbed = Ended(0, b"".join(replay.lines), b"")
+        cases.compare(f"{replay.name}: nothing is refused", undisturbed, run([program, *replay.options], replay.trace))
+    with tempfile.TemporaryDirectory() as room, ThreadPoolExecutor(max_workers=os.cpu_count()) as pool:
         library = build_library("fail_alloc.c", room)
-        for replay in map(read_replay, TRACES):
-            name = f"{replay.name}: the run that is not disturbed"
-            cases.compare(name, replay.undisturbed, run(program, replay.trace))
-            check_allocations(cases, program, replay, library)
-            check_threads(cases, program, replay, library)
+        tasks = [
+            pool.submit(check_refusing, program, library, replay, what, and_rest, extent)
+            for replay in replays
+            for what in ("allocation", "thread")
+            for and_rest, extent in EXTENTS
+        ]
+        for task in tasks:
+            for name, why in task.result():
+                cases.check(name, why)
     cases.end()
 
 

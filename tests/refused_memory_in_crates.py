@@ -1,13 +1,14 @@
 #!/usr/bin/env python3
-"""Crates out of memory: each allocation of some of their tests is refused, alone and with all after it.
+"""Crates out of memory: each allocation of some of their tests is refused, alone and with all after it; of some each thread, too.
 
     tests/refused_memory_in_crates.py [CRATE..]
 
 The tests that `rt ci`, or `rt test` in the crate, builds are run one by one. Each must end as the undisturbed one, or with
-the error `NoMemory` or `AllocError`, or `AllocFailed` where a list of its own was refused. Where a call is refused memory, the tests themselves look at what it left, and end otherwise if that is
+the error `NoMemory` or `AllocError`, or `AllocFailed` where a list of its own was refused, or `NoWorker` where its call starts
+threads. Where a call is refused, the tests themselves look at what it left, and end otherwise if that is
 not what its contract says: a tree that `reserve`, `outer_runs` or `cut` changed, results that `gather` does not hand back, a
-database that is not halted; or at what no contract says: reply lines that are not flushed. Allocations are refused by the
-preloaded library of support/fail_alloc.c.
+database that is not halted, or that answers a later call otherwise than by `Halted`; or at what no contract says: reply lines
+that are not flushed. Allocations and starts of threads are refused by the preloaded library of support/fail_alloc.c.
 """
 
 import os
@@ -35,6 +36,7 @@ TESTS = {
     ],
     "turns_tests": [
         "two_strips_closed_at_each_pair_of_counts",
+        "a_phase_is_closed_once_all_turns_are_there",
         "an_access_is_seen_and_then_marked",
         "a_page_is_taken_and_then_put",
     ],
@@ -52,10 +54,17 @@ TESTS = {
         "unmaps::revokes_what_derives",
         "unmaps::revokes_by_recursion",
     ],
-    "replay": ["flushes_what_it_has_written_where_memory_runs_out"],
+    "audit_tests": ["reports_a_small_database", "halted::a_halted_database_refuses_every_call"],
+    "replay_tests": ["flushes_what_it_has_written_where_memory_runs_out"],
 }
-# What a test ends with that was refused memory: by a call, or for a list of its own.
-OUT_OF_MEMORY = [b"error: NoMemory\n", b"error: AllocError\n", b"error: AllocFailed { .. }\n"]
+# Those of them whose calls start threads.
+TESTS_WITH_THREADS = {("audit_tests", "halted::a_halted_database_refuses_every_call")}
+
+# What a test ends with that was refused memory, by a call, or for a list of its own; or a thread.
+REFUSED = {
+    "allocation": [b"error: NoMemory\n", b"error: AllocError\n", b"error: AllocFailed { .. }\n", b"error: NoWorker\n"],
+    "thread": [b"error: NoWorker\n"],
+}
 
 
 def built_tests(crate):
@@ -66,25 +75,27 @@ def built_tests(crate):
     return program
 
 
-def what_is_wrong(undisturbed, got):
-    """What is wrong with how a run ended in which an allocation was refused, or an empty text."""
+def what_is_wrong(what, undisturbed, got):
+    """What is wrong with how a run ended in which an allocation, or a thread, was refused, or an empty text."""
     said = got.stdout + got.stderr
-    if got == undisturbed or (got.status != 0 and any(text in said for text in OUT_OF_MEMORY)):
+    if got.status is None:
+        return "it did not end in its time"
+    if got == undisturbed or (got.status != 0 and any(text in said for text in REFUSED[what])):
         return ""
-    return f"neither the undisturbed run nor out of memory: status {got.status}, {said[:200]!r}"
+    return f"neither the undisturbed run nor a refusal: status {got.status}, {said[:200]!r}"
 
 
-def check_test(cases, name, words, library):
-    """Refuses each allocation of one test in turn."""
+def check_test(cases, name, words, library, what):
+    """Refuses each allocation, or each start of a thread, of one test in turn."""
     undisturbed = run(words)
     cases.check(f"{name} passes", "" if undisturbed.status == 0 else f"status {undisturbed.status}")
     for and_rest, extent in EXTENTS:
-        runs = list(runs_refusing(words, b"", library, "allocation", and_rest))
+        runs = list(runs_refusing(words, b"", library, what, and_rest))
         for it in runs:
-            cases.check(f"{name}: allocation {it.at} {extent} is refused", what_is_wrong(undisturbed, it.got))
+            cases.check(f"{name}: {what} {it.at} {extent} is refused", what_is_wrong(what, undisturbed, it.got))
         effect = any(it.got.status != 0 for it in runs)
         cases.check(f"{name}: none is left to refuse, {extent}", "there are more" if runs[-1].was_refused else "")
-        cases.check(f"{name}: some run was out of memory, {extent}", "" if effect else "the library has no effect")
+        cases.check(f"{name}: some run was refused a {what}, {extent}", "" if effect else "the library has no effect")
 
 
 def asked_for():
@@ -102,7 +113,10 @@ def main():
         library = build_library("fail_alloc.c", room)
         for crate, program in programs.items():
             for test in TESTS[crate]:
-                check_test(cases, f"{crate}: {test}", [program, f"tests::{test}"], library)
+                words = [program, f"tests::{test}"]
+                check_test(cases, f"{crate}: {test}", words, library, "allocation")
+                if (crate, test) in TESTS_WITH_THREADS:
+                    check_test(cases, f"{crate}: {test}", words, library, "thread")
     cases.end()
 
 

@@ -1,26 +1,21 @@
 #!/usr/bin/env python3
-"""Whatever the number of workers and the length of pieces, the same bytes; and where a thread is refused, no others.
+"""Whatever the number of workers and the length of pieces, the same bytes.
 
     tests/workers.py [PROGRAM]
 
 Each trace of replays/ and examples/ runs with every choice of options, and must end as the answer beside it says. Random
 traces, made from a fixed table of seeds, run with some of the choices each; their answers are not known, so all runs of a
 trace must end as the first does, with status 0. A trace whose calls are worked by up to 64 threads each runs a thousand times,
-several runs at once, and must always end the same. Then, of some traces whose calls are in many pieces, starts of threads are
-refused, one after another, alone and with all after it, and so are allocations of the first of them: such a run must end as
-the undisturbed one, or with status 3 and `NoMemory` or `NoWorker` at some record, having written exactly the reply lines of
-the records before it. Of each of these traces a thread of some call must have been refused.
+several runs at once, and must always end the same. The audit of a random trace must be lawful.
 """
 
 import glob
 import os
 import random
-import re
-import tempfile
 from concurrent.futures import ThreadPoolExecutor
 
-from support.program import TOP, Cases, Ended, build_library, difference, program_path, run
-from support.refusals import EXTENTS, runs_refusing
+from support.audit import fault_in_audit
+from support.program import TOP, Cases, Ended, difference, program_path, run
 
 FOLDERS = ["examples", "tests/replays/*"]
 WORKERS = [1, 4, 64]
@@ -32,14 +27,6 @@ CHOICES_OF_A_SEED = 6
 RECORDS = 40
 SPACES = 3
 PAGES = 8
-
-# Traces by whose runs threads and memory are refused, with options by which the work of a call is in many pieces. There is a
-# worker for every eight pieces at most.
-REFUSED = [
-    ("tests/replays/unmaps/16-pages-of-one-frame", ["--workers", "4", "--piece", "1"]),
-    ("tests/replays/windows/complete-space-granted-to-and-fro", ["--workers", "64", "--piece", "1"]),
-    ("tests/replays/windows/complete-space-granted-and-mapped-on", ["--workers", "2", "--piece", "1"]),
-]
 
 RUNS = 1000
 RUNS_AT_ONCE = 3 * (os.cpu_count() or 1)
@@ -169,40 +156,9 @@ def check_random(program, seed):
     choices = random.Random(-seed).sample(CHOICES[:-1], CHOICES_OF_A_SEED - 1) + CHOICES[-1:]
     first = run([program, "--workers", "1", "--piece", "65536"], given)
     wanted = Ended(0, first.stdout, b"")
-    yield f"seed {seed}", difference(wanted, first) or ("" if first.stdout else "nothing was written")
+    yield f"seed {seed}", difference(wanted, first) or fault_in_audit(first.stdout)
     for choice in choices:
         yield f"seed {seed} {' '.join(choice)}", difference(wanted, run([program] + choice, given))
-
-
-# How standard error ends where a call was refused what it asked for. The audit does without threads that it cannot start.
-STOPPED_BY = {"thread": b": NoWorker\n", "allocation": b": NoMemory\n"}
-
-
-def what_is_wrong(lines, got):
-    """What is wrong with how a run ended in which something was refused; `lines` are those of the undisturbed one."""
-    undisturbed = Ended(0, b"".join(lines), b"")
-    if got == undisturbed:
-        return ""
-    told = re.fullmatch(rb"l4map: record (\d+): (NoMemory|NoWorker)\n", got.stderr)
-    if got.status != 3 or not told:
-        return f"neither the undisturbed run nor a refusal: status {got.status}, standard error {got.stderr[:200]!r}"
-    records = int(lines[-1].split()[1])
-    record = int(told[1])
-    if record > records + 1:
-        return f"there is no record {record}"
-    return difference(Ended(3, b"".join(lines[: max(record - 1, 0)]), got.stderr), got)
-
-
-def check_refused(cases, program, library, what, traces):
-    """Refuses allocations, or starts of threads, in turn, and looks whether any was refused at all."""
-    for name, options in traces:
-        given, lines = read(name + ".csv"), read(name + ".txt").splitlines(True)
-        stopped = False
-        for and_rest, extent in EXTENTS:
-            for it in runs_refusing([program] + options, given, library, what, and_rest):
-                cases.check(f"{name}: {what} {it.at} {extent} is refused", what_is_wrong(lines, it.got))
-                stopped = stopped or it.got.stderr.endswith(STOPPED_BY[what])
-        cases.check(f"{name}: a call was refused a {what}", "" if stopped else "no run ended at a record for it")
 
 
 def main():
@@ -215,10 +171,6 @@ def main():
             cases.check(name, why)
     with ThreadPoolExecutor(max_workers=RUNS_AT_ONCE) as pool:
         cases.check(f"{RUNS} runs with 64 workers and the least pieces", check_many_runs(program, pool))
-    with tempfile.TemporaryDirectory() as room:
-        library = build_library("fail_alloc.c", room)
-        check_refused(cases, program, library, "thread", REFUSED)
-        check_refused(cases, program, library, "allocation", REFUSED[:1])
     cases.end()
 
 

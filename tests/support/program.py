@@ -3,16 +3,21 @@
 import os
 import subprocess
 import sys
-from typing import NamedTuple
+from typing import NamedTuple, Optional
+
+from support.audit import fault_in_audit
 
 TOP = os.path.dirname(os.path.dirname(os.path.dirname(os.path.abspath(__file__))))
 SECONDS = 120
 
 
 class Ended(NamedTuple):
-    """How a run ended: its exit status (below 0: the signal that ended it) and what it wrote."""
+    """How a run ended: its exit status (below 0: the signal that ended it) and what it wrote.
 
-    status: int
+    A run that has not ended after its time is ended, and has no status.
+    """
+
+    status: Optional[int]
     stdout: bytes
     stderr: bytes
 
@@ -53,21 +58,26 @@ def preloaded(library, **settings):
     return {**os.environ, "LD_PRELOAD": library, **{name: str(value) for name, value in settings.items()}}
 
 
-def run(program, given=b"", **how):
+def run(program, given=b"", seconds=SECONDS, **how):
     """Runs the program, a path or a path with its arguments, on the bytes `given`, or with the streams that `how` names."""
     if "stdin" not in how:
         how["input"] = given
     how.setdefault("stdout", subprocess.PIPE)
     how.setdefault("stderr", subprocess.PIPE)
     words = program if isinstance(program, list) else [program]
-    ran = subprocess.run(words, timeout=SECONDS, check=False, **how)
+    try:
+        ran = subprocess.run(words, timeout=seconds, check=False, **how)
+    except subprocess.TimeoutExpired as late:
+        return Ended(None, late.stdout or b"", late.stderr or b"")
     return Ended(ran.returncode, ran.stdout or b"", ran.stderr or b"")
 
 
 def difference(wanted, got):
     """What differs between two runs, in one line, or an empty text."""
     found = []
-    if got.status != wanted.status:
+    if got.status is None:
+        found.append("it did not end in its time")
+    elif got.status != wanted.status:
         found.append(f"status {got.status} in place of {wanted.status}")
     for stream in ("stdout", "stderr"):
         ours, theirs = getattr(wanted, stream), getattr(got, stream)
@@ -112,6 +122,7 @@ class Cases:
 
 
 def compare_replay(cases, program, name, given, wanted):
-    """Two cases: a trace ends as wanted, and with --plain too."""
-    cases.compare(name, wanted, run(program, given))
+    """Two cases: a trace ends as wanted, with a lawful audit if it has one, and with --plain it ends so too."""
+    got = run(program, given)
+    cases.check(name, difference(wanted, got) or (fault_in_audit(got.stdout) if wanted.status == 0 else ""))
     cases.compare(f"{name}; with --plain", wanted, run([program, "--plain"], given))

@@ -8,12 +8,14 @@ ghost use Rattle.audit.specs.declared.error.AuditError.TheVariants.{Halted, NoMe
 
 use crate::checker::check;
 use crate::error::AuditError;
-use crate::line::{Line, LineText};
+use crate::line::{Line, push_line};
 use mapdb::{Database, DbError};
 use rayon::prelude::*;
 use std::alloc::{AllocError, Global};
-use std::fmt::Write;
 use std::thread::Threads;
+
+/// How many bytes most lines have at most.
+const LINE: usize = 32;
 
 /// Returns every mapping of a database, by rising place.
 ///
@@ -133,10 +135,9 @@ fn section_texts(
 fn section_text(alloc: Global, lines: &[Line]) -> Result<String, AllocError>
     ensures { IsTextOf lines.now result }
 {
-    let mut text = String::new(alloc);
+    let mut text = String::with_capacity(alloc, lines.len().saturating_mul(LINE))?;
     for line in lines {
-        let line = LineText(*line);
-        write!(text, "{line}")?;
+        push_line(&mut text, line)?;
     }
     Ok(text)
 }

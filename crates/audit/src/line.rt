@@ -1,93 +1,101 @@
 //! The text of an audit line.
 
+ghost use Rattle.std.specs.Prelude.{◌≡◌, ◌++◌, OnOk, codes, string_bytes};
+ghost use Rattle.std.specs.Fmt.{decimal};
+ghost use Rattle.space.specs.Place.{place_text};
+ghost use Rattle.model.specs.Text.{audit_line, origin_text, rights_text, status_text};
+ghost use Rattle.holdings.specs.Mappings.{mapped_of};
+
 use fpage::Rights;
+use itoa::Buffer;
 pub use mapdb::Mapping as Line;
 use space::Place;
-use std::fmt;
+use std::alloc::AllocError;
 
 /// Rights as three letters, a dash for each that is missing.
-#[derive(Clone, Copy)]
-struct RightsText(Rights);
-
-impl fmt::Display for RightsText {
-    ghost use Rattle.std.specs.Prelude.{Some};
-    ghost use Rattle.model.specs.Text.{rights_text};
-
-    ghost output = { λ a. Some (rights_text a.0) };
-
-    fn fmt<W: fmt::Write>(&self, f: &mut fmt::Formatter<W>) -> fmt::Result {
-        f.write_str(match (self.0.read, self.0.write, self.0.execute) {
-            (false, false, false) => "---",
-            (false, false, true) => "--x",
-            (false, true, false) => "-w-",
-            (false, true, true) => "-wx",
-            (true, false, false) => "r--",
-            (true, false, true) => "r-x",
-            (true, true, false) => "rw-",
-            (true, true, true) => "rwx",
-        })
+fn rights_text(rights: Rights) -> &'static str
+    ensures { result.now ≡ rights_text rights }
+{
+    match (rights.read, rights.write, rights.execute) {
+        (false, false, false) => "---",
+        (false, false, true) => "--x",
+        (false, true, false) => "-w-",
+        (false, true, true) => "-wx",
+        (true, false, false) => "r--",
+        (true, false, true) => "r-x",
+        (true, true, false) => "rw-",
+        (true, true, true) => "rwx",
     }
 }
 
 /// A status as three capitals, a dash for each kind of access that was not seen.
-#[derive(Clone, Copy)]
-struct StatusText(Rights);
-
-impl fmt::Display for StatusText {
-    ghost use Rattle.std.specs.Prelude.{Some};
-    ghost use Rattle.model.specs.Text.{status_text};
-
-    ghost output = { λ a. Some (status_text a.0) };
-
-    fn fmt<W: fmt::Write>(&self, f: &mut fmt::Formatter<W>) -> fmt::Result {
-        f.write_str(match (self.0.read, self.0.write, self.0.execute) {
-            (false, false, false) => "---",
-            (false, false, true) => "--X",
-            (false, true, false) => "-W-",
-            (false, true, true) => "-WX",
-            (true, false, false) => "R--",
-            (true, false, true) => "R-X",
-            (true, true, false) => "RW-",
-            (true, true, true) => "RWX",
-        })
+fn status_text(status: Rights) -> &'static str
+    ensures { result.now ≡ status_text status }
+{
+    match (status.read, status.write, status.execute) {
+        (false, false, false) => "---",
+        (false, false, true) => "--X",
+        (false, true, false) => "-W-",
+        (false, true, true) => "-WX",
+        (true, false, false) => "R--",
+        (true, false, true) => "R-X",
+        (true, true, false) => "RW-",
+        (true, true, true) => "RWX",
     }
 }
 
-/// The place of an origin, or a dash for a root.
-#[derive(Clone, Copy)]
-struct OriginText(Option<Place>);
+/// Appends a number in decimal digits.
+fn push_number(text: &mut String, number: u32) -> Result<(), AllocError>
+    ensures { OnOk result (string_bytes text.new ≡ string_bytes text.old ++ decimal number) }
+{
+    let mut digits = Buffer::new();
+    text.push_str(digits.format(number))
+}
 
-impl fmt::Display for OriginText {
-    ghost use Rattle.std.specs.Prelude.{Some};
-    ghost use Rattle.model.specs.Text.{origin_text};
+/// Appends a place.
+fn push_place(text: &mut String, place: Place) -> Result<(), AllocError>
+    ensures { OnOk result (string_bytes text.new ≡ string_bytes text.old ++ place_text place) }
+{
+    push_number(text, u32::from(place.space))?;
+    text.push_str(":")?;
+    push_number(text, place.page)
+}
 
-    ghost output = { λ a. Some (origin_text a.0) };
-
-    fn fmt<W: fmt::Write>(&self, f: &mut fmt::Formatter<W>) -> fmt::Result {
-        match self.0 {
-            None => f.write_str("-"),
-            Some(place) => write!(f, "{place}"),
-        }
+/// Appends the place of an origin, or a dash for a root.
+fn push_origin(text: &mut String, origin: Option<Place>) -> Result<(), AllocError>
+    ensures { OnOk result (string_bytes text.new ≡ string_bytes text.old ++ origin_text origin) }
+{
+    match origin {
+        None => text.push_str("-"),
+        Some(place) => push_place(text, place),
     }
 }
 
-/// A mapping as it is written, with its line feed.
-#[derive(Clone, Copy)]
-pub struct LineText(pub Line);
+/// Appends a number and a comma.
+fn push_number_cell(text: &mut String, number: u32) -> Result<(), AllocError>
+    ensures { OnOk result (string_bytes text.new ≡ string_bytes text.old ++ decimal number ++ codes ",") }
+{
+    push_number(text, number)?;
+    text.push_str(",")
+}
 
-impl fmt::Display for LineText {
-    ghost use Rattle.std.specs.Prelude.{Some};
-    ghost use Rattle.model.specs.Text.{audit_line};
-    ghost use Rattle.holdings.specs.Mappings.{mapped_of};
+/// Appends letters and a comma.
+fn push_letters(text: &mut String, letters: &str) -> Result<(), AllocError>
+    ensures { OnOk result (string_bytes text.new ≡ string_bytes text.old ++ letters.now ++ codes ",") }
+{
+    text.push_str(letters)?;
+    text.push_str(",")
+}
 
-    ghost output = { λ line. Some (audit_line (mapped_of line.0)) };
-
-    fn fmt<W: fmt::Write>(&self, f: &mut fmt::Formatter<W>) -> fmt::Result {
-        let Place { space, page } = self.0.place;
-        let frame = self.0.frame;
-        let rights = RightsText(self.0.rights);
-        let status = StatusText(self.0.status);
-        let origin = OriginText(self.0.origin);
-        write!(f, "{space},{page},{frame},{rights},{status},{origin}\n")
-    }
+/// Appends a mapping as it is written, with its line feed.
+pub fn push_line(text: &mut String, line: &Line) -> Result<(), AllocError>
+    ensures { OnOk result (string_bytes text.new ≡ string_bytes text.old ++ audit_line (mapped_of line.now)) }
+{
+    push_number_cell(text, u32::from(line.place.space))?;
+    push_number_cell(text, line.place.page)?;
+    push_number_cell(text, line.frame)?;
+    push_letters(text, rights_text(line.rights))?;
+    push_letters(text, status_text(line.status))?;
+    push_origin(text, line.origin)?;
+    text.push_str("\n")
 }

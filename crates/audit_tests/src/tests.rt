@@ -1,5 +1,7 @@
 //! Lines that are lawful or not, and the audit of a small database, worked out by hand.
 
+mod halted;
+
 use audit::{Line, check, check_database, lines, report};
 use crew::{Crew, NoGate};
 use fpage::{Access, Fpage, Item, Rights};

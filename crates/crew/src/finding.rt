@@ -1,15 +1,14 @@
 //! What a piece finds out of the words at opening.
 
-ghost use Rattle.std.specs.Prelude.{◌≡◌, ◌<◌, map, length, get_or, set, IfOk, []};
+ghost use Rattle.std.specs.Prelude.{◌≡◌, ◌<◌, map, length, IfOk, []};
 ghost use Rattle.std.specs.List.{All, AllPass};
 ghost use Rattle.space.specs.Word.{is_pack};
-ghost use Rattle.maptree.specs.declared.node.Node.{Node};
 ghost use Rattle.pieces.specs.Steps.{may_access};
 ghost use Rattle.pieces.specs.Dones.{found_as};
 ghost use Rattle.pieces.specs.Values.{no_value};
 
 use fpage::Rights;
-use maptree::{Node, Slice};
+use maptree::Slice;
 use pieces::Touch;
 use pieces::steps::permits;
 use std::alloc::{AllocError, Global};
@@ -39,18 +38,6 @@ pub fn no_nodes(alloc: Global) -> Slice
 {
     Slice {
         nodes: Vec::new(alloc),
-    }
-}
-
-/// Puts the node at a position at another too. Where they are the same it is left alone: most strips keep all their nodes, and
-/// then none is read or written.
-pub fn move_node(nodes: &mut [Node], from: usize, to: usize)
-    requires from { from < length nodes.old }
-    requires to { to < length nodes.old }
-    ensures { (n : Node) → nodes.new ≡ set nodes.old to (get_or nodes.old from n) }
-{
-    if to != from {
-        nodes[to] = nodes[from];
     }
 }
 

@@ -10,29 +10,28 @@ ghost use Rattle.pieces.specs.declared.piece.Piece.TheVariants as piece;
 ghost use Rattle.pieces.specs.Kept.{nodes_kept};
 ghost use Rattle.crew.specs.Opening.{narrows, linked_word, marks_made};
 
-use crate::finding::move_node;
 use fpage::Rights;
 use maptree::Node;
 use pieces::steps::{bits, linked, moved, narrowed, remains, status};
-use pieces::{Link, Masks, Move, Touch};
+use pieces::{Link, Masks, Move, Touch, move_node};
 use std::alloc::{AllocError, Global};
 
 /// Narrows the words at some indexes, each by its mask. The nodes whose words are left with a right move to the front, in
 /// their order. Returns how many these are, and the union of the status that the words had.
 pub fn narrow_and_keep(
     words: &mut [u64],
-    nodes: &mut [Node],
+    nodes: &mut Vec<Node>,
     masks: &Masks,
     indexes: &[usize],
 ) -> (usize, Rights)
     requires packs { AllPass is_pack words.old }
     requires within { All (λ i. i < length words.old) indexes.now }
-    requires masks { length masks.now ≡ length nodes.old }
-    requires indexes { length indexes.now ≡ length nodes.old }
+    requires masks { length masks.now ≡ length nodes.old.items }
+    requires indexes { length indexes.now ≡ length nodes.old.items }
     requires distinct { are_distinct indexes.now ≡ true }
     ensures words { words.new ≡ words_after words.old (narrows words.old indexes.now masks.now) }
-    ensures most { result.0 ≤ length nodes.old }
-    ensures kept { take result.0 nodes.new ≡ nodes_kept words.old nodes.old indexes.now masks.now }
+    ensures most { result.0 ≤ length nodes.old.items }
+    ensures kept { take result.0 nodes.new.items ≡ nodes_kept words.old nodes.old.items indexes.now masks.now }
     ensures status { result.1 ≡ status_in words.old indexes.now }
 {
     let mut kept = 0;

@@ -1,4 +1,3 @@
 -- New mappings: their places in the trees, and one page mapped to a place that is not held.
 pub mod NewMappings
 pub mod LinkedTrees
-pub mod LinkedFrames

@@ -1,6 +1,4 @@
 -- One tree: positions, origins, chains and runs of its places, what is noted of them, and what is left without some.
 pub mod Positions
 pub mod Chains
-pub mod RunOrigins
-pub mod Noting
 pub mod Pruning

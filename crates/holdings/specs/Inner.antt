@@ -11,6 +11,5 @@ pub mod Phases
 pub mod RunForms
 pub mod StripPlans
 pub mod Outcomes
-pub mod Spots
 pub mod Links
 pub mod Renamings

@@ -20,7 +20,6 @@ mod prune;
 mod recursion;
 mod renaming;
 mod runs;
-mod spots;
 mod start;
 mod strip;
 mod transfer;

@@ -40,7 +40,7 @@ impl Holdings {
         let stores = stores(alloc, &shards, transfers, rights)?;
         let pieces = links(alloc, stores, workers.piece_length())?;
         let new_mappings = new_links(alloc, &shards, transfers)?;
-        insert_links(alloc, &mut trees, new_mappings)?;
+        insert_links(&mut trees, &new_mappings)?;
         write_phase(alloc, &mut shards, pieces, workers)?;
         Ok((Holdings { shards, trees }, counts))
     }

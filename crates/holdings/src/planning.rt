@@ -10,9 +10,8 @@ ghost use Rattle.holdings.specs.Inner.StripPlans.{IsPlanned};
 use crate::group::group_end;
 use crate::pages::{HeldPage, places_of, sorted_pages};
 use crate::runs::Runs;
-use crate::tree::{links_for_many, origin_by};
 use fpage::Rights;
-use maptree::{Node, Tree};
+use maptree::{Node, NodeOrigins, Tree};
 use pieces::{Piece, Strip, are_pieces};
 use space::{NoMemory, Place, Shards};
 use std::alloc::{AllocError, Global};
@@ -144,10 +143,10 @@ fn add_frame(
 {
     let tree = &trees[frame.frame as usize];
     tree.places_are_distinct();
-    let links = links_for_many(alloc, tree, frame.runs.len())?;
+    let origins = NodeOrigins::of(alloc, tree, frame.runs.len())?;
     pieces.reserve(frame.runs.len())?;
     for run in frame.runs.as_slice() {
-        let origin = origin_by(tree, &links, run.start);
+        let origin = origins.at(run.start);
         add_run(
             alloc, shards, tree, run, origin, revoked, flush, most, pieces,
         )?;

@@ -93,17 +93,12 @@ pub fn parse<'a>(alloc: Global, words: &'a [&'a str]) -> Result<Options, Options
 fn options_of(matches: &ArgMatches) -> Option<Options>
     ensures { IfSome result AreServed }
 {
-    let workers = matches.get_one::<u32>("workers")?;
-    let piece_length = matches.get_one::<u32>("piece")?;
-    let plain = matches.get_flag("plain");
-    if workers < 1 || workers > 64 || piece_length < 1 || piece_length > 65536 {
-        return None;
-    }
-    Some(Options {
-        workers,
-        piece_length,
-        plain,
-    })
+    let options = Options {
+        workers: matches.get_one::<u32>("workers")?,
+        piece_length: matches.get_one::<u32>("piece")?,
+        plain: matches.get_flag("plain"),
+    };
+    options.are_served().then_some(options)
 }
 
 /// What the parser says, as an error of the options.

@@ -13,7 +13,7 @@ use command_line::{OptionsError, parse};
 use crew::NoGate;
 use error::{status, tell};
 use replay::{Options, RunError, run};
-use std::alloc::AllocError;
+use std::alloc::{AllocError, Global};
 use std::env::Env;
 use std::io::{BufWriter, ErrorKind};
 use std::process::ExitCode;
@@ -24,6 +24,9 @@ use trace::{Sink, Std};
 
 /// How many bytes of output are kept before they are written.
 const OUTPUT_BUFFER: usize = 65536;
+
+/// The largest block that the C library is to keep when it is given back: glibc goes no higher by itself than 32 MiB.
+const KEPT_BLOCK: usize = 31 << 20;
 
 /// Reads the program's command line.
 fn read_command_line(rt: &(impl AllocGlobal + Env)) -> Result<Options, OptionsError>
@@ -48,6 +51,13 @@ fn read_command_line(rt: &(impl AllocGlobal + Env)) -> Result<Options, OptionsEr
     parse(alloc, &texts)
 }
 
+/// Takes a large block and gives it back, untouched. From then on glibc keeps blocks up to that size for the program's next
+/// calls; before, each goes back to the system, which has to clear its pages when they are taken again. It is a matter of speed alone,
+/// so where the block is refused nothing is lost.
+fn keep_memory(alloc: Global) {
+    let _ = Vec::<u8>::with_capacity(alloc, KEPT_BLOCK);
+}
+
 /// Replays the trace on standard input to standard output.
 fn replay_input(
     rt: &(impl AllocGlobal + Input + Print + Threads + Wait + Sync),
@@ -55,6 +65,7 @@ fn replay_input(
 ) -> Result<(), RunError>
     requires { AreServed options.now }
 {
+    keep_memory(rt.alloc());
     let Ok(output) = BufWriter::with_capacity(rt.alloc(), OUTPUT_BUFFER, io::writer(rt)) else {
         return Err(RunError::NoMemory(0));
     };

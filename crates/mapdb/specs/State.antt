@@ -3,7 +3,7 @@ use Rattle.std.specs.Prelude.{◌≡◌, ◌⊎◌, ℕ, Bool, false, true, Resu
 use Rattle.fpage.specs.Fpage.{Flexpage}
 use Rattle.fpage.specs.declared.rights.Rights.{Rights}
 use Rattle.model.specs.Answers.{pages_in, call_refusal}
-use Rattle.model.specs.Calls.{Limits, Call, Refusal, same_space, no_window}
+use Rattle.model.specs.Calls.{Limits, Call, unmap, Refusal, same_space, no_window}
 use Rattle.model.specs.Holdings.{Holdings}
 use Rattle.model.specs.Recursion.{recur}
 use Rattle.model.specs.Replay.{start}
@@ -53,6 +53,10 @@ error_of other = NoSuchSpace
 -- why a call is refused, if not for want of memory or of a worker: the first that fits
 abbrev pub refusal : State → Call → Option DbError
 refusal s call = if s.is_halted then Some Halted else option_map error_of (call_refusal s.limits call)
+
+-- why an unmap is refused: it takes a space, and its words make no difference
+abbrev pub unmap_refusal : State → ℕ → Option DbError
+unmap_refusal s space = refusal s (unmap space false [])
 
 -- a call that is refused for this answers so and changes nothing; any other may run out of memory or have no worker, and has no other error
 abbrev pub IsRefused : {A : Type 0} → Option DbError → State → State → Result A DbError → Type 0

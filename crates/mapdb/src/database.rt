@@ -46,7 +46,7 @@ impl Database {
     ghost use Rattle.holdings.specs.Mappings.{mapped_of};
     ghost use Rattle.holdings.specs.Contents.{entry_of};
     ghost use Rattle.mapdb.specs.Meaning.{counts_of};
-    ghost use Rattle.mapdb.specs.State.{new_state, halted, left_with, unless_halted, refusal, IsRefused};
+    ghost use Rattle.mapdb.specs.State.{new_state, halted, left_with, unless_halted, refusal, unmap_refusal, IsRefused};
     ghost use Rattle.holdings.specs.Contents.{touched_all, access_answers};
     ghost use Rattle.mapdb.specs.State.{unmap_status, unmap_left, plain_status, plain_left};
     ghost use Rattle.mapdb.specs.declared.error.DbError.TheVariants.{BadLimits, NoSuchSpace, NoMemory, NoWorker, Halted};
@@ -224,13 +224,9 @@ impl Database {
         workers: &W,
     ) -> Result<Vec<Rights>, DbError>
         requires bits { All (IsFpageOf self.old.limits.bits) fpages.now }
-        ensures halted { IsErrOf result Halted ↔ (self.old.is_halted ≡ true) }
-        ensures no_such_space { IsErrOf result NoSuchSpace ↔ ((self.old.is_halted ≡ false) × (self.old.limits.spaces ≤ space)) }
-        ensures errors { IfErr result (λ e. (e ≡ Halted) ⊎ (e ≡ NoSuchSpace) ⊎ (e ≡ NoMemory) ⊎ (e ≡ NoWorker)) }
-        ensures refused { IsErrOf result NoSuchSpace → self.new ≡ self.old }
-        ensures stays_halted { IsErrOf result Halted → self.new ≡ self.old }
-        ensures no_memory { IsErrOf result NoMemory → (self.new.is_halted ≡ true) × (self.new.limits ≡ self.old.limits) }
-        ensures no_worker { IsErrOf result NoWorker → (self.new.is_halted ≡ true) × (self.new.limits ≡ self.old.limits) }
+        ensures refused { IsRefused (unmap_refusal self.old space) self.old self.new result }
+        ensures no_memory { IsErrOf result NoMemory → self.new ≡ halted self.old }
+        ensures no_worker { IsErrOf result NoWorker → self.new ≡ halted self.old }
         ensures status { IfOk result (λ status.
             status.items ≡ unmap_status space control.flush fpages.now self.old.holdings) }
         ensures left { OnOk result (self.new ≡
@@ -261,12 +257,9 @@ impl Database {
         fpages: &[Fpage],
     ) -> Result<Vec<Rights>, DbError>
         requires bits { All (IsFpageOf self.old.limits.bits) fpages.now }
-        ensures halted { IsErrOf result Halted ↔ (self.old.is_halted ≡ true) }
-        ensures no_such_space { IsErrOf result NoSuchSpace ↔ ((self.old.is_halted ≡ false) × (self.old.limits.spaces ≤ space)) }
-        ensures errors { IfErr result (λ e. (e ≡ Halted) ⊎ (e ≡ NoSuchSpace) ⊎ (e ≡ NoMemory)) }
-        ensures refused { IsErrOf result NoSuchSpace → self.new ≡ self.old }
-        ensures stays_halted { IsErrOf result Halted → self.new ≡ self.old }
-        ensures no_memory { IsErrOf result NoMemory → (self.new.is_halted ≡ true) × (self.new.limits ≡ self.old.limits) }
+        ensures refused { IsRefused (unmap_refusal self.old space) self.old self.new result }
+        ensures needs_no_worker { IfErr result (λ e. e ≡ NoWorker → ⊥) }
+        ensures no_memory { IsErrOf result NoMemory → self.new ≡ halted self.old }
         ensures status { IfOk result (λ status.
             status.items ≡ unmap_status space control.flush fpages.now self.old.holdings) }
         ensures left { OnOk result (self.new ≡

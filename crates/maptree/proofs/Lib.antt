@@ -22,10 +22,9 @@ pub mod Keeping
 pub mod Outside
 pub mod Splicing
 pub mod Linking
-pub mod RunEnds
 pub mod Grouping
-pub mod Growth
 pub mod OnePlace
 pub mod Found
 pub mod OneRun
 pub mod Named
+pub mod Listed

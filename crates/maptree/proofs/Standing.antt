@@ -25,14 +25,12 @@ stands_at ns p i d distinct within here = by (position (λ n. same_place p n.pla
         ap Some (one_position ns distinct r i p p at.0 within (place_of_read ns r p d at.0 ∙ sym one ∙ other ∙ sym (place_of_read ns i p d within)))
 
 -- one that stands in a block
-pub stands_in_block : (bs : List (List Node)) (k : ℕ) (b : List Node) (p : Place) (off : ℕ) → are_distinct (nodes_in bs) ≡ true → k < length bs → b ≡ get_or bs k b → position (λ n. same_place p n.place) b ≡ Some off
-    → position (λ n. same_place p n.place) (nodes_in bs) ≡ Some (length (nodes_in (take k bs)) + off)
-stands_in_block bs k b p off distinct within is found =
-    let at = position-Some (λ (n : Node). same_place p n.place) b off blank found in
+pub stands_in_block : (bs : List (List Node)) (k : ℕ) (b : List Node) (p : Place) (off : ℕ) → are_distinct (nodes_in bs) ≡ true → k < length bs → b ≡ get_or bs k b
+    → off < length b → same_place p (get_or b off blank).place ≡ true → position (λ n. same_place p n.place) (nodes_in bs) ≡ Some (length (nodes_in (take k bs)) + off)
+stands_in_block bs k b p off distinct within is inside stands =
     let read = as_read bs k b within is in
     let upto = (counts bs k b within is).upto in
-    let inside = at.0 in
     let size = ap length read in
     let here : get_or (nodes_in bs) (length (nodes_in (take k bs)) + off) blank ≡ get_or b off blank =
     at_seat bs k off blank within (omega (arith, inside, size)) ∙ ap (λ x. get_or x off blank) (sym read) in
-    stands_at (nodes_in bs) p (length (nodes_in (take k bs)) + off) blank distinct (omega (arith, inside, upto)) (ap (λ (n : Node). same_place p n.place) here ∙ at.1)
+    stands_at (nodes_in bs) p (length (nodes_in (take k bs)) + off) blank distinct (omega (arith, inside, upto)) (ap (λ (n : Node). same_place p n.place) here ∙ stands)

@@ -5,5 +5,4 @@ pub mod Cuts
 pub mod Forms
 pub mod Named
 pub mod PlaceMaps
-pub mod Growing
 pub mod Renamings

@@ -1,6 +1,6 @@
 -- A derivation tree as a list of nodes in preorder, each with its depth: a node derives from the nearest one before it
 -- that is one less deep.
-use Rattle.std.specs.Prelude.{◌≡◌, ℕ, zero, suc, ◌+◌, ◌<◌, ◌≤◌, slice_index, ◌-◌, nat_le, nat_lt, Bool, true, ◌&&◌, not, List, [], ◌∷◌, length, drop, Option, Some, None, if◌then◌else◌}
+use Rattle.std.specs.Prelude.{ℕ, suc, ◌+◌, ◌-◌, nat_le, nat_lt, Bool, true, ◌&&◌, not, List, [], ◌∷◌, length, drop, Option, Some, None, if◌then◌else◌}
 use Rattle.std.specs.List.{list_all, prefix_len}
 use Rattle.space.specs.declared.place.Place.{Place}
 use Rattle.space.specs.Place.{same_place}
@@ -46,17 +46,6 @@ origins_of ns = links [] ns
 -- how many nodes from the front on are deeper than this: those that derive from a node of this depth before them
 abbrev pub run_len : ℕ → List Node → ℕ
 run_len depth ns = prefix_len (λ n. nat_lt depth n.depth) ns
-
--- the position at which the run of the node at a position ends
-abbrev pub run_end : List Node → ℕ → ℕ
-run_end [] i = 0
-run_end (n ∷ ns) zero = 1 + run_len n.depth ns
-run_end (n ∷ ns) (suc i) = 1 + run_end ns i
-
--- a number for each node: from this position on, where its run ends
-pub record AreEnds (from : ℕ) (ns : List Node) (ends : List ℕ) : Type 0 where
-  pub count : length ends ≡ length ns
-  pub each : (k : ℕ) → from ≤ k → k < length ns → slice_index ends k ≡ run_end ns k
 
 -- the last position of a list, with one node more in front
 abbrev pub one_on : Bool → Option ℕ → Option ℕ

@@ -1,5 +1,5 @@
 -- A derivation tree as its callers see it: places, each with the place from which it derives.
-use Rattle.std.specs.Prelude.{◌≡◌, ℕ, zero, suc, ◌<◌, ◌≤◌, nat_le, nat_lt, slice_index, ◌&&◌, Bool, true, not, ◌↔◌, ◌⊎◌, Decides, List, [], ◌∷◌, length, map, Option, Some, None, option_map, if◌then◌else◌}
+use Rattle.std.specs.Prelude.{◌≡◌, ℕ, zero, suc, ◌<◌, ◌≤◌, nat_le, nat_lt, ◌&&◌, Bool, true, not, ◌↔◌, ◌⊎◌, Decides, List, [], ◌∷◌, length, map, Option, Some, None, option_map, if◌then◌else◌}
 use Rattle.std.specs.List.{All, list_all, list_any}
 use Rattle.std.specs.declared.ops.Range.{Range}
 use Rattle.std.specs.Option.{option_and_then}
@@ -101,7 +101,13 @@ pub record AreOuterRuns (os : Origins) (places : List Place) (runs : List (Range
   -- they have the positions of what is named or derives from a named place, and no others
   pub covers : (j : ℕ) (d : Place) → j < length os → LiesInOne j runs ↔ LeadsToOne os places (place_at os j d)
 
--- the positions at which the runs of all places end, in the order of their positions
-pub record AreRunEnds (os : Origins) (ends : List ℕ) : Type 0 where
-  pub count : length ends ≡ length os
-  pub runs : (i : ℕ) → i < length os → IsRun os (record { start = i; end = slice_index ends i })
+-- the place from which the place at a position derives, which stands in the tree too
+pub record IsOriginAt (os : Origins) (i : ℕ) (origin : Option Place) : Type 0 where
+  pub is : (d : Place) → origin_in os (place_at os i d) ≡ origin
+  pub stands : (q : Place) → origin ≡ Some q → list_any (λ o. same_place q o.0) os ≡ true
+
+-- the links that a tree gives
+pub record AreLinksOf (tree : Shape) (links : Origins) : Type 0 where
+  pub are : links ≡ tree.links
+  pub once : are_once tree.links ≡ true
+  pub stand : OriginsStand tree.links

@@ -38,7 +38,7 @@ impl Model for Block {
 }
 
 impl Block {
-    ghost use Rattle.std.specs.Prelude.{◌≡◌, ◌+◌, ◌<◌, ◌≤◌, true, [], ◌++◌, length, take, drop, get_or, set, insert, position, IfOk};
+    ghost use Rattle.std.specs.Prelude.{◌≡◌, ◌+◌, ◌<◌, ◌≤◌, true, [], ◌++◌, length, take, drop, get_or, set, insert, position, IfOk, IfSome};
     ghost use Rattle.space.specs.Place.{same_place};
     ghost use Rattle.maptree.specs.declared.node.Node.{Node};
     ghost use Rattle.maptree.specs.Blocks.{block_size, is_least};
@@ -105,6 +105,18 @@ impl Block {
         ensures { result ≡ position (λ n. same_place place n.place) self.now }
     {
         placed(&self.nodes, place)
+    }
+
+    /// A position where a place stands, if it stands here. It is looked for from this position on first.
+    pub fn find_from(&self, place: Place, from: usize) -> Option<usize>
+        ensures within { IfSome result (λ i. i < length self.now) }
+        ensures there { (d : Node) → IfSome result (λ i. same_place place (get_or self.now i d).place ≡ true) }
+    {
+        let (front, back) = self.nodes.split_at(from.min(self.nodes.len()));
+        if let Some(i) = placed(back, place) {
+            return Some(front.len() + i);
+        }
+        placed(front, place)
     }
 
     /// How many nodes from a position on are deeper than this.

@@ -135,9 +135,10 @@ impl Blocks {
         ensures { result ≡ position (λ n. same_place place n.place) (nodes_in self.now.blocks) }
     {
         for turn in 0..self.hints.turns() {
-            if let Some(block) = self.hints.get(place, turn) {
+            if let Some(hint) = self.hints.get(place, turn) {
+                let block = hint.block;
                 if block < self.blocks.len() {
-                    if let Some(offset) = self.blocks[block].find(place) {
+                    if let Some(offset) = self.blocks[block].find_from(place, hint.offset) {
                         return Some(self.starts.get(block) + offset);
                     }
                 }
@@ -233,7 +234,7 @@ impl Blocks {
         block.set_place(seat.offset, place);
         let number = block.number();
         self.hints.remove(old);
-        self.hints.put(place, number);
+        self.hints.put(place, number, seat.offset);
     }
 
     /// Puts a node at a position. This takes no memory.
@@ -250,7 +251,7 @@ impl Blocks {
         self.leasts.set(seat.block, block.least());
         self.len += 1;
         self.starts.add(seat.block, 1);
-        self.hints.put(node.place, number);
+        self.hints.put(node.place, number, seat.offset);
     }
 
     /// A seat behind so many nodes in a block that has room for one more; a full block is split. One insertion less is
@@ -585,7 +586,7 @@ fn rename_blocks(blocks: &mut [Block], hints: &mut Hints, new: &PlaceMap)
 }
 
 /// A number for each of the two blocks that one became: the one with fewer nodes gets a new one, since that is noted for each of
-/// its nodes.
+/// its nodes. Those of the back stand elsewhere in their block now, which is noted too.
 fn number_parts(hints: &mut Hints, front: &mut Block, back: &mut Block)
     ensures front { front.new ≡ front.old }
     ensures back { back.new ≡ back.old }
@@ -598,6 +599,7 @@ fn number_parts(hints: &mut Hints, front: &mut Block, back: &mut Block)
         back.set_number(front.number());
         front.set_number(number);
         hint_nodes(hints, front);
+        hint_nodes(hints, back);
     }
 }
 
@@ -620,8 +622,9 @@ fn forget_nodes(hints: &mut Hints, nodes: &[Node]) {
 /// The places of a block stand there.
 fn hint_nodes(hints: &mut Hints, block: &Block) {
     let number = block.number();
-    for node in block.nodes() {
-        hints.put(node.place, number);
+    let nodes = block.nodes();
+    for i in 0..nodes.len() {
+        hints.put(nodes[i].place, number, i);
     }
 }
 

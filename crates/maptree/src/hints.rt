@@ -4,8 +4,8 @@ use space::Place;
 use std::alloc::{AllocError, Global};
 use std::mem;
 
-/// In which block of a list each place may stand: it need not be so. Who asks looks whether the place stands there, so no
-/// clause speaks of hints: a wrong one, or none, costs time and changes no answer.
+/// In which block of a list each place may stand, and where in it: it need not be so. Who asks looks whether the place stands
+/// there, so no clause speaks of hints: a wrong one, or none, costs time and changes no answer.
 ///
 /// Blocks are known by numbers, which stay when blocks before them come and go. A number is kept up to multiples of
 /// `NUMBERS`, so a place may stand in one of several blocks where there are very many.
@@ -24,10 +24,12 @@ pub struct Hints {
 /// Eight bytes, since there is one for every node and more.
 #[derive(Clone, Copy)]
 struct Slot {
-    page: u32,
-    space: u16,
+    /// The key of a place.
+    key: u32,
     /// The number of a block, up to multiples of `NUMBERS`; or `NUMBERS`, if the slot is free.
     number: u16,
+    /// The position in that block, when it was noted.
+    offset: u8,
 }
 
 /// How many numbers of blocks a slot can tell from one another.
@@ -37,15 +39,24 @@ const NUMBERS: u16 = u16::MAX;
 const STEPS: usize = 256;
 
 const FREE: Slot = Slot {
-    page: 0,
-    space: 0,
+    key: 0,
     number: NUMBERS,
+    offset: 0,
 };
 
 impl Slot {
-    fn has(&self, place: Place) -> bool {
-        self.number != NUMBERS && self.page == place.page && self.space == place.space
+    fn has(&self, key: u32) -> bool {
+        self.number != NUMBERS && self.key == key
     }
+}
+
+/// Where a place may stand.
+#[derive(Clone, Copy)]
+pub struct Hint {
+    /// Where the block stands.
+    pub block: usize,
+    /// The position in the block, when it was noted. Since then nodes may have come or gone before it.
+    pub offset: usize,
 }
 
 impl Hints {
@@ -93,36 +104,35 @@ impl Hints {
         self.blocks.len() / NUMBERS as usize + 1
     }
 
-    /// Where one of the blocks stands in which the place may stand.
-    pub fn get(&self, place: Place, turn: usize) -> Option<usize> {
-        let at = self.slot_of(place)?;
+    /// One of the places where the place may stand.
+    pub fn get(&self, place: Place, turn: usize) -> Option<Hint> {
+        let at = self.slot_of(key_of(place))?;
+        let slot = self.slots.get(at)?;
         let number = turn.checked_mul(NUMBERS as usize)?;
-        let number = number.checked_add(self.slots.get(at)?.number as usize)?;
+        let number = number.checked_add(slot.number as usize)?;
         let block = *self.blocks.get(number)?;
-        Some(block as usize)
+        Some(Hint {
+            block: block as usize,
+            offset: slot.offset as usize,
+        })
     }
 
-    /// The place stands in the block with this number. Where no slot is free there is no hint.
-    pub fn put(&mut self, place: Place, number: u32) {
-        let number = (number % NUMBERS as u32) as u16;
-        let Place { space, page } = place;
-        if let Some(at) = self.slot_of(place) {
-            if let Some(slot) = self.slots.get_mut(at) {
-                slot.number = number;
-            }
-        } else {
-            self.set(Slot {
-                page,
-                space,
-                number,
-            });
+    /// The place stands in the block with this number, at this position. Where no slot is free there is no hint.
+    pub fn put(&mut self, place: Place, number: u32, offset: usize) {
+        let new = Slot {
+            key: key_of(place),
+            number: (number % NUMBERS as u32) as u16,
+            offset: (offset % 256) as u8,
+        };
+        match self.slot_of(new.key) {
+            Some(at) => self.put_slot(at, new),
+            None => self.set(new),
         }
     }
 
     /// Takes a slot for a place that has none.
     fn set(&mut self, slot: Slot) {
-        let Slot { page, space, .. } = slot;
-        let own = own_slot(Place { space, page });
+        let own = own_slot(slot.key);
         for step in 0..STEPS {
             let at = self.slot_at(own, step);
             if let Some(there) = self.slots.get_mut(at) {
@@ -137,7 +147,7 @@ impl Hints {
 
     /// The place stands nowhere.
     pub fn remove(&mut self, place: Place) {
-        let Some(from) = self.slot_of(place) else {
+        let Some(from) = self.slot_of(key_of(place)) else {
             return;
         };
         let mut gap = from;
@@ -150,8 +160,7 @@ impl Hints {
                 break;
             }
             // What is on the way from its own slot to this one may stand in the gap.
-            let Slot { page, space, .. } = slot;
-            let own = own_slot(Place { space, page });
+            let own = own_slot(slot.key);
             if self.slot_at(at, 0_usize.wrapping_sub(gap))
                 <= self.slot_at(at, 0_usize.wrapping_sub(own))
             {
@@ -169,13 +178,13 @@ impl Hints {
         }
     }
 
-    /// The slot of a place.
-    fn slot_of(&self, place: Place) -> Option<usize> {
-        let own = own_slot(place);
+    /// The slot of the place with this key.
+    fn slot_of(&self, key: u32) -> Option<usize> {
+        let own = own_slot(key);
         for step in 0..STEPS {
             let at = self.slot_at(own, step);
             let slot = self.slots.get(at)?;
-            if slot.has(place) {
+            if slot.has(key) {
                 return Some(at);
             }
             if slot.number == NUMBERS {
@@ -213,8 +222,13 @@ impl Hints {
     }
 }
 
-/// The slot of a place in so many slots that it can have any; of fewer, the slot is this one up to multiples of their number.
-fn own_slot(place: Place) -> usize {
-    let key = (place.space as u64) << 32 | place.page as u64;
-    (key.wrapping_mul(0x9e37_79b9_7f4a_7c15) >> 32) as usize
+/// A key for a place; two places have the same only where there are more than 4,096 spaces, or more than 2^20 pages of a space.
+fn key_of(place: Place) -> u32 {
+    (place.space as u32) << 20 ^ place.page
+}
+
+/// The slot of the place with this key in so many slots that it can have any; of fewer, the slot is this one up to multiples of
+/// their number.
+fn own_slot(key: u32) -> usize {
+    ((key as u64).wrapping_mul(0x9e37_79b9_7f4a_7c15) >> 32) as usize
 }

@@ -5,8 +5,6 @@ ghost use Rattle.maptree.specs.Cuts.{count_of, nodes_of};
 
 use crate::blocks::Blocks;
 use crate::cutting::{Cutting, joined};
-use crate::ends::ends_of;
-use crate::growing::grown;
 use crate::links::linked;
 use crate::node::Node;
 use crate::place_map::PlaceMap;
@@ -59,10 +57,9 @@ impl NodeList {
     ghost use Rattle.std.specs.List.{slice_range};
     ghost use Rattle.space.specs.Place.{same_place};
     ghost use Rattle.maptree.specs.declared.node.Node.{Node};
-    ghost use Rattle.maptree.specs.Nodes.{are_distinct, is_forest, origins_of, run_len, last_less, AreEnds};
+    ghost use Rattle.maptree.specs.Nodes.{are_distinct, is_forest, origins_of, run_len, last_less};
     ghost use Rattle.maptree.specs.Origins.{AreRising, AreOuterRuns};
     ghost use Rattle.maptree.specs.Cuts.{AreGaps, IsCutting, joined, nodes_of, outside, pieces_of};
-    ghost use Rattle.maptree.specs.Growing.{nodes_below};
     ghost use Rattle.maptree.specs.PlaceMaps.{place_for};
     ghost use Rattle.maptree.specs.Renamings.{nodes_renamed};
 
@@ -258,16 +255,6 @@ impl NodeList {
         }
     }
 
-    /// The position at which the run of each node ends, in one pass.
-    pub fn ends(&self, alloc: Global) -> Result<Vec<usize>, AllocError>
-        ensures { IfOk result (λ ends. AreEnds 0 self.now.nodes ends.items) }
-    {
-        match &self.form {
-            Form::Few(nodes) => ends_of(alloc, nodes),
-            Form::Many(blocks) => ends_of(alloc, &blocks.flat(alloc, blocks.len())?),
-        }
-    }
-
     /// The outermost runs of the nodes whose place is in the set, in one pass.
     pub fn outermost(
         &self,
@@ -281,25 +268,6 @@ impl NodeList {
             Form::Few(nodes) => outermost(nodes, alloc, named),
             Form::Many(blocks) => outermost(&blocks.flat(alloc, blocks.len())?, alloc, named),
         }
-    }
-
-    /// Puts new places below others, each right behind its place and one deeper, in one pass.
-    pub fn grow(&mut self, alloc: Global, new: &PlaceMap) -> Result<(), AllocError>
-        requires { is_forest self.old.nodes ≡ true }
-        ensures nodes { OnOk result (self.new.nodes ≡ nodes_below (place_for new.now) self.old.nodes) }
-        ensures err { OnErr result (self.new ≡ self.old) }
-    {
-        let all = match &self.form {
-            Form::Few(nodes) => grown(alloc, nodes, nodes.capacity(), new)?,
-            Form::Many(blocks) => grown(
-                alloc,
-                &blocks.flat(alloc, blocks.len())?,
-                blocks.len(),
-                new,
-            )?,
-        };
-        *self = NodeList::of(alloc, all, 0)?;
-        Ok(())
     }
 
     /// Takes ranges out, in parts of at most so many nodes: behind how many of the nodes that are left each part stood,

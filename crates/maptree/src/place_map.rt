@@ -22,7 +22,7 @@ impl Model for PlaceMap {
 }
 
 impl PlaceMap {
-    ghost use Rattle.std.specs.Prelude.{◌≡◌, ◌≤◌, OnOk, None, Some, if◌then◌else◌};
+    ghost use Rattle.std.specs.Prelude.{◌≡◌, ◌≤◌, OnOk, OnErr, None, Some, if◌then◌else◌};
     ghost use Rattle.space.specs.declared.place.Place.{Place};
     ghost use Rattle.space.specs.Place.{same_place};
     ghost use Rattle.maptree.specs.PlaceMaps.{place_for};
@@ -48,6 +48,7 @@ impl PlaceMap {
         ensures space { self.new.space ≡ self.old.space }
         ensures first { self.new.first ≡ self.old.first }
         ensures put { OnOk result ((p : Place) → place_for self.new p ≡ (if same_place p key then Some place else place_for self.old p)) }
+        ensures err { OnErr result (self.new ≡ self.old) }
     {
         let at = (key.page - self.first) as usize;
         if self.places.len() <= at {

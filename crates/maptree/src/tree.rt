@@ -18,7 +18,7 @@ use std::ops::Range;
 
 /// Places are searched for one by one where the tree has so many nodes for each of them; where it has fewer, one pass over the
 /// tree serves them all.
-const SEARCHED: usize = 16;
+const SEARCHED: usize = 3;
 
 /// The derivation tree of one frame.
 ///
@@ -52,9 +52,8 @@ impl Tree {
     ghost use Rattle.space.specs.Place.{same_place};
     ghost use Rattle.std.specs.Prelude.{filter, map};
     ghost use Rattle.std.specs.List.{All, slice_range};
-    ghost use Rattle.maptree.specs.Origins.{are_once, OriginsStand, origin_in, place_at, renamed, LeadsTo, HasDepth, IsRun, AreRising, AreOuterRuns, AreRunEnds};
+    ghost use Rattle.maptree.specs.Origins.{are_once, OriginsStand, origin_in, place_at, renamed, LeadsTo, HasDepth, IsRun, AreRising, AreOuterRuns, IsOriginAt};
     ghost use Rattle.maptree.specs.PlaceMaps.{place_for};
-    ghost use Rattle.maptree.specs.Growing.{with_below, AreApart};
     ghost use Rattle.maptree.specs.Renamings.{all_renamed, StayApart};
     ghost use Rattle.maptree.specs.Cuts.{outside, nodes_of, ArePartsOf, IsCut, AreKept};
 
@@ -76,6 +75,13 @@ impl Tree {
     {
         self.nodes.reserve(n)?;
         Ok(())
+    }
+
+    /// How many places it has.
+    pub fn len(&self) -> usize
+        ensures { result ≡ length self.now.links }
+    {
+        self.nodes.len()
     }
 
     /// The position of a place, if it is in the tree.
@@ -109,14 +115,6 @@ impl Tree {
         i..i + 1 + derived
     }
 
-    /// The position at which the run of each node ends, in one pass.
-    pub fn ends(&self, alloc: Global) -> Result<Vec<usize>, NoMemory>
-        ensures { IfOk result (λ ends. AreRunEnds self.now.links ends.items) }
-    {
-        let ends = self.nodes.ends(alloc)?;
-        Ok(ends)
-    }
-
     /// The position of the origin of a node; none for a root.
     pub fn origin_of(&self, i: usize) -> Option<usize>
         requires { i < length self.now.links }
@@ -126,6 +124,15 @@ impl Tree {
     {
         let depth = self.nodes.get(i).depth;
         self.nodes.last_above(i, depth)
+    }
+
+    /// The place from which the node at a position derives; none for a root.
+    pub fn place_of_origin(&self, i: usize) -> Option<Place>
+        requires { i < length self.now.links }
+        ensures { IsOriginAt self.now.links i result }
+    {
+        let origin = self.origin_of(i)?;
+        Some(self.node(origin).place)
     }
 
     /// Whether a node is an origin of another, at any distance.
@@ -274,20 +281,6 @@ impl Tree {
     {
         let depth = self.nodes.get(i).depth + 1;
         self.nodes.insert(i + 1, Node { place, depth });
-    }
-
-    /// Puts new places below places of the tree, each directly behind its place and one deeper, in one pass. Those whose
-    /// place is not in the tree are passed over.
-    ///
-    /// Refused, where memory is: `NoMemory`. Then the tree is as it was.
-    pub fn insert_all_below(&mut self, alloc: Global, new: &PlaceMap) -> Result<(), NoMemory>
-        requires absent { (p q : Place) → place_for new.now p ≡ Some q → position (λ o. same_place q o.0) self.old.links ≡ None }
-        requires apart { AreApart (place_for new.now) }
-        ensures links { OnOk result (self.new.links ≡ with_below (place_for new.now) self.old.links) }
-        ensures err { OnErr result (self.new ≡ self.old) }
-    {
-        self.nodes.grow(alloc, new)?;
-        Ok(())
     }
 }
 

@@ -8,8 +8,8 @@ mod large;
 mod lists;
 mod many;
 
-use lists::{assert_runs, places_of, tree_of};
-use maptree::{Node, PlaceMap, Tree};
+use lists::{assert_runs, assert_tree, place_of, places_of, tree_of};
+use maptree::{PlaceMap, Tree};
 use space::{NoMemory, Place};
 use std::alloc::Global;
 use std::process::Abort;
@@ -57,78 +57,93 @@ fn sample(rt: &impl Abort, alloc: Global) -> Result<Tree, NoMemory>
     Ok(tree)
 }
 
-/// A place stands at a position, with so many origins.
-fn stands(rt: &impl Abort, tree: &Tree, i: usize, place: Place, depth: usize) {
-    let at = position(rt, tree, place);
-    assert_eq!(rt; at, i);
-    assert_eq!(rt; tree.node(at), Node { place, depth });
-}
-
 #[test]
 fn stands_in_preorder(rt: HostRuntime) -> Result<(), Fail> {
     let tree = sample(&rt, rt.alloc())?;
-    stands(&rt, &tree, 0, place(0, 5), 0);
-    stands(&rt, &tree, 1, place(1, 0), 1);
-    stands(&rt, &tree, 2, place(2, 0), 2);
-    stands(&rt, &tree, 3, place(1, 3), 3);
-    stands(&rt, &tree, 4, place(2, 4), 1);
-    assert_eq!(rt; tree.find(place(2, 5)), None);
+    assert_tree(&rt, &tree, "0:5/0 1:0/1 2:0/2 1:3/3 2:4/1", "2:5/0");
     Ok(())
+}
+
+/// The run of a place, and the position of its origin.
+fn has_run_and_origin(rt: &impl Abort, tree: &Tree, place: &str, run: &str, origin: Option<usize>) {
+    let at = position(rt, tree, place_of(rt, place));
+    assert_runs(rt, &[tree.run_of(at)], run);
+    assert_eq!(rt; tree.origin_of(at), origin, "{place}");
 }
 
 #[test]
 fn has_runs_and_origins(rt: HostRuntime) -> Result<(), Fail> {
     let tree = sample(&rt, rt.alloc())?;
-    for ((space, page), run, origin) in [
-        ((0, 5), 0..5, None),
-        ((1, 0), 1..4, Some(0)),
-        ((2, 0), 2..4, Some(1)),
-        ((1, 3), 3..4, Some(2)),
-        ((2, 4), 4..5, Some(0)),
+    for (place, run, origin) in [
+        ("0:5", "0..5", None),
+        ("1:0", "1..4", Some(0)),
+        ("2:0", "2..4", Some(1)),
+        ("1:3", "3..4", Some(2)),
+        ("2:4", "4..5", Some(0)),
     ] {
-        let at = position(&rt, &tree, place(space, page));
-        assert_eq!(rt; tree.run_of(at), run);
-        assert_eq!(rt; tree.origin_of(at), origin);
+        has_run_and_origin(&rt, &tree, place, run, origin);
     }
     Ok(())
 }
 
-#[test]
-fn has_the_ends_of_all_runs(rt: HostRuntime) -> Result<(), Fail> {
-    let tree = sample(&rt, rt.alloc())?;
-    let ends = tree.ends(rt.alloc())?;
-    assert_eq!(rt; ends.as_slice(), [5, 4, 4, 4, 5].as_slice());
+/// The two places that a text names, as `1:0<0:5`, or the one that it names.
+fn link_of(rt: &impl Abort, text: &str) -> (Place, Option<Place>) {
+    match text.split_once('<') {
+        Some((place, origin)) => (place_of(rt, place), Some(place_of(rt, origin))),
+        None => (place_of(rt, text), None),
+    }
+}
+
+/// The places with their origins are those that a text lists.
+fn are_links(rt: &impl Abort, links: &[(Place, Option<Place>)], list: &str) {
+    let mut wanted = list.split_whitespace();
+    for link in links {
+        let Some(text) = wanted.next() else {
+            panic!(rt; "more places than {list}");
+        };
+        let (place, origin) = link_of(rt, text);
+        assert!(rt; link.0 == place && link.1 == origin, "{text} in {list}");
+    }
+    assert!(rt; wanted.next().is_none(), "fewer places than {list}");
+}
+
+/// The tree has the places with their origins that a text lists, in this order.
+fn has_links(rt: &impl Abort, alloc: Global, tree: &Tree, list: &str) -> Result<(), NoMemory> {
+    let links = tree.links(alloc)?;
+    are_links(rt, &links, list);
     Ok(())
 }
 
 #[test]
 fn lists_its_places_with_their_origins(rt: HostRuntime) -> Result<(), Fail> {
     let tree = sample(&rt, rt.alloc())?;
-    let links = tree.links(rt.alloc())?;
-    let expected = [
-        (place(0, 5), None),
-        (place(1, 0), Some(place(0, 5))),
-        (place(2, 0), Some(place(1, 0))),
-        (place(1, 3), Some(place(2, 0))),
-        (place(2, 4), Some(place(0, 5))),
-    ];
-    assert_eq!(rt; links.as_slice(), expected.as_slice());
+    has_links(
+        &rt,
+        rt.alloc(),
+        &tree,
+        "0:5 1:0<0:5 2:0<1:0 1:3<2:0 2:4<0:5",
+    )?;
     Ok(())
+}
+
+/// Whether a place derives from 1:0.
+fn derives(rt: &impl Abort, tree: &Tree, place: &str, wanted: bool) {
+    let middle = position(rt, tree, Place { space: 1, page: 0 });
+    let at = position(rt, tree, place_of(rt, place));
+    assert_eq!(rt; tree.is_origin(middle, at), wanted, "{place}");
 }
 
 #[test]
 fn tells_origins_at_any_distance(rt: HostRuntime) -> Result<(), Fail> {
     let tree = sample(&rt, rt.alloc())?;
-    let middle = position(&rt, &tree, place(1, 0));
-    for ((space, page), derives) in [
-        ((0, 5), false),
-        ((1, 0), false),
-        ((2, 0), true),
-        ((1, 3), true),
-        ((2, 4), false),
+    for (place, wanted) in [
+        ("0:5", false),
+        ("1:0", false),
+        ("2:0", true),
+        ("1:3", true),
+        ("2:4", false),
     ] {
-        let at = position(&rt, &tree, place(space, page));
-        assert_eq!(rt; tree.is_origin(middle, at), derives);
+        derives(&rt, &tree, place, wanted);
     }
     Ok(())
 }
@@ -148,30 +163,34 @@ fn have_runs(
 
 #[test]
 fn has_outer_runs(rt: HostRuntime) -> Result<(), Fail> {
-    let alloc = rt.alloc();
-    let tree = sample(&rt, alloc)?;
-    have_runs(&rt, alloc, &tree, "1:3 1:0", "1..4")?;
-    have_runs(&rt, alloc, &tree, "2:4 2:0", "2..4 4..5")?;
-    have_runs(&rt, alloc, &tree, "2:0 0:5 2:0", "0..5")?;
-    have_runs(&rt, alloc, &tree, "2:5 1:3", "3..4")?;
-    have_runs(&rt, alloc, &tree, "", "")?;
+    let tree = sample(&rt, rt.alloc())?;
+    for (named, runs) in [
+        ("1:3 1:0", "1..4"),
+        ("2:4 2:0", "2..4 4..5"),
+        ("2:0 0:5 2:0", "0..5"),
+        ("2:5 1:3", "3..4"),
+        ("", ""),
+    ] {
+        have_runs(&rt, rt.alloc(), &tree, named, runs)?;
+    }
     Ok(())
+}
+
+/// Gives the node at a place another place.
+fn rename(rt: &impl Abort, tree: &mut Tree, place: Place, other: Place) {
+    let at = position(rt, tree, place);
+    match tree.find(other) {
+        None => tree.rename(at, other),
+        Some(_) => panic!(rt; "{other} is in the tree"),
+    }
 }
 
 #[test]
 fn renames_one_node(rt: HostRuntime) -> Result<(), Fail> {
     let mut tree = sample(&rt, rt.alloc())?;
-    let at = position(&rt, &tree, place(1, 0));
-    let other = place(3, 7);
-    match tree.find(other) {
-        None => tree.rename(at, other),
-        Some(_) => panic!(rt; "{other} is in the tree"),
-    }
-    assert_eq!(rt; tree.find(place(1, 0)), None);
-    let at = position(&rt, &tree, other);
-    assert_eq!(rt; at, 1);
-    assert_eq!(rt; tree.node(at).depth, 1);
-    assert_eq!(rt; tree.run_of(at), 1..4);
+    rename(&rt, &mut tree, place(1, 0), place(3, 7));
+    assert_tree(&rt, &tree, "0:5/0 3:7/1 2:0/2 1:3/3 2:4/1", "1:0/1");
+    has_run_and_origin(&rt, &tree, "3:7", "1..4", Some(0));
     Ok(())
 }
 
@@ -191,33 +210,47 @@ fn assert_links(
     Ok(())
 }
 
+/// What a map says of some places: `0:9<3:2` where it has 3:2 for 0:9, and 0:4 where it has none for that.
+fn assert_map(rt: &impl Abort, map: &PlaceMap, list: &str) {
+    for text in list.split_whitespace() {
+        let (place, other) = link_of(rt, text);
+        assert_eq!(rt; map.get(place), other, "{text}");
+    }
+}
+
+/// A tree in which 0:5 and 0:7 got other places, and the map of those.
+fn renamed(rt: &impl Abort, alloc: Global) -> Result<(Tree, PlaceMap), NoMemory> {
+    let (mut tree, _) = tree_of(rt, alloc, "0:5/0 1:0/1 0:7/2 2:0/3 2:4/1")?;
+    let root = Place { space: 0, page: 5 };
+    let first = Place { space: 1, page: 0 };
+    let second = Place { space: 0, page: 7 };
+    let third = Place { space: 2, page: 0 };
+    let leaf = Place { space: 2, page: 4 };
+    let before = [
+        (root, None),
+        (first, Some(root)),
+        (second, Some(first)),
+        (third, Some(second)),
+        (leaf, Some(root)),
+    ];
+    assert_links(rt, alloc, &tree, &before)?;
+    let mut new = PlaceMap::none(alloc, 0, 5);
+    new.put(root, Place { space: 3, page: 1 })?;
+    new.put(second, root)?;
+    new.put(Place { space: 0, page: 9 }, Place { space: 3, page: 2 })?;
+    tree.rename_all(&new);
+    Ok((tree, new))
+}
+
 #[test]
 fn renames_many_nodes_at_once(rt: HostRuntime) -> Result<(), Fail> {
-    let (mut tree, _) = tree_of(&rt, rt.alloc(), "0:5/0 1:0/1 0:7/2 2:0/3 2:4/1")?;
-    let before = [
-        (place(0, 5), None),
-        (place(1, 0), Some(place(0, 5))),
-        (place(0, 7), Some(place(1, 0))),
-        (place(2, 0), Some(place(0, 7))),
-        (place(2, 4), Some(place(0, 5))),
-    ];
-    assert_links(&rt, rt.alloc(), &tree, &before)?;
-    let mut new = PlaceMap::none(rt.alloc(), 0, 5);
-    new.put(place(0, 5), place(3, 1))?;
-    new.put(place(0, 7), place(0, 5))?;
-    new.put(place(0, 9), place(3, 2))?;
-    tree.rename_all(&new);
-    let after = [
-        (place(3, 1), None),
-        (place(1, 0), Some(place(3, 1))),
-        (place(0, 5), Some(place(1, 0))),
-        (place(2, 0), Some(place(0, 5))),
-        (place(2, 4), Some(place(3, 1))),
-    ];
-    assert_links(&rt, rt.alloc(), &tree, &after)?;
-    for (page, renamed) in [(4, None), (6, None), (9, Some(place(3, 2))), (10, None)] {
-        assert_eq!(rt; new.get(place(0, page)), renamed);
-    }
-    assert_eq!(rt; new.get(place(1, 9)), None);
+    let (tree, new) = renamed(&rt, rt.alloc())?;
+    has_links(
+        &rt,
+        rt.alloc(),
+        &tree,
+        "3:1 1:0<3:1 0:5<1:0 2:0<0:5 2:4<3:1",
+    )?;
+    assert_map(&rt, &new, "0:4 0:6 0:9<3:2 0:10 1:9");
     Ok(())
 }

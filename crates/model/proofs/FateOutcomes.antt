@@ -22,7 +22,7 @@ use Rattle.model.proofs.LawfulParts.{IsLawful, lawful_parts}
 use Rattle.model.proofs.Derivations.{under_leads, leads_under}
 use Rattle.model.proofs.Flushes.{held_targets, flushed_kept}
 use Rattle.model.proofs.MapOutcomes.{below_replaced, replaced_gone}
-use Rattle.model.proofs.Jobs.{total_counts}
+use Rattle.model.proofs.Jobs.{total_add, total_counts}
 
 -- ---- the first line that fits
 
@@ -334,9 +334,6 @@ sends_join from to window (item ∷ items) others h =
     let rest = send_answer from to window others first.left in
     let join = sends_join from to window items others between in
     λ i. record { counts = (ap (λ x. add_counts (counts h job) x.counts) join ∙ sym (counts_assoc (counts h job) first.counts rest.counts)) i; left = (join i).left }
-
-total_add : (a b : Counts) → total (add_counts a b) ≡ total a + total b
-total_add a b = omega arith
 
 total_sent : (from to : ℕ) (window : Flexpage) (items : List Item) (h : Holdings) → total (send_answer from to window items h).counts ≡ length (pairs_of_items from to window items)
 total_sent from to window [] h = refl

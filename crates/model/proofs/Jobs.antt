@@ -212,7 +212,7 @@ total_one extends false = refl
 total_one goes true = refl
 total_one goes false = refl
 
-total_add : (a b : Counts) → total (add_counts a b) ≡ total a + total b
+pub total_add : (a b : Counts) → total (add_counts a b) ≡ total a + total b
 total_add a b = omega arith
 
 total_from : (h flushed : Holdings) (job : Job) (es : List Pair) → total (counts_from h flushed job es) ≡ length es

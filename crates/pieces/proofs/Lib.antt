@@ -13,3 +13,4 @@ pub mod Keeping
 pub mod NamedWords
 pub mod OfOneKind
 pub mod ReadyTests
+pub mod StepWords

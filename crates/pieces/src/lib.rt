@@ -2,6 +2,7 @@
 //! made; and what the pieces found out, gathered.
 #![tactic(auto)]
 
+mod changes;
 mod cutting;
 mod distinct;
 mod done;
@@ -10,6 +11,7 @@ mod laws;
 mod link;
 mod masks;
 mod moving;
+mod nodes;
 mod piece;
 mod readiness;
 pub mod steps;
@@ -17,6 +19,7 @@ mod strip;
 mod touch;
 mod worked;
 
+pub use changes::{changed_indexes, changed_words};
 pub use cutting::{links, moves, touches};
 pub use distinct::are_distinct;
 pub use done::Done;
@@ -25,6 +28,7 @@ pub use laws::{gathered_values, pieces_in_turn, steps_apart, words_after_steps, 
 pub use link::{Link, Store};
 pub use masks::Masks;
 pub use moving::{Move, Pair};
+pub use nodes::move_node;
 pub use piece::{Piece, are_pieces};
 pub use readiness::can_be_worked;
 pub use strip::Strip;

@@ -1,20 +1,18 @@
 //! A test of all that is asked of words and pieces that are worked beside one another.
 
-ghost use Rattle.std.specs.Prelude.{◌≡◌, ◌↔◌, ◌++◌, ◌&&◌, nat_lt, true, not, length, is_some, IfOk, OnOk};
+ghost use Rattle.std.specs.Prelude.{◌≡◌, ◌↔◌, ◌&&◌, nat_lt, true, not, length, is_some, IfOk};
 ghost use Rattle.std.specs.List.{flat_map, list_all, list_any};
 ghost use Rattle.std.specs.Ordering.{nat_cmp, is_eq};
 ghost use Rattle.space.specs.Word.{is_pack};
-ghost use Rattle.pieces.specs.Contents.{puts_of, ends_of};
 ghost use Rattle.pieces.specs.Steps.{entry_in};
 ghost use Rattle.pieces.specs.Phases.{changes, folds, held, named, is_touch, are_alike, CanBeWorked};
 ghost use Rattle.pieces.specs.Readiness.{words_suit, are_apart};
 
+use crate::changes::changed_indexes;
 use crate::distinct::distinct_set;
-use crate::link::Link;
-use crate::moving::Move;
 use crate::piece::Piece;
 use space::NoMemory;
-use std::alloc::{AllocError, Global};
+use std::alloc::Global;
 use std::collections::BTreeSet;
 
 /// Whether pieces can be worked beside one another on some words, in any order of steps. Words and pieces that pass may be given
@@ -159,7 +157,7 @@ fn is_held(words: &[u64], index: usize) -> bool
 fn are_apart(alloc: Global, pieces: &[Piece]) -> Result<bool, NoMemory>
     ensures { IfOk result (λ apart. apart ≡ are_apart pieces.now) }
 {
-    let changed = changed_indexes(alloc, pieces)?;
+    let changed = changed_indexes(alloc, pieces, 0)?;
     match distinct_set(alloc, &changed)? {
         None => Ok(false),
         Some(changed) => Ok(pieces.iter().all(|piece| spares(piece, &changed))),
@@ -176,41 +174,4 @@ fn spares(piece: &Piece, changed: &BTreeSet<usize>) -> bool
         Piece::Move(_) => true,
         Piece::Touch(_) => true,
     }
-}
-
-/// The indexes that pieces narrow, put or take, in their order.
-fn changed_indexes(alloc: Global, pieces: &[Piece]) -> Result<Vec<usize>, AllocError>
-    ensures { IfOk result (λ indexes. indexes.items ≡ flat_map changes pieces.now) }
-{
-    let mut indexes = Vec::new(alloc);
-    for piece in pieces {
-        match piece {
-            Piece::Strip(strip) => indexes.extend_from_slice(strip.indexes())?,
-            Piece::Link(link) => push_puts(&mut indexes, link)?,
-            Piece::Move(pairs) => push_ends(&mut indexes, pairs)?,
-            Piece::Touch(_) => {}
-        }
-    }
-    Ok(indexes)
-}
-
-/// Adds the indexes of the words that are put.
-fn push_puts(indexes: &mut Vec<usize>, link: &Link) -> Result<(), AllocError>
-    ensures { OnOk result (indexes.new.items ≡ indexes.old.items ++ puts_of link.now) }
-{
-    for store in link.stores() {
-        indexes.push(store.put)?;
-    }
-    Ok(())
-}
-
-/// Adds the indexes of the words that are taken, and of those that are put.
-fn push_ends(indexes: &mut Vec<usize>, pairs: &Move) -> Result<(), AllocError>
-    ensures { OnOk result (indexes.new.items ≡ indexes.old.items ++ ends_of pairs.now) }
-{
-    for pair in pairs.pairs() {
-        indexes.push(pair.taken)?;
-        indexes.push(pair.put)?;
-    }
-    Ok(())
 }

@@ -1,8 +1,8 @@
 //! What steps make of one entry word.
 
-ghost use Rattle.std.specs.Prelude.{◌≡◌, ◌<◌, ◌^◌, true, false, is_some};
+ghost use Rattle.std.specs.Prelude.{◌≡◌, ◌<◌, ◌%◌, ◌^◌, true, false, is_some};
 ghost use Rattle.std.specs.Option.{option_map, option_map_or};
-ghost use Rattle.fpage.specs.Rights.{has};
+ghost use Rattle.fpage.specs.Rights.{has, number, of_bits, without};
 ghost use Rattle.space.specs.Word.{word_of, entry_of, is_pack, FrameFits};
 ghost use Rattle.space.specs.Entries.{status_of};
 ghost use Rattle.pieces.specs.Steps.{narrowed_by, linked, without_status, status_bits};
@@ -15,25 +15,19 @@ pub fn narrowed(word: u64, mask: Rights) -> u64
     requires { is_pack word ≡ true }
     ensures { result ≡ word_of (narrowed_by mask (entry_of word)) }
 {
-    pack(narrowed_entry(unpack(word), mask))
+    let left = rights_left(word, mask);
+    if left == 0 {
+        return 0;
+    }
+    // Rights and status are the six lowest bits, and the two above them are clear.
+    word - word % 64 + left
 }
 
-/// The same of an entry.
-fn narrowed_entry(entry: Option<Entry>, mask: Rights) -> Option<Entry>
-    requires { FrameFits entry }
-    ensures narrowed { result ≡ narrowed_by mask entry }
-    ensures fits { FrameFits result }
+/// The number of the rights of a word that are not withdrawn.
+fn rights_left(word: u64, mask: Rights) -> u64
+    ensures { result ≡ number (without (of_bits (word % 8)) mask) }
 {
-    let entry = entry?;
-    let rights = entry.rights.without(mask);
-    if rights.is_empty() {
-        return None;
-    }
-    Some(Entry {
-        rights,
-        status: Rights::none(),
-        ..entry
-    })
+    word % 8 & u64::from(7 - mask.number())
 }
 
 /// The word of a target once a source is mapped there with those of its rights that are let through.
@@ -67,25 +61,12 @@ fn linked_entry(target: Option<Entry>, source: Option<Entry>, through: Rights) -
     }
 }
 
-/// The word of a page that is moved.
+/// The word of a page that is moved: the status goes.
 pub fn moved(word: u64) -> u64
     requires { is_pack word ≡ true }
     ensures { result ≡ word_of (option_map without_status (entry_of word)) }
 {
-    pack(moved_entry(unpack(word)))
-}
-
-/// The same of an entry.
-fn moved_entry(entry: Option<Entry>) -> Option<Entry>
-    requires { FrameFits entry }
-    ensures moved { result ≡ option_map without_status entry }
-    ensures fits { FrameFits result }
-{
-    let entry = entry?;
-    Some(Entry {
-        status: Rights::none(),
-        ..entry
-    })
+    word - word % 64 + word % 8
 }
 
 /// The status of a word.
@@ -93,10 +74,7 @@ pub fn status(word: u64) -> Rights
     requires { is_pack word ≡ true }
     ensures { result ≡ status_of (entry_of word) }
 {
-    match unpack(word) {
-        None => Rights::none(),
-        Some(entry) => entry.status,
-    }
+    Rights::of_bits((word / 8 % 8) as u32)
 }
 
 /// Whether an access of a page with this word may be made.
@@ -104,10 +82,7 @@ pub fn permits(word: u64, access: Access) -> bool
     requires { is_pack word ≡ true }
     ensures { result ≡ option_map_or (λ e. has e.rights access) (entry_of word) false }
 {
-    match unpack(word) {
-        None => false,
-        Some(entry) => entry.rights.holds(access),
-    }
+    Rights::of_bits((word % 8) as u32).holds(access)
 }
 
 /// The bits of status in a word.
@@ -122,5 +97,5 @@ pub fn remains(word: u64, mask: Rights) -> bool
     requires { is_pack word ≡ true }
     ensures { result ≡ is_some (narrowed_by mask (entry_of word)) }
 {
-    narrowed_entry(unpack(word), mask).is_some()
+    rights_left(word, mask) != 0
 }

@@ -5,6 +5,7 @@ use maptree::{Node, Slice};
 use pieces::{Link, Move, Pair, Piece, Store, Strip, Touch, WordAccess, can_be_worked};
 use space::Place;
 use std::alloc::Global;
+use std::process::Abort;
 use std::test::Fail;
 
 /// A page with all rights.
@@ -82,6 +83,25 @@ fn both_can(alloc: Global, words: &[u64], first: Part, second: Part) -> Result<b
     Ok(can)
 }
 
+/// It is told of each two pieces whether they can be worked beside one another on three words, of which the second is of no
+/// held page.
+fn are_told(rt: &impl Abort, alloc: Global, table: &[(Part, Part, bool)]) -> Result<(), Fail> {
+    for (first, second, can) in table {
+        let found = both_can(alloc, &[HELD, 0, HELD], *first, *second)?;
+        assert_eq!(rt; found, *can, "{first:?} beside {second:?}");
+    }
+    Ok(())
+}
+
+/// It is told of a word, first and last of three, whether pieces can be worked on them.
+fn is_told(rt: &impl Abort, alloc: Global, word: u64, can: bool) -> Result<(), Fail> {
+    for words in [[word, HELD, 0], [HELD, 0, word]] {
+        let found = both_can(alloc, &words, Part::Touch(0), Part::Touch(1))?;
+        assert_eq!(rt; found, can, "{word}");
+    }
+    Ok(())
+}
+
 #[test]
 fn words_are_there_and_stand_for_entries(rt: HostRuntime) -> Result<(), Fail> {
     let alloc = rt.alloc();
@@ -99,10 +119,7 @@ fn words_are_there_and_stand_for_entries(rt: HostRuntime) -> Result<(), Fail> {
         (0x8000_0001_0000_0507, false),
         (u64::MAX, false),
     ] {
-        for words in [[word, HELD, 0], [HELD, 0, word]] {
-            let found = both_can(alloc, &words, Part::Touch(0), Part::Touch(1))?;
-            assert_eq!(rt; found, can, "{word}");
-        }
+        is_told(&rt, alloc, word, can)?;
     }
     assert!(rt; !can_be_worked(alloc, &[], &[])?);
     assert!(rt; can_be_worked(alloc, &[0], &[])?);
@@ -111,8 +128,7 @@ fn words_are_there_and_stand_for_entries(rt: HostRuntime) -> Result<(), Fail> {
 
 #[test]
 fn named_words_are_there(rt: HostRuntime) -> Result<(), Fail> {
-    let alloc = rt.alloc();
-    for (first, second, can) in [
+    let table = [
         (Part::Strip(2, None), Part::Link(0, 1), true),
         (Part::Strip(3, None), Part::Nothing, false),
         (Part::Nothing, Part::Strip(2, Some(3)), false),
@@ -123,17 +139,13 @@ fn named_words_are_there(rt: HostRuntime) -> Result<(), Fail> {
         (Part::Touch(2), Part::Touch(0), true),
         (Part::Touch(2), Part::Touch(3), false),
         (Part::Touch(usize::MAX), Part::Touch(0), false),
-    ] {
-        let found = both_can(alloc, &[HELD, 0, HELD], first, second)?;
-        assert_eq!(rt; found, can, "{first:?} beside {second:?}");
-    }
-    Ok(())
+    ];
+    are_told(&rt, rt.alloc(), &table)
 }
 
 #[test]
 fn pages_are_held_where_one_is_needed(rt: HostRuntime) -> Result<(), Fail> {
-    let alloc = rt.alloc();
-    for (first, second, can) in [
+    let table = [
         (Part::Strip(1, None), Part::Link(0, 2), true),
         (Part::Strip(2, Some(0)), Part::Nothing, true),
         (Part::Strip(2, Some(1)), Part::Nothing, false),
@@ -141,17 +153,13 @@ fn pages_are_held_where_one_is_needed(rt: HostRuntime) -> Result<(), Fail> {
         (Part::Move(0, 1), Part::Nothing, true),
         (Part::Nothing, Part::Move(1, 2), false),
         (Part::Touch(1), Part::Touch(1), true),
-    ] {
-        let found = both_can(alloc, &[HELD, 0, HELD], first, second)?;
-        assert_eq!(rt; found, can, "{first:?} beside {second:?}");
-    }
-    Ok(())
+    ];
+    are_told(&rt, rt.alloc(), &table)
 }
 
 #[test]
 fn each_word_changes_under_one_step(rt: HostRuntime) -> Result<(), Fail> {
-    let alloc = rt.alloc();
-    for (first, second, can) in [
+    let table = [
         (Part::Strip(1, None), Part::Strip(2, None), true),
         (Part::Strip(2, None), Part::Strip(2, None), false),
         (Part::Strip(2, None), Part::Link(0, 2), false),
@@ -163,17 +171,13 @@ fn each_word_changes_under_one_step(rt: HostRuntime) -> Result<(), Fail> {
         (Part::Link(0, 1), Part::Link(0, 2), true),
         (Part::Link(2, 1), Part::Link(0, 2), true),
         (Part::Link(0, 0), Part::Strip(1, None), true),
-    ] {
-        let found = both_can(alloc, &[HELD, 0, HELD], first, second)?;
-        assert_eq!(rt; found, can, "{first:?} beside {second:?}");
-    }
-    Ok(())
+    ];
+    are_told(&rt, rt.alloc(), &table)
 }
 
 #[test]
 fn no_fold_word_changes(rt: HostRuntime) -> Result<(), Fail> {
-    let alloc = rt.alloc();
-    for (first, second, can) in [
+    let table = [
         (Part::Strip(1, Some(0)), Part::Strip(2, Some(0)), true),
         (Part::Strip(1, Some(0)), Part::Link(0, 2), true),
         (Part::Strip(1, Some(2)), Part::Strip(2, Some(0)), false),
@@ -181,17 +185,13 @@ fn no_fold_word_changes(rt: HostRuntime) -> Result<(), Fail> {
         (Part::Strip(2, Some(0)), Part::Link(2, 0), false),
         (Part::Link(2, 0), Part::Strip(2, Some(0)), false),
         (Part::Strip(2, Some(0)), Part::Move(0, 1), false),
-    ] {
-        let found = both_can(alloc, &[HELD, 0, HELD], first, second)?;
-        assert_eq!(rt; found, can, "{first:?} beside {second:?}");
-    }
-    Ok(())
+    ];
+    are_told(&rt, rt.alloc(), &table)
 }
 
 #[test]
 fn touches_are_beside_touches_alone(rt: HostRuntime) -> Result<(), Fail> {
-    let alloc = rt.alloc();
-    for (first, second, can) in [
+    let table = [
         (Part::Touch(0), Part::Touch(2), true),
         (Part::Touch(0), Part::Strip(2, None), false),
         (Part::Strip(2, None), Part::Touch(0), false),
@@ -199,9 +199,6 @@ fn touches_are_beside_touches_alone(rt: HostRuntime) -> Result<(), Fail> {
         (Part::Move(0, 1), Part::Touch(2), false),
         (Part::Touch(0), Part::Nothing, false),
         (Part::Nothing, Part::Nothing, true),
-    ] {
-        let found = both_can(alloc, &[HELD, 0, HELD], first, second)?;
-        assert_eq!(rt; found, can, "{first:?} beside {second:?}");
-    }
-    Ok(())
+    ];
+    are_told(&rt, rt.alloc(), &table)
 }

@@ -10,6 +10,7 @@ use pieces::{
 };
 use space::{NoMemory, Place};
 use std::alloc::{AllocError, Global};
+use std::process::Abort;
 use std::snapshot::Snapshot;
 use std::test::Fail;
 
@@ -49,6 +50,19 @@ fn masks_spare_the_first_node_of_a_run(rt: HostRuntime) -> Result<(), Fail> {
     Ok(())
 }
 
+/// The touches have so many accesses, and there are no more than those that have any.
+fn have_lengths(rt: &impl Abort, pieces: &[Piece], lengths: &[usize]) {
+    let mut at = 0;
+    for piece in pieces {
+        if let Piece::Touch(part) = piece {
+            assert_eq!(rt; lengths.get(at).copied(), Some(part.len()));
+            at = at.wrapping_add(1);
+        }
+    }
+    assert_eq!(rt; at, pieces.len());
+    assert_eq!(rt; lengths.get(at).copied().unwrap_or(0), 0);
+}
+
 #[test]
 fn cuts_lists_in_their_order(rt: HostRuntime) -> Result<(), Fail> {
     let alloc = rt.alloc();
@@ -60,15 +74,7 @@ fn cuts_lists_in_their_order(rt: HostRuntime) -> Result<(), Fail> {
     ] {
         let list = vec![in alloc; touch(0), touch(1), touch(0)]?;
         let pieces = touches(alloc, list, most)?;
-        let mut at = 0;
-        for piece in &pieces {
-            if let Piece::Touch(part) = piece {
-                assert_eq!(rt; lengths.get(at).copied(), Some(part.len()));
-                at = at.wrapping_add(1);
-            }
-        }
-        assert_eq!(rt; at, pieces.len());
-        assert_eq!(rt; lengths.get(at).copied().unwrap_or(0), 0);
+        have_lengths(&rt, &pieces, &lengths);
     }
     let none = touches(alloc, Vec::new(alloc), 1)?;
     assert!(rt; none.is_empty());
@@ -129,6 +135,14 @@ fn gathers_by_number(rt: HostRuntime) -> Result<(), Fail> {
     Ok(())
 }
 
+/// The results have these numbers, in this order.
+fn are_numbered(rt: &impl Abort, dones: &[Done], numbers: &[usize]) {
+    assert_eq!(rt; dones.len(), numbers.len());
+    for (done, number) in dones.iter().zip(numbers) {
+        assert_eq!(rt; done.number(), *number);
+    }
+}
+
 #[test]
 fn tells_why_nothing_is_gathered(rt: HostRuntime) -> Result<(), Fail> {
     let alloc = rt.alloc();
@@ -144,10 +158,7 @@ fn tells_why_nothing_is_gathered(rt: HostRuntime) -> Result<(), Fail> {
             Ok(_) => panic!(rt; "a fault was passed over"),
             Err(error) => {
                 assert_eq!(rt; error.fault, fault);
-                assert_eq!(rt; error.given.len(), 2);
-                for (done, number) in error.given.iter().zip(&numbers) {
-                    assert_eq!(rt; done.number(), *number);
-                }
+                are_numbered(&rt, &error.given, &numbers);
             }
         }
     }

@@ -1,19 +1,43 @@
--- The first of some records are answered.
-use Rattle.std.proofs.Common.{◌≡◌, ℕ, suc, ◌+◌, ◌-◌, ◌<◌, ◌≤◌, get_or, List, [], ◌∷◌, ◌++◌, take, drop, drop-cons, map, length, refl, sym, ap, ◌∙◌, arith, append_assoc, Result, Ok, Err, OnOk, IfOk}
-use Rattle.std.proofs.lemmas.List.{length-append, length-drop, length-map, take_all, take_more, take-append-le, map-append}
+-- The next records of a trace are answered.
+use Rattle.std.proofs.Common.{◌≡◌, ℕ, zero, suc, ◌+◌, ◌-◌, ◌<◌, ◌≤◌, List, [], ◌∷◌, ◌++◌, take, drop, map, length, Some, Ok, Err, refl, sym, ap, ◌∙◌, arith, append_assoc, Bool}
+use Rattle.std.proofs.lemmas.List.{length-append, length-map, take_all, take-append-le, map-append, drop-drop}
 use Rattle.fpage.specs.declared.rights.Access.{Access}
 use Rattle.space.specs.declared.place.Place.{Place}
 use Rattle.model.specs.Holdings.{Holdings}
 use Rattle.model.specs.Touch.{touch}
-use Rattle.model.specs.Calls.{Limits, Reply, accessed, Request}
+use Rattle.model.specs.Calls.{Limits, Reply, accessed, Request, send, access, unmap}
 use Rattle.model.specs.Answers.{answer}
-use Rattle.model.specs.Replay.{Told, replay}
+use Rattle.model.specs.Replay.{replay}
 use Rattle.model.specs.Records.{Fields, request}
 use Rattle.holdings.specs.Contents.{access_answers, touched_all}
-use Rattle.mapdb.specs.State.{State, left_with}
-use Rattle.trace.specs.Meaning.{reply_of}
-use Rattle.trace.specs.declared.reply.Reply.{Reply as TheReply}
-use Rattle.replay.specs.Run.{told_of, asked, AreAsked}
+use Rattle.trace.specs.Unread.{Unread, past, first_request, access_in}
+use Rattle.replay.specs.Run.{told_of, told_behind, asked, AreAsked}
+
+-- ---- a trace, some records later
+
+pub past_none : (u : Unread) → past 0 u ≡ u
+past_none u = let sum : u.number + 0 ≡ u.number = omega arith in λ i. record { limits = u.limits; number = sum i; records = u.records }
+
+pub past_past : (n m : ℕ) (u : Unread) → past m (past n u) ≡ past (n + m) u
+past_past n m u = let sum : u.number + n + m ≡ u.number + (n + m) = omega arith in λ i. record { limits = u.limits; number = sum i; records = drop-drop m n u.records i }
+
+-- ---- the accesses that come next
+
+-- the first of these records asks for this access
+record AsksFirst (limits : Limits) (rows : List Fields) (a : Place × Access) : Type 0 where
+  pub fields : Fields
+  pub rows_are : rows ≡ fields ∷ drop 1 rows
+  pub asks : request limits fields ≡ asked a
+
+as_asked : (r : Request) (a : Place × Access) → Some a ≡ access_in (Some r) → r ≡ asked a
+as_asked (Err e) a is = cc
+as_asked (Ok (send from to window items)) a is = cc
+as_asked (Ok (access place kind)) a is = cc
+as_asked (Ok (unmap space flush words)) a is = cc
+
+asks_first : (limits : Limits) (rows : List Fields) (a : Place × Access) → Some a ≡ access_in (first_request limits rows) → AsksFirst limits rows a
+asks_first limits [] a is = cc
+asks_first limits (f ∷ rows) a is = record { fields = f; rows_are = refl; asks = as_asked (request limits f) a is }
 
 -- the records before those that are left asked for the accesses behind the first
 pub record AskedSoFar (limits : Limits) (first : Place × Access) (rows left : List Fields) (accesses : List (Place × Access)) : Type 0 where
@@ -26,27 +50,16 @@ pub record AskedSoFar (limits : Limits) (first : Place × Access) (rows left : L
 pub asked_start : (limits : Limits) (first : Place × Access) (rows : List Fields) (accesses : List (Place × Access)) → accesses ≡ first ∷ [] → AskedSoFar limits first rows rows accesses
 asked_start limits first rows accesses are = record { done = []; others = []; are = are; rows_are = refl; requests = refl }
 
--- the first of some records, and those behind it
-record IsSplit (rows : List Fields) (f : Fields) : Type 0 where
-  pub whole : rows ≡ f ∷ drop 1 rows
-  pub others : take (length rows - 1) (drop 1 rows) ≡ drop 1 rows
-
-split : (rows : List Fields) (f : Fields) → 1 ≤ length rows → f ≡ get_or rows 0 f → IsSplit rows f
-split rows f some is =
-    let rest = drop 1 rows in
-    let fewer = length-drop 1 rows in
-    record { whole = drop-cons rows 0 f some ∙ ap (λ x. x ∷ rest) (sym is); others = take_all (length rows - 1) rest (omega (arith, fewer)) }
-
-pub asked_more : {limits : Limits} {first : Place × Access} {rows left : List Fields} {accesses : List (Place × Access)} → AskedSoFar limits first rows left accesses → (f : Fields) → 1 ≤ length left → f ≡ get_or left 0 f
-    → (a : Place × Access) → asked a ≡ request limits f → (more : List (Place × Access)) → more ≡ accesses ++ a ∷ [] → AskedSoFar limits first rows (take (length left - 1) (drop 1 left)) more
-asked_more {limits} {first} {rows} {left} s f some is a asks more are =
-    let parts = split left f some is in
+pub asked_more : {limits : Limits} {first : Place × Access} {rows left : List Fields} {accesses : List (Place × Access)} → AskedSoFar limits first rows left accesses
+    → (a : Place × Access) → Some a ≡ access_in (first_request limits left) → (more : List (Place × Access)) → more ≡ accesses ++ a ∷ [] → AskedSoFar limits first rows (drop 1 left) more
+asked_more {limits} {first} {rows} {left} s a is more are =
+    let next = asks_first limits left a is in
     record {
-      done = s.done ++ f ∷ [];
+      done = s.done ++ next.fields ∷ [];
       others = s.others ++ a ∷ [];
       are = are ∙ rw s.are refl;
-      rows_are = s.rows_are ∙ ap (λ l. s.done ++ l) parts.whole ∙ sym (append_assoc s.done (f ∷ []) (drop 1 left)) ∙ ap (λ l. (s.done ++ f ∷ []) ++ l) (sym parts.others);
-      requests = map-append (request limits) s.done (f ∷ []) ∙ rw (s.requests, ← asks) (sym (map-append asked s.others (a ∷ [])));
+      rows_are = s.rows_are ∙ ap (λ l. s.done ++ l) next.rows_are ∙ sym (append_assoc s.done (next.fields ∷ []) (drop 1 left));
+      requests = map-append (request limits) s.done (next.fields ∷ []) ∙ rw (s.requests, next.asks) (sym (map-append asked s.others (a ∷ [])));
     }
 
 pub asked_end : {limits : Limits} {first : Place × Access} {rows left : List Fields} {accesses : List (Place × Access)} → AskedSoFar limits first rows left accesses → AreAsked limits first rows accesses
@@ -55,6 +68,15 @@ asked_end {limits} {first} {rows} {left} s =
     let k : length rows ≡ length s.done + length left = ap length s.rows_are ∙ length-append s.done left in
     let front : take (length s.others) rows ≡ s.done = rw (s.rows_are, n) (take-append-le (length s.done) s.done left (omega arith) ∙ take_all (length s.done) s.done (omega arith)) in
     record { others = s.others; are = s.are; within = omega (arith, n, k); requests = ap (map (request limits)) front ∙ s.requests }
+
+-- the trace is as much later as there are accesses behind the first
+pub asked_past : (u now : Unread) (accesses more : List (Place × Access)) (a : Place × Access) → 0 < length accesses → now ≡ past (length accesses - 1) u → more ≡ accesses ++ a ∷ [] → past 1 now ≡ past (length more - 1) u
+asked_past u now accesses more a some is are =
+    let n : length more ≡ length accesses + 1 = ap length are ∙ length-append accesses (a ∷ []) in
+    let sum : length accesses - 1 + 1 ≡ length more - 1 = omega (arith, n) in
+    ap (past 1) is ∙ past_past (length accesses - 1) 1 u ∙ ap (λ k. past k u) sum
+
+-- ---- answers
 
 -- accesses one after another
 accesses_told : (limits : Limits) (h : Holdings) (accesses : List (Place × Access)) → replay (answer limits) h (map asked accesses) ≡ record { replies = map accessed (access_answers h accesses); last = touched_all h accesses }
@@ -65,38 +87,39 @@ answers_count : (h : Holdings) (accesses : List (Place × Access)) → length (m
 answers_count h [] = refl
 answers_count h (a ∷ rest) = ap suc (answers_count (touch h a.0 a.1) rest)
 
--- the accesses with which records begin
-record AreTold (limits : Limits) (h : Holdings) (rows : List Fields) (replies : List TheReply) (last : Holdings) : Type 0 where
-  pub within : length replies ≤ length rows
-  pub told : told_of limits (take (length replies) rows) h ≡ record { replies = map reply_of replies; last = last }
+-- an access, and those behind it, were answered
+pub record AreTold (limits : Limits) (h : Holdings) (first : Request) (u now : Unread) (replies : List Reply) (last : Holdings) : Type 0 where
+  pub some : 0 < length replies
+  pub within : length replies ≤ length u.records + 1
+  pub taken : now ≡ past (length replies - 1) u
+  pub told : told_behind limits first (take (length replies - 1) u.records) h ≡ record { replies = replies; last = last }
 
-accesses_are_told : (limits : Limits) (h : Holdings) (rows : List Fields) (f : Fields) → 1 ≤ length rows → f ≡ get_or rows 0 f → (first : Place × Access) → asked first ≡ request limits f
-    → (accesses : List (Place × Access)) → AreAsked limits first (take (length rows - 1) (drop 1 rows)) accesses → (replies : List TheReply) → map reply_of replies ≡ map accessed (access_answers h accesses)
-    → AreTold limits h rows replies (touched_all h accesses)
-accesses_are_told limits h rows f some is first asks accesses a replies answered =
-    let parts = split rows f some is in
-    let rest = drop 1 rows in
-    let others : AreAsked limits first rest accesses = rw parts.others at a in
-    let n : length replies ≡ suc (length others.others) = sym (length-map replies reply_of) ∙ ap length answered ∙ answers_count h accesses ∙ ap length others.are in
-    let k : length rows ≡ suc (length rest) = ap length parts.whole in
-    let front : take (length replies) rows ≡ f ∷ take (length others.others) rest = ap (λ m. take m rows) n ∙ ap (take (suc (length others.others))) parts.whole in
-    let requests : map (request limits) (take (length replies) rows) ≡ map asked accesses = ap (map (request limits)) front ∙ rw (← asks, others.requests) refl ∙ ap (map asked) (sym others.are) in
+pub accesses_are_told : (limits : Limits) (h : Holdings) (u now : Unread) (first : Place × Access) (accesses : List (Place × Access)) → AreAsked limits first u.records accesses → now ≡ past (length accesses - 1) u
+    → (answers : List Bool) → answers ≡ access_answers h accesses → (last : Holdings) → last ≡ touched_all h accesses → AreTold limits h (asked first) u now (map accessed answers) last
+accesses_are_told limits h u now first accesses a taken answers answered last left =
+    let n : length (map accessed answers) ≡ length accesses = ap (λ (l : List Bool). length (map accessed l)) answered ∙ answers_count h accesses in
+    let all : length accesses ≡ length a.others + 1 = ap length a.are ∙ omega arith in
+    let k : length (map accessed answers) - 1 ≡ length a.others = omega (arith, n, all) in
     record {
-      within = omega (arith, n, k, others.within);
-      told = ap (replay (answer limits) h) requests ∙ accesses_told limits h accesses ∙ rw (← answered) refl;
+      some = omega (arith, n, all);
+      within = omega (arith, n, all, a.within);
+      taken = taken ∙ ap (λ m. past (m - 1) u) (sym n);
+      told = rw (k, a.requests) (ap (λ l. replay (answer limits) h (map asked l)) (sym a.are) ∙ accesses_told limits h accesses ∙ rw (answered, left) refl);
     }
 
--- a call of accesses that succeeded
-pub accesses_answered : {E : Type 0} (r : Result (Unit {0}) E) (limits : Limits) (old new : State) (rows : List Fields) (f : Fields) → 1 ≤ length rows → f ≡ get_or rows 0 f → (first : Place × Access) → asked first ≡ request limits f
-    → (accesses : List (Place × Access)) → AreAsked limits first (take (length rows - 1) (drop 1 rows)) accesses → (replies : List TheReply) → OnOk r (map reply_of replies ≡ map accessed (access_answers old.holdings accesses))
-    → OnOk r (new ≡ left_with old (touched_all old.holdings accesses))
-    → OnOk r (length replies ≤ length rows) × OnOk r (told_of limits (take (length replies) rows) old.holdings ≡ record { replies = map reply_of replies; last = new.holdings })
-accesses_answered (Ok x) limits old new rows f some is first asks accesses a replies answered left =
-    let t = accesses_are_told limits old.holdings rows f some is first asks accesses a replies answered in
-    (t.within, t.told ∙ ap (λ h. record { replies = map reply_of replies; last = h }) (sym (ap (λ (s : State). s.holdings) left)))
-accesses_answered (Err e) limits old new rows f some is first asks accesses a replies answered left = (tt, tt)
+-- the answer to a request is that to the first record, which asks for it
+pub first_told : (limits : Limits) (rows : List Fields) (h : Holdings) (r : Request) (n : ℕ) → first_request limits rows ≡ Some r → 0 < n → told_of limits (take n rows) h ≡ told_behind limits r (take (n - 1) (drop 1 rows)) h
+first_told limits [] h r n is some = cc
+first_told limits (f ∷ rows) h r zero is some = absurd (omega arith)
+first_told limits (f ∷ rows) h r (suc n) is some =
+    let one : suc n - 1 ≡ n = omega arith in
+    let asks : request limits f ≡ r = cc in
+    rw (one, asks) refl
 
--- ---- lists
+pub some_left : (limits : Limits) (rows : List Fields) (r : Request) → first_request limits rows ≡ Some r → length rows ≡ length (drop 1 rows) + 1
+some_left limits [] r is = cc
+some_left limits (f ∷ rows) r is = omega arith
 
-pub next_taken : {X Y : Type 0} (f : X → Y) (xs : List X) (i : ℕ) (x : X) → i < length xs → x ≡ get_or xs i x → map f (take (i + 1) xs) ≡ map f (take i xs) ++ f x ∷ []
-next_taken f xs i x less is = ap (map f) (take_more xs i x less ∙ ap (λ y. take i xs ++ y ∷ []) (sym is)) ∙ map-append f (take i xs) (x ∷ [])
+-- one reply
+pub past_first : (n : ℕ) (u : Unread) → 0 < n → past (n - 1) (past 1 u) ≡ past n u
+past_first n u some = let sum : 1 + (n - 1) ≡ n = omega arith in past_past 1 (n - 1) u ∙ ap (λ k. past k u) sum

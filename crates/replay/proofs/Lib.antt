@@ -2,4 +2,7 @@ mod Unmaps
 mod Streams
 mod Answering
 mod Replays
+mod Passing
+mod Stops
+mod Steps
 mod Runs

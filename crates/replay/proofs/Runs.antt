@@ -1,62 +1,78 @@
 -- From the trace that was read to the input that the reader had.
-use Rattle.std.proofs.Common.{◌≡◌, ℕ, zero, suc, ◌+◌, arith, Bool, true, List, map, Option, Some, None, Result, Ok, Err, IfOk, IfErr, IfSome, ◌∙◌, refl}
-use Rattle.std.proofs.KnownBytes.{Appends-kept}
-use Rattle.model.specs.Records.{Trace, trace_of, request, are_limits}
-use Rattle.model.specs.Replay.{Told, start}
-use Rattle.holdings.specs.Meaning.{limits_of}
-use Rattle.trace.specs.declared.read.Trace.{Trace as TheTrace}
-use Rattle.trace.specs.Trace.{IsTraceOf}
+use Rattle.std.proofs.Common.{◌≡◌, ℕ, zero, suc, Bool, true, false, ◌∙◌, List, map, Option, Some, None, Result, Ok, Err, IfOk, IfErr, IfSome, refl, subst}
+use Rattle.model.specs.Records.{Trace, trace_of, request, are_limits, bad_limits}
+use Rattle.model.specs.Replay.{start}
+use Rattle.trace.specs.Unread.{Unread, IsOpened}
 use Rattle.replay.specs.declared.replay.Summary.{Summary}
 use Rattle.replay.specs.declared.error.RunError.{RunError}
 use Rattle.replay.specs.declared.error.RunError.TheVariants.{BadHeader, BadLimits, NoMemory, NoWorker, Unreadable, WriteFailed}
-use Rattle.replay.specs.Run.{told_of, WritesText, WritesReplay, StopsBefore, StopsAt, StopsEarly, EndsEarly}
-
--- ---- the trace
+use Rattle.replay.specs.Run.{told_of, ReplaysTrace, WritesReplay, StopsEarly, StopsTrace, EndsEarly, WritesNothing, TellsStreams}
 
 -- the requests of the records
-abbrev pub trace_from : TheTrace → Trace
-trace_from t = record { limits = limits_of t.limits; requests = map (request (limits_of t.limits)) t.records.items }
+abbrev pub trace_from : Unread → Trace
+trace_from u = record { limits = u.limits; requests = map (request u.limits) u.records }
 
 -- limits that are served make it a trace
-pub served : (input : List ℕ) (t : TheTrace) → IsTraceOf input t → are_limits (limits_of t.limits) ≡ true → trace_of input ≡ Ok (trace_from t)
-served input t is limits = rw (is.records, is.limits, limits) refl
+served : (input : List ℕ) (u : Unread) → IsOpened input u → are_limits u.limits ≡ true → trace_of input ≡ Ok (trace_from u)
+served input u is limits = rw (is.records, is.limits, limits) refl
 
--- ---- a run
+-- the bytes that were read are those of the input
+pub opened : (known : Option (List ℕ)) (bytes : List ℕ) (u : Unread) → IfSome known (λ input. bytes ≡ input) → IsOpened bytes u → IfSome known (λ input. IsOpened input u)
+opened None bytes u is o = tt
+opened (Some input) bytes u is o = subst (λ (b : List ℕ). IsOpened b u) is o
 
-pub replayed : (known : Option (List ℕ)) (t : TheTrace) (old new : Option (List ℕ)) (r : Result Summary RunError) → IfSome known (λ input. IsTraceOf input t) → are_limits (limits_of t.limits) ≡ true
-    → IfOk r (WritesText (told_of (limits_of t.limits) t.records.items (start (limits_of t.limits))) old new) → IfOk r (λ s. IfSome known (λ input. WritesReplay input old new s))
-replayed None t old new (Ok s) is limits w = tt
-replayed (Some input) t old new (Ok s) is limits w = record { trace = trace_from t; is_trace = served input t is limits; replayed = w }
-replayed known t old new (Err e) is limits w = tt
+-- limits that are not served make it none
+unserved : (input : List ℕ) (u : Unread) → IsOpened input u → are_limits u.limits ≡ false → trace_of input ≡ Err bad_limits
+unserved input u is limits = rw (is.records, is.limits, limits) refl
 
-pub ended : (known : Option (List ℕ)) (t : TheTrace) (old new : Option (List ℕ)) (was failed : Bool) (r : Result Summary RunError) → IfSome known (λ input. IsTraceOf input t) → are_limits (limits_of t.limits) ≡ true
-    → IfErr r (StopsEarly (told_of (limits_of t.limits) t.records.items (start (limits_of t.limits))) old new was failed) → IfErr r (λ e. IfSome known (λ input. EndsEarly input old new e))
-ended known t old new was failed (Ok s) is limits w = tt
-ended None t old new was failed (Err e) is limits w = tt
-ended (Some input) t old new was failed (Err BadHeader) is limits w = absurd w
-ended (Some input) t old new was failed (Err BadLimits) is limits w = absurd w
-ended (Some input) t old new was failed (Err (NoMemory zero)) is limits w = tt
-ended (Some input) t old new was failed (Err (NoMemory (suc k))) is limits w = record { trace = trace_from t; is_trace = served input t is limits; stopped = w.0 }
-ended (Some input) t old new was failed (Err (NoWorker zero)) is limits w = absurd w
-ended (Some input) t old new was failed (Err (NoWorker (suc k))) is limits w = record { trace = trace_from t; is_trace = served input t is limits; stopped = w.0 }
-ended (Some input) t old new was failed (Err Unreadable) is limits w = absurd w
-ended (Some input) t old new was failed (Err WriteFailed) is limits w = record { trace = trace_from t; is_trace = served input t is limits }
+-- why the replies to a trace were not all written
+pub trace_stops : (u : Unread) (old new : Option (List ℕ)) (was failed : Bool) → are_limits u.limits ≡ true → (e : RunError) → StopsEarly (told_of u.limits u.records (start u.limits)) old new was failed e → StopsTrace u old new was failed e
+trace_stops u old new was failed limits (NoMemory zero) stop = absurd stop
+trace_stops u old new was failed limits (NoMemory (suc k)) stop = (record { served = limits; stopped = stop.0 }, stop.1)
+trace_stops u old new was failed limits (NoWorker zero) stop = absurd stop
+trace_stops u old new was failed limits (NoWorker (suc k)) stop = (record { served = limits; stopped = stop.0 }, stop.1)
+trace_stops u old new was failed limits WriteFailed stop = (limits, stop)
+trace_stops u old new was failed limits BadHeader stop = stop
+trace_stops u old new was failed limits BadLimits stop = absurd stop
+trace_stops u old new was failed limits Unreadable stop = stop
 
--- ---- a replay
+-- ---- the clauses of a run
 
--- why the replies were not all written, once those before record number k + 1 are flushed
-pub stopped : (t : Told) (old mid new : Option (List ℕ)) (was is failed : Bool) (k : ℕ) (e : RunError) → StopsBefore t old mid k → is ≡ was → StopsAt (k + 1) mid new is failed e → StopsEarly t old new was failed e
-stopped t old mid new was is failed k (NoMemory zero) before same stop = absurd (omega (arith, stop.0))
-stopped t old mid new was is failed k (NoMemory (suc n)) before same stop =
-    let number : n ≡ k = omega (arith, stop.0) in
-    let written = Appends-kept old mid new _ before.written stop.1 in
-    (rw number (record { within = before.within; written = written }), stop.2 ∙ same)
-stopped t old mid new was is failed k WriteFailed before same stop = stop
-stopped t old mid new was is failed k BadHeader before same stop = stop
-stopped t old mid new was is failed k BadLimits before same stop = stop
-stopped t old mid new was is failed k (NoWorker zero) before same stop = absurd (omega (arith, stop.0))
-stopped t old mid new was is failed k (NoWorker (suc n)) before same stop =
-    let number : n ≡ k = omega (arith, stop.0) in
-    let written = Appends-kept old mid new _ before.written stop.1 in
-    (rw number (record { within = before.within; written = written }), stop.2 ∙ same)
-stopped t old mid new was is failed k Unreadable before same stop = stop
+pub replayed : (known : Option (List ℕ)) (u : Unread) (old new : Option (List ℕ)) (r : Result Summary RunError) → IfSome known (λ input. IsOpened input u) → IfOk r (ReplaysTrace u old new) → IfOk r (λ s. IfSome known (λ input. WritesReplay input old new s))
+replayed None u old new (Ok s) is w = tt
+replayed (Some input) u old new (Ok s) is w = record { trace = trace_from u; is_trace = served input u is w.served; replayed = w.replayed }
+replayed known u old new (Err e) is w = tt
+
+pub ended : (known : Option (List ℕ)) (u : Unread) (old new : Option (List ℕ)) (was failed : Bool) (r : Result Summary RunError) → IfSome known (λ input. IsOpened input u) → IfErr r (StopsTrace u old new was failed) → IfErr r (λ e. IfSome known (λ input. EndsEarly input old new e))
+ended known u old new was failed (Ok s) is w = tt
+ended None u old new was failed (Err e) is w = tt
+ended (Some input) u old new was failed (Err BadHeader) is w = absurd w
+ended (Some input) u old new was failed (Err BadLimits) is w = unserved input u is w.0
+ended (Some input) u old new was failed (Err (NoMemory zero)) is w = tt
+ended (Some input) u old new was failed (Err (NoMemory (suc k))) is w = record { trace = trace_from u; is_trace = served input u is w.0.served; stopped = w.0.stopped }
+ended (Some input) u old new was failed (Err (NoWorker zero)) is w = absurd w
+ended (Some input) u old new was failed (Err (NoWorker (suc k))) is w = record { trace = trace_from u; is_trace = served input u is w.0.served; stopped = w.0.stopped }
+ended (Some input) u old new was failed (Err Unreadable) is w = absurd w
+ended (Some input) u old new was failed (Err WriteFailed) is w = record { trace = trace_from u; is_trace = served input u is w.0 }
+
+pub nothing : (u : Unread) (old new : Option (List ℕ)) (was failed : Bool) (r : Result Summary RunError) → IfErr r (StopsTrace u old new was failed) → IfErr r (WritesNothing old new)
+nothing u old new was failed (Ok s) w = tt
+nothing u old new was failed (Err BadHeader) w = absurd w
+nothing u old new was failed (Err BadLimits) w = w.1
+nothing u old new was failed (Err (NoMemory zero)) w = w.0
+nothing u old new was failed (Err (NoMemory (suc k))) w = tt
+nothing u old new was failed (Err (NoWorker zero)) w = absurd w
+nothing u old new was failed (Err (NoWorker (suc k))) w = tt
+nothing u old new was failed (Err Unreadable) w = absurd w
+nothing u old new was failed (Err WriteFailed) w = tt
+
+pub streams : (u : Unread) (old new : Option (List ℕ)) (reader was failed : Bool) (r : Result Summary RunError) → reader ≡ false → was ≡ false → IfErr r (StopsTrace u old new was failed) → IfErr r (TellsStreams reader failed)
+streams u old new reader was failed (Ok s) reads writes w = tt
+streams u old new reader was failed (Err BadHeader) reads writes w = absurd w
+streams u old new reader was failed (Err BadLimits) reads writes w = (reads, w.2 ∙ writes)
+streams u old new reader was failed (Err (NoMemory zero)) reads writes w = (reads, w.1 ∙ writes)
+streams u old new reader was failed (Err (NoMemory (suc k))) reads writes w = (reads, w.1 ∙ writes)
+streams u old new reader was failed (Err (NoWorker zero)) reads writes w = absurd w
+streams u old new reader was failed (Err (NoWorker (suc k))) reads writes w = (reads, w.1 ∙ writes)
+streams u old new reader was failed (Err Unreadable) reads writes w = absurd w
+streams u old new reader was failed (Err WriteFailed) reads writes w = (reads, w.1)

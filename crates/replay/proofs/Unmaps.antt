@@ -1,17 +1,17 @@
 -- The words that an unmap gives back, and what it leaves.
-use Rattle.std.proofs.Common.{◌≡◌, ◌≤◌, ◌↔◌, nat_lt, true, false, Result, Ok, Err, IfOk, OnOk, IsErrOf, Vec, Global, ℕ, Bool, List, [], ◌∷◌, ◌++◌, map, length, ◌⊎◌, inl, inr, refl, sym, ap, ◌∙◌, append_assoc, append-nil, arith}
+use Rattle.std.proofs.Common.{◌≡◌, nat_lt, true, false, Some, None, if◌then◌else◌, Result, Ok, Err, IfOk, OnOk, Vec, Global, ℕ, Bool, List, [], ◌∷◌, ◌++◌, map, length, ◌⊎◌, inl, inr, refl, sym, ap, ◌∙◌, append_assoc, append-nil, arith}
 use Rattle.std.specs.List.{zip}
-use Rattle.std.proofs.lemmas.Bool.Decides.{nat_tests}
+use Rattle.std.specs.Option.{option_map}
 use Rattle.fpage.specs.Fpage.{Flexpage}
 use Rattle.fpage.specs.Control.{with_status}
 use Rattle.fpage.specs.declared.rights.Rights.{Rights}
 use Rattle.model.specs.Holdings.{Holdings}
 use Rattle.model.specs.Strip.{strip, strip_word}
-use Rattle.model.specs.Calls.{unmap, unmapped}
+use Rattle.model.specs.Calls.{unmap, unmapped, no_such_space}
 use Rattle.model.specs.Answers.{Answer, UnmapAnswer, answer, unmap_answer, unmapped_answer, pages_in}
-use Rattle.mapdb.specs.State.{State, left_with, unmap_status, unmap_left}
+use Rattle.mapdb.specs.State.{State, left_with, error_of, unmap_refusal, IsRefused, unmap_status, unmap_left}
 use Rattle.mapdb.specs.declared.error.DbError.{DbError}
-use Rattle.mapdb.specs.declared.error.DbError.TheVariants.{NoSuchSpace, Halted}
+use Rattle.mapdb.specs.declared.error.DbError.TheVariants.{Halted}
 
 -- ---- each word with its status
 
@@ -45,15 +45,6 @@ unmap_told space f (w ∷ words) (p ∷ fpages) h same =
     ap (λ (a : UnmapAnswer). record { words = with_status w (strip_word h named) ∷ a.words; left = a.left })
     (unmap_told space f words fpages (strip h named p.rights f) (omega (arith, same)))
 
--- a space that is not refused is there
-pub space_there : (halted : Bool) (space spaces : ℕ) → (halted ≡ true → ⊥) → ((halted ≡ false) × (spaces ≤ space) → ⊥) → nat_lt space spaces ≡ true
-space_there true space spaces running there = absurd (running refl)
-space_there false space spaces running there = by (nat_lt space spaces) refl
-  where
-    by : (b : Bool) → nat_lt space spaces ≡ b → b ≡ true
-    by true is = refl
-    by false is = absurd (there (refl, grind (arith, nat_tests)))
-
 -- what an unmap that was not refused gave and left
 pub record IsUnmapped (s : State) (space : ℕ) (f : Bool) (fpages : List Flexpage) (status : List Rights) (new : State) : Type 0 where
   pub there : nat_lt space s.limits.spaces ≡ true
@@ -62,14 +53,19 @@ pub record IsUnmapped (s : State) (space : ℕ) (f : Bool) (fpages : List Flexpa
 
 -- by what either way to unmap promises
 pub unmapped_by : (s new : State) (space : ℕ) (f : Bool) (fpages : List Flexpage) (status : Vec Rights Global) (r : Result (Vec Rights Global) DbError) → r ≡ Ok status
-    → (IsErrOf r Halted ↔ (s.is_halted ≡ true)) → (IsErrOf r NoSuchSpace ↔ ((s.is_halted ≡ false) × (s.limits.spaces ≤ space)))
+    → IsRefused (unmap_refusal s space) s new r
     → IfOk r (λ told. told.items ≡ unmap_status space f fpages s.holdings) → OnOk r (new ≡ left_with s (unmap_left space f fpages s.holdings)) → IsUnmapped s space f fpages status.items new
-unmapped_by s new space f fpages status (Ok v) is halted gone told left = record {
-  there = space_there s.is_halted space s.limits.spaces (λ running. cc (halted.1 running)) (λ past. cc (gone.1 past));
+unmapped_by s new space f fpages status (Ok v) is refused told left = record {
+  there = by s.is_halted (nat_lt space s.limits.spaces) refused;
   status_is = cc;
   left_is = ap (λ (t : State). t.holdings) left;
 }
-unmapped_by s new space f fpages status (Err e) is halted gone told left = absurd (cc is)
+  where
+    by : (halted there : Bool) → IsRefused (if halted then Some Halted else option_map error_of (if there then None else Some no_such_space)) s new (Ok v) → there ≡ true
+    by true there refused = absurd (cc refused.0)
+    by false true refused = refl
+    by false false refused = absurd (cc refused.0)
+unmapped_by s new space f fpages status (Err e) is refused told left = absurd (cc is)
 
 -- the answer to an unmap, from what the database gave and left
 pub unmap_answered : {s new : State} {space : ℕ} {f : Bool} {fpages : List Flexpage} {status : List Rights} → IsUnmapped s space f fpages status new → (words reply : List ℕ) → length fpages ≡ length words → reply ≡ told words status

@@ -1,6 +1,6 @@
 //! Records, answered.
 
-ghost use Rattle.std.specs.Prelude.{◌≡◌, ◌<◌, ◌≤◌, ◌∷◌, [], true, false, Ok, map, take, length, IfOk, OnOk};
+ghost use Rattle.std.specs.Prelude.{◌≡◌, ◌<◌, ◌≤◌, ◌+◌, ◌-◌, ◌∷◌, ◌++◌, [], true, false, Ok, map, take, length, IfOk, OnOk};
 ghost use Rattle.std.specs.List.{All, zip};
 ghost use Rattle.fpage.specs.Fpage.{IsFpageOf};
 ghost use Rattle.fpage.specs.Control.{with_status};
@@ -11,44 +11,85 @@ ghost use Rattle.holdings.specs.Contents.{access_answers, touched_all};
 ghost use Rattle.holdings.specs.Meaning.{limits_of};
 ghost use Rattle.holdings.specs.Places.{IsWithin};
 ghost use Rattle.mapdb.specs.State.{left_with};
-ghost use Rattle.trace.specs.Meaning.{reply_of};
-ghost use Rattle.replay.specs.Run.{AreAsked, told_of};
+ghost use Rattle.trace.specs.Meaning.{reply_of, request_of, IsWithinLimits};
+ghost use Rattle.trace.specs.Unread.{past};
+ghost use Rattle.replay.specs.Run.{AreAsked, replies_of, told_of, told_behind};
 
 use crew::{CrewError, Workers};
 use fpage::{Access, Control, Fpage, Item, Rights, with_status};
 use mapdb::{Database, DbError, Limits};
 use space::{NoMemory, Place};
 use std::alloc::{AllocError, Global};
-use trace::{Call, Record, Refusal, Reply};
+use trace::{Call, Refusal, Reply, TraceReader};
 
-/// Answers the first of these records, and leaves what it changed; an unmap by recursion if `plain`. Where that is an access, the
-/// accesses right behind it are answered too: they are one call of the database. The replies are put in place of those that
-/// were there.
+/// The replies to the records of one call of the database.
+#[derive(Debug, Drop)]
+pub enum Replies {
+    /// The reply to one record.
+    One(Reply),
+    /// The replies to accesses in a row: of each whether it was made; otherwise it was a fault.
+    Accesses(Vec<bool>),
+}
+
+/// Takes the next record, answers it, and leaves what it changed; an unmap by recursion if `plain`. Where it is an access, the
+/// accesses right behind it are taken and answered too: they are one call of the database. The accesses are put in place of
+/// those that were there.
 ///
 /// Not answered where memory or a worker is refused: `NoMemory`, `NoWorker`.
 pub fn answer_first<W: Workers>(
     alloc: Global,
     database: &mut Database,
-    records: &[Record],
+    trace: &mut TraceReader<'_>,
     workers: &W,
     plain: bool,
-    replies: &mut Vec<Reply>,
-) -> Result<(), CrewError>
+    accesses: &mut Vec<(Place, Access)>,
+) -> Result<Replies, CrewError>
     requires running { database.old.is_halted ≡ false }
-    requires records { 0 < length records.now }
-    ensures some { OnOk result (0 < length replies.new.items) }
-    ensures within { OnOk result (length replies.new.items ≤ length records.now) }
-    ensures told { OnOk result (told_of database.old.limits (take (length replies.new.items) records.now) database.old.holdings
-        ≡ record { replies = map reply_of replies.new.items; last = database.new.holdings }) }
+    requires records { 0 < length trace.old.records }
+    ensures some { IfOk result (λ replies. 0 < length (replies_of replies)) }
+    ensures within { IfOk result (λ replies. length (replies_of replies) ≤ length trace.old.records) }
+    ensures taken { IfOk result (λ replies. trace.new ≡ past (length (replies_of replies)) trace.old) }
+    ensures told { IfOk result (λ replies.
+        told_of database.old.limits (take (length (replies_of replies)) trace.old.records) database.old.holdings
+        ≡ record { replies = replies_of replies; last = database.new.holdings }) }
     ensures keeps { OnOk result (database.new ≡ left_with database.old database.new.holdings) }
 {
     let limits = database.limits();
-    let request = records[0].call(alloc, &limits)?;
-    match &request {
-        Err(refusal) => only(replies, Reply::Refused(*refusal)),
+    let asked = trace.next_call(&limits)?;
+    let replies = answer_call(alloc, database, &asked, trace, workers, plain, accesses)?;
+    if let Ok(call) = asked {
+        trace.reuse(call);
+    }
+    Ok(replies)
+}
+
+/// Answers a record that was taken, and if that is an access, the accesses behind it.
+fn answer_call<W: Workers>(
+    alloc: Global,
+    database: &mut Database,
+    asked: &Result<Call, Refusal>,
+    trace: &mut TraceReader<'_>,
+    workers: &W,
+    plain: bool,
+    accesses: &mut Vec<(Place, Access)>,
+) -> Result<Replies, CrewError>
+    requires running { database.old.is_halted ≡ false }
+    requires within { IfOk asked.now (IsWithinLimits database.old.limits) }
+    ensures some { IfOk result (λ replies. 0 < length (replies_of replies)) }
+    ensures within { IfOk result (λ replies. length (replies_of replies) ≤ length trace.old.records + 1) }
+    ensures taken { IfOk result (λ replies. trace.new ≡ past (length (replies_of replies) - 1) trace.old) }
+    ensures told { IfOk result (λ replies.
+        told_behind database.old.limits (request_of asked.now) (take (length (replies_of replies) - 1) trace.old.records) database.old.holdings
+        ≡ record { replies = replies_of replies; last = database.new.holdings }) }
+    ensures keeps { OnOk result (database.new ≡ left_with database.old database.new.holdings) }
+{
+    match asked {
+        Err(refusal) => Ok(Replies::One(Reply::Refused(*refusal))),
         Ok(Call::Access { place, access }) => {
-            let accesses = accesses_from(alloc, &limits, (*place, *access), &records[1..])?;
-            access_pages(alloc, database, workers, &accesses, replies)
+            let limits = database.limits();
+            read_accesses(&limits, (*place, *access), trace, accesses)?;
+            let answers = access_pages(alloc, database, workers, accesses)?;
+            Ok(Replies::Accesses(answers))
         }
         Ok(
             Call::Send {
@@ -59,7 +100,7 @@ pub fn answer_first<W: Workers>(
             },
         ) => {
             let reply = send_items(alloc, database, workers, *from, *to, window, items)?;
-            only(replies, reply)
+            Ok(Replies::One(reply))
         }
         Ok(
             Call::Unmap {
@@ -72,74 +113,57 @@ pub fn answer_first<W: Workers>(
             let reply = unmap_pages(
                 alloc, database, workers, plain, *space, *control, words, fpages,
             )?;
-            only(replies, reply)
+            Ok(Replies::One(reply))
         }
     }
 }
 
-/// Puts one reply in place of those that were there.
-fn only(replies: &mut Vec<Reply>, reply: Reply) -> Result<(), CrewError>
-    ensures { OnOk result (replies.new.items ≡ reply ∷ []) }
-{
-    replies.clear();
-    match replies.push(reply) {
-        Ok(()) => Ok(()),
-        Err(_) => Err(CrewError::NoMemory),
-    }
-}
-
-/// An access, with the accesses of the records behind its own, up to the first record that asks for none.
-fn accesses_from(
-    alloc: Global,
+/// Takes the accesses that come next, and puts them, behind the first, in place of those that were there.
+fn read_accesses(
     limits: &Limits,
     first: (Place, Access),
-    others: &[Record],
-) -> Result<Vec<(Place, Access)>, NoMemory>
+    trace: &mut TraceReader<'_>,
+    accesses: &mut Vec<(Place, Access)>,
+) -> Result<(), NoMemory>
     requires limits { are_limits (limits_of limits.now) ≡ true }
     requires first { IsWithin (limits_of limits.now) first.0 }
-    ensures within { IfOk result (λ list. All (λ access. IsWithin (limits_of limits.now) access.0) list.items) }
-    ensures asked { IfOk result (λ list. AreAsked (limits_of limits.now) first others.now list.items) }
+    ensures within { OnOk result (All (λ access. IsWithin (limits_of limits.now) access.0) accesses.new.items) }
+    ensures asked { OnOk result (AreAsked (limits_of limits.now) first trace.old.records accesses.new.items) }
+    ensures taken { OnOk result (trace.new ≡ past (length accesses.new.items - 1) trace.old) }
 {
-    let mut accesses = Vec::from_slice(alloc, &[first])?;
-    let mut left = others;
-    while let [record, rest @ ..] = left {
-        let request = record.call(alloc, limits)?;
-        let Ok(Call::Access { place, access }) = &request else {
-            return Ok(accesses);
-        };
-        match accesses.push((*place, *access)) {
-            Ok(()) => (),
-            Err(_) => return Err(NoMemory),
-        }
-        left = rest;
+    accesses.clear();
+    put_access(accesses, first)?;
+    while let Some(access) = trace.next_access(limits)? {
+        put_access(accesses, access)?;
     }
-    Ok(accesses)
+    Ok(())
 }
 
-/// Accesses of pages, one after another.
+/// Puts an access behind the others.
+fn put_access(accesses: &mut Vec<(Place, Access)>, access: (Place, Access)) -> Result<(), NoMemory>
+    ensures { OnOk result (accesses.new.items ≡ accesses.old.items ++ access ∷ []) }
+{
+    match accesses.push(access) {
+        Ok(()) => Ok(()),
+        Err(_) => Err(NoMemory),
+    }
+}
+
+/// Accesses of pages, one after another; of each whether it was made.
 fn access_pages<W: Workers>(
     alloc: Global,
     database: &mut Database,
     workers: &W,
     accesses: &[(Place, Access)],
-    replies: &mut Vec<Reply>,
-) -> Result<(), CrewError>
+) -> Result<Vec<bool>, CrewError>
     requires within { All (λ access. IsWithin database.old.limits access.0) accesses.now }
-    ensures ok { OnOk result (map reply_of replies.new.items ≡ map accessed (access_answers database.old.holdings accesses.now)) }
+    ensures ok { IfOk result (λ answers. answers.items ≡ access_answers database.old.holdings accesses.now) }
     ensures left { OnOk result (database.new ≡ left_with database.old (touched_all database.old.holdings accesses.now)) }
 {
-    let answers = match database.access_all(alloc, accesses, workers) {
-        Ok(answers) => answers,
-        Err(error) => return Err(unanswered(error)),
-    };
-    replies.clear();
-    for answer in &answers {
-        match replies.push(Reply::Accessed(*answer)) {
-            Ok(()) => (),
-            Err(_) => return Err(CrewError::NoMemory),
-        }
+    match database.access_all(alloc, accesses, workers) {
+        Ok(answers) => Ok(answers),
+        Err(error) => Err(unanswered(error)),
     }
-    Ok(())
 }
 
 /// A send, whose items are worked in order.

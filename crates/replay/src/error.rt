@@ -1,7 +1,7 @@
 //! Why a run ended early.
 
 use thiserror::Error;
-use trace::TraceError;
+use trace::{ReadError, TraceError};
 
 /// Why a run ended early.
 #[derive(Clone, Copy, Debug, PartialEq, Eq, Error)]
@@ -38,6 +38,19 @@ impl From<TraceError> for RunError {
             TraceError::Unreadable => RunError::Unreadable,
             TraceError::BadHeader => RunError::BadHeader,
             TraceError::NoMemory => RunError::NoMemory(0),
+        }
+    }
+}
+
+impl From<ReadError> for RunError {
+    ghost use Rattle.replay.specs.Error.{IsOfRead};
+
+    ghost from_gives = { IsOfRead };
+
+    fn from(error: ReadError) -> Self {
+        match error {
+            ReadError::Failed => RunError::Unreadable,
+            ReadError::NoMemory => RunError::NoMemory(0),
         }
     }
 }

@@ -3,11 +3,11 @@
 
 mod answer;
 mod error;
+mod lines;
 mod options;
 mod replay;
-#[cfg(test)]
-mod tests;
 
+pub use answer::{Replies, answer_first};
 pub use error::RunError;
 pub use options::Options;
 pub use replay::{Summary, run};

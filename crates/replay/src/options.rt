@@ -10,3 +10,18 @@ pub struct Options {
     /// Whether every unmap is worked by recursion, page by page, and all else by one worker.
     pub plain: bool,
 }
+
+impl Options {
+    ghost use Rattle.std.specs.Prelude.{◌≡◌, ◌↔◌, true};
+    ghost use Rattle.replay.specs.Options.{AreServed};
+
+    /// Whether a trace can be replayed so: 1 to 64 workers, and pieces of 1 to 65536.
+    pub fn are_served(&self) -> bool
+        ensures { (result ≡ true) ↔ AreServed self.now }
+    {
+        1 <= self.workers
+            && self.workers <= 64
+            && 1 <= self.piece_length
+            && self.piece_length <= 65536
+    }
+}

@@ -1,25 +1,27 @@
 //! A run: from the bytes of a trace to the text of its replay.
 
-ghost use Rattle.std.specs.Prelude.{◌≡◌, ◌<◌, ◌≤◌, ◌+◌, ◌++◌, false, map, take, length, IfOk, IfErr, IfSome, OnOk, string_bytes};
-ghost use Rattle.model.specs.Text.{reply_lines, is_refused, refused_count, audit_lines, end_line};
+ghost use Rattle.std.specs.Prelude.{◌≡◌, ◌<◌, ◌≤◌, ◌+◌, ◌++◌, false, map, length, IfOk, IfErr, IfSome, OnOk};
+ghost use Rattle.std.specs.Io.KnownBytes.{Appends};
+ghost use Rattle.model.specs.Calls.{accessed};
+ghost use Rattle.model.specs.Text.{reply_line, reply_lines, is_refused, refused_count, audit_lines, end_line};
 ghost use Rattle.holdings.specs.Meaning.{limits_of};
-ghost use Rattle.mapdb.specs.State.{left_with};
 ghost use Rattle.trace.specs.Meaning.{reply_of};
 ghost use Rattle.replay.specs.Options.{AreServed};
-ghost use Rattle.replay.specs.Run.{Answers, told_of, WritesText, StopsAt, StopsEarly, IsStarted, StartsNot};
+ghost use Rattle.replay.specs.Run.{replies_of, told_of, PassesOn, WritesText, StopsAt, StopsAmong, StopsEarly, IsStarted, StartsNot};
+ghost use Rattle.replay.specs.Run.{ReplaysTrace, StopsTrace};
 ghost use Rattle.replay.specs.Run.{WritesReplay, EndsEarly, WritesNothing, TellsStreams};
 
-use crate::answer::answer_first;
+use crate::answer::{Replies, answer_first};
 use crate::error::RunError;
+use crate::lines::Lines;
 use crate::options::Options;
 use audit::report;
 use crew::{Crew, CrewError, Gate, Workers};
 use mapdb::{Database, DbError, Limits};
-use space::NoMemory;
 use std::alloc::{AllocError, Global};
 use std::sync::Wait;
 use std::thread::Threads;
-use trace::{Record, Reply, Sink, Source, push_reply, read_all};
+use trace::{Reply, Sink, Source, TraceReader, read_to_end};
 
 /// The numbers of the last line of a run.
 #[derive(Clone, Copy, Debug, PartialEq, Eq)]
@@ -30,45 +32,67 @@ pub struct Summary {
     pub refused: u64,
 }
 
-/// Answers the first of these records, or the accesses with which they begin, and writes the reply lines over `lines`. Returns
-/// how many of these were refused.
-fn reply_lines<C: Workers>(
-    alloc: Global,
-    database: &mut Database,
-    records: &[Record],
-    workers: &C,
-    plain: bool,
+/// Puts the line of a reply behind those that the sink was not given yet; first these are given to it, if they are many.
+fn write_line<W: Sink>(
+    writer: &mut W,
+    lines: &mut Lines,
     number: u64,
-    replies: &mut Vec<Reply>,
-    lines: &mut String,
-) -> Result<u64, CrewError>
-    requires running { database.old.is_halted ≡ false }
-    requires records { 0 < length records.now }
-    requires few { number + length records.now ≤ 18446744073709551616 }
-    ensures some { OnOk result (0 < length replies.new.items) }
-    ensures within { OnOk result (length replies.new.items ≤ length records.now) }
-    ensures answers { IfOk result (λ refused. Answers database.old.limits database.old.holdings
-        (take (length replies.new.items) records.now) number database.new.holdings (string_bytes lines.new) refused) }
-    ensures keeps { OnOk result (database.new ≡ left_with database.old database.new.holdings) }
+    reply: &Reply,
+) -> Result<(), RunError>
+    ensures ok { OnOk result (PassesOn (W.contents writer.old) (W.contents writer.new) (lines.old ++ reply_line number (reply_of reply.now)) lines.new) }
+    ensures works { OnOk result (W.failed writer.new ≡ W.failed writer.old) }
+    ensures err { IfErr result (StopsAt number lines.old (W.contents writer.old) (W.contents writer.new) (W.failed writer.old) (W.failed writer.new)) }
 {
-    answer_first(alloc, database, records, workers, plain, replies)?;
-    let refused = write_lines(lines, number, replies)?;
-    Ok(refused)
+    if lines.pass_on_many(writer).is_err() {
+        return Err(RunError::WriteFailed);
+    }
+    match lines.push(number, reply) {
+        Ok(()) => Ok(()),
+        Err(_) => Err(stop_at(writer, lines, number, CrewError::NoMemory)),
+    }
 }
 
-/// Writes the lines of replies over `lines`, numbered from this number on. Returns how many of them are refusals.
-fn write_lines(lines: &mut String, number: u64, replies: &[Reply]) -> Result<u64, NoMemory>
-    requires few { number + length replies.now ≤ 18446744073709551616 }
-    ensures lines { OnOk result (string_bytes lines.new ≡ reply_lines number (map reply_of replies.now)) }
-    ensures refused { IfOk result (λ refused. refused ≡ refused_count (map reply_of replies.now)) }
+/// Puts the lines of the replies to accesses behind the others, numbered from this number on.
+fn write_accesses<W: Sink>(
+    writer: &mut W,
+    lines: &mut Lines,
+    number: u64,
+    answers: &[bool],
+) -> Result<(), RunError>
+    requires few { number + length answers.now ≤ 18446744073709551616 }
+    ensures ok { OnOk result (PassesOn (W.contents writer.old) (W.contents writer.new) (lines.old ++ reply_lines number (map accessed answers.now)) lines.new) }
+    ensures works { OnOk result (W.failed writer.new ≡ W.failed writer.old) }
+    ensures err { IfErr result (StopsAmong number (map accessed answers.now) lines.old (W.contents writer.old) (W.contents writer.new) (W.failed writer.old) (W.failed writer.new)) }
 {
-    lines.clear();
-    let mut refused = 0;
-    for (i, reply) in replies.iter().enumerate() {
-        push_reply(lines, number + i as u64, reply)?;
-        refused += u64::from(is_refused(reply));
+    for (i, answer) in answers.iter().enumerate() {
+        write_line(writer, lines, number + i as u64, &Reply::Accessed(*answer))?;
     }
-    Ok(refused)
+    Ok(())
+}
+
+/// Puts the lines of replies behind the others, numbered from this number on. Returns how many of the replies are refusals.
+fn write_replies<W: Sink>(
+    writer: &mut W,
+    lines: &mut Lines,
+    number: u64,
+    replies: &Replies,
+) -> Result<u64, RunError>
+    requires few { number + length (replies_of replies.now) ≤ 18446744073709551616 }
+    ensures ok { OnOk result (PassesOn (W.contents writer.old) (W.contents writer.new) (lines.old ++ reply_lines number (replies_of replies.now)) lines.new) }
+    ensures refused { IfOk result (λ refused. refused ≡ refused_count (replies_of replies.now)) }
+    ensures works { OnOk result (W.failed writer.new ≡ W.failed writer.old) }
+    ensures err { IfErr result (StopsAmong number (replies_of replies.now) lines.old (W.contents writer.old) (W.contents writer.new) (W.failed writer.old) (W.failed writer.new)) }
+{
+    match replies {
+        Replies::One(reply) => {
+            write_line(writer, lines, number, reply)?;
+            Ok(u64::from(is_refused(reply)))
+        }
+        Replies::Accesses(answers) => {
+            write_accesses(writer, lines, number, answers)?;
+            Ok(0)
+        }
+    }
 }
 
 /// Whether a reply is a refusal.
@@ -123,22 +147,33 @@ pub fn run<T: AllocGlobal + Threads + Wait + Sync, R: Source, W: Sink, G: Gate>(
     ensures streams { IfErr result (TellsStreams (R.failed reader.new) (W.failed writer.new)) }
 {
     let alloc = rt.alloc();
-    let trace = read_all(alloc, reader)?;
-    let mut database = start(alloc, &trace.limits)?;
+    let bytes = read_to_end(alloc, reader)?;
+    let mut trace = TraceReader::new(alloc, &bytes)?;
+    replay_trace(rt, &mut trace, writer, options, gate)
+}
+
+/// Replays a trace whose header was read: on a database with its limits, by one crew.
+fn replay_trace<T: AllocGlobal + Threads + Wait + Sync, W: Sink, G: Gate>(
+    rt: &T,
+    trace: &mut TraceReader<'_>,
+    writer: &mut W,
+    options: &Options,
+    gate: &G,
+) -> Result<Summary, RunError>
+    requires options { AreServed options.now }
+    requires first { trace.old.number ≡ 1 }
+    ensures ok { IfOk result (ReplaysTrace trace.old (W.contents writer.old) (W.contents writer.new)) }
+    ensures works { OnOk result (W.failed writer.new ≡ W.failed writer.old) }
+    ensures err { IfErr result (StopsTrace trace.old (W.contents writer.old) (W.contents writer.new) (W.failed writer.old) (W.failed writer.new)) }
+{
+    let mut database = start(rt.alloc(), &trace.limits())?;
     let workers = if options.plain {
         1
     } else {
         options.workers as usize
     };
     let crew = Crew::new(rt, workers, options.piece_length as usize, gate);
-    replay_records(
-        rt,
-        &mut database,
-        &trace.records,
-        &crew,
-        options.plain,
-        writer,
-    )
+    replay_records(rt, &mut database, trace, &crew, options.plain, writer)
 }
 
 /// A database at the start.
@@ -153,68 +188,77 @@ fn start(alloc: Global, limits: &Limits) -> Result<Database, RunError>
     }
 }
 
-/// Replays records: answers them in order, writes their reply lines, the audit lines and the end line, and flushes them.
-/// Where a record cannot be answered for want of memory or of a worker, the reply lines before it are flushed.
+/// Replays the records of a trace: answers them in order, writes their reply lines, the audit lines and the end line, and
+/// flushes them. Where a record cannot be answered for want of memory or of a worker, the reply lines before it are flushed.
 pub fn replay_records<W: Sink, C: Workers>(
     rt: &(impl AllocGlobal + Threads + Sync),
     database: &mut Database,
-    records: &[Record],
+    trace: &mut TraceReader<'_>,
     workers: &C,
     plain: bool,
     writer: &mut W,
 ) -> Result<Summary, RunError>
     requires running { database.old.is_halted ≡ false }
-    ensures ok { IfOk result (WritesText (told_of database.old.limits records.now database.old.holdings)
+    requires first { trace.old.number ≡ 1 }
+    ensures ok { IfOk result (WritesText (told_of database.old.limits trace.old.records database.old.holdings)
         (W.contents writer.old) (W.contents writer.new)) }
     ensures works { OnOk result (W.failed writer.new ≡ W.failed writer.old) }
-    ensures err { IfErr result (StopsEarly (told_of database.old.limits records.now database.old.holdings)
+    ensures err { IfErr result (StopsEarly (told_of database.old.limits trace.old.records database.old.holdings)
         (W.contents writer.old) (W.contents writer.new) (W.failed writer.old) (W.failed writer.new)) }
 {
     let alloc = rt.alloc();
-    let mut replies = Vec::new(alloc);
-    let mut lines = String::new(alloc);
-    let mut left = records;
-    let mut answered = 0;
+    let mut lines = Lines::new(alloc);
+    let mut accesses = Vec::new(alloc);
+    let mut number = trace.number();
     let mut refused = 0;
-    while !left.is_empty() {
-        let number = answered + 1;
-        let refusals = match reply_lines(
-            alloc,
-            database,
-            left,
-            workers,
-            plain,
-            number,
-            &mut replies,
-            &mut lines,
-        ) {
-            Ok(refusals) => refusals,
-            Err(why) => return Err(stop_at(writer, number, why)),
+    while !trace.is_at_end() {
+        let replies = match answer_first(alloc, database, trace, workers, plain, &mut accesses) {
+            Ok(replies) => replies,
+            Err(why) => return Err(stop_at(writer, &mut lines, number, why)),
         };
-        if writer.write_all(lines.as_bytes()).is_err() {
-            return Err(RunError::WriteFailed);
-        }
-        left = &left[replies.len()..];
-        answered += replies.len() as u64;
+        let next = trace.number();
+        let refusals = write_replies(writer, &mut lines, number, &replies)?;
+        drop(replies);
         refused += refusals;
+        number = next;
     }
-    let Ok(text) = closing_text(rt, database, answered, refused) else {
-        return Err(stop_at(writer, answered + 1, CrewError::NoMemory));
+    write_closing(rt, database, &mut lines, number - 1, refused, writer)
+}
+
+/// Writes the lines that are left, the audit lines and the end line, and flushes them.
+fn write_closing<W: Sink>(
+    rt: &(impl AllocGlobal + Threads + Sync),
+    database: &Database,
+    lines: &mut Lines,
+    records: u64,
+    refused: u64,
+    writer: &mut W,
+) -> Result<Summary, RunError>
+    requires running { database.now.is_halted ≡ false }
+    requires few { records < 18446744073709551615 }
+    ensures ok { IfOk result (λ summary. summary ≡ record { records = records; refused = refused }) }
+    ensures written { OnOk result (Appends (W.contents writer.old) (W.contents writer.new)
+        (lines.old ++ (audit_lines database.now.holdings ++ end_line records refused))) }
+    ensures works { OnOk result (W.failed writer.new ≡ W.failed writer.old) }
+    ensures err { IfErr result (StopsAt (records + 1) lines.old (W.contents writer.old) (W.contents writer.new) (W.failed writer.old) (W.failed writer.new)) }
+{
+    if lines.pass_on(writer).is_err() {
+        return Err(RunError::WriteFailed);
+    }
+    let Ok(text) = closing_text(rt, database, records, refused) else {
+        return Err(stop_at(writer, lines, records + 1, CrewError::NoMemory));
     };
     if writer.write_all(&text).is_err() || writer.flush().is_err() {
         return Err(RunError::WriteFailed);
     }
-    Ok(Summary {
-        records: answered,
-        refused,
-    })
+    Ok(Summary { records, refused })
 }
 
-/// Flushes the reply lines before a record that was not answered, and returns why the run ends there.
-fn stop_at<W: Sink>(writer: &mut W, number: u64, why: CrewError) -> RunError
-    ensures { StopsAt number (W.contents writer.old) (W.contents writer.new) (W.failed writer.old) (W.failed writer.new) result }
+/// Gives the sink the lines before a record that was not answered, flushes them, and returns why the run ends there.
+fn stop_at<W: Sink>(writer: &mut W, lines: &mut Lines, number: u64, why: CrewError) -> RunError
+    ensures { StopsAt number lines.old (W.contents writer.old) (W.contents writer.new) (W.failed writer.old) (W.failed writer.new) result }
 {
-    if writer.flush().is_err() {
+    if lines.pass_on(writer).is_err() || writer.flush().is_err() {
         return RunError::WriteFailed;
     }
     match why {

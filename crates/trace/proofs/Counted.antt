@@ -1,13 +1,13 @@
--- A relation that lists all records of a text lists those that the definition counts.
-use Rattle.std.proofs.Common.{◌≡◌, ℕ, zero, suc, ◌+◌, ◌<◌, ◌≤◌, true, false, cond, List, [], ◌∷◌, ◌++◌, length, Option, Some, None, ◌⊎◌, inl, inr, refl, sym, ap, subst, arith}
+-- The records of a text, whichever count suffices for them.
+use Rattle.std.proofs.Common.{◌≡◌, ℕ, zero, suc, ◌+◌, ◌<◌, true, false, cond, List, [], ◌∷◌, ◌++◌, length, Option, Some, None, ◌⊎◌, inl, inr, refl, sym, ap, ◌∙◌, arith}
 use Rattle.csv.specs.Machine.{Read, next_record, step, is_end, ends_at_end, fields_after, field_after}
-use Rattle.csv.specs.Reading.{Reached, records, records_from}
+use Rattle.csv.specs.Reading.{records_from, records_next}
 use Rattle.csv.specs.declared.parser.Config.{Config}
 use Rattle.csv.specs.declared.parser.State.{State}
 use Rattle.csv.specs.declared.parser.State.TheVariants as st
 
 -- a record takes a byte, or ends the text
-abbrev Shrinks : List ℕ → Option Read → Type 0
+abbrev pub Shrinks : List ℕ → Option Read → Type 0
 Shrinks xs None = Unit {0}
 Shrinks xs (Some r) = (length r.2 < length xs) ⊎ ((r.1 ≡ st.StartRecord) × (r.2 ≡ []))
 
@@ -26,32 +26,36 @@ shrinks cfg s fs f (x ∷ xs) =
       | false ↦ shrinks_more x xs _ (shrinks cfg next.0 (fields_after next.1 fs f) (field_after next.1 x f) xs)
     ]
 
--- nothing is left of an empty text between two records
-none_left : (cfg : Config) (rows : List (List (List ℕ))) (s2 : State) (ys : List ℕ) → Reached cfg st.StartRecord [] rows s2 ys → rows ≡ []
-unfolding Reached next_record
-none_left cfg [] s2 ys h = refl
-none_left cfg (r ∷ rows) s2 ys h = cc (h.1)
+-- an empty text has no record between two records
+none_left : (cfg : Config) (n : ℕ) → records_from cfg n st.StartRecord [] ≡ []
+unfolding records_from next_record
+none_left cfg zero = refl
+none_left cfg (suc n) = refl
 
--- a text has at most one record more than bytes
-few_records : (cfg : Config) (rows : List (List (List ℕ))) (s s2 : State) (xs ys : List ℕ) → Reached cfg s xs rows s2 ys → length rows ≤ length xs + 1
-unfolding Reached
-few_records cfg [] s s2 xs ys h = omega arith
-few_records cfg (r ∷ rows) s s2 xs ys h =
-    let rest : length rows ≤ length h.0.2 + 1 = few_records cfg rows h.0.1 s2 h.0.2 ys h.3 in
-    let shorter : Shrinks xs (Some h.0) = subst (Shrinks xs) h.1 (shrinks cfg s [] [] xs) in
-    elim shorter [
-      | inl less ↦ omega (arith, rest, less)
-      | inr end ↦ let none : rows ≡ [] = none_left cfg rows s2 ys (rw (end.0, end.1) at h.3) in omega (arith, ap length none)
-    ]
+-- any count above the number of bytes suffices
+settled : (cfg : Config) (n m : ℕ) (s : State) (xs : List ℕ) → length xs < n → length xs < m → records_from cfg n s xs ≡ records_from cfg m s xs
+unfolding records_from
+settled cfg zero m s xs few some = absurd (omega arith)
+settled cfg (suc n) zero s xs few some = absurd (omega arith)
+settled cfg (suc n) (suc m) s xs few some = by (next_record cfg s [] [] xs) (shrinks cfg s [] [] xs) (settled cfg n m)
+  where
+    by : (r : Option Read) → Shrinks xs r → ((t : State) (ys : List ℕ) → length ys < n → length ys < m → records_from cfg n t ys ≡ records_from cfg m t ys) → records_next (records_from cfg n) r ≡ records_next (records_from cfg m) r
+    by None h more = refl
+    by (Some p) (inl less) more = ap (λ l. p.0 ∷ l) (more p.1 p.2 (omega (arith, less, few)) (omega (arith, less, some)))
+    by (Some p) (inr end) more = ap (λ l. p.0 ∷ l) (rw (end.0, end.1) (none_left cfg n ∙ sym (none_left cfg m)))
 
--- with a count that suffices, the definition lists the records that the relation lists
-counted : (cfg : Config) (rows : List (List (List ℕ))) (n : ℕ) (s s2 : State) (xs ys : List ℕ) → Reached cfg s xs rows s2 ys → next_record cfg s2 [] [] ys ≡ None → length rows ≤ n → records_from cfg n s xs ≡ rows
-unfolding Reached records_from
-counted cfg [] zero s s2 xs ys h end le = refl
-counted cfg [] (suc n) s s2 xs ys h end le = rw (h.0, h.1, end) refl
-counted cfg (r ∷ rows) zero s s2 xs ys h end le = absurd (omega arith)
-counted cfg (r ∷ rows) (suc n) s s2 xs ys h end le =
-    rw h.1 (λ i. sym h.2 i ∷ counted cfg rows n h.0.1 s2 h.0.2 ys h.3 end (omega arith) i)
+-- a text's first record, and those behind it
+pub first_record : (cfg : Config) (n : ℕ) (s : State) (xs : List ℕ) (p : Read) → length xs < n → next_record cfg s [] [] xs ≡ Some p → records_from cfg n s xs ≡ p.0 ∷ records_from cfg (length p.2 + 1) p.1 p.2
+unfolding records_from
+first_record cfg zero s xs p few is = absurd (omega arith)
+first_record cfg (suc n) s xs p few is = rw is (ap (λ l. p.0 ∷ l) (by (rw is at (shrinks cfg s [] [] xs))))
+  where
+    by : Shrinks xs (Some p) → records_from cfg n p.1 p.2 ≡ records_from cfg (length p.2 + 1) p.1 p.2
+    by (inl less) = settled cfg n (length p.2 + 1) p.1 p.2 (omega (arith, less, few)) (omega arith)
+    by (inr end) = rw (end.0, end.1) (none_left cfg n ∙ sym (none_left cfg 1))
 
-pub all_counted : (cfg : Config) (rows : List (List (List ℕ))) (s2 : State) (xs ys : List ℕ) → Reached cfg st.StartRecord xs rows s2 ys → next_record cfg s2 [] [] ys ≡ None → records cfg xs ≡ rows
-all_counted cfg rows s2 xs ys h end = counted cfg rows (length xs + 1) st.StartRecord s2 xs ys h end (few_records cfg rows st.StartRecord s2 xs ys h)
+-- a text with no record
+pub no_record : (cfg : Config) (n : ℕ) (s : State) (xs : List ℕ) → next_record cfg s [] [] xs ≡ None → records_from cfg n s xs ≡ []
+unfolding records_from
+no_record cfg zero s xs is = refl
+no_record cfg (suc n) s xs is = rw is refl

@@ -5,3 +5,4 @@ mod Digits
 mod Words
 mod Hex
 mod Pages
+mod Readings

@@ -1,51 +1,50 @@
--- A reader of `csv` over bytes in memory, and the rows that it has given.
-use Rattle.std.proofs.Common.{Bor, ◌≡◌, ◌∙◌, List, ℕ, [], ◌∷◌, ◌++◌, Some, refl, sym, inl, inr, true, false}
-use Rattle.csv.specs.Reading.{Reached, Ready, ReadRecord, default_config, records, source_of, strip_bom}
-use Rattle.csv.specs.declared.iter.ByteRecordsIntoIter.{ByteRecordsIntoIter}
+-- A reader of `csv` over bytes in memory, and the records that it has yet to give.
+use Rattle.std.proofs.Common.{Bor, ◌≡◌, ◌∙◌, List, ℕ, suc, ◌+◌, [], ◌∷◌, length, take, drop, ◌++◌, Bool, true, false, not, ◌&&◌, ◌==◌, if◌then◌else◌, Option, Some, None, refl, sym, ap, inl, inr, arith, add-one, option_map}
+use Rattle.csv.specs.Machine.{next_record}
+use Rattle.csv.specs.Reading.{Reached, Ready, ReadRecord, buffered_of, default_config, has_failed, names_headers, reader_headers, reader_state, records_from, source_of, strip_bom, took_first}
 use Rattle.csv.specs.declared.parser.State.TheVariants as st
 use Rattle.csv.specs.declared.reader.Reader.{Reader}
-use Rattle.csv.specs.declared.reader.Trim.TheVariants as trim
 use Rattle.csv.proofs.ReadFacts.{rows-end, rows-more}
-use Rattle.trace.specs.Rows.{known, IsAtStart}
-use Rattle.trace.proofs.Counted.{all_counted}
+use Rattle.model.specs.Records.{Fields, records_of}
+use Rattle.trace.specs.Rows.{known, IsAtStart, IsReading, records_after, rows_left, with_row}
+use Rattle.trace.proofs.Counted.{first_record, no_record}
 
--- the rows so far lead from the text's start to what the reader has left
-pub record SoFar (text : List ℕ) (rows : List (List (List ℕ))) (reader : Reader (Bor (List ℕ))) : Type 0 where
-  pub trim : reader.trim ≡ trim.None
-  pub ready : Ready reader
-  pub config : reader.config ≡ default_config
+-- the bytes that a reader has left, which are known until it fails
+record HasLeft (rows : Reader (Bor (List ℕ))) : Type 0 where
   pub left : List ℕ
-  pub source : source_of known reader ≡ Some left
-  pub reached : Reached default_config st.StartRecord text rows reader.state left
+  pub source : source_of known rows ≡ Some left
 
--- a reader that has read nothing
-pub so_far-start : (bytes : List ℕ) (rows : ByteRecordsIntoIter (Bor (List ℕ))) → IsAtStart bytes rows → SoFar (strip_bom bytes) [] rows.rdr
+has_left : (rows : Reader (Bor (List ℕ))) → has_failed rows ≡ false → HasLeft rows
+has_left rows works = by (not rows.bom_checked && (rows.at == 0) && (rows.filled == 0)) refl
+  where
+    by : (b : Bool) → (not rows.bom_checked && (rows.at == 0) && (rows.filled == 0)) ≡ b → HasLeft rows
+    by true is = record { left = strip_bom rows.rdr.now; source = rw (works, is) refl }
+    by false is = record { left = drop rows.at (take rows.filled rows.buffer) ++ rows.rdr.now; source = rw (works, is) refl }
+
+-- a reader at the start has every record to give
+pub at_start : {bytes : List ℕ} (rows : Reader (Bor (List ℕ))) → IsAtStart bytes rows → rows_left rows ≡ records_of bytes
+at_start rows start = rw (start.state, start.source) refl
+
+pub reading_at_start : {bytes : List ℕ} (rows : Reader (Bor (List ℕ))) → IsAtStart bytes rows → IsReading rows
+reading_at_start rows start = record { trim = start.trim; config = start.config; ready = inr (inr (start.has_headers, start.headers)); works = start.works }
+
+-- a read gives the first of the records that are left
+pub row_read : (old new : Reader (Bor (List ℕ))) (found : Bool) (row : Fields) → IsReading old → ReadRecord known old new found row → rows_left old ≡ with_row found row new
 unfolding Reached
-so_far-start bytes rows start = record {
-  trim = start.trim;
-  ready = inr (inr (start.has_headers, start.headers));
-  config = start.config;
-  left = strip_bom bytes;
-  source = start.source;
-  reached = (sym start.state, refl);
-}
+row_read old new true row reading step =
+    let had = has_left old reading.works in
+    let more = rows-more known old new row default_config (reader_state old) had.left had.left [] reading.config had.source (refl, refl) step in
+    let read = more.2 in
+    let first = first_record default_config (length had.left + 1) (reader_state old) had.left read.0 (omega arith) read.1 in
+    ap (records_after (reader_state old)) had.source
+    ∙ first
+    ∙ (λ i. sym read.2 i ∷ records_from default_config (length (read.3.1 i) + 1) (read.3.0 i) (read.3.1 i))
+    ∙ ap (λ s. row ∷ records_after (reader_state new) s) (sym more.1)
+row_read old new false row reading step =
+    let had = has_left old reading.works in
+    ap (records_after (reader_state old)) had.source
+    ∙ no_record default_config (length had.left + 1) (reader_state old) had.left (rows-end known old new row default_config had.left reading.config had.source step)
 
--- one row more
-pub so_far-more : {text : List ℕ} {rows : List (List (List ℕ))} {old : Reader (Bor (List ℕ))} → SoFar text rows old → (new : Reader (Bor (List ℕ))) (row : List (List ℕ)) → ReadRecord known old new true row → new.first ≡ true
-    → SoFar text (rows ++ (row ∷ [])) new
-so_far-more {text} {rows} {old} before new row step first =
-    let more = rows-more known old new row default_config st.StartRecord text before.left rows before.config before.source before.reached step in
-    record {
-      trim = step.3 ∙ before.trim;
-      ready = inl first;
-      config = step.2 ∙ before.config;
-      left = more.0;
-      source = more.1;
-      reached = more.2;
-    }
-
--- no row more
-pub so_far-end : {text : List ℕ} {rows : List (List (List ℕ))} {old : Reader (Bor (List ℕ))} → SoFar text rows old → (new : Reader (Bor (List ℕ))) → ReadRecord known old new false [] → rows ≡ records default_config text
-so_far-end {text} {rows} {old} before new step =
-    let end = rows-end known old new [] default_config before.left before.config before.source step in
-    sym (all_counted default_config rows old.state text before.left before.reached end)
+-- and the reader reads on
+pub reads_on : (old new : Reader (Bor (List ℕ))) (found : Bool) (row : Fields) → IsReading old → ReadRecord known old new found row → took_first new ≡ true → has_failed new ≡ has_failed old → IsReading new
+reads_on old new found row reading step first same = record { trim = step.3 ∙ reading.trim; config = step.2 ∙ reading.config; ready = inl first; works = same ∙ reading.works }

@@ -4,3 +4,4 @@ pub mod Rows
 pub mod Parts
 pub mod Meaning
 pub mod Trace
+pub mod Unread

@@ -10,28 +10,22 @@ use Rattle.trace.specs.declared.call.CallError.{CallError}
 use Rattle.trace.specs.declared.call.CallError.TheVariants.{Refused, NoMemory}
 use Rattle.trace.specs.declared.call.Refusal.{Refusal}
 use Rattle.trace.specs.declared.call.Refusal.TheVariants.{BadRecord}
-use Rattle.trace.specs.declared.records.Records.{Records}
 use Rattle.trace.specs.declared.request.SendFields.{SendFields as TheSendFields}
 use Rattle.trace.specs.declared.request.AccessFields.{AccessFields as TheAccessFields}
 use Rattle.trace.specs.declared.request.UnmapFields.{UnmapFields as TheUnmapFields}
 use Rattle.trace.specs.Meaning.{refusal_of, call_of}
 
--- the records that were read, if there are any
-abbrev pub listed : Option Records → List Fields
-listed None = []
-listed (Some r) = r.first ∷ r.rest.items
-
 -- the fields of an access record
 abbrev pub access_of : TheAccessFields → AccessFields
 access_of a = record { space = a.space; address = a.address; kind = a.kind }
 
--- the fields of a send record
-abbrev pub send_of : TheSendFields → SendFields
-send_of s = record { from = s.from; to = s.to; window = s.window; words = s.words.items }
+-- the fields of a send record, with its words
+abbrev pub send_of : List ℕ → TheSendFields → SendFields
+send_of words s = record { from = s.from; to = s.to; window = s.window; words = words }
 
--- the fields of an unmap record
-abbrev pub unmap_of : TheUnmapFields → UnmapFields
-unmap_of u = record { space = u.space; control = u.control; words = u.words.items }
+-- the fields of an unmap record, with its words
+abbrev pub unmap_of : List ℕ → TheUnmapFields → UnmapFields
+unmap_of words u = record { space = u.space; control = u.control; words = words }
 
 -- the refusal that a word's error is
 abbrev pub IsRefusalOf : FpageError → Refusal → Type 0

@@ -4,6 +4,7 @@
 mod call;
 mod field;
 mod read;
+mod reader;
 mod records;
 mod reply;
 mod request;
@@ -11,6 +12,7 @@ mod stream;
 
 pub use call::{Call, Refusal};
 pub use read::{Trace, TraceError, read_all};
+pub use reader::TraceReader;
 pub use records::{Fields, Record};
 pub use reply::{Reply, push_reply, reply_text};
-pub use stream::{Failed, Sink, Source, Std};
+pub use stream::{Failed, ReadError, Sink, Source, Std, read_to_end};

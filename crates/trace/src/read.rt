@@ -1,10 +1,11 @@
 //! A trace: its limits, and its records.
 
-ghost use Rattle.std.specs.Prelude.{◌≡◌, false, IfOk, IfErr, IfSome, OnOk, MatchOption};
-ghost use Rattle.trace.specs.Trace.{IsTraceOf, LacksHeader, IsFaultOf, TellsReader};
+ghost use Rattle.std.specs.Prelude.{◌≡◌, false, IfOk, IfErr, IfSome, OnOk};
+ghost use Rattle.trace.specs.Trace.{IsTraceOf, IsFaultOf, TellsReader};
+ghost use Rattle.trace.specs.Unread.{IsFaultIn};
 
-use crate::records::{Record, Records, read_records};
-use crate::request::header;
+use crate::reader::TraceReader;
+use crate::records::Record;
 use crate::stream::{ReadError, Source, read_to_end};
 use mapdb::Limits;
 use space::NoMemory;
@@ -70,24 +71,21 @@ pub fn read_all<R: Source>(alloc: Global, reader: &mut R) -> Result<Trace, Trace
     ensures err { IfErr result (TellsReader (R.failed reader.new)) }
 {
     let bytes = read_to_end(alloc, reader)?;
-    match read_trace(alloc, &bytes)? {
-        Some(trace) => Ok(trace),
-        None => Err(TraceError::BadHeader),
-    }
+    read_trace(alloc, &bytes)
 }
 
-/// Returns the trace that bytes are; none if the first record does not have a header's form.
-fn read_trace(alloc: Global, bytes: &[u8]) -> Result<Option<Trace>, NoMemory>
-    ensures { IfOk result (λ trace. MatchOption trace (LacksHeader bytes.now) (IsTraceOf bytes.now)) }
+/// Returns the trace that bytes are.
+fn read_trace(alloc: Global, bytes: &[u8]) -> Result<Trace, TraceError>
+    ensures ok { IfOk result (IsTraceOf bytes.now) }
+    ensures err { IfErr result (IsFaultIn bytes.now) }
 {
-    let Some(Records { first, rest }) = read_records(alloc, bytes)? else {
-        return Ok(None);
-    };
-    match header(&mut first.fields()) {
-        Some(limits) => Ok(Some(Trace {
-            limits,
-            records: rest,
-        })),
-        None => Ok(None),
+    let mut reader = TraceReader::new(alloc, bytes)?;
+    let limits = reader.limits();
+    let mut records = Vec::new(alloc);
+    while let Some(record) = reader.next_record()? {
+        if records.push(record).is_err() {
+            return Err(TraceError::NoMemory);
+        }
     }
+    Ok(Trace { limits, records })
 }

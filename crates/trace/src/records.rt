@@ -1,14 +1,13 @@
 //! The records of a trace's bytes.
 
-ghost use Rattle.std.specs.Prelude.{◌≡◌, IfOk};
-ghost use Rattle.model.specs.Records.{records_of};
+ghost use Rattle.std.specs.Prelude.{◌≡◌, true, IfOk};
+ghost use Rattle.csv.specs.Records.{fields_of};
 ghost use Rattle.trace.specs.Meaning.{shown};
-ghost use Rattle.trace.specs.Parts.{listed};
-ghost use Rattle.trace.specs.Rows.{IsAtStart};
+ghost use Rattle.trace.specs.Rows.{IsAtStart, IsReading, rows_left, with_row};
 
-use csv::{ByteRecord, ByteRecordIter, ByteRecordsIntoIter, ReaderBuilder};
+use csv::{ByteRecord, ByteRecordIter, Reader, ReaderBuilder};
 use space::NoMemory;
-use std::alloc::{AllocError, Global};
+use std::alloc::Global;
 use std::marker::Model;
 
 /// A record of a trace: its fields, each of any bytes. A contract sees the list of them.
@@ -35,13 +34,19 @@ impl Record {
         Ok(Record { row })
     }
 
+    /// Makes a record of a row's fields.
+    pub(crate) fn of_row(row: &ByteRecord) -> Result<Self, NoMemory>
+        ensures { IfOk result (λ made. made ≡ fields_of row.now) }
+    {
+        let row = row.clone()?;
+        Ok(Record { row })
+    }
+
     /// Returns the fields, to be taken in order. They are read in place, and nothing is allocated.
     pub fn fields(&self) -> Fields<'_>
         ensures { result ≡ self.now }
     {
-        Fields {
-            rest: self.row.iter(),
-        }
+        Fields::of_row(&self.row)
     }
 }
 
@@ -64,6 +69,13 @@ impl<'a> Model for Fields<'a> {
 impl<'a> Fields<'a> {
     ghost use Rattle.trace.specs.Parts.{Takes};
 
+    /// Returns the fields of a row.
+    pub(crate) fn of_row(row: &'a ByteRecord) -> Self
+        ensures { result ≡ fields_of row.now }
+    {
+        Fields { rest: row.iter() }
+    }
+
     /// Takes the next field; none if no field is left.
     pub fn take(&mut self) -> Option<&'a [u8]>
         ensures { Takes self.old result self.new }
@@ -72,41 +84,25 @@ impl<'a> Fields<'a> {
     }
 }
 
-/// The records of some bytes, of which there is one at least.
-#[derive(Drop)]
-pub struct Records {
-    pub first: Record,
-    pub rest: Vec<Record>,
-}
-
 /// Returns a reader of the bytes' rows: no header row, any number of fields, nothing trimmed.
-fn rows(alloc: Global, bytes: &[u8]) -> ByteRecordsIntoIter<&[u8]>
+pub(crate) fn rows(alloc: Global, bytes: &[u8]) -> Reader<&[u8]>
     ensures { IsAtStart bytes.now result }
 {
-    let reader = ReaderBuilder::new()
+    ReaderBuilder::new()
         .has_headers(false)
         .flexible(true)
-        .from_reader(alloc, bytes);
-    reader.into_byte_records()
+        .from_reader(alloc, bytes)
 }
 
-/// Reads every record of the bytes, as `csv` does; none if there is no record.
-pub fn read_records(alloc: Global, bytes: &[u8]) -> Result<Option<Records>, AllocError>
-    ensures { IfOk result (λ records. listed records ≡ records_of bytes.now) }
+/// Reads the next row in place of this one, as `csv` does, and returns whether there was one.
+pub(crate) fn next_row(rows: &mut Reader<&[u8]>, row: &mut ByteRecord) -> Result<bool, NoMemory>
+    requires { IsReading rows.old }
+    ensures rows { IfOk result (λ found. rows_left rows.old ≡ with_row found (fields_of row.new) rows.new) }
+    ensures reading { IfOk result (λ found. found ≡ true → IsReading rows.new) }
 {
-    let mut rows = rows(alloc, bytes);
     // Bytes in memory are always readable, so the only error is out of memory.
-    let first = match rows.next() {
-        Some(Ok(row)) => Record { row },
-        Some(Err(_)) => return Err(AllocError),
-        None => return Ok(None),
+    let Ok(found) = rows.read_byte_record(row) else {
+        return Err(NoMemory);
     };
-    let mut rest = Vec::new(alloc);
-    for row in rows {
-        match row {
-            Ok(row) => rest.push(Record { row })?,
-            Err(_) => return Err(AllocError),
-        }
-    }
-    Ok(Some(Records { first, rest }))
+    Ok(found)
 }

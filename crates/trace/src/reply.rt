@@ -1,15 +1,16 @@
 //! Replies to records.
 
-ghost use Rattle.std.specs.Prelude.{◌≡◌, ◌++◌, IfOk, OnOk, string_bytes};
-ghost use Rattle.model.specs.Text.{reply_line};
-ghost use Rattle.trace.specs.Meaning.{reply_of};
+ghost use Rattle.std.specs.Prelude.{◌≡◌, ◌<◌, ◌++◌, IfOk, OnOk, string_bytes};
+ghost use Rattle.std.specs.Fmt.{decimal};
+ghost use Rattle.model.specs.Text.{reply_line, reply_text, refusal_name, counts_text, words_text, hex_digits, hex_code};
+ghost use Rattle.mapdb.specs.Meaning.{counts_of};
+ghost use Rattle.trace.specs.Meaning.{reply_of, refusal_of};
 
 use crate::call::Refusal;
+use itoa::Buffer;
 use mapdb::SendReply;
 use space::NoMemory;
-use std::alloc::Global;
-use std::fmt;
-use std::fmt::Write;
+use std::alloc::{AllocError, Global};
 
 /// The answer to a record.
 #[derive(Debug, Drop)]
@@ -22,109 +23,110 @@ pub enum Reply {
     Refused(Refusal),
 }
 
-impl fmt::Display for Refusal {
-    ghost use Rattle.std.specs.Prelude.{Some};
-    ghost use Rattle.model.specs.Text.{refusal_name};
-    ghost use Rattle.trace.specs.Meaning.{refusal_of};
-
-    ghost output = { λ refusal. Some (refusal_name (refusal_of refusal)) };
-
-    fn fmt<W: fmt::Write>(&self, f: &mut fmt::Formatter<W>) -> fmt::Result {
-        f.write_str(match self {
-            Refusal::BadSize => "BadSize",
-            Refusal::Misaligned => "Misaligned",
-            Refusal::OutOfSpace => "OutOfSpace",
-            Refusal::NotAnItem => "NotAnItem",
-            Refusal::BadControl => "BadControl",
-            Refusal::NoSuchSpace => "NoSuchSpace",
-            Refusal::SameSpace => "SameSpace",
-            Refusal::NoWindow => "NoWindow",
-            Refusal::BadRecord => "BadRecord",
-        })
+fn refusal_name(refusal: Refusal) -> &'static str
+    ensures { result.now ≡ refusal_name (refusal_of refusal) }
+{
+    match refusal {
+        Refusal::BadSize => "BadSize",
+        Refusal::Misaligned => "Misaligned",
+        Refusal::OutOfSpace => "OutOfSpace",
+        Refusal::NotAnItem => "NotAnItem",
+        Refusal::BadControl => "BadControl",
+        Refusal::NoSuchSpace => "NoSuchSpace",
+        Refusal::SameSpace => "SameSpace",
+        Refusal::NoWindow => "NoWindow",
+        Refusal::BadRecord => "BadRecord",
     }
 }
 
-/// The six counts of a send, each with its name.
-#[derive(Clone, Copy)]
-struct CountsText(SendReply);
-
-impl fmt::Display for CountsText {
-    ghost use Rattle.std.specs.Prelude.{Some};
-    ghost use Rattle.model.specs.Text.{counts_text};
-    ghost use Rattle.mapdb.specs.Meaning.{counts_of};
-
-    ghost output = { λ counts. Some (counts_text (counts_of counts.0)) };
-
-    fn fmt<W: fmt::Write>(&self, f: &mut fmt::Formatter<W>) -> fmt::Result {
-        let SendReply {
-            absent,
-            norights,
-            origin,
-            lost,
-            extended,
-            linked,
-        } = self.0;
-        write!(
-            f,
-            "absent={absent} norights={norights} origin={origin} lost={lost} extended={extended} linked={linked}"
-        )
-    }
+/// Appends a number in decimal digits.
+fn push_number(text: &mut String, number: u128) -> Result<(), AllocError>
+    ensures { OnOk result (string_bytes text.new ≡ string_bytes text.old ++ decimal number) }
+{
+    let mut digits = Buffer::new();
+    text.push_str(digits.format(number))
 }
 
-/// A word as 8 hexadecimal digits.
-#[derive(Clone, Copy)]
-struct WordText(u32);
-
-impl fmt::Display for WordText {
-    ghost use Rattle.std.specs.Prelude.{Some};
-    ghost use Rattle.model.specs.Text.{hex_digits};
-
-    ghost output = { λ word. Some (hex_digits 8 word.0) };
-
-    fn fmt<W: fmt::Write>(&self, f: &mut fmt::Formatter<W>) -> fmt::Result {
-        let [a, b, c, d] = self.0.to_be_bytes();
-        write!(f, "{a:02x}{b:02x}{c:02x}{d:02x}")
-    }
+/// Appends a count behind its name.
+fn push_count(text: &mut String, name: &str, count: u128) -> Result<(), AllocError>
+    ensures { OnOk result (string_bytes text.new ≡ string_bytes text.old ++ name.now ++ decimal count) }
+{
+    text.push_str(name)?;
+    push_number(text, count)
 }
 
-/// Words, each behind a space.
-#[derive(Clone, Copy)]
-struct WordsText<'a>(&'a [u32]);
+/// Appends the six counts of a send, each behind its name.
+fn push_counts(text: &mut String, counts: &SendReply) -> Result<(), AllocError>
+    ensures { OnOk result (string_bytes text.new ≡ string_bytes text.old ++ counts_text (counts_of counts.now)) }
+{
+    push_count(text, "absent=", counts.absent)?;
+    push_count(text, " norights=", counts.norights)?;
+    push_count(text, " origin=", counts.origin)?;
+    push_count(text, " lost=", counts.lost)?;
+    push_count(text, " extended=", counts.extended)?;
+    push_count(text, " linked=", counts.linked)
+}
 
-impl fmt::Display for WordsText<'_> {
-    ghost use Rattle.std.specs.Prelude.{Some};
-    ghost use Rattle.model.specs.Text.{words_text};
+/// Returns the hexadecimal digit of a number, in lower case.
+fn hex_code(digit: u8) -> char
+    requires { digit < 16 }
+    ensures { result ≡ hex_code digit }
+{
+    char::from(if digit < 10 {
+        b'0' + digit
+    } else {
+        b'a' - 10 + digit
+    })
+}
 
-    ghost output = { λ words. Some (words_text words.0.now) };
+/// Appends a byte as 2 hexadecimal digits.
+fn push_byte(text: &mut String, byte: u8) -> Result<(), AllocError>
+    ensures { OnOk result (string_bytes text.new ≡ string_bytes text.old ++ hex_digits 2 byte) }
+{
+    text.push(hex_code(byte / 16))?;
+    text.push(hex_code(byte % 16))
+}
 
-    fn fmt<W: fmt::Write>(&self, f: &mut fmt::Formatter<W>) -> fmt::Result {
-        for word in self.0 {
-            let word = WordText(*word);
-            write!(f, " {word}")?;
+/// Appends a word as 8 hexadecimal digits.
+fn push_word(text: &mut String, word: u32) -> Result<(), AllocError>
+    ensures { OnOk result (string_bytes text.new ≡ string_bytes text.old ++ hex_digits 8 word) }
+{
+    let [first, second, third, fourth] = word.to_be_bytes();
+    push_byte(text, first)?;
+    push_byte(text, second)?;
+    push_byte(text, third)?;
+    push_byte(text, fourth)
+}
+
+/// Appends words, each behind a space.
+fn push_words(text: &mut String, words: &[u32]) -> Result<(), AllocError>
+    ensures { OnOk result (string_bytes text.new ≡ string_bytes text.old ++ words_text words.now) }
+{
+    for word in words {
+        text.push_str(" ")?;
+        push_word(text, *word)?;
+    }
+    Ok(())
+}
+
+/// Appends a reply without its number.
+fn push_answer(text: &mut String, reply: &Reply) -> Result<(), AllocError>
+    ensures { OnOk result (string_bytes text.new ≡ string_bytes text.old ++ reply_text (reply_of reply.now)) }
+{
+    match reply {
+        Reply::Sent(counts) => {
+            text.push_str("send ")?;
+            push_counts(text, counts)
         }
-        Ok(())
-    }
-}
-
-impl fmt::Display for Reply {
-    ghost use Rattle.std.specs.Prelude.{Some};
-    ghost use Rattle.model.specs.Text.{reply_text};
-
-    ghost output = { λ reply. Some (reply_text (reply_of reply)) };
-
-    fn fmt<W: fmt::Write>(&self, f: &mut fmt::Formatter<W>) -> fmt::Result {
-        match self {
-            Reply::Sent(counts) => {
-                let counts = CountsText(*counts);
-                write!(f, "send {counts}")
-            }
-            Reply::Accessed(true) => f.write_str("access ok"),
-            Reply::Accessed(false) => f.write_str("access fault"),
-            Reply::Unmapped(words) => {
-                let words = WordsText(words);
-                write!(f, "unmap{words}")
-            }
-            Reply::Refused(refusal) => write!(f, "refused {refusal}"),
+        Reply::Accessed(true) => text.push_str("access ok"),
+        Reply::Accessed(false) => text.push_str("access fault"),
+        Reply::Unmapped(words) => {
+            text.push_str("unmap")?;
+            push_words(text, words)
+        }
+        Reply::Refused(refusal) => {
+            text.push_str("refused ")?;
+            text.push_str(refusal_name(*refusal))
         }
     }
 }
@@ -135,9 +137,10 @@ impl fmt::Display for Reply {
 pub fn push_reply(text: &mut String, number: u64, reply: &Reply) -> Result<(), NoMemory>
     ensures { OnOk result (string_bytes text.new ≡ string_bytes text.old ++ reply_line number (reply_of reply.now)) }
 {
-    if write!(text, "{number} {reply}\n").is_err() {
-        return Err(NoMemory);
-    }
+    push_number(text, u128::from(number))?;
+    text.push_str(" ")?;
+    push_answer(text, reply)?;
+    text.push_str("\n")?;
     Ok(())
 }
 

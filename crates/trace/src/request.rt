@@ -1,14 +1,16 @@
 //! What a record asks for.
 
-ghost use Rattle.std.specs.Prelude.{◌≡◌, ◌%◌, length, true, IfOk};
+ghost use Rattle.std.specs.Prelude.{◌≡◌, ◌%◌, length, true, Some, IfOk, IfSome, OnOk};
 ghost use Rattle.std.specs.Option.{option_map};
 ghost use Rattle.std.specs.List.{All, zip};
 ghost use Rattle.fpage.specs.Fpage.{IsSpaceBits, IsFpageOf};
 ghost use Rattle.model.specs.Records.{header_limits, access_fields, access_request, word_fields, send_fields, read_items, send_request};
 ghost use Rattle.model.specs.Records.{unmap_fields, read_words, unmap_request, request, are_limits};
 ghost use Rattle.holdings.specs.Meaning.{limits_of};
+ghost use Rattle.holdings.specs.Places.{IsWithin};
 ghost use Rattle.trace.specs.Parts.{access_of, send_of, unmap_of, ReadsFields, ReadsWords, Asks};
 ghost use Rattle.trace.specs.Meaning.{request_of, IsWithinLimits};
+ghost use Rattle.trace.specs.Unread.{access_in};
 
 use crate::call::{Call, CallError, Refusal};
 use crate::field;
@@ -17,6 +19,53 @@ use fpage::{Access, Control, Fpage, Item};
 use mapdb::Limits;
 use space::{NoMemory, Place};
 use std::alloc::Global;
+use std::mem;
+
+/// The memory of the parts of calls, used again from call to call.
+#[derive(Drop)]
+pub struct Buffers {
+    alloc: Global,
+    words: Vec<u32>,
+    items: Vec<Item>,
+    fpages: Vec<Fpage>,
+}
+
+impl Buffers {
+    /// Makes buffers that have no memory yet.
+    pub fn new(alloc: Global) -> Self {
+        Buffers {
+            alloc,
+            words: Vec::new(alloc),
+            items: Vec::new(alloc),
+            fpages: Vec::new(alloc),
+        }
+    }
+
+    /// Keeps the memory of a call.
+    pub fn keep(&mut self, call: Call) {
+        match call {
+            Call::Send {
+                from: _,
+                to: _,
+                window: _,
+                items,
+            } => self.items = items,
+            Call::Access {
+                place: _,
+                access: _,
+            } => (),
+            Call::Unmap {
+                space: _,
+                control: _,
+                words,
+                fpages,
+            } => {
+                self.words = words;
+                self.fpages = fpages;
+            }
+        }
+    }
+}
 
 /// Returns the limits that a header names, if it has the form of one.
 pub fn header(fields: &mut Fields<'_>) -> Option<Limits>
@@ -95,30 +144,45 @@ fn access(limits: &Limits, fields: &mut Fields<'_>) -> Result<Call, Refusal>
     })
 }
 
-/// Returns the words of fields; `BadRecord` if a field is no word.
-fn words(alloc: Global, fields: &mut Fields<'_>) -> Result<Vec<u32>, CallError>
-    ensures { ReadsFields (λ v. v.items) (word_fields fields.old) result }
+/// Returns the access that fields mean, where they mean one.
+pub fn access_only(limits: &Limits, fields: &mut Fields<'_>) -> Option<(Place, Access)>
+    requires { IsSpaceBits limits.now.bits }
+    ensures access { result ≡ access_in (Some (request (limits_of limits.now) fields.old)) }
+    ensures within { IfSome result (λ access. IsWithin (limits_of limits.now) access.0) }
 {
-    let mut words = Vec::new(alloc);
+    if fields.take()? != b"access".as_slice() {
+        return None;
+    }
+    match access(limits, fields) {
+        Ok(Call::Access { place, access }) => Some((place, access)),
+        _ => None,
+    }
+}
+
+/// Puts the words of fields in place of those that were there; `BadRecord` if a field is no word.
+fn read_words(fields: &mut Fields<'_>, words: &mut Vec<u32>) -> Result<(), CallError>
+    ensures { ReadsFields (λ _. words.new.items) (word_fields fields.old) result }
+{
+    words.clear();
     while let Some(field) = fields.take() {
         let word = field::word(field).ok_or(Refusal::BadRecord)?;
         words.push(word)?;
     }
-    Ok(words)
+    Ok(())
 }
 
-/// The fields of a send record after its name.
-#[derive(Drop)]
+/// The first fields of a send record after its name.
+#[derive(Clone, Copy)]
 struct SendFields {
     from: u16,
     to: u16,
     window: u32,
-    words: Vec<u32>,
 }
 
-fn send_words(alloc: Global, fields: &mut Fields<'_>) -> Result<SendFields, CallError>
-    ensures fields { ReadsFields send_of (send_fields fields.old) result }
-    ensures pairs { IfOk result (λ s. length s.words.items % 2 ≡ 0) }
+/// Returns the fields of a send, and puts its words in place of those that were there.
+fn send_words(fields: &mut Fields<'_>, words: &mut Vec<u32>) -> Result<SendFields, CallError>
+    ensures fields { ReadsFields (send_of words.new.items) (send_fields fields.old) result }
+    ensures pairs { OnOk result (length words.new.items % 2 ≡ 0) }
 {
     let from = fields.take().ok_or(Refusal::BadRecord)?;
     let to = fields.take().ok_or(Refusal::BadRecord)?;
@@ -126,48 +190,38 @@ fn send_words(alloc: Global, fields: &mut Fields<'_>) -> Result<SendFields, Call
     let from = field::space(from).ok_or(Refusal::BadRecord)?;
     let to = field::space(to).ok_or(Refusal::BadRecord)?;
     let window = field::word(window).ok_or(Refusal::BadRecord)?;
-    let words = words(alloc, fields)?;
+    read_words(fields, words)?;
     if words.len() % 2 != 0 || words.len() < 2 || words.len() > 62 {
         return Err(CallError::Refused(Refusal::BadRecord));
     }
-    Ok(SendFields {
-        from,
-        to,
-        window,
-        words,
-    })
+    Ok(SendFields { from, to, window })
 }
 
-/// Returns the items of words two by two, or the first refusal.
-fn items(alloc: Global, words: &[u32], bits: u32) -> Result<Vec<Item>, CallError>
+/// Puts the items of words, two by two, in place of those that were there; otherwise returns the first refusal.
+fn read_items(words: &[u32], bits: u32, items: &mut Vec<Item>) -> Result<(), CallError>
     requires bits { IsSpaceBits bits }
     requires pairs { length words.now % 2 ≡ 0 }
-    ensures items { ReadsWords (λ v. v.items) (read_items bits words.now) result }
-    ensures within { IfOk result (λ items. All (λ item. IsFpageOf bits item.sent) items.items) }
+    ensures items { ReadsWords (λ _. items.new.items) (read_items bits words.now) result }
+    ensures within { OnOk result (All (λ item. IsFpageOf bits item.sent) items.new.items) }
 {
-    let count = words.len() / 2;
-    let mut items = Vec::with_capacity(alloc, count)?;
-    for i in 0..count {
+    items.clear();
+    for i in 0..words.len() / 2 {
         let item = Item::read(words[2 * i], words[2 * i + 1], bits)?;
         items.push(item)?;
     }
-    Ok(items)
+    Ok(())
 }
 
 /// Returns a send, or the first refusal that fits: `BadRecord`, then those of the window, then those of the items in order.
-fn send(alloc: Global, limits: &Limits, fields: &mut Fields<'_>) -> Result<Call, CallError>
+fn send(limits: &Limits, fields: &mut Fields<'_>, buffers: &mut Buffers) -> Result<Call, CallError>
     requires { IsSpaceBits limits.now.bits }
     ensures request { Asks (send_request (limits_of limits.now) (send_fields fields.old)) result }
     ensures within { IfOk result (IsWithinLimits (limits_of limits.now)) }
 {
-    let SendFields {
-        from,
-        to,
-        window,
-        words,
-    } = send_words(alloc, fields)?;
+    let SendFields { from, to, window } = send_words(fields, &mut buffers.words)?;
     let window = Fpage::read(window, limits.bits)?;
-    let items = items(alloc, &words, limits.bits)?;
+    read_items(&buffers.words, limits.bits, &mut buffers.items)?;
+    let items = mem::replace(&mut buffers.items, Vec::new(buffers.alloc));
     Ok(Call::Send {
         from,
         to,
@@ -176,57 +230,51 @@ fn send(alloc: Global, limits: &Limits, fields: &mut Fields<'_>) -> Result<Call,
     })
 }
 
-/// The fields of an unmap record after its name.
-#[derive(Drop)]
+/// The first fields of an unmap record after its name.
+#[derive(Clone, Copy)]
 struct UnmapFields {
     space: u16,
     control: u32,
-    words: Vec<u32>,
 }
 
-fn unmap_words(alloc: Global, fields: &mut Fields<'_>) -> Result<UnmapFields, CallError>
-    ensures { ReadsFields unmap_of (unmap_fields fields.old) result }
+/// Returns the fields of an unmap, and puts its words in place of those that were there.
+fn unmap_words(fields: &mut Fields<'_>, words: &mut Vec<u32>) -> Result<UnmapFields, CallError>
+    ensures { ReadsFields (unmap_of words.new.items) (unmap_fields fields.old) result }
 {
     let space = fields.take().ok_or(Refusal::BadRecord)?;
     let control = fields.take().ok_or(Refusal::BadRecord)?;
     let space = field::space(space).ok_or(Refusal::BadRecord)?;
     let control = field::word(control).ok_or(Refusal::BadRecord)?;
-    let words = words(alloc, fields)?;
-    Ok(UnmapFields {
-        space,
-        control,
-        words,
-    })
+    read_words(fields, words)?;
+    Ok(UnmapFields { space, control })
 }
 
-/// Returns the fpage of each word, or the first refusal.
-fn fpages(alloc: Global, words: &[u32], bits: u32) -> Result<Vec<Fpage>, CallError>
+/// Puts the fpage of each word in place of those that were there; otherwise returns the first refusal.
+fn read_fpages(words: &[u32], bits: u32, fpages: &mut Vec<Fpage>) -> Result<(), CallError>
     requires { IsSpaceBits bits }
-    ensures fpages { ReadsWords (λ fs. zip words.now fs.items) (read_words bits words.now) result }
-    ensures count { IfOk result (λ fs. length fs.items ≡ length words.now) }
-    ensures within { IfOk result (λ fs. All (IsFpageOf bits) fs.items) }
+    ensures fpages { ReadsWords (λ _. zip words.now fpages.new.items) (read_words bits words.now) result }
+    ensures count { OnOk result (length fpages.new.items ≡ length words.now) }
+    ensures within { OnOk result (All (IsFpageOf bits) fpages.new.items) }
 {
-    let mut fpages = Vec::with_capacity(alloc, words.len())?;
+    fpages.clear();
     for word in words {
         let fpage = Fpage::read(*word, bits)?;
         fpages.push(fpage)?;
     }
-    Ok(fpages)
+    Ok(())
 }
 
 /// Returns an unmap, or the first refusal that fits: `BadRecord`, then `BadControl`, then those of the words in order.
-fn unmap(alloc: Global, limits: &Limits, fields: &mut Fields<'_>) -> Result<Call, CallError>
+fn unmap(limits: &Limits, fields: &mut Fields<'_>, buffers: &mut Buffers) -> Result<Call, CallError>
     requires { IsSpaceBits limits.now.bits }
     ensures request { Asks (unmap_request (limits_of limits.now) (unmap_fields fields.old)) result }
     ensures within { IfOk result (IsWithinLimits (limits_of limits.now)) }
 {
-    let UnmapFields {
-        space,
-        control,
-        words,
-    } = unmap_words(alloc, fields)?;
-    let control = Control::read(control, words.len())?;
-    let fpages = fpages(alloc, &words, limits.bits)?;
+    let UnmapFields { space, control } = unmap_words(fields, &mut buffers.words)?;
+    let control = Control::read(control, buffers.words.len())?;
+    read_fpages(&buffers.words, limits.bits, &mut buffers.fpages)?;
+    let words = mem::replace(&mut buffers.words, Vec::new(buffers.alloc));
+    let fpages = mem::replace(&mut buffers.fpages, Vec::new(buffers.alloc));
     Ok(Call::Unmap {
         space,
         control,
@@ -236,18 +284,22 @@ fn unmap(alloc: Global, limits: &Limits, fields: &mut Fields<'_>) -> Result<Call
 }
 
 /// Returns the call that fields mean, or the refusal that they and the limits decide.
-fn request(alloc: Global, limits: &Limits, fields: &mut Fields<'_>) -> Result<Call, CallError>
+pub fn request(
+    limits: &Limits,
+    fields: &mut Fields<'_>,
+    buffers: &mut Buffers,
+) -> Result<Call, CallError>
     requires { IsSpaceBits limits.now.bits }
     ensures request { Asks (request (limits_of limits.now) fields.old) result }
     ensures within { IfOk result (IsWithinLimits (limits_of limits.now)) }
 {
     let name = fields.take().ok_or(Refusal::BadRecord)?;
     if name == b"send".as_slice() {
-        send(alloc, limits, fields)
+        send(limits, fields, buffers)
     } else if name == b"access".as_slice() {
         Ok(access(limits, fields)?)
     } else if name == b"unmap".as_slice() {
-        unmap(alloc, limits, fields)
+        unmap(limits, fields, buffers)
     } else {
         Err(CallError::Refused(Refusal::BadRecord))
     }
@@ -265,7 +317,8 @@ impl Record {
         ensures request { IfOk result (λ asked. request_of asked ≡ request (limits_of limits.now) self.now) }
         ensures within { IfOk result (λ asked. IfOk asked (IsWithinLimits (limits_of limits.now))) }
     {
-        match request(alloc, limits, &mut self.fields()) {
+        let mut buffers = Buffers::new(alloc);
+        match request(limits, &mut self.fields(), &mut buffers) {
             Ok(call) => Ok(Ok(call)),
             Err(CallError::Refused(refusal)) => Ok(Err(refusal)),
             Err(CallError::NoMemory) => Err(NoMemory),

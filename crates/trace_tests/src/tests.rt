@@ -8,11 +8,12 @@ use fpage::{Access, ItemKind, Rights};
 use mapdb::{Limits, SendReply};
 use space::{NoMemory, Place};
 use std::alloc::{AllocError, Global};
+use std::fmt::Write;
 use std::process::Abort;
 use std::test::Fail;
 use trace::{
-    Call, Failed, Record, Refusal, Reply, Source, Std, Trace, TraceError, push_reply, read_all,
-    reply_text,
+    Call, Failed, Record, Refusal, Reply, Source, Std, Trace, TraceError, TraceReader, push_reply,
+    read_all, reply_text,
 };
 
 /// The fields of the records, each in brackets, and each record on a line.
@@ -322,6 +323,120 @@ fn a_record_is_refused_by_the_first_reason_that_fits(rt: HostRuntime) -> Result<
     let asked = no_fields.call(rt.alloc(), &small_limits(&rt))?;
     assert!(rt; matches!(asked, Err(Refusal::BadRecord)));
     Ok(())
+}
+
+/// Appends what a record asks for, and how many items or words it has.
+fn push_asked(
+    text: &mut String,
+    number: u64,
+    asked: &Result<Call, Refusal>,
+) -> Result<(), AllocError> {
+    match asked {
+        Ok(
+            Call::Send {
+                from,
+                to,
+                window: _,
+                items,
+            },
+        ) => {
+            let count = items.len();
+            write!(text, "{number} send {from} {to} {count}\n")
+        }
+        Ok(Call::Access { place, access }) => push_access(text, number, *place, *access),
+        Ok(
+            Call::Unmap {
+                space,
+                control: _,
+                words,
+                fpages,
+            },
+        ) => {
+            let count = words.len();
+            let named = fpages.len();
+            write!(text, "{number} unmap {space} {count} {named}\n")
+        }
+        Err(refusal) => write!(text, "{number} {refusal:?}\n"),
+    }
+}
+
+fn push_access(
+    text: &mut String,
+    number: u64,
+    place: Place,
+    access: Access,
+) -> Result<(), AllocError> {
+    let Place { space, page } = place;
+    write!(text, "{number} access {space} {page} {access:?}\n")
+}
+
+/// What the records of a trace ask for; accesses are taken as such if `ahead`, and as calls otherwise.
+fn asked_by(rt: &(impl Abort + AllocGlobal), input: &str, ahead: bool) -> Result<String, Fail> {
+    let limits = small_limits(rt);
+    let mut trace = TraceReader::new(rt.alloc(), input.as_bytes())?;
+    assert_eq!(rt; trace.limits(), limits);
+    let mut text = String::new(rt.alloc());
+    for _ in 0..u64::MAX {
+        let number = trace.number();
+        if ahead {
+            if let Some((place, access)) = trace.next_access(&limits)? {
+                push_access(&mut text, number, place, access)?;
+                continue;
+            }
+        }
+        if trace.is_at_end() {
+            break;
+        }
+        let asked = trace.next_call(&limits)?;
+        push_asked(&mut text, number, &asked)?;
+        if let Ok(call) = asked {
+            trace.reuse(call);
+        }
+    }
+    assert!(rt; trace.next_record()?.is_none());
+    Ok(text)
+}
+
+#[test]
+fn a_reader_takes_records_one_after_another(rt: HostRuntime) -> Result<(), Fail> {
+    let cases = [
+        ("", ""),
+        (
+            "send,0,1,10,8,50c6,8,10c6\naccess,1,fff,w\naccess,2,1000,r\n",
+            "1 send 0 1 2\n2 access 1 0 Write\n3 access 2 1 Read\n",
+        ),
+        // A refused access is taken as a record of its own.
+        (
+            "access,0,0,x\naccess,3,0,r\naccess,0,40000,r\naccess,0\n\"\"\naccess,0,2000,r\n",
+            "1 access 0 0 Execute\n2 NoSuchSpace\n3 OutOfSpace\n4 BadRecord\n5 BadRecord\n6 access 0 2 Read\n",
+        ),
+        // After many words few, and after a refused word others.
+        (
+            "unmap,1,2,10,50c2,17\nunmap,7,0,16\nsend,0,1,10,8,50c6,8,4d6\nsend,2,1,10,8,50c6\nunmap,1,0\nunmap,1,0,10\n",
+            "1 unmap 1 3 3\n2 unmap 7 1 1\n3 Misaligned\n4 send 2 1 1\n5 BadControl\n6 unmap 1 1 1\n",
+        ),
+    ];
+    for (records, asked) in cases {
+        let input = format!(in rt.alloc(); "l4map,1,3,18,16\n{records}")?;
+        for ahead in [false, true] {
+            let text = asked_by(&rt, input.as_str(), ahead)?;
+            assert_eq!(rt; text.as_str(), asked, "{ahead}");
+        }
+    }
+    Ok(())
+}
+
+#[test]
+fn a_reader_answers_a_bad_header(rt: HostRuntime) {
+    for input in [
+        "",
+        "\n",
+        "l4map,1,3,18\n",
+        "send,0,1,10,8\nl4map,1,3,18,16\n",
+    ] {
+        let outcome = TraceReader::new(rt.alloc(), input.as_bytes());
+        assert!(rt; matches!(outcome, Err(TraceError::BadHeader)), "{input}");
+    }
 }
 
 #[test]

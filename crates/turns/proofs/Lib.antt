@@ -4,6 +4,7 @@ pub mod Raising
 pub mod Moves
 pub mod Entering
 pub mod Closing
+pub mod SharedBits
 pub mod Seats
 pub mod Replacing
 pub mod Finds

@@ -1,12 +1,14 @@
 //! The laws of the rule. The function does nothing: its contract is the laws.
 
-ghost use Rattle.turns.specs.Laws.{OpeningMeetsTheRule, StepsKeepTheRule, DealingKeepsTheRule, TakingBackKeepsTheRule, AllCountsTellTheWords};
+ghost use Rattle.turns.specs.Laws.{OpeningMeetsTheRule, StepsKeepTheRule, DealingKeepsTheRule, TakingBackKeepsTheRule, AllCountsTellTheWords, BitsOfSharedWordsAreTold};
 
-/// The rule holds at opening, every step keeps it, and so do the dealing and the taking back of seats.
+/// The rule holds at opening, every step keeps it, and so do the dealing and the taking back of seats. Between any two steps it
+/// tells where each bit comes from of a shared word that no step writes.
 pub fn the_rule_is_kept()
     ensures opening_meets_the_rule { OpeningMeetsTheRule }
     ensures steps_keep_the_rule { StepsKeepTheRule }
     ensures dealing_keeps_the_rule { DealingKeepsTheRule }
     ensures taking_back_keeps_the_rule { TakingBackKeepsTheRule }
     ensures all_counts_tell_the_words { AllCountsTellTheWords }
+    ensures bits_of_shared_words_are_told { BitsOfSharedWordsAreTold }
 {}

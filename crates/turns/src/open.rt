@@ -7,10 +7,10 @@ ghost use Rattle.turns.specs.Views.{none_done};
 ghost use Rattle.turns.specs.Sheets.{IsSeat};
 ghost use Rattle.turns.specs.Turns.{new_turns};
 
-use crate::sharing::{indexes, own_words};
+use crate::sharing::indexes;
 use crate::sheet::{Seat, Sheet};
 use crate::turn::Turn;
-use pieces::{Done, Piece, are_pieces};
+use pieces::{Done, Piece, are_pieces, changed_words};
 use space::NoMemory;
 use std::alloc::{AllocError, Global};
 use std::marker::Model;
@@ -164,7 +164,7 @@ fn deal(
     for piece in pieces {
         let own = sheet.deal(&mut seat);
         let number = turns.len();
-        let next = hint.wrapping_add(own_words(&piece));
+        let next = hint.wrapping_add(changed_words(&piece));
         turns.push(Turn::new(alloc, sheet, own, number, piece, hint)?)?;
         hint = next;
     }

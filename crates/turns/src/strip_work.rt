@@ -5,7 +5,7 @@ use crate::sheet::Sheet;
 use fpage::Rights;
 use maptree::Slice;
 use pieces::steps::{bits, narrowed, remains, status};
-use pieces::{Masks, Strip};
+use pieces::{Masks, Strip, move_node};
 use std::snapshot::Snapshot;
 
 /// A strip, some of whose steps were done. The nodes that are kept stand in front, in their order.
@@ -99,6 +99,22 @@ impl StripWork {
         }
     }
 
+    /// All steps that are left.
+    pub(crate) fn step_to_end(&mut self, post: &mut Post, sheet: &Sheet)
+        requires of { post.old.sheet ≡ sheet.now }
+        requires piece { slice_get sheet.now.opening.pieces post.old.number ≡ Some (piece.Strip self.old.of.value) }
+        requires work { IsStripWork sheet.now.opening.words self.old post.old.steps }
+        requires few { post.old.steps ≤ length (steps sheet.now.opening.words (piece.Strip self.old.of.value)) }
+        ensures post { post.new ≡ record post.old { steps = length (steps sheet.now.opening.words (piece.Strip self.old.of.value)) } }
+        ensures of { self.new.of.value ≡ self.old.of.value }
+        ensures work { IsStripWork sheet.now.opening.words self.new post.new.steps }
+    {
+        let len = self.len();
+        while post.steps() < len {
+            self.step(post, sheet);
+        }
+    }
+
     /// The step of the node at a position.
     fn narrow(&mut self, post: &mut Post, sheet: &Sheet, k: usize)
         requires of { post.old.sheet ≡ sheet.now }
@@ -118,7 +134,7 @@ impl StripWork {
         let found = post.write(sheet, index, narrowed(word, mask), hint);
         self.status = self.status.join(status(found));
         if remains(found, mask) {
-            self.slice.nodes[self.kept] = self.slice.nodes[k];
+            move_node(&mut self.slice.nodes, k, self.kept);
             self.kept += 1;
         }
     }

@@ -70,8 +70,8 @@ impl Turn {
     /// has ended, nothing is done.
     ///
     /// It is a turn of this phase. It takes no memory, and waits for nobody.
-    pub fn step(&mut self, open: &Open) -> Progress
-        requires of { self.old.sheet ≡ open.now }
+    pub fn step(&mut self, shared: &Open) -> Progress
+        requires of { self.old.sheet ≡ shared.now }
         ensures same { (self.new.sheet ≡ self.old.sheet) × (self.new.number ≡ self.old.number) }
         ensures made { self.old.steps < steps_to_do self.old → self.new ≡ record self.old { steps = self.old.steps + 1 } }
         ensures still { steps_to_do self.old ≤ self.old.steps → self.new ≡ self.old }
@@ -79,7 +79,7 @@ impl Turn {
         ensures more { result ≡ More → self.new.steps < steps_to_do self.new }
     {
         if !self.has_ended() {
-            self.work.step(&mut self.post, open.sheet());
+            self.work.step(&mut self.post, shared.sheet());
         }
         if self.has_ended() {
             Progress::Ended
@@ -91,12 +91,12 @@ impl Turn {
     /// Makes all steps that its piece has left.
     ///
     /// It is a turn of this phase. It takes no memory, and waits for nobody.
-    pub fn step_to_end(&mut self, open: &Open)
-        requires of { self.old.sheet ≡ open.now }
+    pub fn step_to_end(&mut self, shared: &Open)
+        requires of { self.old.sheet ≡ shared.now }
         ensures same { (self.new.sheet ≡ self.old.sheet) × (self.new.number ≡ self.old.number) }
         ensures ended { self.new.steps ≡ steps_to_do self.new }
     {
-        while self.step(open) == Progress::More {}
+        self.work.step_to_end(&mut self.post, shared.sheet());
     }
 
     /// Gives up its seat, and what its piece found out, if all steps were done.

@@ -22,7 +22,7 @@ pub(crate) enum Work {
 }
 
 impl Work {
-    ghost use Rattle.std.specs.Prelude.{◌≡◌, ℕ, List, ◌+◌, ◌<◌, ◌==◌, Some, slice_get, IfOk};
+    ghost use Rattle.std.specs.Prelude.{◌≡◌, ℕ, List, ◌+◌, ◌<◌, ◌≤◌, ◌==◌, Some, slice_get, IfOk};
     ghost use Rattle.pieces.specs.declared.piece.Piece.{Piece};
     ghost use Rattle.pieces.specs.Dones.{found_as};
     ghost use Rattle.pieces.specs.Values.{value};
@@ -83,6 +83,22 @@ impl Work {
             Work::Link(link, hint) => link_work::step(link, *hint, post, sheet),
             Work::Move(pairs, hint) => move_work::step(pairs, *hint, post, sheet),
             Work::Touch(touch) => touch.step(post, sheet),
+        }
+    }
+
+    /// All steps that are left, of a piece of many like steps in one loop.
+    pub(crate) fn step_to_end(&mut self, post: &mut Post, sheet: &Sheet)
+        requires of { post.old.sheet ≡ sheet.now }
+        requires work { (p : Piece) × (slice_get sheet.now.opening.pieces post.old.number ≡ Some p) × IsWork sheet.now.opening.words p self.old post.old.steps × (post.old.steps ≤ step_count sheet.now.opening.words p) }
+        ensures post { (p : Piece) → IsWork sheet.now.opening.words p self.old post.old.steps → post.new ≡ record post.old { steps = step_count sheet.now.opening.words p } }
+        ensures work { (p : Piece) → IsWork sheet.now.opening.words p self.old post.old.steps → IsWork sheet.now.opening.words p self.new post.new.steps }
+    {
+        if let Work::Strip(strip) = self {
+            strip.step_to_end(post, sheet);
+            return;
+        }
+        while !self.has_ended(post.steps()) {
+            self.step(post, sheet);
         }
     }
 }

@@ -1,9 +1,10 @@
 //! Random pieces whose turns step on two threads, closed in the middle.
 
-ghost use Rattle.std.specs.Prelude.{◌≡◌, ◌<◌};
+ghost use Rattle.std.specs.Prelude.{◌≡◌, ◌<◌, IfOk};
+ghost use Rattle.std.specs.List.{All};
 ghost use Rattle.pieces.specs.Phases.{CanBeWorked};
 
-use crate::tests::{with_last, without_last};
+use crate::tests::{last_two, with_last};
 use fpage::{Access, Rights};
 use maptree::{Node, Slice};
 use pieces::{
@@ -11,6 +12,7 @@ use pieces::{
 };
 use space::{NoMemory, Place};
 use std::alloc::{AllocError, Global};
+use std::process::Abort;
 use std::test::Fail;
 use std::thread::{self, Threads};
 use turns::{Open, Turn, Unended};
@@ -44,7 +46,7 @@ impl Numbers {
 }
 
 /// What a piece is of.
-#[derive(Clone, Copy, Debug)]
+#[derive(Clone, Copy)]
 enum Part {
     /// The indexes of two nodes, which lose the rights of these bits, and of the fold word.
     Strip([usize; 2], u64, usize),
@@ -177,24 +179,8 @@ fn put(words: &mut [u64], index: usize, word: u64) {
 fn work(part: Part, steps: usize, before: &[u64], after: &mut [u64]) {
     match part {
         Part::Strip(nodes, mask, fold) => strip(nodes, mask, fold, steps, before, after),
-        Part::Link(reads, puts, through) => {
-            for k in 0..2 {
-                if k < steps {
-                    let word = linked(at(before, puts[k]), at(before, reads[k]), through);
-                    put(after, puts[k], word);
-                }
-            }
-        }
-        Part::Move(takes, puts) => {
-            for k in 0..2 {
-                if 2 * k < steps {
-                    put(after, takes[k], 0);
-                }
-                if 2 * k + 1 < steps {
-                    put(after, puts[k], at(before, takes[k]) & !0x38);
-                }
-            }
-        }
+        Part::Link(reads, puts, through) => link(reads, puts, through, steps, before, after),
+        Part::Move(takes, puts) => shift(takes, puts, steps, before, after),
         Part::Touch(indexes, kinds) => touch(indexes, kinds, steps, before, after),
     }
 }
@@ -223,6 +209,35 @@ fn strip(
         let status = (at(before, nodes[0]) | at(before, nodes[1])) & 0x38;
         let word = at(after, fold) | status;
         put(after, fold, word);
+    }
+}
+
+/// What the first steps of a link make: each target gains rights of its source.
+fn link(
+    reads: [usize; 2],
+    puts: [usize; 2],
+    through: u64,
+    steps: usize,
+    before: &[u64],
+    after: &mut [u64],
+) {
+    for k in 0..2 {
+        if k < steps {
+            let word = linked(at(before, puts[k]), at(before, reads[k]), through);
+            put(after, puts[k], word);
+        }
+    }
+}
+
+/// What the first steps of a move make: each page is taken, and then put without its status.
+fn shift(takes: [usize; 2], puts: [usize; 2], steps: usize, before: &[u64], after: &mut [u64]) {
+    for k in 0..2 {
+        if 2 * k < steps {
+            put(after, takes[k], 0);
+        }
+        if 2 * k + 1 < steps {
+            put(after, puts[k], at(before, takes[k]) & !0x38);
+        }
     }
 }
 
@@ -399,6 +414,51 @@ fn step_four<R: Threads + Sync>(
     )
 }
 
+/// These turns, and two more.
+fn with_both(
+    phase: &Open,
+    turns: Vec<Turn>,
+    first: Turn,
+    second: Turn,
+) -> Result<Vec<Turn>, AllocError>
+    requires others { All (λ t. t.sheet ≡ phase.now) turns.items }
+    requires first { first.sheet ≡ phase.now }
+    requires second { second.sheet ≡ phase.now }
+    ensures { IfOk result (λ after. All (λ t. t.sheet ≡ phase.now) after.items) }
+{
+    let turns = with_last(phase, turns, Some(first))?;
+    with_last(phase, turns, Some(second))
+}
+
+/// The turns of a phase of four pieces: the first and the third, and the second and the fourth.
+fn four_turns(phase: &Open, turns: Vec<Turn>) -> Result<((Turn, Turn), (Turn, Turn)), NoMemory>
+    requires { All (λ t. t.sheet ≡ phase.now) turns.items }
+    ensures left { IfOk result (λ r. (r.0.0.sheet ≡ phase.now) × (r.0.1.sheet ≡ phase.now)) }
+    ensures right { IfOk result (λ r. (r.1.0.sheet ≡ phase.now) × (r.1.1.sheet ≡ phase.now)) }
+{
+    let (turns, (third, fourth)) = last_two(phase, turns)?;
+    let (_, (first, second)) = last_two(phase, turns)?;
+    Ok(((first, third), (second, fourth)))
+}
+
+/// Four turns after so many steps each, which two threads made.
+fn step_all<R: Threads + Sync>(
+    rt: &R,
+    alloc: Global,
+    phase: &Open,
+    turns: Vec<Turn>,
+    steps: [usize; 4],
+) -> Result<Vec<Turn>, NoMemory>
+    requires { All (λ t. t.sheet ≡ phase.now) turns.items }
+    ensures { IfOk result (λ after. All (λ t. t.sheet ≡ phase.now) after.items) }
+{
+    let (left, right) = four_turns(phase, turns)?;
+    let (left, right) = step_four(rt, phase, left, right, steps);
+    let turns = with_both(phase, Vec::new(alloc), left.0, right.0)?;
+    let turns = with_both(phase, turns, left.1, right.1)?;
+    Ok(turns)
+}
+
 /// What is left of a phase of four pieces whose turns made so many steps on two threads.
 fn closed<R: Threads + Sync>(
     rt: &R,
@@ -410,19 +470,7 @@ fn closed<R: Threads + Sync>(
     requires { CanBeWorked words.items pieces.items }
 {
     let (phase, turns) = Open::open(alloc, words, pieces)?;
-    let (turns, fourth) = without_last(&phase, turns);
-    let (turns, third) = without_last(&phase, turns);
-    let (turns, second) = without_last(&phase, turns);
-    let (turns, first) = without_last(&phase, turns);
-    let (Some(first), Some(second), Some(third), Some(fourth)) = (first, second, third, fourth)
-    else {
-        return Err(NoMemory);
-    };
-    let (left, right) = step_four(rt, &phase, (first, third), (second, fourth), steps);
-    let turns = with_last(&phase, turns, Some(left.0))?;
-    let turns = with_last(&phase, turns, Some(right.0))?;
-    let turns = with_last(&phase, turns, Some(left.1))?;
-    let turns = with_last(&phase, turns, Some(right.1))?;
+    let turns = step_all(rt, alloc, &phase, turns, steps)?;
     match phase.close(turns) {
         Ok(end) => Ok(end),
         Err(_) => Err(NoMemory),
@@ -444,50 +492,89 @@ fn worked<R: Threads + Sync>(
     Ok(end)
 }
 
-/// The words that the first steps of parts make of those at opening.
+/// What is left of a phase.
+#[derive(Drop)]
+struct End {
+    words: Vec<u64>,
+    /// The numbers of the parts of which all steps were made.
+    ended: Vec<usize>,
+    /// How many were made of the others.
+    unended: Vec<Unended>,
+}
+
+/// What the first steps of parts leave of the words at opening.
 fn expected(
     alloc: Global,
     parts: &[Part; 4],
     steps: [usize; 4],
     before: &[u64],
-) -> Result<Vec<u64>, AllocError> {
-    let mut after = Vec::from_slice(alloc, before)?;
+) -> Result<End, AllocError> {
+    let mut words = Vec::from_slice(alloc, before)?;
     for k in 0..4 {
-        work(parts[k], steps[k], before, &mut after);
+        work(parts[k], steps[k], before, &mut words);
     }
-    Ok(after)
+    let (ended, unended) = split(alloc, parts, steps, before)?;
+    Ok(End {
+        words,
+        ended,
+        unended,
+    })
+}
+
+/// Whether results have these numbers, in this order.
+fn are_numbered(dones: &[Done], numbers: &[usize]) -> bool {
+    for (done, number) in dones.iter().zip(numbers) {
+        if done.number() != *number {
+            return false;
+        }
+    }
+    dones.len() == numbers.len()
+}
+
+/// What is left is what was expected.
+fn assert_end(
+    rt: &impl Abort,
+    words: &[u64],
+    dones: &[Done],
+    unended: &[Unended],
+    end: &End,
+    seed: u64,
+    round: u32,
+) {
+    assert_eq!(rt; words, end.words.as_slice(), "seed {seed}, round {round}");
+    let same = unended == end.unended.as_slice();
+    assert!(rt; same, "other turns unended: seed {seed}, round {round}");
+    let same = are_numbered(dones, &end.ended);
+    assert!(rt; same, "other turns ended: seed {seed}, round {round}");
+}
+
+/// A phase of random words, parts and steps leaves what is expected.
+fn works_a_round<R: Threads + Sync + Abort>(
+    rt: &R,
+    alloc: Global,
+    numbers: &mut Numbers,
+    seed: u64,
+    round: u32,
+) -> Result<(), Fail> {
+    let at = shuffled(numbers);
+    let words = random_words(alloc, numbers, &at)?;
+    let parts = random_parts(numbers, &at);
+    let steps = random_steps(numbers);
+    let end = expected(alloc, &parts, steps, &words)?;
+    let pieces = pieces_of(alloc, &parts)?;
+    let (words, dones, unended) = worked(rt, alloc, words, pieces, steps)?;
+    assert_end(rt, &words, &dones, &unended, &end, seed, round);
+    Ok(())
 }
 
 #[test]
 fn two_threads_step_random_pieces_and_the_phase_is_closed_in_the_middle(
     rt: HostRuntime,
 ) -> Result<(), Fail> {
-    let alloc = rt.alloc();
-    for seed in [1u64, 2, 3, 5, 8, 13, 21, 34, 55, 89] {
+    for seed in [1, 2, 3, 5, 8, 13, 21, 34, 55, 89] {
         let mut numbers = Numbers { state: seed };
         for round in 0..30 {
-            let at = shuffled(&mut numbers);
-            let words = random_words(alloc, &mut numbers, &at)?;
-            let parts = random_parts(&mut numbers, &at);
-            let steps = random_steps(&mut numbers);
-            let after = expected(alloc, &parts, steps, &words)?;
-            let (ends, rest) = split(alloc, &parts, steps, &words)?;
-            let pieces = pieces_of(alloc, &parts)?;
-            let (words, dones, unended) = worked(&rt, alloc, words, pieces, steps)?;
-            assert_eq!(rt;
-                words.as_slice(),
-                after.as_slice(),
-                "seed {seed}, round {round}"
-            );
-            assert_eq!(rt;
-                unended.as_slice(),
-                rest.as_slice(),
-                "seed {seed}, round {round}"
-            );
-            assert_eq!(rt; dones.len(), ends.len(), "seed {seed}, round {round}");
-            for (done, number) in dones.iter().zip(&ends) {
-                assert_eq!(rt; done.number(), *number, "seed {seed}, round {round}");
-            }
+            works_a_round(&rt, rt.alloc(), &mut numbers, seed, round)?;
         }
     }
     Ok(())

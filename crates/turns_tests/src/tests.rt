@@ -9,6 +9,7 @@ use maptree::{Node, Slice};
 use pieces::{Done, Link, Move, Pair, Piece, Store, Strip, Touch, WordAccess};
 use space::{NoMemory, Place};
 use std::alloc::{AllocError, Global};
+use std::process::Abort;
 use std::test::Fail;
 use turns::{NotAll, Open, Progress, Turn, Unended};
 
@@ -124,12 +125,12 @@ fn one_piece(alloc: Global, piece: Piece) -> Result<Vec<Piece>, AllocError>
 }
 
 /// A turn after so many steps more.
-fn stepped(open: &Open, mut turn: Turn, steps: usize) -> Turn
-    requires { turn.sheet ≡ open.now }
-    ensures { result.sheet ≡ open.now }
+fn stepped(phase: &Open, mut turn: Turn, steps: usize) -> Turn
+    requires { turn.sheet ≡ phase.now }
+    ensures { result.sheet ≡ phase.now }
 {
     for _ in 0..steps {
-        turn.step(open);
+        turn.step(phase);
     }
     turn
 }
@@ -137,118 +138,21 @@ fn stepped(open: &Open, mut turn: Turn, steps: usize) -> Turn
 /// Turns after the first made so many steps, and each other as many as are named for it.
 fn step_each(
     alloc: Global,
-    open: &Open,
+    phase: &Open,
     turns: Vec<Turn>,
     first: usize,
     others: usize,
 ) -> Result<Vec<Turn>, AllocError>
-    requires { All (λ t. t.sheet ≡ open.now) turns.items }
-    ensures { IfOk result (λ after. All (λ t. t.sheet ≡ open.now) after.items) }
+    requires { All (λ t. t.sheet ≡ phase.now) turns.items }
+    ensures { IfOk result (λ after. All (λ t. t.sheet ≡ phase.now) after.items) }
 {
     let mut after = Vec::with_capacity(alloc, turns.len())?;
     let mut steps = first;
     for turn in turns {
-        after.push(stepped(open, turn, steps))?;
+        after.push(stepped(phase, turn, steps))?;
         steps = others;
     }
     Ok(after)
-}
-
-/// What is left of a phase whose turns made so many steps.
-fn closed(
-    alloc: Global,
-    words: Vec<u64>,
-    pieces: Vec<Piece>,
-    first: usize,
-    others: usize,
-) -> Result<(Vec<u64>, Vec<Done>, Vec<Unended>), NoMemory>
-    requires { CanBeWorked words.items pieces.items }
-{
-    let (open, turns) = Open::open(alloc, words, pieces)?;
-    let turns = step_each(alloc, &open, turns, first, others)?;
-    match open.close(turns) {
-        Ok(end) => Ok(end),
-        Err(_) => Err(NoMemory),
-    }
-}
-
-#[test]
-fn two_strips_closed_at_each_pair_of_counts(rt: HostRuntime) -> Result<(), Fail> {
-    let alloc = rt.alloc();
-    for (first, second, after) in [
-        (0, 0, [0x1_0000_0507u64, 0x1_0000_0527, 0x1_0000_0537]),
-        (0, 1, [0x1_0000_0507, 0x1_0000_0527, 0x1_0000_0505]),
-        (0, 2, [0x1_0000_0537, 0x1_0000_0527, 0x1_0000_0505]),
-        (1, 0, [0x1_0000_0507, 0x1_0000_0507, 0x1_0000_0537]),
-        (1, 1, [0x1_0000_0507, 0x1_0000_0507, 0x1_0000_0505]),
-        (1, 2, [0x1_0000_0537, 0x1_0000_0507, 0x1_0000_0505]),
-        (2, 0, [0x1_0000_0527, 0x1_0000_0507, 0x1_0000_0537]),
-        (2, 1, [0x1_0000_0527, 0x1_0000_0507, 0x1_0000_0505]),
-        (2, 2, [0x1_0000_0537, 0x1_0000_0507, 0x1_0000_0505]),
-    ] {
-        let (words, pieces) = two_strips(alloc)?;
-        let (end, _, _) = closed(alloc, words, pieces, first, second)?;
-        assert_eq!(rt; end.as_slice(), after.as_slice());
-    }
-    Ok(())
-}
-
-#[test]
-fn turns_hand_in_what_they_found_or_how_far_they_came(rt: HostRuntime) -> Result<(), Fail> {
-    let alloc = rt.alloc();
-    let (words, pieces) = two_strips(alloc)?;
-    let (_, dones, unended) = closed(alloc, words, pieces, 2, 7)?;
-    assert_eq!(rt; (dones.len(), unended.len()), (2, 0));
-    let status = [R, Rights { read: true, ..W }];
-    for (k, done) in dones.iter().enumerate() {
-        assert_eq!(rt; done.number(), k);
-        assert_eq!(rt; Some(&done.status()), status.get(k));
-    }
-    let (words, pieces) = two_strips(alloc)?;
-    let (_, dones, unended) = closed(alloc, words, pieces, 0, 1)?;
-    assert_eq!(rt; dones.len(), 0);
-    let first = Unended { piece: 0, steps: 0 };
-    let second = Unended { piece: 1, steps: 1 };
-    assert_eq!(rt; unended.as_slice(), [first, second].as_slice());
-    Ok(())
-}
-
-#[test]
-fn an_access_is_seen_and_then_marked(rt: HostRuntime) -> Result<(), Fail> {
-    let alloc = rt.alloc();
-    for (steps, after) in [
-        (0, 0x1_0000_0506),
-        (1, 0x1_0000_0506),
-        (2, 0x1_0000_0526),
-        (3, 0x1_0000_0526),
-    ] {
-        let (words, pieces) = one_touch(alloc)?;
-        let (end, dones, _) = closed(alloc, words, pieces, steps, 0)?;
-        assert_eq!(rt; end.as_slice(), [after].as_slice());
-        for done in &dones {
-            assert_eq!(rt; done.answers(), [true, false].as_slice());
-        }
-        assert_eq!(rt; dones.is_empty(), steps < 3);
-    }
-    Ok(())
-}
-
-#[test]
-fn a_page_is_taken_and_then_put(rt: HostRuntime) -> Result<(), Fail> {
-    let alloc = rt.alloc();
-    for (steps, after) in [
-        (1, [0, 0]),
-        (2, [0, 0x1_0000_0504]),
-        (9, [0, 0x1_0000_0504]),
-    ] {
-        let (words, pieces) = one_move(alloc)?;
-        let (end, _, _) = closed(alloc, words, pieces, steps, 0)?;
-        assert_eq!(rt; end.as_slice(), after.as_slice());
-    }
-    let (words, pieces) = one_link(alloc)?;
-    let (end, _, _) = closed(alloc, words, pieces, 1, 0)?;
-    assert_eq!(rt; end.as_slice(), [0x1_0000_0507, 0x1_0000_0527].as_slice());
-    Ok(())
 }
 
 /// No pieces, beside one word.
@@ -259,41 +163,171 @@ fn no_pieces(alloc: Global) -> Result<(Vec<u64>, Vec<Piece>), NoMemory>
     Ok((words, Vec::new(alloc)))
 }
 
+/// The phases that the tests close.
+#[derive(Clone, Copy)]
+enum Phase {
+    TwoStrips,
+    OneTouch,
+    OneMove,
+    OneLink,
+    NoPieces,
+}
+
+impl Phase {
+    /// The words and the pieces of the phase.
+    fn begin(self, alloc: Global) -> Result<(Vec<u64>, Vec<Piece>), NoMemory>
+        ensures { IfOk result (λ r. CanBeWorked r.0.items r.1.items) }
+    {
+        match self {
+            Phase::TwoStrips => two_strips(alloc),
+            Phase::OneTouch => one_touch(alloc),
+            Phase::OneMove => one_move(alloc),
+            Phase::OneLink => one_link(alloc),
+            Phase::NoPieces => no_pieces(alloc),
+        }
+    }
+}
+
+/// What is left of a phase whose first turn made so many steps, and each other as many as are named for it.
+fn closed(
+    alloc: Global,
+    phase: Phase,
+    first: usize,
+    others: usize,
+) -> Result<(Vec<u64>, Vec<Done>, Vec<Unended>), NoMemory> {
+    let (words, pieces) = phase.begin(alloc)?;
+    let (phase, turns) = Open::open(alloc, words, pieces)?;
+    let turns = step_each(alloc, &phase, turns, first, others)?;
+    match phase.close(turns) {
+        Ok(end) => Ok(end),
+        Err(_) => Err(NoMemory),
+    }
+}
+
+/// The words that are left of it are these.
+fn leaves(
+    rt: &impl Abort,
+    alloc: Global,
+    phase: Phase,
+    first: usize,
+    others: usize,
+    after: &[u64],
+) -> Result<(), NoMemory> {
+    let (end, _, _) = closed(alloc, phase, first, others)?;
+    assert_eq!(rt; end.as_slice(), after, "{first} and {others} steps");
+    Ok(())
+}
+
+#[test]
+fn two_strips_closed_at_each_pair_of_counts(rt: HostRuntime) -> Result<(), Fail> {
+    for (first, second, after) in [
+        (0, 0, [0x1_0000_0507, 0x1_0000_0527, 0x1_0000_0537]),
+        (0, 1, [0x1_0000_0507, 0x1_0000_0527, 0x1_0000_0505]),
+        (0, 2, [0x1_0000_0537, 0x1_0000_0527, 0x1_0000_0505]),
+        (1, 0, [0x1_0000_0507, 0x1_0000_0507, 0x1_0000_0537]),
+        (1, 1, [0x1_0000_0507, 0x1_0000_0507, 0x1_0000_0505]),
+        (1, 2, [0x1_0000_0537, 0x1_0000_0507, 0x1_0000_0505]),
+        (2, 0, [0x1_0000_0527, 0x1_0000_0507, 0x1_0000_0537]),
+        (2, 1, [0x1_0000_0527, 0x1_0000_0507, 0x1_0000_0505]),
+        (2, 2, [0x1_0000_0537, 0x1_0000_0507, 0x1_0000_0505]),
+    ] {
+        leaves(&rt, rt.alloc(), Phase::TwoStrips, first, second, &after)?;
+    }
+    Ok(())
+}
+
+/// Two ended turns hand in their numbers and the status that they found.
+fn both_hand_in(rt: &impl Abort, dones: &[Done]) {
+    let status = [R, Rights { read: true, ..W }];
+    for (k, done) in dones.iter().enumerate() {
+        assert_eq!(rt; done.number(), k);
+        assert_eq!(rt; Some(&done.status()), status.get(k));
+    }
+}
+
+#[test]
+fn turns_hand_in_what_they_found_or_how_far_they_came(rt: HostRuntime) -> Result<(), Fail> {
+    let (_, dones, unended) = closed(rt.alloc(), Phase::TwoStrips, 2, 7)?;
+    assert_eq!(rt; (dones.len(), unended.len()), (2, 0));
+    both_hand_in(&rt, &dones);
+    let (_, dones, unended) = closed(rt.alloc(), Phase::TwoStrips, 0, 1)?;
+    assert_eq!(rt; dones.len(), 0);
+    let first = Unended { piece: 0, steps: 0 };
+    let second = Unended { piece: 1, steps: 1 };
+    assert_eq!(rt; unended.as_slice(), [first, second].as_slice());
+    Ok(())
+}
+
+/// What is left of the touch after so many steps: its page has this word, and its answers are there after the third step.
+fn is_marked(rt: &impl Abort, words: &[u64], dones: &[Done], steps: usize, after: u64) {
+    assert_eq!(rt; words, [after].as_slice(), "{steps} steps");
+    for done in dones {
+        assert_eq!(rt; done.answers(), [true, false].as_slice(), "{steps} steps");
+    }
+    assert_eq!(rt; dones.is_empty(), steps < 3, "{steps} steps");
+}
+
+#[test]
+fn an_access_is_seen_and_then_marked(rt: HostRuntime) -> Result<(), Fail> {
+    for (steps, after) in [
+        (0, 0x1_0000_0506),
+        (1, 0x1_0000_0506),
+        (2, 0x1_0000_0526),
+        (3, 0x1_0000_0526),
+    ] {
+        let (words, dones, _) = closed(rt.alloc(), Phase::OneTouch, steps, 0)?;
+        is_marked(&rt, &words, &dones, steps, after);
+    }
+    Ok(())
+}
+
+#[test]
+fn a_page_is_taken_and_then_put(rt: HostRuntime) -> Result<(), Fail> {
+    for (phase, steps, after) in [
+        (Phase::OneMove, 1, [0, 0]),
+        (Phase::OneMove, 2, [0, 0x1_0000_0504]),
+        (Phase::OneMove, 9, [0, 0x1_0000_0504]),
+        (Phase::OneLink, 1, [0x1_0000_0507, 0x1_0000_0527]),
+    ] {
+        leaves(&rt, rt.alloc(), phase, steps, 0, &after)?;
+    }
+    Ok(())
+}
+
 /// Turns without the last one, and that one.
-pub(crate) fn without_last(open: &Open, mut turns: Vec<Turn>) -> (Vec<Turn>, Option<Turn>)
-    requires { All (λ t. t.sheet ≡ open.now) turns.items }
-    ensures others { All (λ t. t.sheet ≡ open.now) result.0.items }
-    ensures last { IfSome result.1 (λ t. t.sheet ≡ open.now) }
+pub(crate) fn without_last(phase: &Open, mut turns: Vec<Turn>) -> (Vec<Turn>, Option<Turn>)
+    requires { All (λ t. t.sheet ≡ phase.now) turns.items }
+    ensures others { All (λ t. t.sheet ≡ phase.now) result.0.items }
+    ensures last { IfSome result.1 (λ t. t.sheet ≡ phase.now) }
 {
-    let _ = open;
+    let _ = phase;
     let last = turns.pop();
     (turns, last)
 }
 
 /// These turns, and the last one.
 pub(crate) fn with_last(
-    open: &Open,
+    phase: &Open,
     mut turns: Vec<Turn>,
     last: Option<Turn>,
 ) -> Result<Vec<Turn>, AllocError>
-    requires others { All (λ t. t.sheet ≡ open.now) turns.items }
-    requires last { IfSome last (λ t. t.sheet ≡ open.now) }
-    ensures { IfOk result (λ after. All (λ t. t.sheet ≡ open.now) after.items) }
+    requires others { All (λ t. t.sheet ≡ phase.now) turns.items }
+    requires last { IfSome last (λ t. t.sheet ≡ phase.now) }
+    ensures { IfOk result (λ after. All (λ t. t.sheet ≡ phase.now) after.items) }
 {
-    let _ = open;
+    let _ = phase;
     if let Some(turn) = last {
         turns.push(turn)?;
     }
     Ok(turns)
 }
 
-#[test]
-fn a_phase_is_closed_once_all_turns_are_there(rt: HostRuntime) -> Result<(), Fail> {
-    let alloc = rt.alloc();
-    let (words, pieces) = two_strips(alloc)?;
-    let (open, turns) = Open::open(alloc, words, pieces)?;
-    let (turns, last) = without_last(&open, turns);
-    let Err(NotAll { shared, turns }) = open.close(turns) else {
+/// A phase of two turns is closed once both are there, and not without one.
+fn closes_with_both(rt: &impl Abort, phase: Open, turns: Vec<Turn>) -> Result<(), AllocError>
+    requires { All (λ t. t.sheet ≡ phase) turns.items }
+{
+    let (turns, last) = without_last(&phase, turns);
+    let Err(NotAll { shared, turns }) = phase.close(turns) else {
         panic!(rt; "a turn was wanting")
     };
     assert_eq!(rt; (turns.len(), last.is_some()), (1, true));
@@ -302,47 +336,93 @@ fn a_phase_is_closed_once_all_turns_are_there(rt: HostRuntime) -> Result<(), Fai
         panic!(rt; "all turns were there")
     };
     assert_eq!(rt; (end.len(), unended.len()), (3, 2));
-    let (words, pieces) = no_pieces(alloc)?;
-    let (end, dones, unended) = closed(alloc, words, pieces, 0, 0)?;
+    Ok(())
+}
+
+#[test]
+fn a_phase_is_closed_once_all_turns_are_there(rt: HostRuntime) -> Result<(), Fail> {
+    let (words, pieces) = two_strips(rt.alloc())?;
+    let (phase, turns) = Open::open(rt.alloc(), words, pieces)?;
+    closes_with_both(&rt, phase, turns)?;
+    let (end, dones, unended) = closed(rt.alloc(), Phase::NoPieces, 0, 0)?;
     assert_eq!(rt; end.as_slice(), [0x1_0000_0507].as_slice());
     assert!(rt; dones.is_empty() && unended.is_empty());
     Ok(())
 }
 
+/// A turn of a move of one page tells that it ends with its second step, and makes no more.
+fn ends_with_its_second_step(rt: &impl Abort, phase: &Open, mut turn: Turn)
+    requires { turn.sheet ≡ phase.now }
+{
+    assert_eq!(rt; (turn.piece(), turn.steps()), (0, 0));
+    for wanted in [Progress::More, Progress::Ended, Progress::Ended] {
+        let progress = turn.step(phase);
+        assert_eq!(rt; progress, wanted);
+    }
+    assert_eq!(rt; turn.steps(), 2);
+}
+
 #[test]
 fn a_turn_says_when_it_has_ended(rt: HostRuntime) -> Result<(), Fail> {
-    let alloc = rt.alloc();
-    let (words, pieces) = one_move(alloc)?;
-    let (open, turns) = Open::open(alloc, words, pieces)?;
-    let (_, last) = without_last(&open, turns);
-    if let Some(mut turn) = last {
-        assert_eq!(rt; (turn.piece(), turn.steps()), (0, 0));
-        assert_eq!(rt; turn.step(&open), Progress::More);
-        assert_eq!(rt; turn.step(&open), Progress::Ended);
-        assert_eq!(rt; turn.step(&open), Progress::Ended);
-        assert_eq!(rt; turn.steps(), 2);
+    let (words, pieces) = one_move(rt.alloc())?;
+    let (phase, turns) = Open::open(rt.alloc(), words, pieces)?;
+    let (_, last) = without_last(&phase, turns);
+    if let Some(turn) = last {
+        ends_with_its_second_step(&rt, &phase, turn);
     }
     Ok(())
 }
 
+/// Turns without the last two, and those.
+pub(crate) fn last_two(
+    phase: &Open,
+    turns: Vec<Turn>,
+) -> Result<(Vec<Turn>, (Turn, Turn)), NoMemory>
+    requires { All (λ t. t.sheet ≡ phase.now) turns.items }
+    ensures others { IfOk result (λ r. All (λ t. t.sheet ≡ phase.now) r.0.items) }
+    ensures first { IfOk result (λ r. r.1.0.sheet ≡ phase.now) }
+    ensures second { IfOk result (λ r. r.1.1.sheet ≡ phase.now) }
+{
+    let (turns, second) = without_last(phase, turns);
+    let (turns, first) = without_last(phase, turns);
+    match (first, second) {
+        (Some(first), Some(second)) => Ok((turns, (first, second))),
+        _ => Err(NoMemory),
+    }
+}
+
+/// What is left of a phase of two pieces that is closed with its second turn before the first.
+pub(crate) fn closed_with(
+    alloc: Global,
+    phase: Open,
+    first: Turn,
+    second: Turn,
+) -> Result<(Vec<u64>, Vec<Done>, Vec<Unended>), NoMemory>
+    requires first { first.sheet ≡ phase }
+    requires second { second.sheet ≡ phase }
+{
+    let turns = with_last(&phase, Vec::new(alloc), Some(second))?;
+    let turns = with_last(&phase, turns, Some(first))?;
+    match phase.close(turns) {
+        Ok(end) => Ok(end),
+        Err(_) => Err(NoMemory),
+    }
+}
+
+/// What is left of two strips of which the second made a step before and a step after two of the first.
+fn stepped_in_turn(alloc: Global) -> Result<(Vec<u64>, Vec<Done>, Vec<Unended>), NoMemory> {
+    let (words, pieces) = two_strips(alloc)?;
+    let (phase, turns) = Open::open(alloc, words, pieces)?;
+    let (_, (first, second)) = last_two(&phase, turns)?;
+    let second = stepped(&phase, second, 1);
+    let first = stepped(&phase, first, 2);
+    let second = stepped(&phase, second, 1);
+    closed_with(alloc, phase, first, second)
+}
+
 #[test]
 fn turns_step_in_any_order(rt: HostRuntime) -> Result<(), Fail> {
-    let alloc = rt.alloc();
-    let (words, pieces) = two_strips(alloc)?;
-    let (open, turns) = Open::open(alloc, words, pieces)?;
-    let (turns, second) = without_last(&open, turns);
-    let (turns, first) = without_last(&open, turns);
-    let (Some(first), Some(second)) = (first, second) else {
-        panic!(rt; "there are two turns")
-    };
-    let second = stepped(&open, second, 1);
-    let first = stepped(&open, first, 2);
-    let second = stepped(&open, second, 1);
-    let turns = with_last(&open, turns, Some(second))?;
-    let turns = with_last(&open, turns, Some(first))?;
-    let Ok((end, dones, _)) = open.close(turns) else {
-        panic!(rt; "all turns were there")
-    };
+    let (end, dones, _) = stepped_in_turn(rt.alloc())?;
     assert_eq!(rt;
         end.as_slice(),
         [0x1_0000_0537, 0x1_0000_0507, 0x1_0000_0505].as_slice()

@@ -3,7 +3,7 @@
 ghost use Rattle.std.specs.Prelude.{◌≡◌};
 ghost use Rattle.pieces.specs.Phases.{CanBeWorked};
 
-use crate::tests::{two_strips, with_last, without_last};
+use crate::tests::{closed_with, last_two, two_strips};
 use pieces::Piece;
 use space::NoMemory;
 use std::alloc::Global;
@@ -50,18 +50,10 @@ fn worked_by_two<R: Threads + Sync>(
     requires { CanBeWorked words.items pieces.items }
 {
     let (phase, turns) = Open::open(alloc, words, pieces)?;
-    let (turns, second) = without_last(&phase, turns);
-    let (turns, first) = without_last(&phase, turns);
-    let (Some(first), Some(second)) = (first, second) else {
-        return Err(NoMemory);
-    };
+    let (_, (first, second)) = last_two(&phase, turns)?;
     let (first, second) = both_ended(rt, &phase, first, second);
-    let turns = with_last(&phase, turns, Some(second))?;
-    let turns = with_last(&phase, turns, Some(first))?;
-    match phase.close(turns) {
-        Ok((words, _, _)) => Ok(words),
-        Err(_) => Err(NoMemory),
-    }
+    let (words, _, _) = closed_with(alloc, phase, first, second)?;
+    Ok(words)
 }
 
 #[test]

@@ -11,6 +11,7 @@ use pieces::{Piece, Strip, are_distinct, can_be_worked};
 use space::{NoMemory, Place};
 use std::alloc::{AllocError, Global};
 use std::env;
+use std::process::Abort;
 use std::rt::Runtime;
 use std::test::Fail;
 use std::thread::{self, Threads};
@@ -89,6 +90,23 @@ fn strips(alloc: Global, from: usize, to: usize, most: usize) -> Result<Vec<Piec
         }
     }
     Ok(pieces)
+}
+
+/// Such strips, which can be worked on some words.
+fn strips_on(
+    alloc: Global,
+    words: &[u64],
+    from: usize,
+    to: usize,
+    most: usize,
+) -> Result<Vec<Piece>, NoMemory>
+    ensures { IfOk result (λ pieces. CanBeWorked words.now pieces.items) }
+{
+    let pieces = strips(alloc, from, to, most)?;
+    match can_be_worked(alloc, words, &pieces)? {
+        true => Ok(pieces),
+        false => Err(NoMemory),
+    }
 }
 
 /// Turns after all their steps.
@@ -188,6 +206,49 @@ fn ended_by_two<R: Threads + Sync>(
     joined(phase, first?, second?)
 }
 
+/// The same by four threads.
+fn ended_by_four<R: Threads + Sync>(
+    rt: &R,
+    alloc: Global,
+    phase: &Open,
+    turns: Vec<Turn>,
+) -> Result<Vec<Turn>, AllocError>
+    requires { All (λ t. t.sheet ≡ phase.now) turns.items }
+    ensures { IfOk result (λ after. All (λ t. t.sheet ≡ phase.now) after.items) }
+{
+    let (first, second) = halves(alloc, phase, turns)?;
+    let (first, second) = thread::join(
+        rt,
+        || -> Result<Vec<Turn>, AllocError>
+            requires { All (λ t. t.sheet ≡ phase.now) first.items }
+            ensures { IfOk result (λ after. All (λ t. t.sheet ≡ phase.entry.now) after.items) }
+        { ended_by_two(rt, alloc, phase, first) },
+        || -> Result<Vec<Turn>, AllocError>
+            requires { All (λ t. t.sheet ≡ phase.now) second.items }
+            ensures { IfOk result (λ after. All (λ t. t.sheet ≡ phase.entry.now) after.items) }
+        { ended_by_two(rt, alloc, phase, second) },
+    );
+    joined(phase, first?, second?)
+}
+
+/// The same by two threads or four.
+fn ended_together<R: Threads + Sync>(
+    rt: &R,
+    alloc: Global,
+    phase: &Open,
+    turns: Vec<Turn>,
+    by_four: bool,
+) -> Result<Vec<Turn>, AllocError>
+    requires { All (λ t. t.sheet ≡ phase.now) turns.items }
+    ensures { IfOk result (λ after. All (λ t. t.sheet ≡ phase.now) after.items) }
+{
+    if by_four {
+        ended_by_four(rt, alloc, phase, turns)
+    } else {
+        ended_by_two(rt, alloc, phase, turns)
+    }
+}
+
 /// Turns of two lists in one.
 fn joined(
     phase: &Open,
@@ -220,15 +281,25 @@ fn narrow_all(words: &mut [u64], from: usize, to: usize) -> u64 {
     found
 }
 
-/// Nanoseconds that the plain loop takes.
-fn times_plain(rt: &impl Runtime, words: &mut [u64], nodes: usize) -> Result<u128, Fail> {
+/// The words of so many held pages after the plain loop, and the nanoseconds that it takes.
+fn times_plain(rt: &impl Runtime, alloc: Global, nodes: usize) -> Result<(Vec<u64>, u128), Fail> {
+    let mut words = vec![in alloc; HELD; nodes]?;
     let start = Instant::now(rt)?;
-    let found = narrow_all(words, 0, nodes);
+    let found = narrow_all(&mut words, 0, nodes);
     let nanos = start.elapsed(rt)?.as_nanos();
     if found != 0 {
         return Err(Fail::from(NoMemory));
     }
-    Ok(nanos)
+    Ok((words, nanos))
+}
+
+/// Works a phase of one node and one word, so that the code of phases is in the processor's caches, from which the test of many words
+/// takes it.
+fn warm_up(rt: &impl Runtime, alloc: Global) -> Result<(), Fail> {
+    let words = vec![in alloc; HELD; 1]?;
+    let pieces = strips_on(alloc, &words, 0, 1, 1)?;
+    worked(rt, alloc, words, pieces)?;
+    Ok(())
 }
 
 /// Nanoseconds that a phase takes of one node among so many words, from `open` to the end of `close`: the least of some calls.
@@ -237,11 +308,8 @@ fn times_one(rt: &impl Runtime, alloc: Global, nodes: usize) -> Result<u128, Fai
     let mut least = u128::MAX;
     for call in 0..CALLS {
         let index = (call as usize).wrapping_mul(7919) % nodes.max(1);
-        let mut pieces = Vec::with_capacity(alloc, 1)?;
-        pieces.push(Piece::Strip(strip(alloc, index, index.saturating_add(1))?))?;
-        if !can_be_worked(alloc, &words, &pieces)? {
-            return Err(Fail::from(NoMemory));
-        }
+        let pieces = strips_on(alloc, &words, index, index.saturating_add(1), 1)?;
+        warm_up(rt, alloc)?;
         let (after, spent) = worked(rt, alloc, words, pieces)?;
         words = after;
         least = least.min(spent.total());
@@ -249,7 +317,7 @@ fn times_one(rt: &impl Runtime, alloc: Global, nodes: usize) -> Result<u128, Fai
     Ok(least)
 }
 
-/// What a phase took of the first words of some, in strips of so many nodes at most, and the words after it.
+/// What a phase took of so many nodes, in strips of so many at most, and the words after it.
 fn times_strips(
     rt: &impl Runtime,
     alloc: Global,
@@ -257,28 +325,23 @@ fn times_strips(
     most: usize,
 ) -> Result<(Vec<u64>, Spent), Fail> {
     let words = vec![in alloc; HELD; nodes]?;
-    let pieces = strips(alloc, 0, nodes, most)?;
-    if !can_be_worked(alloc, &words, &pieces)? {
-        return Err(Fail::from(NoMemory));
-    }
+    let pieces = strips_on(alloc, &words, 0, nodes, most)?;
     worked(rt, alloc, words, pieces)
 }
 
-/// Nanoseconds that two threads take for the steps of such a phase.
-fn times_two<R: Runtime + Threads + Sync>(
+/// Nanoseconds that two threads, or four, take for the steps of such a phase.
+fn times_together<R: Runtime + Threads + Sync>(
     rt: &R,
     alloc: Global,
     nodes: usize,
     most: usize,
+    by_four: bool,
 ) -> Result<u128, Fail> {
     let words = vec![in alloc; HELD; nodes]?;
-    let pieces = strips(alloc, 0, nodes, most)?;
-    if !can_be_worked(alloc, &words, &pieces)? {
-        return Err(Fail::from(NoMemory));
-    }
+    let pieces = strips_on(alloc, &words, 0, nodes, most)?;
     let (phase, turns) = Open::open(alloc, words, pieces)?;
     let start = Instant::now(rt)?;
-    let turns = ended_by_two(rt, alloc, &phase, turns)?;
+    let turns = ended_together(rt, alloc, &phase, turns, by_four)?;
     let nanos = start.elapsed(rt)?.as_nanos();
     match phase.close(turns) {
         Ok(_) => Ok(nanos),
@@ -299,27 +362,42 @@ fn count_left(words: &[u64]) -> usize {
 
 /// Tells what phases of so many nodes cost.
 fn tells<R: Runtime + Threads + Sync>(rt: &R, alloc: Global, nodes: usize) -> Result<(), Fail> {
-    println!(rt; "one {}", times_one(rt, alloc, nodes)?)?;
-    let mut words = vec![in alloc; HELD; nodes]?;
-    println!(rt; "plain {}", times_plain(rt, &mut words, nodes)?)?;
+    let one = times_one(rt, alloc, nodes)?;
+    let (_, plain) = times_plain(rt, alloc, nodes)?;
     let (_, spent) = times_strips(rt, alloc, nodes, 256)?;
-    println!(rt; "open {}", spent.open)?;
-    println!(rt; "steps {}", spent.steps)?;
-    println!(rt; "close {}", spent.close)?;
-    println!(rt; "steps_by_two {}", times_two(rt, alloc, nodes, 256)?)?;
+    let steps_by_two = times_together(rt, alloc, nodes, 256, false)?;
+    let steps_by_four = times_together(rt, alloc, nodes, 256, true)?;
+    for (name, nanos) in [
+        ("one", one),
+        ("plain", plain),
+        ("open", spent.open),
+        ("steps", spent.steps),
+        ("close", spent.close),
+        ("steps_by_two", steps_by_two),
+        ("steps_by_four", steps_by_four),
+    ] {
+        println!(rt; "{name} {nanos}")?;
+    }
+    Ok(())
+}
+
+/// All nodes of a phase lose a right, as in the plain loop.
+fn works_as_the_plain_loop(
+    rt: &(impl Runtime + Abort),
+    alloc: Global,
+    nodes: usize,
+) -> Result<(), Fail> {
+    let (words, _) = times_strips(rt, alloc, nodes, 256)?;
+    assert_eq!(rt; count_left(&words), nodes);
+    let (plain, _) = times_plain(rt, alloc, nodes)?;
+    assert_eq!(rt; plain.as_slice(), words.as_slice());
     Ok(())
 }
 
 #[test]
 fn works_a_thousand_nodes_or_as_many_as_are_asked_for(rt: HostRuntime) -> Result<(), Fail> {
-    if let Some(nodes) = env::args(&rt)?.nth(2) {
-        return tells(&rt, rt.alloc(), nodes.parse()?);
+    match env::args(&rt)?.nth(2) {
+        Some(nodes) => tells(&rt, rt.alloc(), nodes.parse()?),
+        None => works_as_the_plain_loop(&rt, rt.alloc(), 1_000),
     }
-    let alloc = rt.alloc();
-    let (words, _) = times_strips(&rt, alloc, 1_000, 256)?;
-    assert_eq!(rt; count_left(&words), 1_000);
-    let mut plain = vec![in alloc; HELD; 1_000]?;
-    times_plain(&rt, &mut plain, 1_000)?;
-    assert_eq!(rt; plain.as_slice(), words.as_slice());
-    Ok(())
 }

@@ -37,7 +37,7 @@ use Rattle.holdings.proofs.Trees.Positions.{derived_below}
 use Rattle.holdings.proofs.Contents.Holders.{place_within, absent_within, present_within, entry_within}
 use Rattle.holdings.proofs.Links.NewMappings.{tree_set, unlisted}
 use Rattle.holdings.proofs.Maps.MapPages.{IsWorked, same_limits, worked_left, worked_sound, lost_counts, lost_left, extended_counts, linked_counts, page_extended, target_unlisted, page_linked}
-use Rattle.holdings.proofs.Maps.MapAll.{AreMapped, sources_in, agree_here, ready_now, none_mapped, one_mapped, all_mapped}
+use Rattle.holdings.proofs.Maps.MapAll.{AreMapped, agree_here, ready_now, none_mapped, one_mapped, all_mapped}
 use Rattle.holdings.proofs.Links.LinkedTrees.{no_transfer}
 
 -- ---- trees that have the same places with the same origins
@@ -331,12 +331,7 @@ module _ (shards : Shards) (trees : List Shape) (sound : AreSound shards trees) 
 
   pub linkable : AreLinkable trees (links_of shards ts)
   linkable = record {
-    once = record {
-      sources = λ q. once_of shards (λ t. t.source) (λ l. l.source) (λ t e. refl) q ts (λ i j less within. (pairs_apart planned.from planned.to ts planned.paired i j less within).0);
-      targets = λ q. once_of shards (λ t. t.target) (λ l. l.target) (λ t e. refl) q ts (λ i j less within. (pairs_apart planned.from planned.to ts planned.paired i j less within).1);
-    };
-    space = planned.from;
-    spaces = links_all shards (λ l. l.source.space ≡ planned.from) ts (λ i e within going stood. sources_in planned.from planned.to ts planned.paired i no_transfer within);
+    once = λ q. once_of shards (λ t. t.target) (λ l. l.target) (λ t e. refl) q ts (λ i j less within. (pairs_apart planned.from planned.to ts planned.paired i j less within).1);
     frames = links_all shards (λ l. l.frame < length trees) ts (λ i e within going stood. sound.kept.fits.frame (get_or ts i no_transfer).source e (source_in i within) stood);
     sources = links_all shards (λ l. is_listed trees l.frame l.source ≡ true) ts (λ i e within going stood. sound.kept.fits.listed (get_or ts i no_transfer).source e (source_in i within) stood);
     targets = links_all shards (λ l. (f : ℕ) → is_listed trees f l.target ≡ false) ts

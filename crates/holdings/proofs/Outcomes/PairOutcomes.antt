@@ -1,8 +1,8 @@
 -- The outcome of a pair, from words and trees.
-use Rattle.std.proofs.Common.{◌≡◌, ℕ, zero, suc, ◌<◌, nat_lt, nat_le, arith, ◌⊎◌, inl, inr, List, true, false, Bool, ◌&&◌, [], Option, Some, None, refl, sym, ap, ◌∙◌, subst, if◌then◌else◌}
+use Rattle.std.proofs.Common.{◌≡◌, ℕ, List, true, false, Bool, ◌&&◌, [], Option, Some, None, refl, sym, ap, ◌∙◌, subst, if◌then◌else◌}
 use Rattle.std.specs.Prelude.{Decides, position}
 use Rattle.std.specs.Option.{option_and_then, option_map_or, is_some}
-use Rattle.std.proofs.lemmas.Bool.{false_from_ne_true, lt-ltb, le-ltb, le-leb, lt-leb, cases_order}
+use Rattle.std.proofs.lemmas.Bool.{false_from_ne_true}
 use Rattle.std.proofs.lemmas.Option.{same_Some}
 use Rattle.std.proofs.Math.Bool.{and-false}
 use Rattle.fpage.specs.Rights.{is_empty, meet}
@@ -14,7 +14,7 @@ use Rattle.space.specs.declared.shards.Shards.{Shards}
 use Rattle.space.specs.Place.{same_place}
 use Rattle.space.specs.Shards.{entry_at}
 use Rattle.space.proofs.Places.{same_is, same_self}
-use Rattle.maptree.specs.Origins.{Origins, Shape, origin_in, place_at, after_origins, LeadsTo}
+use Rattle.maptree.specs.Origins.{Origins, Shape, origin_in, place_at, LeadsTo}
 use Rattle.model.specs.Holdings.{only, is_held, origin_at}
 use Rattle.model.specs.Derived.{is_under}
 use Rattle.model.specs.DerivationLaws.{LeadsInto}
@@ -25,8 +25,6 @@ use Rattle.holdings.specs.Inner.Held.{links_in, limits_in, holdings_in}
 use Rattle.holdings.specs.Inner.Sound.{AreSound}
 use Rattle.holdings.specs.Sending.{fate_of_outcome}
 use Rattle.holdings.specs.Inner.Outcomes.{IsOutcomeIn}
-use Rattle.holdings.specs.declared.spots.Spot.{Spot}
-use Rattle.holdings.specs.Inner.Spots.{IsSpotIn}
 use Rattle.holdings.specs.declared.outcome.Outcome.{Outcome}
 use Rattle.holdings.specs.declared.outcome.Outcome.TheVariants as outcome
 use Rattle.maptree.proofs.Found.{found_at}
@@ -56,37 +54,6 @@ module _ (os : Origins) (kind : ItemKind) (source target : Place) where
 
   pub goes_found : (b c : Bool) → Decides b (LeadsTo os 1 source target) → b ≡ false → c ≡ widens → c ≡ false → IsOutcomeIn os kind source target outcome.Goes
   goes_found b c decides is_not same is = record { origin = λ to. absurd (cc (decides.1 to, is_not)); extends = λ none both. absurd (cc (both, same, is)); goes = λ none both. refl }
-
--- where two places stand, tells whether one derives from the other
-module _ (os : Origins) (source target : Place) (differ : same_place source target ≡ false) (at other : Spot) (s : IsSpotIn os source at) (t : IsSpotIn os target other) where
-  apart : other.position ≡ at.position → ⊥
-  apart same =
-      let one : source ≡ target = sym ((found_at os source at.position s.found).place source) ∙ ap (λ i. place_at os i source) (sym same) ∙ (found_at os target other.position t.found).place source in
-      absurd (cc (differ, ap (same_place source) one, same_self source))
-
-  some_origins : LeadsTo os 0 source target → LeadsTo os 1 source target
-  some_origins to = by to.origins to.leads
-    where
-      by : (n : ℕ) → after_origins n os source ≡ Some target → LeadsTo os 1 source target
-      by zero leads = let one : source ≡ target = cc leads in absurd (cc (differ, ap (same_place source) one, same_self source))
-      by (suc n) leads = record { origins = suc n; enough = omega arith; leads = leads }
-
-  pub spots_tell : (b : Bool) → b ≡ (nat_lt other.position at.position && nat_lt at.position other.end) → Decides b (LeadsTo os 1 source target)
-  spots_tell b is =
-      let found = found_at os source at.position s.found in
-      let run : Decides (nat_le other.position at.position && nat_lt at.position other.end) (LeadsTo os 0 source target) =
-      subst (λ p. Decides (nat_le other.position at.position && nat_lt at.position other.end) (LeadsTo os 0 p target)) (found.place source)
-      (subst (λ q. Decides (nat_le other.position at.position && nat_lt at.position other.end) (LeadsTo os 0 (place_at os at.position source) q)) ((found_at os target other.position t.found).place source) (t.run at.position source found.within)) in
-      let same : b ≡ (nat_le other.position at.position && nat_lt at.position other.end) = is ∙ strict other.position at.position (nat_lt at.position other.end) apart in
-      ((λ yes. some_origins (run.0 (sym same ∙ yes))), λ to. same ∙ run.1 (record { origins = to.origins; enough = omega arith; leads = to.leads }))
-    where
-      strict : (i j : ℕ) (x : Bool) → (i ≡ j → ⊥) → (nat_lt i j && x) ≡ (nat_le i j && x)
-      strict i j x differ = by (cases_order i j)
-        where
-          by : (i ≡ j) ⊎ ((i < j) ⊎ (j < i)) → (nat_lt i j && x) ≡ (nat_le i j && x)
-          by (inl same) = absurd (differ same)
-          by (inr (inl less)) = rw (lt-ltb i j less, le-leb i j (omega (arith, less))) refl
-          by (inr (inr less)) = rw (le-ltb i j (omega (arith, less)), lt-leb i j less) refl
 
 -- ---- from words and trees
 

@@ -1,10 +1,10 @@
 -- The pieces of accesses, of a MapItem and of a GrantItem can be worked beside one another.
-use Rattle.std.proofs.Common.{◌≡◌, ℕ, zero, suc, ◌-◌, ◌<◌, ◌≤◌, nat_lt, true, false, Bool, ◌||◌, not, List, [], ◌∷◌, ◌++◌, length, map, get_or, refl, sym, ap, ◌∙◌, arith, if◌then◌else◌, pow_pos}
+use Rattle.std.proofs.Common.{◌≡◌, ℕ, zero, suc, ◌-◌, ◌<◌, ◌≤◌, nat_lt, true, false, Bool, not, List, [], ◌∷◌, length, map, get_or, refl, sym, ap, ◌∙◌, arith, if◌then◌else◌, pow_pos}
 use Rattle.std.specs.Prelude.{is_some, ◌==◌}
-use Rattle.std.specs.List.{All, list_any, list_all, flat_map}
+use Rattle.std.specs.List.{All, list_all, flat_map}
 use Rattle.std.proofs.lemmas.Bool.{and_from, ne_eqb, lt-ltb}
 use Rattle.std.proofs.lemmas.Grind.{flat_map-append}
-use Rattle.std.proofs.lemmas.List.{map-append, append-nil}
+use Rattle.std.proofs.lemmas.List.{append-nil}
 use Rattle.fpage.specs.declared.rights.Rights.{Rights}
 use Rattle.fpage.specs.declared.rights.Access.{Access}
 use Rattle.space.specs.declared.place.Place.{Place}
@@ -16,11 +16,9 @@ use Rattle.space.proofs.ShardWords.{places_have_words, words_are_their_own}
 use Rattle.maptree.specs.Cuts.{pieces}
 use Rattle.pieces.specs.Contents.{puts_of, ends_of}
 use Rattle.pieces.specs.Distinct.{is_none_of, are_distinct}
-use Rattle.pieces.specs.Phases.{CanBeWorked, changes, folds, held, named, is_touch, are_alike}
+use Rattle.pieces.specs.Phases.{CanBeWorked, changes, held, named}
 use Rattle.pieces.specs.Steps.{entry_in}
-use Rattle.pieces.specs.declared.touch.WordAccess.{WordAccess}
 use Rattle.pieces.specs.declared.piece.Piece.TheVariants as piece
-use Rattle.pieces.specs.declared.piece.Piece.{Piece}
 use Rattle.pieces.proofs.InPieces.{flat_pieces, flat_of_map, links_change, moves_change}
 use Rattle.pieces.proofs.OfOneKind.{none_folded, none_touch, not_touches, accesses_can}
 use Rattle.holdings.specs.declared.transfer.Transfer.{Transfer}

@@ -33,6 +33,7 @@ use Rattle.pieces.specs.Steps.{entry_in}
 use Rattle.pieces.specs.Applied.{worked}
 use Rattle.pieces.specs.Laws.{joined_strips}
 use Rattle.pieces.specs.declared.piece.Piece.TheVariants as piece
+use Rattle.maptree.proofs.Listed.{listed_at}
 use Rattle.holdings.specs.Places.{any_of}
 use Rattle.holdings.specs.Inner.Held.{links_in, is_listed, is_place, holdings_of, holdings_in, limits_in, has_frame, has_entry}
 use Rattle.holdings.specs.Inner.Stripping.{pruned}
@@ -42,7 +43,7 @@ use Rattle.std.proofs.lemmas.Bool.{eq-eqb}
 use Rattle.holdings.specs.Inner.Planning.{strip_of, strips_of_run, all_places, RunPlan, IsRunPlan, strips_of_runs, first_of, places_of_runs, come_once, IsStripPlan}
 use Rattle.holdings.specs.Inner.Sound.{AreSound}
 use Rattle.holdings.proofs.Contents.WordChanges.{frame_from}
-use Rattle.holdings.proofs.Trees.Chains.{among_at, listed_at}
+use Rattle.holdings.proofs.Trees.Chains.{among_at}
 use Rattle.holdings.proofs.Stripping.Frames.{loose_from, listed_kept, find_kept, kept_listed}
 use Rattle.holdings.proofs.Stripping.Outer.{outer_word, outer_strip}
 use Rattle.holdings.proofs.Stripping.Sequences.{AreStripped}

@@ -35,14 +35,15 @@ use Rattle.pieces.proofs.InPieces.{status_joined}
 use Rattle.pieces.proofs.AllSteps.{length_words, worked_all}
 use Rattle.pieces.proofs.Packs.{packs_after_steps, pieces_suit}
 use Rattle.pieces.proofs.WholeStrips.{strips_in_pieces}
+use Rattle.maptree.proofs.Listed.{listed_at}
 use Rattle.holdings.proofs.Contents.WordChanges.{place_kept}
 use Rattle.holdings.specs.Places.{any_of}
 use Rattle.holdings.specs.Inner.Held.{links_in, is_listed, limits_in, holdings_in}
-use Rattle.holdings.specs.Inner.Derivation.{IsOriginAt}
+use Rattle.maptree.specs.Origins.{IsOriginAt}
 use Rattle.holdings.specs.Inner.Planning.{strip_of, strips_of_run, all_places}
 use Rattle.holdings.specs.Inner.Sound.{AreLoose}
 use Rattle.holdings.proofs.Contents.Holders.{present_within}
-use Rattle.holdings.proofs.Trees.Chains.{is_among, among_at, listed_at, place_at_drop}
+use Rattle.holdings.proofs.Trees.Chains.{is_among, among_at, place_at_drop}
 use Rattle.holdings.proofs.Stripping.Walks.{IsStripped, IsWalked, walked, same_taken, over_more, over_none, status_held, standing_place, run_without_origin, run_with_origin}
 use Rattle.holdings.specs.Inner.Words.{AreWordsOf, IsWith}
 use Rattle.holdings.proofs.Phases.Words.{with_words}

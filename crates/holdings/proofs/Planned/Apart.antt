@@ -16,6 +16,7 @@ use Rattle.model.specs.Holdings.{only, origin_at}
 use Rattle.model.specs.Derived.{is_below}
 use Rattle.model.proofs.LawfulParts.{IsLawful, lawful_parts}
 use Rattle.model.proofs.Chains.{under_from, under_self}
+use Rattle.maptree.proofs.Listed.{listed_at}
 use Rattle.holdings.specs.Places.{any_of}
 use Rattle.holdings.specs.Inner.Held.{links_in, is_listed, limits_in, holdings_in}
 use Rattle.holdings.specs.Inner.Planning.{RunPlan, IsRunPlan, all_places, come_once, first_of, places_of_runs}
@@ -24,7 +25,7 @@ use Rattle.holdings.specs.Inner.StripPlans.{AreRunPlans, HaveWords}
 use Rattle.holdings.proofs.Contents.Holders.{origin_within}
 use Rattle.holdings.proofs.Contents.Listing.{within_from_place}
 use Rattle.holdings.proofs.Contents.WordChanges.{frame_from}
-use Rattle.holdings.proofs.Trees.Chains.{is_among, among_at, listed_at, below_among}
+use Rattle.holdings.proofs.Trees.Chains.{is_among, among_at, below_among}
 use Rattle.holdings.proofs.Stripping.Frames.{loose_from}
 use Rattle.holdings.proofs.Stripping.Walks.{standing_place, place_any}
 use Rattle.holdings.proofs.Phases.StrippedRun.{slice_of_map, each_listed}

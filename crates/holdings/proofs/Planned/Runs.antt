@@ -12,7 +12,7 @@ use Rattle.maptree.specs.Origins.{Shape, IsRun, are_once}
 use Rattle.pieces.specs.declared.piece.Piece.{Piece}
 use Rattle.pieces.specs.declared.piece.Piece.TheVariants as piece
 use Rattle.holdings.specs.declared.planning.FrameRuns.{FrameRuns}
-use Rattle.holdings.specs.Inner.Derivation.{IsOriginAt}
+use Rattle.maptree.specs.Origins.{IsOriginAt}
 use Rattle.holdings.specs.Inner.Held.{links_in}
 use Rattle.holdings.specs.Inner.Planning.{RunPlan, IsRunPlan, all_places, strips_of_run, strips_of_runs}
 use Rattle.holdings.specs.Inner.StripPlans.{AreRunPlans, AreFramePlans, AreAdded, ArePlannedStrips, IsRunAdded, pages_of}

@@ -21,6 +21,7 @@ use Rattle.model.proofs.Narrowings.{not_narrowed}
 use Rattle.model.specs.Holdings.{only}
 use Rattle.space.proofs.Places.{same_is, same_self}
 use Rattle.space.specs.Place.{same_place}
+use Rattle.maptree.proofs.Listed.{listed_at}
 use Rattle.holdings.specs.Places.{any_of}
 use Rattle.holdings.specs.Inner.Held.{links_in, is_listed, limits_in, holdings_in, has_entry}
 use Rattle.holdings.specs.Inner.Links.{IsTreeSet}
@@ -36,7 +37,7 @@ use Rattle.holdings.proofs.Contents.WordChanges.{frame_from}
 use Rattle.holdings.proofs.Stripping.Frames.{loose_from, all_outside, entry_of_held, origins_with_places}
 use Rattle.holdings.proofs.Stripping.Sequences.{AreStripped}
 use Rattle.holdings.proofs.Stripping.Walks.{standing_place}
-use Rattle.holdings.proofs.Trees.Chains.{among_at, listed_at, chains_agree}
+use Rattle.holdings.proofs.Trees.Chains.{among_at, chains_agree}
 use Rattle.holdings.proofs.Trees.Pruning.{all_pass}
 use Rattle.holdings.proofs.Planned.Apart.{any_cases, one_tree, run_among, run_listed, below_run, first_listed}
 use Rattle.holdings.proofs.Planned.Plan.{frames_differ, have_runs, each_planned, plans_differ, in_plan, position_once}

@@ -26,6 +26,7 @@ use Rattle.model.proofs.Derivations.{below_is_a_chain}
 use Rattle.model.proofs.Lookups.{changed, at_each}
 use Rattle.model.proofs.StripAt.{stripping}
 use Rattle.model.proofs.Narrowings.{not_narrowed}
+use Rattle.maptree.proofs.Listed.{listed_at}
 use Rattle.holdings.specs.Places.{IsWithin, any_of}
 use Rattle.holdings.specs.Inner.Held.{is_place, is_listed, links_in, has_frame, holdings_of, limits_in, holdings_in, has_entry}
 use Rattle.holdings.specs.Inner.Stripping.{firsts, AreOfFrame, OriginsHaveEntries, pruned}
@@ -34,7 +35,7 @@ use Rattle.holdings.proofs.Contents.Listing.{within_from_place, place_from_withi
 use Rattle.holdings.specs.Inner.Links.{IsTreeSet}
 use Rattle.model.specs.Records.{are_limits}
 use Rattle.holdings.proofs.Contents.Holders.{same_origins, present_within, origin_within}
-use Rattle.holdings.proofs.Trees.Chains.{chains_agree, stands, listed_at, at_among, below_among, entry_held, place_at_drop}
+use Rattle.holdings.proofs.Trees.Chains.{chains_agree, stands, at_among, below_among, entry_held, place_at_drop}
 use Rattle.holdings.proofs.Stripping.Walks.{place_any}
 use Rattle.holdings.proofs.Stripping.Sequences.{AreStripped, rising_at}
 use Rattle.holdings.proofs.Stripping.Outer.{outer_word, outer_strip}

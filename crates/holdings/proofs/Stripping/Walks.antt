@@ -33,6 +33,7 @@ use Rattle.model.proofs.Recursions.{passing, passed_is}
 use Rattle.model.specs.Lawful.{is_lawful}
 use Rattle.model.specs.Records.{are_limits}
 use Rattle.std.proofs.lemmas.Option.{same_Some}
+use Rattle.maptree.proofs.Listed.{listed_at}
 use Rattle.holdings.specs.Places.{IsWithin}
 use Rattle.holdings.specs.Inner.Held.{is_place, is_listed, links_in, held_of, held_at, holdings_of, limits_in, holdings_in}
 use Rattle.space.specs.Entries.{narrowed, status_of, with_status}
@@ -42,7 +43,7 @@ use Rattle.space.specs.Directory.{pages_of}
 use Rattle.std.proofs.lemmas.List.{length-drop}
 use Rattle.std.proofs.Math.Bool.{or-false}
 use Rattle.holdings.proofs.Contents.Holders.{held_within, absent_within, origin_within}
-use Rattle.holdings.proofs.Trees.Chains.{is_among, among_at, listed_at, place_at_drop, below_among, entry_held}
+use Rattle.holdings.proofs.Trees.Chains.{is_among, among_at, place_at_drop, below_among, entry_held}
 use Rattle.holdings.proofs.Contents.WordChanges.{place_kept}
 
 -- ---- unions of status

@@ -14,6 +14,7 @@ use Rattle.space.specs.Shards.{entry_at}
 use Rattle.space.proofs.Places.{same_is, same_self, same_or_apart}
 use Rattle.maptree.specs.Origins as tree
 use Rattle.maptree.specs.Origins.{Origins, Shape, origin_in, place_at, LeadsTo, IsRun}
+use Rattle.maptree.proofs.Listed.{listed_at}
 use Rattle.model.specs.Holdings.{Held, only, at, origin_at}
 use Rattle.model.specs.Derived.{is_below}
 use Rattle.model.specs.DerivationLaws.{after_origins, LeadsInto}
@@ -43,12 +44,6 @@ stands (o ∷ os) p d listed = by (same_or_apart p o.0) (stands os p d)
     by : (p ≡ o.0) ⊎ (same_place p o.0 ≡ false) → (list_any (λ o. same_place p o.0) os ≡ true → (j : ℕ) × (j < length os) × (place_at os j d ≡ p)) → (j : ℕ) × (j < length (o ∷ os)) × (place_at (o ∷ os) j d ≡ p)
     by (inl same) rest = (0, omega arith, sym same)
     by (inr apart) rest = let later = rest (rw apart at listed) in (suc later.0, omega (arith, later.1), later.2)
-
--- and what stands somewhere is listed
-pub listed_at : (os : Origins) (j : ℕ) (d : Place) → j < length os → list_any (λ o. same_place (place_at os j d) o.0) os ≡ true
-listed_at [] j d within = absurd (omega (arith, within))
-listed_at (o ∷ os) zero d within = rw (same_self o.0) refl
-listed_at (o ∷ os) (suc j) d within = rw (listed_at os j d (omega (arith, within))) (elim (same_place (place_at os j d) o.0) as (λ b. (b || true) ≡ true) [ true ↦ refl | false ↦ refl ])
 
 -- the places at the positions of a range
 abbrev pub is_among : Origins → ℕ → ℕ → Place → Bool

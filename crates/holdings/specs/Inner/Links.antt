@@ -11,7 +11,7 @@ use Rattle.space.specs.declared.shards.Shards.{Shards}
 use Rattle.space.specs.Entries as word
 use Rattle.maptree.specs.Origins.{Origins, Shape, origin_in}
 use Rattle.model.specs.Items.{counts_of, Counts, goes}
-use Rattle.holdings.specs.Inner.Derivation.{stands_in, IsDerived}
+use Rattle.holdings.specs.Inner.Derivation.{IsDerived}
 use Rattle.holdings.specs.Inner.Held.{links_in, is_listed}
 use Rattle.holdings.specs.Sending.{fate_in}
 use Rattle.holdings.specs.declared.link.Link.{Link}
@@ -35,12 +35,6 @@ is_new_in ls p = list_any (λ l. same_place p l.target) ls
 abbrev pub is_new_of : List Link → ℕ → Place → Bool
 is_new_of ls f p = list_any (λ l. l.frame == f && same_place p l.target) ls
 
--- a tree gained the targets, each with its source as origin
-pub record AreLinkedIn (ls : List Link) (old new : Origins) : Type 0 where
-  pub stands : (p : Place) → stands_in new p ≡ (is_new_in ls p || stands_in old p)
-  pub elsewhere : (p : Place) → is_new_in ls p ≡ false → origin_in new p ≡ origin_in old p
-  pub there : All (λ l. origin_in new l.target ≡ Some l.source) ls
-
 -- trees gained the targets, each the tree of its frame
 pub record AreLinked (ls : List Link) (old new : List Shape) : Type 0 where
   pub count : length new ≡ length old
@@ -48,16 +42,9 @@ pub record AreLinked (ls : List Link) (old new : List Shape) : Type 0 where
   pub elsewhere : (f : ℕ) (p : Place) → is_new_of ls f p ≡ false → origin_in (links_in new f) p ≡ origin_in (links_in old f) p
   pub there : All (λ l. origin_in (links_in new l.frame) l.target ≡ Some l.source) ls
 
--- no two have one source, and no two have one target
-pub record AreOnce (ls : List Link) : Type 0 where
-  pub sources : (p : Place) → count_by (λ l. same_place p l.source) ls ≤ 1
-  pub targets : (p : Place) → count_by (λ l. same_place p l.target) ls ≤ 1
-
--- each can be put into the tree of its frame: its source stands there, its target in no tree
+-- each can be put into the tree of its frame: its source stands there, its target in no tree, and no two have one target
 pub record AreLinkable (trees : List Shape) (ls : List Link) : Type 0 where
-  pub once : AreOnce ls
-  pub space : ℕ
-  pub spaces : All (λ l. l.source.space ≡ space) ls
+  pub once : (p : Place) → count_by (λ l. same_place p l.target) ls ≤ 1
   pub frames : All (λ l. l.frame < length trees) ls
   pub sources : All (λ l. is_listed trees l.frame l.source ≡ true) ls
   pub targets : All (λ l. (f : ℕ) → is_listed trees f l.target ≡ false) ls

@@ -12,7 +12,7 @@ use Rattle.maptree.specs.Origins.{Shape, IsRun, place_at}
 use Rattle.model.specs.Derived.{is_below}
 use Rattle.model.specs.Holdings.{PlaceSet, is_held}
 use Rattle.pieces.specs.Contents.{StripContent}
-use Rattle.holdings.specs.Inner.Derivation.{IsOriginAt}
+use Rattle.maptree.specs.Origins.{IsOriginAt}
 use Rattle.holdings.specs.Inner.Held.{links_in, holdings_in, has_entry}
 use Rattle.holdings.specs.declared.transfer.Transfer.{Transfer}
 use Rattle.fpage.specs.declared.rights.Access.{Access}

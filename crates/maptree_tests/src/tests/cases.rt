@@ -36,20 +36,28 @@ fn field<'a>(rt: &impl Abort, text: &'a str, name: &str) -> &'a str {
     panic!(rt; "no {name} in {text}")
 }
 
+/// The names in the lines of a case, but for that of the number.
+const NAMES: [&str; 7] = ["tree", "named", "runs", "parts", "left", "gone", "whole"];
+
 /// The case that some lines of the table describe.
 pub fn case_of<'a>(rt: &impl Abort, text: &'a str) -> Case<'a> {
     let Ok(most) = field(rt, text, "most").parse() else {
         panic!(rt; "no number in {text}");
     };
+    let mut fields = [""; 7];
+    for k in 0..7 {
+        fields[k] = field(rt, text, NAMES[k]);
+    }
+    let [tree, named, runs, parts, left, gone, whole] = fields;
     Case {
-        tree: field(rt, text, "tree"),
-        named: field(rt, text, "named"),
-        runs: field(rt, text, "runs"),
+        tree,
+        named,
+        runs,
         most,
-        parts: field(rt, text, "parts"),
-        left: field(rt, text, "left"),
-        gone: field(rt, text, "gone"),
-        whole: field(rt, text, "whole"),
+        parts,
+        left,
+        gone,
+        whole,
     }
 }
 

@@ -5,10 +5,10 @@ ghost use Rattle.std.specs.List.{All, list_all, list_any};
 ghost use Rattle.space.specs.declared.place.Place.{Place};
 ghost use Rattle.space.specs.Place.{same_place};
 ghost use Rattle.maptree.specs.Origins.{origin_in, AreRising, IsRun};
-ghost use Rattle.maptree.specs.Cuts.{kept_of, nodes_of};
+ghost use Rattle.maptree.specs.Cuts.{kept_of, nodes_of, IsCut};
 
 use super::cases::{BETWEEN, CASES, Case, SAMPLE, case_of};
-use super::lists::{assert_parts, assert_runs, assert_tree, places_of, tree_of};
+use super::lists::{assert_parts, assert_runs, assert_tree, place_of, places_of, tree_of};
 use super::{place, sample};
 use maptree::{Node, Slice, Tree};
 use space::{NoMemory, Place};
@@ -17,6 +17,9 @@ use std::ops::Range;
 use std::process::Abort;
 use std::slice;
 use std::test::Fail;
+
+/// The nodes of the tree of `sample`.
+const NODES: &str = "0:5/0 1:0/1 2:0/2 1:3/3 2:4/1";
 
 /// Whether a place is one of these.
 fn is_one_of(places: &[Place], place: Place) -> bool
@@ -113,6 +116,27 @@ fn reserves(rt: &impl Abort, tree: &mut Tree, case: &Case) -> Result<(), NoMemor
     reserved
 }
 
+/// Cuts the runs of a case out of its tree: the parts.
+fn cuts(
+    rt: &impl Abort,
+    alloc: Global,
+    tree: &mut Tree,
+    case: &Case,
+) -> Result<Vec<Slice>, NoMemory>
+    requires { 1 ≤ case.now.most }
+    ensures { IfOk result (λ parts. IsCut tree.old.links (nodes_of parts.items) tree.new) }
+{
+    let named = places_of(rt, alloc, case.named)?;
+    let runs = tree.outer_runs(alloc, &named);
+    let runs = or_left(rt, tree, case.tree, case, runs)?;
+    assert_runs(rt, &runs, case.runs);
+    let parts = tree.cut(alloc, &runs, case.most);
+    let parts = or_left(rt, tree, case.tree, case, parts)?;
+    assert_parts(rt, &parts, case.parts);
+    assert_tree(rt, tree, case.left, case.tree);
+    Ok(parts)
+}
+
 /// Works a case on its tree, which has so many nodes.
 fn works(
     rt: &impl Abort,
@@ -123,22 +147,13 @@ fn works(
 ) -> Result<(), NoMemory>
     requires { len ≡ length tree.old.links }
 {
-    let named = places_of(rt, alloc, case.named)?;
     let gone = places_of(rt, alloc, case.gone)?;
     assert_tree(rt, tree, case.tree, case.tree);
     if !are_closed(tree, len, &gone) {
         panic!(rt; "a node would stay without its origin: {}", case.gone);
     }
     assert!(rt; 1 <= case.most);
-
-    let runs = tree.outer_runs(alloc, &named);
-    let runs = or_left(rt, tree, case.tree, case, runs)?;
-    assert_runs(rt, &runs, case.runs);
-    let parts = tree.cut(alloc, &runs, case.most);
-    let parts = or_left(rt, tree, case.tree, case, parts)?;
-    assert_parts(rt, &parts, case.parts);
-    assert_tree(rt, tree, case.left, case.tree);
-
+    let parts = cuts(rt, alloc, tree, case)?;
     if !are_absent(tree, &gone) {
         panic!(rt; "not all in parts: {}", case.gone);
     }
@@ -176,6 +191,32 @@ pub fn put_back(
     Ok(count)
 }
 
+/// Cuts the outermost runs of some places out.
+pub fn cut_at(
+    alloc: Global,
+    tree: &mut Tree,
+    named: &[Place],
+    most: usize,
+) -> Result<Vec<Slice>, NoMemory>
+    requires { 1 ≤ most }
+{
+    let runs = tree.outer_runs(alloc, named)?;
+    tree.cut(alloc, &runs, most)
+}
+
+/// Cuts the outermost runs of some places out and puts all of them back; how many nodes they were.
+pub fn put_back_at(
+    alloc: Global,
+    tree: &mut Tree,
+    named: &[Place],
+    most: usize,
+) -> Result<usize, NoMemory>
+    requires { 1 ≤ most }
+{
+    let runs = tree.outer_runs(alloc, named)?;
+    put_back(alloc, tree, &runs, most)
+}
+
 /// A copy of all nodes of the tree of a case, which has so many, has its nodes, and the tree has them as before.
 fn copies(
     rt: &impl Abort,
@@ -192,32 +233,53 @@ fn copies(
     Ok(())
 }
 
-/// Makes the tree of a case, copies its nodes, and works the case.
-fn works_on_a_tree(rt: &impl Abort, alloc: Global, case: &Case) -> Result<(), NoMemory> {
-    let (mut tree, len) = tree_of(rt, alloc, case.tree)?;
-    copies(rt, alloc, &tree, len, case)?;
-    reserves(rt, &mut tree, case)?;
-    works(rt, alloc, &mut tree, len, case)
+/// Copies the nodes of the tree of a case, which has so many, and works the case.
+fn copies_and_works(
+    rt: &impl Abort,
+    alloc: Global,
+    tree: &mut Tree,
+    len: usize,
+    case: &Case,
+) -> Result<(), NoMemory>
+    requires { len ≡ length tree.old.links }
+{
+    copies(rt, alloc, tree, len, case)?;
+    reserves(rt, tree, case)?;
+    works(rt, alloc, tree, len, case)
 }
 
-/// Cuts the run of a place out: so many parts of one node come, and the tree has these nodes then. The runs of 1:0 and 2:4,
-/// cut out and put back, have so many nodes.
+/// Makes the tree of a case, and works the case.
+fn works_on_a_tree(rt: &impl Abort, alloc: Global, case: &Case) -> Result<(), NoMemory> {
+    let (mut tree, len) = tree_of(rt, alloc, case.tree)?;
+    copies_and_works(rt, alloc, &mut tree, len, case)
+}
+
+/// Cuts the run of a place out: so many parts of one node come, and the tree of `sample` has these nodes then.
 fn cuts_and_leaves(
     rt: &impl Abort,
     alloc: Global,
     tree: &mut Tree,
-    named: Place,
+    named: &str,
     parts: usize,
     left: &str,
-    all: &str,
-    nodes_then: usize,
 ) -> Result<(), NoMemory> {
-    let runs = tree.outer_runs(alloc, &[named])?;
-    assert_eq!(rt; tree.cut(alloc, &runs, 1)?.len(), parts, "{left}");
-    assert_tree(rt, tree, left, all);
-    let rest = tree.outer_runs(alloc, &[place(1, 0), place(2, 4)])?;
-    assert_eq!(rt; put_back(alloc, tree, &rest, 2)?, nodes_then, "{left}");
-    assert_tree(rt, tree, left, all);
+    let count = cut_at(alloc, tree, &[place_of(rt, named)], 1)?.len();
+    assert_eq!(rt; count, parts, "{left}");
+    assert_tree(rt, tree, left, NODES);
+    Ok(())
+}
+
+/// The runs of 1:0 and 2:4, cut out and put back, have so many nodes, and the tree of `sample` has these nodes then.
+fn puts_back_and_leaves(
+    rt: &impl Abort,
+    alloc: Global,
+    tree: &mut Tree,
+    nodes: usize,
+    left: &str,
+) -> Result<(), NoMemory> {
+    let count = put_back_at(alloc, tree, &[place(1, 0), place(2, 4)], 2)?;
+    assert_eq!(rt; count, nodes, "{left}");
+    assert_tree(rt, tree, left, NODES);
     Ok(())
 }
 
@@ -241,14 +303,16 @@ fn cuts_runs_and_puts_back_what_is_kept(rt: HostRuntime) -> Result<(), Fail> {
 
 #[test]
 fn stays_as_the_last_cut_left_it_where_nothing_is_put_back(rt: HostRuntime) -> Result<(), Fail> {
-    let alloc = rt.alloc();
-    let mut tree = sample(&rt, alloc)?;
-    let all = case_of(&rt, SAMPLE).tree;
-    let (inner, leaf, root) = (place(2, 0), place(2, 4), place(0, 5));
-    cuts_and_leaves(&rt, alloc, &mut tree, inner, 2, "0:5/0 1:0/1 2:4/1", all, 2)?;
-    cuts_and_leaves(&rt, alloc, &mut tree, leaf, 1, "0:5/0 1:0/1", all, 1)?;
-    cuts_and_leaves(&rt, alloc, &mut tree, leaf, 0, "0:5/0 1:0/1", all, 1)?;
-    cuts_and_leaves(&rt, alloc, &mut tree, root, 2, "", all, 0)?;
-    cuts_and_leaves(&rt, alloc, &mut tree, root, 0, "", all, 0)?;
+    let mut tree = sample(&rt, rt.alloc())?;
+    for (named, parts, left, nodes_then) in [
+        ("2:0", 2, "0:5/0 1:0/1 2:4/1", 2),
+        ("2:4", 1, "0:5/0 1:0/1", 1),
+        ("2:4", 0, "0:5/0 1:0/1", 1),
+        ("0:5", 2, "", 0),
+        ("0:5", 0, "", 0),
+    ] {
+        cuts_and_leaves(&rt, rt.alloc(), &mut tree, named, parts, left)?;
+        puts_back_and_leaves(&rt, rt.alloc(), &mut tree, nodes_then, left)?;
+    }
     Ok(())
 }

@@ -2,13 +2,15 @@
 //! it was made, how many nanoseconds that took, and the sum of the answers: bench/trees.py reads these lines.
 
 ghost use Rattle.std.specs.Prelude.{◌≡◌, ◌+◌, ◌*◌, ◌<◌, nat_lt, true, None, OnOk, length, position};
-ghost use Rattle.std.specs.List.{list_all};
+ghost use Rattle.std.specs.List.{All, list_all};
 ghost use Rattle.space.specs.Place.{same_place};
+ghost use Rattle.maptree.specs.Origins.{AreRising, IsRun};
 
-use super::cuts::{nodes_in, put_back};
-use maptree::{Slice, Tree};
+use super::cuts::{cut_at, nodes_in, put_back, put_back_at};
+use maptree::Tree;
 use space::{NoMemory, Place};
 use std::alloc::{AllocError, Global};
+use std::ops::Range;
 use std::process::Abort;
 use std::rt::Runtime;
 use std::test::Fail;
@@ -125,6 +127,17 @@ impl Numbered {
         self.next = next;
     }
 
+    /// Puts the next place below another, where that is in the tree; whether it is.
+    fn grow_below(&mut self, rt: &impl Abort, origin: Place) -> Result<bool, NoMemory> {
+        match self.tree.find(origin) {
+            Some(at) => {
+                self.grow(rt, at)?;
+                Ok(true)
+            }
+            None => Ok(false),
+        }
+    }
+
     /// The position that the nth call is about.
     fn position(&self, n: u32) -> usize
         ensures { result < self.now.len }
@@ -142,10 +155,8 @@ fn large_tree(
 ) -> Result<Numbered, NoMemory> {
     let mut made = Numbered::root(alloc);
     for n in 1..nodes {
-        match made.tree.find(nth_place(form.origin(n))) {
-            Some(at) => made.grow(rt, at)?,
-            None => panic!(rt; "the place {} is not in the tree", form.origin(n)),
-        }
+        let grown = made.grow_below(rt, nth_place(form.origin(n)))?;
+        assert!(rt; grown, "the origin of {n} is not in the tree");
     }
     Ok(made)
 }
@@ -259,6 +270,19 @@ fn times_outer_runs(
     Ok(Told::since(rt, start, PASSES, sum)?)
 }
 
+/// Cuts the same runs out again and again, and puts them back; how many nodes that were.
+fn passes(alloc: Global, tree: &mut Tree, runs: &[Range<usize>]) -> Result<usize, NoMemory>
+    requires rising { AreRising 0 runs.now (length tree.old.links) }
+    requires runs { All (IsRun tree.old.links) runs.now }
+    ensures { OnOk result (tree.new.links ≡ tree.old.links) }
+{
+    let mut sum = 0_usize;
+    for _ in 0..PASSES {
+        sum = sum.wrapping_add(put_back(alloc, tree, runs, MOST)?);
+    }
+    Ok(sum)
+}
+
 /// How many nodes are cut out and put back.
 fn times_cut_and_splice(
     rt: &impl Runtime,
@@ -269,11 +293,8 @@ fn times_cut_and_splice(
     ensures { OnOk result (tree.new.links ≡ tree.old.links) }
 {
     let runs = tree.outer_runs(alloc, named)?;
-    let mut sum = 0_usize;
     let start = Instant::now(rt)?;
-    for _ in 0..PASSES {
-        sum = sum.wrapping_add(put_back(alloc, tree, &runs, MOST)?);
-    }
+    let sum = passes(alloc, tree, &runs)?;
     Ok(Told::since(rt, start, PASSES, sum)?)
 }
 
@@ -299,10 +320,8 @@ fn times_insert_below(
     let mut sum = 0_usize;
     let start = Instant::now(rt)?;
     for n in 0..CALLS {
-        if let Some(at) = made.tree.find(nth_place(first.wrapping_add(n))) {
-            made.grow(rt, at)?;
-            sum = sum.wrapping_add(1);
-        }
+        let grown = made.grow_below(rt, nth_place(first.wrapping_add(n)))?;
+        sum = sum.wrapping_add(usize::from(grown));
     }
     Ok(Told::since(rt, start, CALLS, sum)?)
 }
@@ -317,8 +336,8 @@ fn times_cut_and_splice_one(
     let mut sum = 0_usize;
     let start = Instant::now(rt)?;
     for n in 0..CALLS {
-        let runs = tree.outer_runs(alloc, &[nth_place(first.wrapping_add(n))])?;
-        sum = sum.wrapping_add(put_back(alloc, tree, &runs, MOST)?);
+        let named = [nth_place(first.wrapping_add(n))];
+        sum = sum.wrapping_add(put_back_at(alloc, tree, &named, MOST)?);
     }
     Ok(Told::since(rt, start, CALLS, sum)?)
 }
@@ -333,23 +352,28 @@ fn times_cut_one(
     let mut sum = 0_usize;
     let start = Instant::now(rt)?;
     for n in 0..CALLS {
-        let runs = tree.outer_runs(alloc, &[nth_place(first.wrapping_add(n))])?;
-        let parts: Vec<Slice> = tree.cut(alloc, &runs, MOST)?;
-        sum = sum.wrapping_add(nodes_in(&parts));
+        let named = [nth_place(first.wrapping_add(n))];
+        sum = sum.wrapping_add(nodes_in(&cut_at(alloc, tree, &named, MOST)?));
     }
     Ok(Told::since(rt, start, CALLS, sum)?)
 }
 
-/// A sum of all places and origins that depends on their order.
-fn times_links(rt: &impl Runtime, alloc: Global, tree: &Tree) -> Result<Told, Fail> {
+/// A sum of places and origins that depends on their order.
+fn sum_of_links(links: &[(Place, Option<Place>)]) -> usize {
     let mut sum = 0_usize;
-    let start = Instant::now(rt)?;
-    for (place, origin) in &tree.links(alloc)? {
+    for (place, origin) in links {
         sum = sum.wrapping_mul(31).wrapping_add(number_of(*place));
         if let Some(origin) = origin {
             sum = sum.wrapping_mul(31).wrapping_add(number_of(*origin));
         }
     }
+    sum
+}
+
+/// Such a sum of all places.
+fn times_links(rt: &impl Runtime, alloc: Global, tree: &Tree) -> Result<Told, Fail> {
+    let start = Instant::now(rt)?;
+    let sum = sum_of_links(&tree.links(alloc)?);
     Ok(Told::since(rt, start, 1, sum)?)
 }
 
@@ -360,42 +384,49 @@ fn asks(
     made: &Numbered,
     nodes: u32,
     named: &[Place],
-    told: &mut Vec<Told>,
-) -> Result<(), Fail> {
-    told.push(times_find(rt, made, nodes)?)?;
-    told.push(times_run_of(rt, made)?)?;
-    told.push(times_origin_of(rt, made)?)?;
-    told.push(times_is_origin(rt, made)?)?;
-    told.push(times_outer_runs(rt, alloc, made, named)?)?;
-    Ok(())
+) -> Result<[Told; 5], Fail> {
+    Ok([
+        times_find(rt, made, nodes)?,
+        times_run_of(rt, made)?,
+        times_origin_of(rt, made)?,
+        times_is_origin(rt, made)?,
+        times_outer_runs(rt, alloc, made, named)?,
+    ])
 }
 
-/// Gives nodes other places, and puts new ones below them; the number of the first new place.
+/// Gives nodes other places, and puts new ones below them; the number of the first new place too.
 fn changes(
     rt: &(impl Runtime + Abort),
     made: &mut Numbered,
     nodes: u32,
-    told: &mut Vec<Told>,
-) -> Result<u32, Fail> {
-    let renamed = made.next;
-    told.push(times_rename(rt, made, nodes)?)?;
-    let inserted = made.next;
-    told.push(times_insert_below(rt, made, renamed)?)?;
-    Ok(inserted)
+) -> Result<([Told; 2], u32), Fail> {
+    let first = made.next;
+    let renamed = times_rename(rt, made, nodes)?;
+    let next = made.next;
+    let inserted = times_insert_below(rt, made, first)?;
+    Ok(([renamed, inserted], next))
 }
 
 /// Cuts out single nodes, and lists all places.
-fn cuts(
-    rt: &impl Runtime,
+fn cuts(rt: &impl Runtime, alloc: Global, tree: &mut Tree, first: u32) -> Result<[Told; 3], Fail> {
+    Ok([
+        times_cut_and_splice_one(rt, alloc, tree, first)?,
+        times_cut_one(rt, alloc, tree, first)?,
+        times_links(rt, alloc, tree)?,
+    ])
+}
+
+/// A tree of this form, and what making it took and answered.
+fn times_make(
+    rt: &(impl Runtime + Abort),
     alloc: Global,
-    tree: &mut Tree,
-    first: u32,
-    told: &mut Vec<Told>,
-) -> Result<(), Fail> {
-    told.push(times_cut_and_splice_one(rt, alloc, tree, first)?)?;
-    told.push(times_cut_one(rt, alloc, tree, first)?)?;
-    told.push(times_links(rt, alloc, tree)?)?;
-    Ok(())
+    form: Form,
+    nodes: u32,
+) -> Result<(Numbered, Told), Fail> {
+    let start = Instant::now(rt)?;
+    let made = large_tree(rt, alloc, form, nodes)?;
+    let told = Told::since(rt, start, nodes, made.tree.run_of(0).end)?;
+    Ok((made, told))
 }
 
 /// Makes each call on a tree of this form: what each of `MADE` took and answered.
@@ -404,27 +435,49 @@ fn works(
     alloc: Global,
     form: Form,
     nodes: u32,
-) -> Result<Vec<Told>, Fail> {
-    let mut told = Vec::new(alloc);
-    let start = Instant::now(rt)?;
-    let mut made = large_tree(rt, alloc, form, nodes)?;
-    told.push(Told::since(rt, start, nodes, made.tree.run_of(0).end)?)?;
+) -> Result<[Told; 12], Fail> {
+    let (mut made, make) = times_make(rt, alloc, form, nodes)?;
     let named = every_tenth(alloc, nodes)?;
-    asks(rt, alloc, &made, nodes, &named, &mut told)?;
-    told.push(times_cut_and_splice(rt, alloc, &mut made.tree, &named)?)?;
-    let first = changes(rt, &mut made, nodes, &mut told)?;
+    let [find, run_of, origin_of, is_origin, outer_runs] = asks(rt, alloc, &made, nodes, &named)?;
+    let cut = times_cut_and_splice(rt, alloc, &mut made.tree, &named)?;
+    let ([rename, insert], first) = changes(rt, &mut made, nodes)?;
     let Numbered { mut tree, .. } = made;
-    cuts(rt, alloc, &mut tree, first, &mut told)?;
-    Ok(told)
+    let [cut_and_splice_one, cut_one, links] = cuts(rt, alloc, &mut tree, first)?;
+    Ok([
+        make,
+        find,
+        run_of,
+        origin_of,
+        is_origin,
+        outer_runs,
+        cut,
+        rename,
+        insert,
+        cut_and_splice_one,
+        cut_one,
+        links,
+    ])
+}
+
+/// Makes each call on a tree of this form, and writes what it took and answered.
+fn tells_of(
+    rt: &(impl Runtime + Abort),
+    alloc: Global,
+    form: Form,
+    nodes: u32,
+) -> Result<(), Fail> {
+    let all = works(rt, alloc, form, nodes)?;
+    for (call, told) in MADE.into_iter().zip(all) {
+        println!(rt; "{call} {} {} {}", told.calls, told.nanos, told.sum)?;
+    }
+    Ok(())
 }
 
 /// Makes each call on trees of every form, and writes what it took and answered.
 fn tells(rt: &(impl Runtime + Abort), alloc: Global, nodes: u32) -> Result<(), Fail> {
     for form in [Form::Chain, Form::Fan, Form::Random] {
         println!(rt; "{} {nodes}", form.name())?;
-        for (call, told) in MADE.into_iter().zip(works(rt, alloc, form, nodes)?) {
-            println!(rt; "{call} {} {} {}", told.calls, told.nanos, told.sum)?;
-        }
+        tells_of(rt, alloc, form, nodes)?;
     }
     Ok(())
 }

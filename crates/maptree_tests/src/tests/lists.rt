@@ -81,8 +81,27 @@ pub fn grown(
     }
 }
 
-/// The tree that a text lists, and how many nodes it has. What derives from a node is put below it from the last to the
-/// first, since each is put right behind its origin.
+/// Puts the nodes of such a list at a depth below their origins, from the last to the first, since each is put right behind
+/// its origin; how many nodes the tree has then.
+fn grown_at(
+    rt: &impl Abort,
+    tree: &mut Tree,
+    mut len: usize,
+    nodes: &[Node],
+    depth: usize,
+) -> Result<usize, NoMemory>
+    requires { len ≡ length tree.old.links }
+    ensures { IfOk result (λ len. len ≡ length tree.new.links) }
+{
+    for i in (0..nodes.len()).rev() {
+        if nodes[i].depth == depth {
+            len = grown(rt, tree, len, origin_of(rt, nodes, i), nodes[i].place)?;
+        }
+    }
+    Ok(len)
+}
+
+/// The tree that a text lists, and how many nodes it has.
 pub fn tree_of(rt: &impl Abort, alloc: Global, list: &str) -> Result<(Tree, usize), NoMemory>
     ensures { IfOk result (λ made. made.1 ≡ length made.0.links) }
 {
@@ -93,11 +112,7 @@ pub fn tree_of(rt: &impl Abort, alloc: Global, list: &str) -> Result<(Tree, usiz
     let mut tree = Tree::root(alloc, root.place);
     let mut len = 1;
     for depth in 1..nodes.len() {
-        for i in (0..nodes.len()).rev() {
-            if nodes[i].depth == depth {
-                len = grown(rt, &mut tree, len, origin_of(rt, &nodes, i), nodes[i].place)?;
-            }
-        }
+        len = grown_at(rt, &mut tree, len, &nodes, depth)?;
     }
     Ok((tree, len))
 }
@@ -112,21 +127,30 @@ fn lists(rt: &impl Abort, list: &str, place: Place) -> bool {
     false
 }
 
+/// A node of a list stands at a position.
+fn stands(rt: &impl Abort, tree: &Tree, i: usize, node: Node, list: &str) {
+    let at = position(rt, tree, node.place);
+    assert_eq!(rt; tree.node(at), node, "in {list}");
+    assert_eq!(rt; at, i, "{} in {list}", node.place);
+}
+
+/// The run of the root that a list begins with has so many nodes.
+fn has_nodes(rt: &impl Abort, tree: &Tree, list: &str, len: usize) {
+    if let Some(root) = list.split_whitespace().next() {
+        let at = position(rt, tree, node_of(rt, root).place);
+        assert_eq!(rt; tree.run_of(at), 0..len, "{list}");
+    }
+}
+
 /// A tree has the nodes that a text lists, in this order, and no other place of those that another text lists. This takes
 /// no memory.
 pub fn assert_tree(rt: &impl Abort, tree: &Tree, list: &str, all: &str) {
     let mut len = 0_usize;
     for text in list.split_whitespace() {
-        let wanted = node_of(rt, text);
-        let at = position(rt, tree, wanted.place);
-        assert_eq!(rt; tree.node(at), wanted, "in {list}");
-        assert_eq!(rt; at, len, "{text} in {list}");
+        stands(rt, tree, len, node_of(rt, text), list);
         len = len.wrapping_add(1);
     }
-    if let Some(root) = list.split_whitespace().next() {
-        let at = position(rt, tree, node_of(rt, root).place);
-        assert_eq!(rt; tree.run_of(at), 0..len, "{list}");
-    }
+    has_nodes(rt, tree, list, len);
     for text in all.split_whitespace() {
         let place = node_of(rt, text).place;
         let found = tree.find(place);
@@ -134,20 +158,38 @@ pub fn assert_tree(rt: &impl Abort, tree: &Tree, list: &str, all: &str) {
     }
 }
 
+/// The run that a text names.
+fn run_of(rt: &impl Abort, text: &str) -> Range<usize> {
+    if let Some((start, end)) = text.split_once("..") {
+        if let (Ok(start), Ok(end)) = (start.parse(), end.parse()) {
+            return start..end;
+        }
+    }
+    panic!(rt; "{text} is no run")
+}
+
 /// The runs are those that a text lists. This takes no memory.
 pub fn assert_runs(rt: &impl Abort, runs: &[Range<usize>], list: &str) {
     let mut wanted = list.split_whitespace();
     for run in runs {
-        let Some((start, end)) = wanted.next().and_then(|text| text.split_once("..")) else {
+        let Some(text) = wanted.next() else {
             panic!(rt; "more runs than {list}");
         };
-        assert_eq!(rt;
-            (Ok(run.start), Ok(run.end)),
-            (start.parse(), end.parse()),
-            "in {list}"
-        );
+        assert_eq!(rt; *run, run_of(rt, text), "in {list}");
     }
     assert!(rt; wanted.next().is_none(), "fewer runs than {list}");
+}
+
+/// The nodes are those that a text lists. This takes no memory.
+fn assert_nodes(rt: &impl Abort, nodes: &[Node], list: &str) {
+    let mut wanted = list.split_whitespace();
+    for node in nodes {
+        let Some(text) = wanted.next() else {
+            panic!(rt; "a longer part than {list}");
+        };
+        assert_eq!(rt; *node, node_of(rt, text), "in {list}");
+    }
+    assert!(rt; wanted.next().is_none(), "a shorter part than {list}");
 }
 
 /// The parts are those that a text lists. This takes no memory.
@@ -161,14 +203,7 @@ pub fn assert_parts(rt: &impl Abort, parts: &[Slice], list: &str) {
         let Some(nodes) = wanted.next() else {
             panic!(rt; "more parts than {list}");
         };
-        let mut texts = nodes.split_whitespace();
-        for node in &part.nodes {
-            let Some(text) = texts.next() else {
-                panic!(rt; "a longer part than {nodes}");
-            };
-            assert_eq!(rt; *node, node_of(rt, text), "in {list}");
-        }
-        assert!(rt; texts.next().is_none(), "a shorter part than {nodes}");
+        assert_nodes(rt, &part.nodes, nodes);
     }
     assert!(rt; wanted.next().is_none(), "fewer parts than {list}");
 }

@@ -6,7 +6,7 @@ ghost use Rattle.maptree.specs.Origins.{AreRising, IsRun};
 
 use super::cuts::{are_absent, are_closed, nodes_in, parts_without};
 use super::large::nth_place;
-use super::{position, put_below};
+use super::{position, put_below, rename};
 use maptree::{Node, Slice, Tree};
 use space::Place;
 use std::alloc::Global;
@@ -119,18 +119,15 @@ fn origin_at(list: &[Node], i: usize) -> Option<Place>
 /// The tree has the nodes of the list, with their origins and the ends of their runs, and no others.
 fn assert_all(rt: &impl Abort, alloc: Global, tree: &Tree, list: &[Node]) -> Result<(), Fail> {
     let links = tree.links(alloc)?;
-    let ends = tree.ends(alloc)?;
-    assert_eq!(rt; (links.len(), ends.len()), (list.len(), list.len()));
+    assert_eq!(rt; links.len(), list.len());
     for i in 0..list.len() {
-        assert_eq!(rt;
-            (tree.node(i), links[i], ends[i]),
-            (
-                list[i],
-                (list[i].place, origin_at(list, i)),
-                end_of(list, i)
-            ),
-            "{i}"
+        let (place, origin) = links[i];
+        assert!(rt; tree.node(i) == list[i], "the node {i}");
+        assert!(rt;
+            place == list[i].place && origin == origin_at(list, i),
+            "the origin of {i}"
         );
+        assert!(rt; tree.run_of(i) == (i..end_of(list, i)), "the run of {i}");
     }
     Ok(())
 }
@@ -157,11 +154,7 @@ fn inserts(
 fn renames(rt: &impl Abort, tree: &mut Tree, list: &mut [Node], i: usize, place: Place)
     requires { i < length list.old }
 {
-    let at = position(rt, tree, list[i].place);
-    match tree.find(place) {
-        None => tree.rename(at, place),
-        Some(_) => panic!(rt; "{place} is in the tree"),
-    }
+    rename(rt, tree, list[i].place, place);
     list[i].place = place;
 }
 
@@ -171,6 +164,11 @@ fn nth_node(parts: &[Slice], part: usize, at: usize) -> Option<Node> {
         Some(part) => part.nodes.get(at).copied(),
         None => None,
     }
+}
+
+/// A node of a part, by their numbers, is this one.
+fn has_node(rt: &impl Abort, parts: &[Slice], part: usize, at: usize, node: Node) {
+    assert_eq!(rt; nth_node(parts, part, at), Some(node), "{at} in {part}");
 }
 
 /// The parts have the nodes of these runs of the list, each at most so many, and no others.
@@ -188,8 +186,7 @@ fn assert_parts(
             if at == 0 {
                 begun = begun.wrapping_add(1);
             }
-            let got = nth_node(parts, begun.wrapping_sub(1), at);
-            assert_eq!(rt; got, Some(list[i]), "{i}");
+            has_node(rt, parts, begun.wrapping_sub(1), at, list[i]);
             count = count.wrapping_add(1);
         }
     }

@@ -1,54 +1,52 @@
--- One group more.
-use Rattle.std.proofs.Common.{◌<◌, length, arith}
-use Rattle.holdings.proofs.Links.LinkedFrames.{no_group, frame_there, next_once, next_spaces, next_sources, next_targets, next_linked, all_groups}
+-- One more is in the tree of its frame.
+use Rattle.std.proofs.Common.{◌≡◌, ◌<◌, ℕ, List, length, get_or, true, false, sym, ap, ◌∙◌, subst}
+use Rattle.std.specs.Prelude.{slice_set}
+use Rattle.std.proofs.lemmas.List.{take_all}
+use Rattle.maptree.specs.Origins.{Shape}
+use Rattle.holdings.specs.Inner.Derivation.{stands_in, IsDerived}
+use Rattle.holdings.specs.Inner.Held.{links_in}
+use Rattle.holdings.specs.Inner.Links.{AreLinked}
+use Rattle.holdings.proofs.Contents.Holders.{links_read}
+use Rattle.holdings.proofs.Links.LinkedTrees.{no_link, none_linked, frame_there, source_there, target_free, one_linked}
+use Rattle.holdings.proofs.Links.NewMappings.{tree_set}
 use Rattle.holdings.proofs.link.insert_links.Goals as goal
 
-pub loop-from-init : goal.loop-from-init
-loop-from-init c = no_group c.args.trees.now
+pub loop-link-init : goal.loop-link-init
+loop-link-init c = none_linked c.args.trees.now
 
-pub bounds-trees-frame : goal.bounds-trees-frame
-bounds-trees-frame c =
-    let sorted = c.sort_unstable_by_key.new.self.items in
-    let within : c.loop-from.from < length sorted = omega (arith, c.loop-from-test.true, c.len.ensures, c.sort_unstable_by_key.new.self.ok.0) in
-    frame_there c.args.trees.now c.args.links.items sorted c.sort_unstable_by_key.ensures.permutation c.requires c.loop-from.trees c.loop-from.from c.group_end-end.result c.index.result.now c.loop-from.invariant
-    within c.index.ensures c.deref.result.now c.deref.ensures.value c.group_end-end.ensures.some c.group_end-end.ensures.frames
+-- the links of the tree that is read
+read : (trees : List Shape) (frame : ℕ) (t : Shape) → frame < length trees → t ≡ get_or trees frame t → links_in trees frame ≡ (get_or trees frame t).links
+read trees frame t within is = links_read trees frame t within is ∙ ap (λ (s : Shape). s.links) is
 
-pub insert_group-requires-clause-once : goal.insert_group-requires-clause-once
-insert_group-requires-clause-once c =
-    let sorted = c.sort_unstable_by_key.new.self.items in
-    let within : c.loop-from.from < length sorted = omega (arith, c.loop-from-test.true, c.len.ensures, c.sort_unstable_by_key.new.self.ok.0) in
-    next_once c.args.trees.now c.args.links.items sorted c.sort_unstable_by_key.ensures.permutation c.requires c.loop-from.trees c.loop-from.from c.group_end-end.result c.index.result.now c.loop-from.invariant
-    within c.index.ensures c.deref.result.now c.deref.ensures.value c.group_end-end.ensures.some c.group_end-end.ensures.frames c.deref-in-loop-from.result.now c.deref-in-loop-from.ensures.value
+pub derive-requires-clause-new : goal.derive-requires-clause-new
+derive-requires-clause-new c =
+    let ls = c.args.links.now in
+    let k = c.loop-link.link-index in
+    let l = get_or ls k no_link in
+    let frame = frame_there c.args.trees.now ls c.requires k no_link c.loop-link-test.true c.loop-link.trees c.loop-link.invariant in
+    subst (λ os. stands_in os l.target ≡ false) (read c.loop-link.trees l.frame c.index-trees-link.result frame c.index-trees-link.is)
+    (target_free c.args.trees.now ls c.requires k no_link c.loop-link-test.true c.loop-link.trees c.loop-link.invariant)
 
-pub insert_group-requires-clause-spaces : goal.insert_group-requires-clause-spaces
-insert_group-requires-clause-spaces c =
-    let sorted = c.sort_unstable_by_key.new.self.items in
-    let within : c.loop-from.from < length sorted = omega (arith, c.loop-from-test.true, c.len.ensures, c.sort_unstable_by_key.new.self.ok.0) in
-    next_spaces c.args.trees.now c.args.links.items sorted c.sort_unstable_by_key.ensures.permutation c.requires c.loop-from.trees c.loop-from.from c.group_end-end.result c.index.result.now c.loop-from.invariant
-    within c.index.ensures c.deref.result.now c.deref.ensures.value c.group_end-end.ensures.some c.group_end-end.ensures.frames c.deref-in-loop-from.result.now c.deref-in-loop-from.ensures.value
+pub derive-requires-clause-origin : goal.derive-requires-clause-origin
+derive-requires-clause-origin c =
+    let ls = c.args.links.now in
+    let k = c.loop-link.link-index in
+    let l = get_or ls k no_link in
+    let frame = frame_there c.args.trees.now ls c.requires k no_link c.loop-link-test.true c.loop-link.trees c.loop-link.invariant in
+    subst (λ os. stands_in os l.source ≡ true) (read c.loop-link.trees l.frame c.index-trees-link.result frame c.index-trees-link.is)
+    (source_there c.args.trees.now ls c.requires k no_link c.loop-link-test.true c.loop-link.trees c.loop-link.invariant)
 
-pub insert_group-requires-clause-sources : goal.insert_group-requires-clause-sources
-insert_group-requires-clause-sources c =
-    let sorted = c.sort_unstable_by_key.new.self.items in
-    let within : c.loop-from.from < length sorted = omega (arith, c.loop-from-test.true, c.len.ensures, c.sort_unstable_by_key.new.self.ok.0) in
-    next_sources c.args.trees.now c.args.links.items sorted c.sort_unstable_by_key.ensures.permutation c.requires c.loop-from.trees c.loop-from.from c.group_end-end.result c.index.result.now c.loop-from.invariant
-    within c.index.ensures c.deref.result.now c.deref.ensures.value c.group_end-end.ensures.some c.group_end-end.ensures.frames c.deref-in-loop-from.result.now c.deref-in-loop-from.ensures.value c.index-trees-frame.result c.index-trees-frame.is
-
-pub insert_group-requires-clause-targets : goal.insert_group-requires-clause-targets
-insert_group-requires-clause-targets c =
-    let sorted = c.sort_unstable_by_key.new.self.items in
-    let within : c.loop-from.from < length sorted = omega (arith, c.loop-from-test.true, c.len.ensures, c.sort_unstable_by_key.new.self.ok.0) in
-    next_targets c.args.trees.now c.args.links.items sorted c.sort_unstable_by_key.ensures.permutation c.requires c.loop-from.trees c.loop-from.from c.group_end-end.result c.index.result.now c.loop-from.invariant
-    within c.index.ensures c.deref.result.now c.deref.ensures.value c.group_end-end.ensures.some c.group_end-end.ensures.frames c.deref-in-loop-from.result.now c.deref-in-loop-from.ensures.value c.index-trees-frame.result c.index-trees-frame.is
-
-pub loop-from-preserved : goal.loop-from-preserved
-loop-from-preserved c =
-    let sorted = c.sort_unstable_by_key.new.self.items in
-    let within : c.loop-from.from < length sorted = omega (arith, c.loop-from-test.true, c.len.ensures, c.sort_unstable_by_key.new.self.ok.0) in
-    next_linked c.args.trees.now c.args.links.items sorted c.sort_unstable_by_key.ensures.permutation c.requires c.loop-from.trees c.loop-from.from c.group_end-end.result c.index.result.now c.loop-from.invariant
-    within c.index.ensures c.deref.result.now c.deref.ensures.value c.group_end-end.ensures.some c.group_end-end.ensures.frames c.deref-in-loop-from.result.now c.deref-in-loop-from.ensures.value c.index-trees-frame.result c.index-trees-frame.is c.insert_group.new.tree c.in_ok-insert_group.ensures
+pub loop-link-preserved : goal.loop-link-preserved
+loop-link-preserved c =
+    let ls = c.args.links.now in
+    let k = c.loop-link.link-index in
+    let l = get_or ls k no_link in
+    let trees = c.loop-link.trees in
+    let left = c.derive.new.tree in
+    let frame = frame_there c.args.trees.now ls c.requires k no_link c.loop-link-test.true trees c.loop-link.invariant in
+    one_linked c.args.trees.now ls c.requires k no_link c.loop-link-test.true trees c.loop-link.invariant (slice_set trees l.frame left) left.links (tree_set trees l.frame left frame)
+    (subst (λ os. IsDerived os left.links l.source l.target) (sym (read trees l.frame c.index-trees-link.result frame c.index-trees-link.is)) c.in_ok-derive.ensures.ok)
 
 pub returns : goal.returns
 returns c =
-    let sorted = c.sort_unstable_by_key.new.self.items in
-    all_groups c.args.trees.now c.args.links.items sorted c.loop-from.from c.loop-from.trees c.sort_unstable_by_key.ensures.permutation (omega (arith, c.loop-from-test.false, c.len.ensures, c.sort_unstable_by_key.new.self.ok.0)) c.loop-from.invariant
+    subst (λ ls. AreLinked ls c.args.trees.now c.loop-link.trees) (take_all c.loop-link.link-index c.args.links.now c.loop-link-test.false) c.loop-link.invariant

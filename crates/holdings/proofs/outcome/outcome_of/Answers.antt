@@ -5,7 +5,6 @@ use Rattle.holdings.specs.Inner.Derivation.{stands_in}
 use Rattle.maptree.specs.Origins.{Origins}
 use Rattle.holdings.specs.Inner.Held.{links_in}
 use Rattle.holdings.specs.Inner.Outcomes.{IsOutcomeIn}
-use Rattle.holdings.specs.Inner.Spots.{IsSpotIn}
 use Rattle.holdings.proofs.Contents.Holders.{links_read}
 use Rattle.holdings.proofs.Outcomes.PairOutcomes.{source_absent, without_rights, target_absent, other_frame, from_tree}
 use Rattle.holdings.proofs.outcome.outcome_of.Goals as goal
@@ -35,31 +34,20 @@ module _ (c : goal.After-index-trees-sent) where
   same_frame : c.in-Some-get.replaced.frame ≡ c.in-Some.sent.frame
   same_frame = c.if-replaced-sent.false
 
-pub outcome_by-requires-clause-source : goal.outcome_by-requires-clause-source
-outcome_by-requires-clause-source c =
+pub outcome_in-requires-clause-source : goal.outcome_in-requires-clause-source
+outcome_in-requires-clause-source c =
     ap (λ (os : Origins). stands_in os c.args.source) (sym (links_read c.args.trees.now c.in-Some.sent.frame c.index-trees-sent.result (frame c) c.index-trees-sent.is))
     ∙ c.requires.sound.kept.fits.listed c.args.source c.in-Some.sent c.requires.source (sym c.get.ensures ∙ c.in-Some.is)
 
-pub outcome_by-requires-clause-target : goal.outcome_by-requires-clause-target
-outcome_by-requires-clause-target c =
+pub outcome_in-requires-clause-target : goal.outcome_in-requires-clause-target
+outcome_in-requires-clause-target c =
     ap (λ (os : Origins). stands_in os c.args.target) (sym (links_read c.args.trees.now c.in-Some.sent.frame c.index-trees-sent.result (frame c) c.index-trees-sent.is))
     ∙ subst (λ f. stands_in (links_in c.args.trees.now f) c.args.target ≡ true) (same_frame c)
     (c.requires.sound.kept.fits.listed c.args.target c.in-Some-get.replaced c.requires.target (sym c.get-2.ensures ∙ c.in-Some-get.is))
-
-pub outcome_by-requires-clause-source_spot : goal.outcome_by-requires-clause-source_spot
-outcome_by-requires-clause-source_spot c = λ s is.
-    subst (λ os. IsSpotIn os c.args.source s) (links_read c.args.trees.now c.in-Some.sent.frame c.index-trees-sent.result (frame c) c.index-trees-sent.is)
-    (c.requires.spots.sources s is c.in-Some.sent (sym c.get.ensures ∙ c.in-Some.is))
-
-pub outcome_by-requires-clause-target_spot : goal.outcome_by-requires-clause-target_spot
-outcome_by-requires-clause-target_spot c = λ s is.
-    subst (λ os. IsSpotIn os c.args.target s) (links_read c.args.trees.now c.in-Some.sent.frame c.index-trees-sent.result (frame c) c.index-trees-sent.is)
-    (subst (λ f. IsSpotIn (links_in c.args.trees.now f) c.args.target s) (same_frame c)
-    (c.requires.spots.targets s is c.in-Some-get.replaced (sym c.get-2.ensures ∙ c.in-Some-get.is)))
 
 pub returns : goal.returns
 returns c =
     let frame : c.in-Some.sent.frame < length c.args.trees.now = omega (arith, c.requires.sound.kept.fits.frame c.args.source c.in-Some.sent c.requires.source (sym c.get.ensures ∙ c.in-Some.is), c.requires.sound.kept.fits.count) in
     from_tree c.args.shards.now c.args.trees.now c.requires.sound c.args.kind c.args.rights c.args.source c.args.target c.requires.source c.requires.target c.in-Some.sent (sym c.get.ensures ∙ c.in-Some.is)
-    (ap is_empty (sym c.meet.ensures) ∙ sym c.is_empty.ensures ∙ c.if-is_empty.false) c.in-Some-get.replaced (sym c.get-2.ensures ∙ c.in-Some-get.is) c.if-replaced-sent.false c.outcome_by.result
-    (subst (λ os. IsOutcomeIn os c.args.kind c.args.source c.args.target c.outcome_by.result) (sym (links_read c.args.trees.now c.in-Some.sent.frame c.index-trees-sent.result frame c.index-trees-sent.is)) c.outcome_by.ensures)
+    (ap is_empty (sym c.meet.ensures) ∙ sym c.is_empty.ensures ∙ c.if-is_empty.false) c.in-Some-get.replaced (sym c.get-2.ensures ∙ c.in-Some-get.is) c.if-replaced-sent.false c.outcome_in.result
+    (subst (λ os. IsOutcomeIn os c.args.kind c.args.source c.args.target c.outcome_in.result) (sym (links_read c.args.trees.now c.in-Some.sent.frame c.index-trees-sent.result frame c.index-trees-sent.is)) c.outcome_in.ensures)

@@ -16,4 +16,4 @@ returns c =
     let links = c.args.tree.now.links in
     let p = c.args.place in
     let here = found_at links p c.in_ok-i.i (sym c.find.ensures ∙ c.in_ok-i.was) in
-    sym (c.origin_at.ensures.is p) ∙ ap (origin_in links) (here.place p)
+    sym (c.place_of_origin.ensures.is p) ∙ ap (origin_in links) (here.place p)

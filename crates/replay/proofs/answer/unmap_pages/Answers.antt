@@ -11,9 +11,9 @@ returns-in_ok-reply_words-in-Ok-clause-ok g c =
     let is_unmapped : IsUnmapped s c.args.space c.args.control.flush c.args.fpages.now status.items c.if-plain.database = elim c.if-plain.branch [
       | then-plain w ↦
           let told = w.unmap_plain-status.ensures in
-          unmapped_by s c.if-plain.database c.args.space c.args.control.flush c.args.fpages.now status w.unmap_plain-status.result (sym w.status-is ∙ c.in-Ok.is) told.halted told.no_such_space told.status (rw (← w.database-is) at told.left)
+          unmapped_by s c.if-plain.database c.args.space c.args.control.flush c.args.fpages.now status w.unmap_plain-status.result (sym w.status-is ∙ c.in-Ok.is) (rw (← w.database-is) at told.refused) told.status (rw (← w.database-is) at told.left)
       | else-plain w ↦
           let told = w.unmap-status.ensures in
-          unmapped_by s c.if-plain.database c.args.space c.args.control.flush c.args.fpages.now status w.unmap-status.result (sym w.status-is ∙ c.in-Ok.is) told.halted told.no_such_space told.status (rw (← w.database-is) at told.left)
+          unmapped_by s c.if-plain.database c.args.space c.args.control.flush c.args.fpages.now status w.unmap-status.result (sym w.status-is ∙ c.in-Ok.is) (rw (← w.database-is) at told.refused) told.status (rw (← w.database-is) at told.left)
     ] in
     unmap_answered is_unmapped c.args.words.now c.in_ok-reply_words-in-Ok.field-0.items c.requires.count (c.in_ok-reply_words-in-Ok.ensures ∙ ap (told c.args.words.now) c.deref.ensures.value)

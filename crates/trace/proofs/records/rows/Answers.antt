@@ -4,16 +4,15 @@ use Rattle.trace.proofs.records.rows.Goals as goal
 
 pub returns : goal.returns
 returns c =
-    let made = c.from_reader-reader.ensures in
+    let made = c.from_reader.ensures in
     let built = c.flexible.ensures in
     let named = c.has_headers.ensures in
-    let rows = c.into_byte_records.ensures in
-    rw rows.rdr (record {
+    record {
       trim = rw (built, named) at made.trim ∙ c.new.ensures.trim;
       config = rw (built, named) at made.config ∙ c.new.ensures.config;
       has_headers = rw (built, named) at made.has_headers;
       headers = made.headers;
       state = made.state;
+      works = made.fresh;
       source = made.source;
-      turns = rows.left;
-    })
+    }

@@ -3,4 +3,4 @@ use Rattle.std.proofs.Common.{◌≡◌}
 use Rattle.turns_tests.proofs.tests.stepped.Given as goal
 
 abbrev pub invariant-loop : goal.invariant-loop
-invariant-loop l = l.turn.sheet ≡ l.open
+invariant-loop l = l.turn.sheet ≡ l.phase

@@ -1,5 +1,5 @@
 -- Stores are planned, new mappings put into the trees, and the words written.
-use Rattle.std.proofs.Common.{◌≡◌, List, length, sym, ap, subst, arith}
+use Rattle.std.proofs.Common.{◌≡◌, List, length, sym, ap, ◌∙◌, subst, arith}
 use Rattle.std.proofs.lemmas.List.{with_items_is}
 use Rattle.maptree.specs.Origins.{Shape}
 use Rattle.holdings.specs.Contents.{AreMapped}
@@ -16,7 +16,7 @@ links-requires-clause-distinct g c =
 pub insert_links-requires : goal.insert_links-requires
 insert_links-requires g c =
     new_linkable c.self.inside.shards c.self.inside.trees.items c.self.invariant c.args.self c.self.view_is c.args.rights c.args.transfers.now c.requires.planned c.requires.ready
-    c.deref_mut.result.now c.deref_mut.ensures.value c.in_ok-new_mappings.new_mappings.items c.in_ok-new_mappings.ensures
+    c.deref_mut.result.now c.deref_mut.ensures.value c.deref.result.now (c.deref.ensures.value ∙ c.in_ok-new_mappings.ensures)
 
 pub write_phase-requires-clause-can : goal.write_phase-requires-clause-can
 write_phase-requires-clause-can g c =
@@ -29,7 +29,7 @@ invariant_of-result g c =
     subst (AreSound c.write_phase.new.shards) (sym (with_items_is c.self.inside.trees c.insert_links.new.trees count))
     (mapped_sound c.self.inside.shards c.self.inside.trees.items c.self.invariant c.args.self c.self.view_is c.args.rights c.args.transfers.now c.requires.planned c.requires.ready
     c.in_ok-stores.stores.items c.in_ok-stores.ensures c.piece_length.result c.piece_length.ensures c.in_ok-pieces.pieces.items c.in_ok-pieces.ensures
-    c.in_ok-new_mappings.new_mappings.items c.in_ok-new_mappings.ensures c.deref_mut.result.now c.deref_mut.ensures.value c.insert_links.new.trees c.in_ok-insert_links.ensures
+    c.deref.result.now (c.deref.ensures.value ∙ c.in_ok-new_mappings.ensures) c.deref_mut.result.now c.deref_mut.ensures.value c.insert_links.new.trees c.in_ok-insert_links.ensures
     c.write_phase.new.shards c.in_ok-write_phase.ensures)
 
 pub returns : goal.returns
@@ -38,5 +38,5 @@ returns g c =
     subst (λ (now : List Shape). AreMapped c.args.self c.args.transfers.now c.args.rights (contents_of c.write_phase.new.shards now, c.of_all-counts.result)) (sym (with_items_is c.self.inside.trees c.insert_links.new.trees count))
     (are_mapped c.self.inside.shards c.self.inside.trees.items c.self.invariant c.args.self c.self.view_is c.args.rights c.args.transfers.now c.requires.planned c.requires.ready
     c.in_ok-stores.stores.items c.in_ok-stores.ensures c.piece_length.result c.piece_length.ensures c.in_ok-pieces.pieces.items c.in_ok-pieces.ensures
-    c.in_ok-new_mappings.new_mappings.items c.in_ok-new_mappings.ensures c.deref_mut.result.now c.deref_mut.ensures.value c.insert_links.new.trees c.in_ok-insert_links.ensures
+    c.deref.result.now (c.deref.ensures.value ∙ c.in_ok-new_mappings.ensures) c.deref_mut.result.now c.deref_mut.ensures.value c.insert_links.new.trees c.in_ok-insert_links.ensures
     c.write_phase.new.shards c.in_ok-write_phase.ensures c.of_all-counts.result c.of_all-counts.ensures)

@@ -3,7 +3,6 @@ use Rattle.std.proofs.Common.{◌≡◌, ◌+◌, [], sym, ap, ◌∙◌, subst,
 use Rattle.model.specs.Holdings.{Holdings}
 use Rattle.model.specs.Items.{fate}
 use Rattle.holdings.specs.Contents.{Contents, IsConsistent}
-use Rattle.holdings.specs.Inner.Spots.{AreSpots}
 use Rattle.holdings.specs.Inner.Held.{holdings_in}
 use Rattle.holdings.specs.Sending.{job_of_pages, page_on}
 use Rattle.holdings.proofs.Contents.Consistent.{consistent}
@@ -15,22 +14,11 @@ loop-i-init c =
     subst (AreOutcomesUpTo c.args.self.now.holdings c.args.pages.now 0) (sym c.in_ok-outcomes.ensures.items)
     (none_yet c.args.self.now.holdings c.args.pages.now)
 
-pub outcome_of-outcome-requires-clause-spots : goal.outcome_of-outcome-requires-clause-spots
-outcome_of-outcome-requires-clause-spots c =
-    let same = c.deref.ensures.value ∙ sym c.deref-in-loop-i.ensures.value in
-    let p = c.args.pages.now in
-    let sources = subst (λ ts. AreSpots c.self.inside.shards ts p.source c.in_ok-spots.spots.sources.items) same c.in_ok-spots.ensures.sources in
-    let targets = subst (λ ts. AreSpots c.self.inside.shards ts p.target c.in_ok-spots.spots.targets.items) same c.in_ok-spots.ensures.targets in
-    record {
-      sources = λ s is. sources c.loop-i.i s (sym c.of_pair-noted.ensures.source ∙ is);
-      targets = λ s is. targets c.loop-i.i s (sym c.of_pair-noted.ensures.target ∙ is);
-    }
-
 pub loop-i-preserved : goal.loop-i-preserved
 loop-i-preserved c =
     let p = c.args.pages.now in
     let h = c.args.self.now.holdings in
-    let held : holdings_in c.self.inside.shards c.deref-in-loop-i.result.now ≡ h = ap (holdings_in c.self.inside.shards) c.deref-in-loop-i.ensures.value ∙ ap (λ (k : Contents). k.holdings) c.self.view_is in
+    let held : holdings_in c.self.inside.shards c.as_slice-trees.result.now ≡ h = ap (holdings_in c.self.inside.shards) c.as_slice-trees.ensures.value ∙ ap (λ (k : Contents). k.holdings) c.self.view_is in
     subst (AreOutcomesUpTo h p (c.loop-i.i + 1)) (sym c.in_ok-push.ensures.items)
     (one_more h p c.loop-i.i c.loop-i.outcomes.items c.outcome_of-outcome.result c.loop-i.invariant
     (c.outcome_of-outcome.ensures ∙ ap (λ (k : Holdings). fate k (record { kind = p.kind; rights = p.rights; pairs = [] }) (page_on p.source c.loop-i.i, page_on p.target c.loop-i.i)) held
@@ -41,9 +29,6 @@ returns-clause-outcomes c =
     all_outcomes c.args.self.now.holdings c.args.pages.now c.loop-i.i c.loop-i.outcomes.items (omega (arith, c.loop-i-test.false, c.loop-i.auto.i-end)) c.loop-i.invariant
 
 -- what is held is consistent, whatever is returned
-pub returns-in_err-spots-clause-consistent : goal.returns-in_err-spots-clause-consistent
-returns-in_err-spots-clause-consistent c = subst IsConsistent c.self.view_is (consistent c.self.inside.shards c.self.inside.trees.items c.self.invariant)
-
 pub returns-in_err-outcomes-clause-consistent : goal.returns-in_err-outcomes-clause-consistent
 returns-in_err-outcomes-clause-consistent c = subst IsConsistent c.self.view_is (consistent c.self.inside.shards c.self.inside.trees.items c.self.invariant)
 

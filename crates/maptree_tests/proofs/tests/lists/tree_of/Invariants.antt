@@ -2,8 +2,5 @@
 use Rattle.std.proofs.Common.{◌≡◌, length}
 use Rattle.maptree_tests.proofs.tests.lists.tree_of.Given as goal
 
-abbrev pub invariant-loop-i : goal.invariant-loop-i
-invariant-loop-i g l = l.len ≡ length l.tree.links
-
 abbrev pub invariant-loop-depth : goal.invariant-loop-depth
 invariant-loop-depth g l = l.len ≡ length l.tree.links

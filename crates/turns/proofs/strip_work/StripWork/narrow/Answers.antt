@@ -1,10 +1,12 @@
-use Rattle.std.proofs.Common.{◌≡◌, ◌+◌, ◌∷◌, [], length, take, set, get_or, min, ◌∙◌, ap, sym, subst}
+use Rattle.std.proofs.Common.{◌≡◌, ◌+◌, ◌<◌, ◌∷◌, [], arith, length, take, set, get_or, min, ◌∙◌, ap, sym, subst}
 use Rattle.std.proofs.lemmas.List.{length-set}
 use Rattle.pieces.specs.Steps.{status_in}
 use Rattle.pieces.proofs.Keeping.{IsFront}
 use Rattle.turns.specs.Rules.{next_step}
 use Rattle.turns.specs.Sheets.{SheetContent}
 use Rattle.turns.specs.Works.{IsStripWork}
+use Rattle.maptree.proofs.Origin.{blank}
+use Rattle.maptree.proofs.Positions.{read_any}
 use Rattle.turns.proofs.StripSteps.{is_within, narrow_next, status_more, node_kept, node_gone}
 use Rattle.turns.proofs.strip_work.StripWork.narrow.Goals as goal
 
@@ -27,16 +29,20 @@ returns-then-remains-clause-work c =
     let n = c.args.post.now.number in
     let work = subst (IsStripWork o.words c.args.self.now) c.requires.next c.requires.work in
     let found = c.write-found.ensures.alone ∙ ap (λ (s : SheetContent). get_or s.opening.words c.index-index.result.now 0) c.requires.of in
+    let old = c.args.self.now.slice.nodes.items in
+    let moved : c.move_node.new.nodes.items ≡ set old c.args.self.now.kept (get_or old c.args.k blank) = c.move_node.ensures blank in
+    let within : c.args.k < length old = omega (arith, work.many, c.requires.within) in
     record {
       strip = work.strip;
       masks = work.masks;
       indexes = work.indexes;
       fold = work.fold;
-      many = length-set c.args.self.now.slice.nodes.items c.args.self.now.kept c.index.result.now ∙ work.many;
+      many = ap length moved ∙ length-set old c.args.self.now.kept (get_or old c.args.k blank) ∙ work.many;
       front =
-          subst (λ k. IsFront o.words c.args.self.now.of.value.nodes c.args.self.now.of.value.indexes c.args.self.now.of.value.masks (min (k + 1) (length c.args.self.now.of.value.nodes)) (c.args.self.now.kept + 1) (set c.args.self.now.slice.nodes.items c.args.self.now.kept c.index.result.now)) (sym c.requires.next)
-          (node_kept o c.can_be_worked.ensures n c.args.k c.args.self.now c.requires.piece work c.requires.within c.index-index.result.now c.write-found.result c.get-mask.result c.remains.result c.index.result.now
-          c.index-index.ensures found c.get-mask.ensures c.remains.ensures c.if-remains.true c.index.ensures);
+          subst (λ k. IsFront o.words c.args.self.now.of.value.nodes c.args.self.now.of.value.indexes c.args.self.now.of.value.masks (min (k + 1) (length c.args.self.now.of.value.nodes)) (c.args.self.now.kept + 1) c.move_node.new.nodes.items) (sym c.requires.next)
+          (subst (IsFront o.words c.args.self.now.of.value.nodes c.args.self.now.of.value.indexes c.args.self.now.of.value.masks (min (c.args.k + 1) (length c.args.self.now.of.value.nodes)) (c.args.self.now.kept + 1)) (sym moved)
+          (node_kept o c.can_be_worked.ensures n c.args.k c.args.self.now c.requires.piece work c.requires.within c.index-index.result.now c.write-found.result c.get-mask.result c.remains.result (get_or old c.args.k blank)
+          c.index-index.ensures found c.get-mask.ensures c.remains.ensures c.if-remains.true (read_any old c.args.k blank (get_or old c.args.k blank) within)));
       status =
           subst (λ k. c.join-self.result ≡ status_in o.words (take (k + 1) c.args.self.now.of.value.indexes)) (sym c.requires.next)
           (status_more o c.can_be_worked.ensures n c.args.k c.args.self.now c.requires.piece work c.requires.within c.index-index.result.now c.write-found.result c.join-self.result c.status.result c.index-index.ensures found

@@ -1,0 +1,46 @@
+-- Text that is given to a sink piece by piece.
+use Rattle.std.proofs.Common.{◌≡◌, ℕ, Bool, List, [], ◌++◌, Option, refl, sym, ap, subst, ◌∙◌, append_assoc, append-nil}
+use Rattle.std.specs.Io.KnownBytes.{Appends}
+use Rattle.std.proofs.KnownBytes.{Appends-trans, Appends-nil}
+use Rattle.replay.specs.declared.error.RunError.{RunError}
+use Rattle.replay.specs.declared.error.RunError.TheVariants.{BadHeader, BadLimits, NoMemory, NoWorker, Unreadable, WriteFailed}
+use Rattle.replay.specs.Run.{PassesOn, StopsAt}
+
+-- bytes that are equal
+pub appends_same : (old new : Option (List ℕ)) {xs ys : List ℕ} → xs ≡ ys → Appends old new xs → Appends old new ys
+appends_same old new same a = subst (λ l. Appends old new l) same a
+
+pub passes_none : (old : Option (List ℕ)) (text : List ℕ) → PassesOn old old text text
+passes_none old text = record { front = []; written = Appends-nil old; text_is = refl }
+
+pub passes_all : (old new : Option (List ℕ)) (text : List ℕ) → Appends old new text → PassesOn old new text []
+passes_all old new text written = record { front = text; written = written; text_is = sym (append-nil text) }
+
+-- bytes behind those that are left
+pub passes_push : {old new : Option (List ℕ)} {text left : List ℕ} → PassesOn old new text left → (more : List ℕ) → PassesOn old new (text ++ more) (left ++ more)
+passes_push {old} {new} {text} {left} p more = record { front = p.front; written = p.written; text_is = ap (λ l. l ++ more) p.text_is ∙ append_assoc p.front left more }
+
+-- and a front of them in turn
+pub passes_more : {old mid new : Option (List ℕ)} {text left : List ℕ} → PassesOn old mid text left → (more : List ℕ) {rest : List ℕ} → PassesOn mid new (left ++ more) rest → PassesOn old new (text ++ more) rest
+passes_more {old} {mid} {new} {text} {left} p more {rest} q = record {
+  front = p.front ++ q.front;
+  written = Appends-trans old mid new p.front q.front p.written q.written;
+  text_is = ap (λ l. l ++ more) p.text_is ∙ append_assoc p.front left more ∙ ap (λ l. p.front ++ l) q.text_is ∙ sym (append_assoc p.front q.front rest);
+}
+
+-- and all of them
+pub passes_end : {old mid : Option (List ℕ)} {text left : List ℕ} → PassesOn old mid text left → (new : Option (List ℕ)) (more : List ℕ) → Appends mid new (left ++ more) → Appends old new (text ++ more)
+passes_end {old} {mid} {text} {left} p new more written =
+    appends_same old new (sym (append_assoc p.front left more) ∙ ap (λ l. l ++ more) (sym p.text_is)) (Appends-trans old mid new p.front (left ++ more) p.written written)
+
+pub passes_rest : {old mid : Option (List ℕ)} {text left : List ℕ} → PassesOn old mid text left → (new : Option (List ℕ)) → Appends mid new left → Appends old new text
+passes_rest {old} {mid} {text} {left} p new written = appends_same old new (sym p.text_is) (Appends-trans old mid new p.front left p.written written)
+
+-- a stop, told from before some lines were given to the sink
+pub stops_from : {old mid : Option (List ℕ)} {text left : List ℕ} → PassesOn old mid text left → {was is : Bool} → is ≡ was → (number : ℕ) (new : Option (List ℕ)) (failed : Bool) (e : RunError) → StopsAt number left mid new is failed e → StopsAt number text old new was failed e
+stops_from p same number new failed (NoMemory n) stop = (stop.0, passes_rest p new stop.1, stop.2 ∙ same)
+stops_from p same number new failed (NoWorker n) stop = (stop.0, passes_rest p new stop.1, stop.2 ∙ same)
+stops_from p same number new failed WriteFailed stop = stop
+stops_from p same number new failed BadHeader stop = stop
+stops_from p same number new failed BadLimits stop = stop
+stops_from p same number new failed Unreadable stop = stop

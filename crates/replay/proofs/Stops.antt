@@ -1,0 +1,28 @@
+-- Why the lines of replies are not all there.
+use Rattle.std.proofs.Common.{◌≡◌, ℕ, ◌+◌, ◌≤◌, Bool, List, ◌++◌, take, map, length, Option, sym, ◌∙◌, append-nil, add-zero, arith}
+use Rattle.std.proofs.lemmas.List.{length-map, take-map}
+use Rattle.model.specs.Calls.{Reply, accessed}
+use Rattle.model.specs.Text.{reply_lines}
+use Rattle.replay.specs.declared.error.RunError.{RunError}
+use Rattle.replay.specs.declared.error.RunError.TheVariants.{BadHeader, BadLimits, NoMemory, NoWorker, Unreadable, WriteFailed}
+use Rattle.replay.specs.Run.{PassesOn, StopsAt, StopsAmong}
+use Rattle.replay.proofs.Passing.{appends_same, passes_rest}
+
+-- before the first of them
+pub stops_first : (number : ℕ) (replies : List Reply) (lines : List ℕ) (old new : Option (List ℕ)) (was is : Bool) (e : RunError) → StopsAt number lines old new was is e → StopsAmong number replies lines old new was is e
+stops_first number replies lines old new was is (NoMemory n) stop = (record { k = 0; n_is = stop.0 ∙ sym (add-zero number); within = omega arith; written = appends_same old new (sym (append-nil lines)) stop.1 }, stop.2)
+stops_first number replies lines old new was is (NoWorker n) stop = (record { k = 0; n_is = stop.0 ∙ sym (add-zero number); within = omega arith; written = appends_same old new (sym (append-nil lines)) stop.1 }, stop.2)
+stops_first number replies lines old new was is WriteFailed stop = stop
+stops_first number replies lines old new was is BadHeader stop = stop
+stops_first number replies lines old new was is BadLimits stop = stop
+stops_first number replies lines old new was is Unreadable stop = stop
+
+-- before the one at a place
+pub stops_within : (number i : ℕ) (answers : List Bool) (lines left : List ℕ) (old mid new : Option (List ℕ)) (was is failed : Bool) (e : RunError) → i ≤ length answers → is ≡ was
+    → PassesOn old mid (lines ++ reply_lines number (map accessed (take i answers))) left → StopsAt (number + i) left mid new is failed e → StopsAmong number (map accessed answers) lines old new was failed e
+stops_within number i answers lines left old mid new was is failed (NoMemory n) le same p stop = (record { k = i; n_is = stop.0; within = omega (arith, length-map answers accessed); written = rw take-map (passes_rest p new stop.1) }, stop.2 ∙ same)
+stops_within number i answers lines left old mid new was is failed (NoWorker n) le same p stop = (record { k = i; n_is = stop.0; within = omega (arith, length-map answers accessed); written = rw take-map (passes_rest p new stop.1) }, stop.2 ∙ same)
+stops_within number i answers lines left old mid new was is failed WriteFailed le same p stop = stop
+stops_within number i answers lines left old mid new was is failed BadHeader le same p stop = stop
+stops_within number i answers lines left old mid new was is failed BadLimits le same p stop = stop
+stops_within number i answers lines left old mid new was is failed Unreadable le same p stop = stop

@@ -1,0 +1,40 @@
+-- Accesses are answered as one after another.
+use Rattle.std.proofs.Common.{rules, ◌≡◌, ◌∙◌, ap, Ok}
+use Rattle.fpage.specs.declared.rights.Access.{Access}
+use Rattle.space.specs.declared.place.Place.{Place}
+use Rattle.holdings.specs.Contents.{access_answers, touched_all}
+use Rattle.mapdb.specs.State.{State}
+use Rattle.trace.specs.declared.call.Call.TheVariants.{Access as CallAccess}
+use Rattle.replay.proofs.Answering.{accesses_are_told}
+use Rattle.replay.proofs.answer.answer_call.Goals as goal
+
+pub returns-in_ok-answers-in-Ok-Access-clause-within : goal.returns-in_ok-answers-in-Ok-Access-clause-within
+returns-in_ok-answers-in-Ok-Access-clause-within g c =
+    let s = c.args.database.now in
+    let first : Place × Access = (c.in-Ok-Access.place, c.in-Ok-Access.access) in
+    let read = c.in_ok-read_accesses-in-Ok-Access.ensures in
+    let answered = c.in_ok-answers-in-Ok-Access.ensures.ok ∙ ap (access_answers s.holdings) c.deref.ensures.value in
+    let left = ap (λ (t : State). t.holdings) c.in_ok-answers-in-Ok-Access.ensures.left ∙ ap (touched_all s.holdings) c.deref.ensures.value in
+    (accesses_are_told s.limits s.holdings c.args.trace.now c.read_accesses.new.trace first c.read_accesses.new.accesses.items (rw c.limits-limits.ensures.limits at read.asked) read.taken
+    c.in_ok-answers-in-Ok-Access.answers.items answered c.access_pages.new.database.holdings left).within
+
+pub returns-in_ok-answers-in-Ok-Access-clause-taken : goal.returns-in_ok-answers-in-Ok-Access-clause-taken
+returns-in_ok-answers-in-Ok-Access-clause-taken g c =
+    let s = c.args.database.now in
+    let first : Place × Access = (c.in-Ok-Access.place, c.in-Ok-Access.access) in
+    let read = c.in_ok-read_accesses-in-Ok-Access.ensures in
+    let answered = c.in_ok-answers-in-Ok-Access.ensures.ok ∙ ap (access_answers s.holdings) c.deref.ensures.value in
+    let left = ap (λ (t : State). t.holdings) c.in_ok-answers-in-Ok-Access.ensures.left ∙ ap (touched_all s.holdings) c.deref.ensures.value in
+    (accesses_are_told s.limits s.holdings c.args.trace.now c.read_accesses.new.trace first c.read_accesses.new.accesses.items (rw c.limits-limits.ensures.limits at read.asked) read.taken
+    c.in_ok-answers-in-Ok-Access.answers.items answered c.access_pages.new.database.holdings left).taken
+
+pub returns-in_ok-answers-in-Ok-Access-clause-told : goal.returns-in_ok-answers-in-Ok-Access-clause-told
+returns-in_ok-answers-in-Ok-Access-clause-told g c =
+    let s = c.args.database.now in
+    let first : Place × Access = (c.in-Ok-Access.place, c.in-Ok-Access.access) in
+    let read = c.in_ok-read_accesses-in-Ok-Access.ensures in
+    let answered = c.in_ok-answers-in-Ok-Access.ensures.ok ∙ ap (access_answers s.holdings) c.deref.ensures.value in
+    let left = ap (λ (t : State). t.holdings) c.in_ok-answers-in-Ok-Access.ensures.left ∙ ap (touched_all s.holdings) c.deref.ensures.value in
+    let is : c.args.asked.now ≡ Ok (CallAccess c.in-Ok-Access.place c.in-Ok-Access.access) = search rules in
+    rw is (accesses_are_told s.limits s.holdings c.args.trace.now c.read_accesses.new.trace first c.read_accesses.new.accesses.items (rw c.limits-limits.ensures.limits at read.asked) read.taken
+    c.in_ok-answers-in-Ok-Access.answers.items answered c.access_pages.new.database.holdings left).told

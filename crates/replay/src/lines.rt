@@ -1,0 +1,78 @@
+//! Reply lines on their way to a sink.
+
+ghost use Rattle.std.specs.Prelude.{◌≡◌, ◌++◌, [], true, OnOk, OnErr};
+ghost use Rattle.std.specs.Io.KnownBytes.{Appends};
+ghost use Rattle.model.specs.Text.{reply_line};
+ghost use Rattle.trace.specs.Meaning.{reply_of};
+ghost use Rattle.replay.specs.Run.{PassesOn};
+
+use space::NoMemory;
+use std::alloc::Global;
+use std::marker::Model;
+use trace::{Failed, Reply, Sink, push_reply};
+
+/// How many bytes are worth a write.
+const BLOCK: usize = 32768;
+
+/// Reply lines that the sink was not given yet. A contract sees their bytes.
+#[derive(Drop)]
+pub struct Lines {
+    block: String,
+    /// A line before it is put behind the others.
+    line: String,
+}
+
+impl Model for Lines {
+    ghost use Rattle.std.specs.Prelude.{ℕ, List, string_bytes};
+
+    ghost Value = { List ℕ };
+
+    ghost view = { λ l. string_bytes l.block };
+}
+
+impl Lines {
+    /// Makes room for lines; there is none yet.
+    pub fn new(alloc: Global) -> Self
+        ensures { result ≡ [] }
+    {
+        Lines {
+            block: String::new(alloc),
+            line: String::new(alloc),
+        }
+    }
+
+    /// Adds the line of a reply. If memory runs out, the lines stay as they were.
+    pub fn push(&mut self, number: u64, reply: &Reply) -> Result<(), NoMemory>
+        ensures ok { OnOk result (self.new ≡ self.old ++ reply_line number (reply_of reply.now)) }
+        ensures err { OnErr result (self.new ≡ self.old) }
+    {
+        self.line.clear();
+        push_reply(&mut self.line, number, reply)?;
+        self.block.push_str(self.line.as_str())?;
+        Ok(())
+    }
+
+    /// Gives all lines to the sink.
+    pub fn pass_on<W: Sink>(&mut self, writer: &mut W) -> Result<(), Failed>
+        ensures bytes { OnOk result (Appends (W.contents writer.old) (W.contents writer.new) self.old) }
+        ensures none { OnOk result (self.new ≡ []) }
+        ensures ok { OnOk result (W.failed writer.new ≡ W.failed writer.old) }
+        ensures err { OnErr result (W.failed writer.new ≡ true) }
+    {
+        writer.write_all(self.block.as_bytes())?;
+        self.block.clear();
+        Ok(())
+    }
+
+    /// Gives all lines to the sink once they are worth a write.
+    pub fn pass_on_many<W: Sink>(&mut self, writer: &mut W) -> Result<(), Failed>
+        ensures bytes { OnOk result (PassesOn (W.contents writer.old) (W.contents writer.new) self.old self.new) }
+        ensures ok { OnOk result (W.failed writer.new ≡ W.failed writer.old) }
+        ensures err { OnErr result (W.failed writer.new ≡ true) }
+    {
+        if self.block.len() < BLOCK {
+            return Ok(());
+        }
+        self.pass_on(writer)
+    }
+}

@@ -1,0 +1,5 @@
+//! Tests of whole replays.
+#![tactic(auto)]
+
+#[cfg(test)]
+mod tests;

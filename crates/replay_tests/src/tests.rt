@@ -1,0 +1,369 @@
+//! Whole runs over memory, and streams that fail.
+
+ghost use Rattle.std.specs.Prelude.{◌≡◌, false, true, OnOk, OnErr};
+ghost use Rattle.replay.specs.Options.{AreServed};
+
+mod worked;
+
+use audit::{Line, check, lines};
+use crew::{Crew, Gate, NoGate};
+use mapdb::Database;
+use replay::{Options, RunError, Summary, answer_first, run};
+use space::NoMemory;
+use std::alloc::Global;
+use std::sync::Wait;
+use std::sync::atomic::{AtomicU64, Ordering};
+use std::test::Fail;
+use std::thread::Threads;
+use trace::{Failed, Sink, Std, TraceReader};
+use turns::{Open, Turn};
+use worked::TRACES;
+
+/// The audit lines of sixteen frames that no call has changed.
+const ROOTS: &str =
+    "0,0,0,rwx,---,-\n0,1,1,rwx,---,-\n0,2,2,rwx,---,-\n0,3,3,rwx,---,-\n0,4,4,rwx,---,-\n0,5,5,rwx,---,-\n0,6,6,rwx,---,-\n0,7,7,rwx,---,-\n0,8,8,rwx,---,-\n0,9,9,rwx,---,-\n0,10,10,rwx,---,-\n0,11,11,rwx,---,-\n0,12,12,rwx,---,-\n0,13,13,rwx,---,-\n0,14,14,rwx,---,-\n0,15,15,rwx,---,-\n";
+
+const OPTIONS: Options = Options {
+    workers: 4,
+    piece_length: 256,
+    plain: false,
+};
+
+const LEAST_PIECES: Options = Options {
+    workers: 64,
+    piece_length: 1,
+    plain: false,
+};
+
+const ONE_WORKER: Options = Options {
+    workers: 1,
+    piece_length: 65536,
+    plain: false,
+};
+
+const PLAIN: Options = Options {
+    workers: 4,
+    piece_length: 256,
+    plain: true,
+};
+
+/// What a run over memory came to, and what it wrote.
+fn outcome_of(
+    rt: &(impl AllocGlobal + Threads + Wait + Sync),
+    input: &str,
+    options: &Options,
+) -> (Result<Summary, RunError>, Vec<u8>)
+    requires { AreServed options.now }
+{
+    let mut output = Std::new(Vec::new(rt.alloc()));
+    let outcome = run(
+        rt,
+        &mut Std::new(input.as_bytes()),
+        &mut output,
+        options,
+        &NoGate,
+    );
+    (outcome, output.into_inner())
+}
+
+#[test]
+fn writes_the_replies_and_the_audit(rt: HostRuntime) -> Result<(), Fail> {
+    // The records after the header, the reply lines, the audit lines after the roots, and the end line.
+    let cases = [
+        ("", "", "", "end 0 0\n"),
+        (
+            "send,0,1,10,8,50c6\n",
+            "1 send absent=0 norights=0 origin=0 lost=0 extended=0 linked=1\n",
+            "1,0,5,rw-,---,0:5\n",
+            "end 1 0\n",
+        ),
+        (
+            "send,0,1,10,9008,50c7\n",
+            "1 send absent=0 norights=0 origin=0 lost=0 extended=0 linked=1\n",
+            "1,9,5,rwx,---,0:5\n",
+            "end 1 0\n",
+        ),
+        (
+            "send,0,1,10,8,50c6\nsend,1,2,10,8,c1\n",
+            "1 send absent=0 norights=0 origin=0 lost=0 extended=0 linked=1\n2 send absent=0 norights=1 origin=0 lost=0 extended=0 linked=0\n",
+            "1,0,5,rw-,---,0:5\n",
+            "end 2 0\n",
+        ),
+        (
+            "send,0,1,10,8,50c6\naccess,1,fff,w\naccess,1,ffc,x\naccess,1,1000,r\naccess,1,40000,r\naccess,3,0,r\n",
+            "1 send absent=0 norights=0 origin=0 lost=0 extended=0 linked=1\n2 access ok\n3 access fault\n4 access fault\n5 refused OutOfSpace\n6 refused NoSuchSpace\n",
+            "1,0,5,rw-,RW-,0:5\n",
+            "end 6 2\n",
+        ),
+        (
+            "send,0,1,c0,8,50c7\nsend,1,2,c0,8,c7\nunmap,0,0,50c2\n",
+            "1 send absent=0 norights=0 origin=0 lost=0 extended=0 linked=1\n2 send absent=0 norights=0 origin=0 lost=0 extended=0 linked=1\n3 unmap 000050c0\n",
+            "1,0,5,r-x,---,0:5\n2,0,5,r-x,---,1:0\n",
+            "end 3 0\n",
+        ),
+        (
+            "send,0,1,c0,8,50c7\nsend,1,2,c0,8,c7\naccess,2,0,w\nunmap,1,0,10\nunmap,1,0,10\nunmap,0,0,10\n",
+            "1 send absent=0 norights=0 origin=0 lost=0 extended=0 linked=1\n2 send absent=0 norights=0 origin=0 lost=0 extended=0 linked=1\n3 access ok\n4 unmap 00000016\n5 unmap 00000010\n6 unmap 00000016\n",
+            "1,0,5,rwx,---,0:5\n2,0,5,rwx,---,1:0\n",
+            "end 6 0\n",
+        ),
+        (
+            "send,0,1,c0,8,50c7\nsend,1,2,c0,8,c7\nunmap,0,1,50c2,50c4\n",
+            "1 send absent=0 norights=0 origin=0 lost=0 extended=0 linked=1\n2 send absent=0 norights=0 origin=0 lost=0 extended=0 linked=1\n3 unmap 000050c0 000050c0\n",
+            "1,0,5,--x,---,0:5\n2,0,5,--x,---,1:0\n",
+            "end 3 0\n",
+        ),
+        (
+            "unmap,1,1,10\nunmap,1,0,0\nunmap,1,0,f\nunmap,3,0,10\n",
+            "1 refused BadControl\n2 unmap 00000000\n3 unmap 00000008\n4 refused NoSuchSpace\n",
+            "",
+            "end 4 2\n",
+        ),
+    ];
+    for (records, replies, mappings, end) in cases {
+        let input = format!(in rt.alloc(); "l4map,1,3,18,16\n{records}")?;
+        let expected = format!(in rt.alloc(); "{replies}{ROOTS}{mappings}{end}")?;
+        for (outcome, written) in [
+            outcome_of(&rt, input.as_str(), &OPTIONS),
+            outcome_of(&rt, input.as_str(), &LEAST_PIECES),
+            outcome_of(&rt, input.as_str(), &ONE_WORKER),
+            outcome_of(&rt, input.as_str(), &PLAIN),
+        ] {
+            assert!(rt; outcome.is_ok(), "{records}");
+            assert_eq!(rt; written.as_slice(), expected.as_bytes(), "{records}");
+        }
+    }
+    Ok(())
+}
+
+/// The lines of the audit after a trace.
+fn lines_after(
+    rt: &(impl AllocGlobal + Threads + Wait + Sync),
+    input: &str,
+) -> Result<Vec<Line>, Fail> {
+    let alloc = rt.alloc();
+    let mut trace = TraceReader::new(alloc, input.as_bytes())?;
+    let limits = trace.limits();
+    let mut database = Database::new(alloc, limits.spaces, limits.bits, limits.frames)?;
+    let mut accesses = Vec::new(alloc);
+    for _ in 0..u64::MAX {
+        if trace.is_at_end() || database.is_halted() {
+            break;
+        }
+        answer_first(
+            alloc,
+            &mut database,
+            &mut trace,
+            &Crew::new(rt, 1, 256, &NoGate),
+            false,
+            &mut accesses,
+        )?;
+    }
+    Ok(lines(alloc, &database)?)
+}
+
+#[test]
+fn audits_of_worked_traces_pass_the_check(rt: HostRuntime) -> Result<(), Fail> {
+    for (header, records, count) in TRACES {
+        let input = format!(in rt.alloc(); "{header}\n{records}")?;
+        let lines = lines_after(&rt, input.as_str())?;
+        assert_eq!(rt; lines.len(), count, "{input}");
+        assert!(rt; check(&lines), "{input}");
+    }
+    Ok(())
+}
+
+/// Counts the pieces that begin.
+#[derive(Drop)]
+struct Counter {
+    begun: AtomicU64,
+}
+
+impl Gate for Counter {
+    fn begin(&self, _worker: usize, _piece: usize) {
+        self.begun.fetch_add(1, Ordering::SeqCst);
+    }
+
+    fn end(&self, _worker: usize, _turn: &Turn, _shared: &Open) {}
+}
+
+/// Three accesses, a refused one, two accesses: two calls, each of one piece.
+#[test]
+fn accesses_in_a_row_are_one_call(rt: HostRuntime) -> Result<(), Fail> {
+    let mut output = Std::new(Vec::new(rt.alloc()));
+    let counter = Counter {
+        begun: AtomicU64::new(0),
+    };
+    let input =
+        "l4map,1,2,18,4\naccess,0,0,r\naccess,0,1000,w\naccess,0,4000,x\naccess,0,40000,r\naccess,1,0,r\naccess,0,0,x\n";
+    let outcome = run(
+        &rt,
+        &mut Std::new(input.as_bytes()),
+        &mut output,
+        &OPTIONS,
+        &counter,
+    );
+    let summary = Summary {
+        records: 6,
+        refused: 1,
+    };
+    assert_eq!(rt; outcome, Ok(summary));
+    let text =
+        "1 access ok\n2 access ok\n3 access fault\n4 refused OutOfSpace\n5 access fault\n6 access ok\n0,0,0,rwx,R-X,-\n0,1,1,rwx,RW-,-\n0,2,2,rwx,---,-\n0,3,3,rwx,---,-\nend 6 1\n";
+    assert_eq!(rt; output.into_inner().as_slice(), text.as_bytes());
+    assert_eq!(rt; counter.begun.load(Ordering::SeqCst), 2);
+    Ok(())
+}
+
+#[test]
+fn counts_the_records_and_the_refused_ones(rt: HostRuntime) {
+    let (outcome, _) = outcome_of(
+        &rt,
+        "l4map,1,2,18,1\nsend,0,1,10,3008,c6\naccess,2,0,r\nunmap,0,80,10\n",
+        &OPTIONS,
+    );
+    let summary = Summary {
+        records: 3,
+        refused: 2,
+    };
+    assert_eq!(rt; outcome, Ok(summary));
+}
+
+#[test]
+fn answers_a_bad_header_before_it_writes(rt: HostRuntime) {
+    let cases = [
+        ("", RunError::BadHeader),
+        ("\n\n", RunError::BadHeader),
+        ("l4map,01,3,18,16\n", RunError::BadHeader),
+        ("l4map,1,3,18\n", RunError::BadHeader),
+        ("l4map,1,3,17,+16\n", RunError::BadHeader),
+        ("l4map,1,3,17,16\n", RunError::BadLimits),
+        ("l4map,1,513,18,16\n", RunError::BadLimits),
+        ("l4map,1,3,18,65\n", RunError::BadLimits),
+    ];
+    for (input, error) in cases {
+        let (outcome, written) = outcome_of(&rt, input, &OPTIONS);
+        assert_eq!(rt; outcome, Err(error), "{input}");
+        assert!(rt; written.is_empty(), "{input}");
+    }
+}
+
+/// A sink that counts its calls, keeps what was written and how much of it was flushed, and fails at one of its calls.
+#[derive(Drop)]
+struct FailingSink {
+    kept: Vec<u8>,
+    flushed: usize,
+    calls: u64,
+    fails_at: u64,
+    failed: bool,
+}
+
+impl FailingSink {
+    fn call(&mut self, bytes: &[u8]) -> Result<(), Failed>
+        ensures ok { OnOk result (self.new.failed ≡ self.old.failed) }
+        ensures err { OnErr result (self.new.failed ≡ true) }
+    {
+        self.calls = self.calls.wrapping_add(1);
+        if self.calls == self.fails_at || self.kept.extend_from_slice(bytes).is_err() {
+            self.failed = true;
+            return Err(Failed);
+        }
+        Ok(())
+    }
+}
+
+impl Sink for FailingSink {
+    ghost failed = { λ s. s.failed };
+
+    fn write_all(&mut self, bytes: &[u8]) -> Result<(), Failed> {
+        self.call(bytes)
+    }
+
+    fn flush(&mut self) -> Result<(), Failed> {
+        self.call(&[])?;
+        self.flushed = self.kept.len();
+        Ok(())
+    }
+
+    fn has_failed(&self) -> bool {
+        self.failed
+    }
+}
+
+const SHORT: &str = "l4map,1,2,18,1\nsend,0,1,10,3008,c6\naccess,1,3abc,w\n";
+
+const SHORT_OUTPUT: &str =
+    "1 send absent=0 norights=0 origin=0 lost=0 extended=0 linked=1\n2 access ok\n0,0,0,rwx,---,-\n1,3,0,rw-,RW-,0:0\nend 2 0\n";
+
+fn sink(rt: &impl AllocGlobal, fails_at: u64) -> FailingSink
+    ensures { result.failed ≡ false }
+{
+    FailingSink {
+        kept: Vec::new(rt.alloc()),
+        flushed: 0,
+        calls: 0,
+        fails_at,
+        failed: false,
+    }
+}
+
+#[test]
+fn a_sink_that_fails_at_any_call_is_write_failed(rt: HostRuntime) {
+    let mut undisturbed = sink(&rt, 0);
+    let summary = Summary {
+        records: 2,
+        refused: 0,
+    };
+    assert_eq!(rt;
+        run(
+            &rt,
+            &mut Std::new(SHORT.as_bytes()),
+            &mut undisturbed,
+            &OPTIONS,
+            &NoGate
+        ),
+        Ok(summary)
+    );
+    assert_eq!(rt; undisturbed.kept.as_slice(), SHORT_OUTPUT.as_bytes());
+    assert_eq!(rt; undisturbed.flushed, SHORT_OUTPUT.len());
+    // The reply lines of two records, the audit with the end line, and the flush.
+    assert_eq!(rt; undisturbed.calls, 3);
+    for fails_at in 1..undisturbed.calls.saturating_add(1) {
+        let mut output = sink(&rt, fails_at);
+        let outcome = run(
+            &rt,
+            &mut Std::new(SHORT.as_bytes()),
+            &mut output,
+            &OPTIONS,
+            &NoGate,
+        );
+        assert_eq!(rt; outcome, Err(RunError::WriteFailed), "{fails_at}");
+        assert_eq!(rt; output.calls, fails_at);
+        assert!(rt;
+            SHORT_OUTPUT.as_bytes().starts_with(output.kept.as_slice()),
+            "{fails_at}"
+        );
+    }
+}
+
+/// With ample memory this is a run that ends well. Where an allocation is refused it is told by its error, and what the
+/// sink was given by then is flushed.
+#[test]
+fn flushes_what_it_has_written_where_memory_runs_out(rt: HostRuntime) -> Result<(), Fail> {
+    let mut output = sink(&rt, 0);
+    let outcome = run(
+        &rt,
+        &mut Std::new(SHORT.as_bytes()),
+        &mut output,
+        &OPTIONS,
+        &NoGate,
+    );
+    match outcome {
+        Ok(_) | Err(RunError::WriteFailed) => Ok(()),
+        Err(RunError::NoMemory(_)) => {
+            assert_eq!(rt; output.flushed, output.kept.len());
+            Err(NoMemory)?
+        }
+        Err(error) => Err(error)?,
+    }
+}
