@@ -25,7 +25,7 @@ use std::marker::Model;
 #[derive(Drop)]
 pub struct TraceReader<'a> {
     limits: Limits,
-    rows: Reader<&'a [u8]>,
+    rows: Box<Reader<&'a [u8]>>,
     /// The record that is next, if there is one.
     row: ByteRecord,
     has_row: bool,
@@ -46,10 +46,10 @@ impl<'a> Model for TraceReader<'a> {
     ghost view = { λ r. record {
       limits = limits_of r.limits;
       number = r.number;
-      records = with_row r.has_row (fields_of r.row) r.rows;
+      records = with_row r.has_row (fields_of r.row) r.rows.value;
     } };
 
-    ghost invariant = { λ r. r.has_row ≡ true → IsReading r.rows };
+    ghost invariant = { λ r. r.has_row ≡ true → IsReading r.rows.value };
 }
 
 impl<'a> TraceReader<'a> {
@@ -61,7 +61,10 @@ impl<'a> TraceReader<'a> {
         ensures ok { IfOk result (IsOpened bytes.now) }
         ensures err { IfErr result (IsFaultIn bytes.now) }
     {
-        let mut rows = rows(alloc, bytes);
+        // The reader holds its buffer in place, 16 KiB of it, which is no burden for a stack.
+        let Ok(mut rows) = Box::new(alloc, rows(alloc, bytes)) else {
+            return Err(TraceError::NoMemory);
+        };
         let mut row = ByteRecord::new(alloc);
         if !next_row(&mut rows, &mut row)? {
             return Err(TraceError::BadHeader);
