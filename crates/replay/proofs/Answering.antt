@@ -11,7 +11,7 @@ use Rattle.model.specs.Replay.{replay}
 use Rattle.model.specs.Records.{Fields, request}
 use Rattle.holdings.specs.Contents.{access_answers, touched_all}
 use Rattle.trace.specs.Unread.{Unread, past, first_request, access_in}
-use Rattle.replay.specs.Run.{told_of, told_behind, asked, AreAsked}
+use Rattle.replay.specs.Steps.{told_of, told_behind, asked, AreAsked}
 
 -- ---- a trace, some records later
 

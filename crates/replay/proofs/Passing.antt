@@ -4,7 +4,7 @@ use Rattle.std.specs.Io.KnownBytes.{Appends}
 use Rattle.std.proofs.KnownBytes.{Appends-trans, Appends-nil}
 use Rattle.replay.specs.declared.error.RunError.{RunError}
 use Rattle.replay.specs.declared.error.RunError.TheVariants.{BadHeader, BadLimits, NoMemory, NoWorker, Unreadable, WriteFailed}
-use Rattle.replay.specs.Run.{PassesOn, StopsAt}
+use Rattle.replay.specs.Steps.{PassesOn, StopsAt}
 
 -- bytes that are equal
 pub appends_same : (old new : Option (List ℕ)) {xs ys : List ℕ} → xs ≡ ys → Appends old new xs → Appends old new ys

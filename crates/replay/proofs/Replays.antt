@@ -9,7 +9,7 @@ use Rattle.model.specs.Answers.{answer}
 use Rattle.model.specs.Replay.{told_after}
 use Rattle.model.specs.Records.{Fields, request}
 use Rattle.model.specs.Text.{reply_line, reply_lines, is_refused, refused_count}
-use Rattle.replay.specs.Run.{told_of}
+use Rattle.replay.specs.Steps.{told_of}
 
 -- ---- lists
 

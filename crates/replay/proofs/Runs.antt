@@ -6,7 +6,8 @@ use Rattle.trace.specs.Unread.{Unread, IsOpened}
 use Rattle.replay.specs.declared.replay.Summary.{Summary}
 use Rattle.replay.specs.declared.error.RunError.{RunError}
 use Rattle.replay.specs.declared.error.RunError.TheVariants.{BadHeader, BadLimits, NoMemory, NoWorker, Unreadable, WriteFailed}
-use Rattle.replay.specs.Run.{told_of, ReplaysTrace, WritesReplay, StopsEarly, StopsTrace, EndsEarly, WritesNothing, TellsStreams}
+use Rattle.replay.specs.Run.{WritesReplay, EndsEarly, WritesNothing, TellsStreams}
+use Rattle.replay.specs.Steps.{told_of, ReplaysTrace, StopsEarly, StopsTrace}
 
 -- the requests of the records
 abbrev pub trace_from : Unread → Trace

@@ -11,7 +11,8 @@ use Rattle.model.specs.Records.{Fields}
 use Rattle.model.specs.Text.{reply_lines, refused_count, audit_lines, end_line}
 use Rattle.replay.specs.declared.error.RunError.{RunError}
 use Rattle.replay.specs.declared.error.RunError.TheVariants.{BadHeader, BadLimits, NoMemory, NoWorker, Unreadable, WriteFailed}
-use Rattle.replay.specs.Run.{told_of, PassesOn, StopsBefore, StopsAt, StopsBehind, StopsAmong, StopsEarly, WritesText}
+use Rattle.replay.specs.Run.{StopsBefore, WritesText}
+use Rattle.replay.specs.Steps.{told_of, PassesOn, StopsAt, StopsBehind, StopsAmong, StopsEarly}
 use Rattle.replay.proofs.Passing.{appends_same, passes_none, passes_more, passes_end, passes_rest}
 use Rattle.replay.proofs.Replays.{take_front, lines_append, refused_append, refused_few, told_append}
 

@@ -5,7 +5,7 @@ use Rattle.model.specs.Calls.{Reply, accessed}
 use Rattle.model.specs.Text.{reply_lines}
 use Rattle.replay.specs.declared.error.RunError.{RunError}
 use Rattle.replay.specs.declared.error.RunError.TheVariants.{BadHeader, BadLimits, NoMemory, NoWorker, Unreadable, WriteFailed}
-use Rattle.replay.specs.Run.{PassesOn, StopsAt, StopsAmong}
+use Rattle.replay.specs.Steps.{PassesOn, StopsAt, StopsAmong}
 use Rattle.replay.proofs.Passing.{appends_same, passes_rest}
 
 -- before the first of them

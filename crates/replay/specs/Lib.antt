@@ -1,3 +1,4 @@
 pub mod Error
 pub mod Run
+pub mod Steps
 pub mod Options

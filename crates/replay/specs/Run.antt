@@ -1,137 +1,23 @@
 -- What a run writes, and what it leaves where it ends early.
-use Rattle.std.specs.Prelude.{◌≡◌, ℕ, zero, suc, ◌+◌, ◌≤◌, ⊤, Bool, true, false, List, [], ◌∷◌, ◌++◌, map, length, take, Option, Ok, Err}
+use Rattle.std.specs.Prelude.{◌≡◌, ℕ, zero, suc, ◌+◌, ◌≤◌, ⊤, Bool, true, false, List, length, take, Option, Ok, Err}
 use Rattle.std.specs.Io.KnownBytes.{Appends, Keeps}
-use Rattle.fpage.specs.declared.rights.Access.{Access}
-use Rattle.space.specs.declared.place.Place.{Place}
-use Rattle.model.specs.Holdings.{Holdings}
-use Rattle.model.specs.Calls.{Limits, access, Request, Reply, accessed}
-use Rattle.model.specs.Answers.{answer}
-use Rattle.model.specs.Replay.{Told, replay, start}
-use Rattle.model.specs.Records.{Fields, Trace, are_limits, bad_header, bad_limits, request, trace_of}
+use Rattle.model.specs.Replay.{Told}
+use Rattle.model.specs.Records.{Trace, bad_header, bad_limits, trace_of}
 use Rattle.model.specs.Text.{text, told, reply_lines, refused_count}
-use Rattle.mapdb.specs.State.{State, new_state}
-use Rattle.trace.specs.Meaning.{reply_of}
-use Rattle.trace.specs.Unread.{Unread}
-use Rattle.replay.specs.declared.answer.Replies.{Replies}
-use Rattle.replay.specs.declared.answer.Replies.TheVariants.{One, Accesses}
 use Rattle.replay.specs.declared.replay.Summary.{Summary}
 use Rattle.replay.specs.declared.error.RunError.{RunError}
 use Rattle.replay.specs.declared.error.RunError.TheVariants.{BadHeader, BadLimits, NoMemory, NoWorker, Unreadable, WriteFailed}
-
--- the replies to these records, and the last holdings
-abbrev pub told_of : Limits → List Fields → Holdings → Told
-told_of limits rows h = replay (answer limits) h (map (request limits) rows)
-
--- the same, to a request and then to these records
-abbrev pub told_behind : Limits → Request → List Fields → Holdings → Told
-told_behind limits request_of_first rows h = replay (answer limits) h (request_of_first ∷ map (request limits) rows)
-
--- the replies that were given
-abbrev pub replies_of : Replies → List Reply
-replies_of (One reply) = reply_of reply ∷ []
-replies_of (Accesses answers) = map accessed answers.items
-
--- the accesses that records ask for
-abbrev pub asked : Place × Access → Request
-asked a = Ok (access a.0 a.1)
-
--- an access, with those that the first of these records ask for
-pub record AreAsked (limits : Limits) (first : Place × Access) (rows : List Fields) (accesses : List (Place × Access)) : Type 0 where
-  pub others : List (Place × Access)
-  pub are : accesses ≡ first ∷ others
-  pub within : length others ≤ length rows
-  pub requests : map (request limits) (take (length others) rows) ≡ map asked others
-
--- of a text a front was written, and these bytes of it are left
-pub record PassesOn (old new : Option (List ℕ)) (text left : List ℕ) : Type 0 where
-  pub front : List ℕ
-  pub written : Appends old new front
-  pub text_is : text ≡ front ++ left
 
 -- the reply lines of the records before number k + 1 were written, and nothing else
 pub record StopsBefore (t : Told) (old new : Option (List ℕ)) (k : ℕ) : Type 0 where
   pub within : k ≤ length t.replies
   pub written : Appends old new (reply_lines 1 (take k t.replies))
 
--- why the replies were not all written; whether the writer had failed, and has
-abbrev pub StopsEarly : Told → Option (List ℕ) → Option (List ℕ) → Bool → Bool → RunError → Type 0
-StopsEarly t old new was is (NoMemory zero) = ⊥
-StopsEarly t old new was is (NoMemory (suc k)) = StopsBefore t old new k × (is ≡ was)
-StopsEarly t old new was is (NoWorker zero) = ⊥
-StopsEarly t old new was is (NoWorker (suc k)) = StopsBefore t old new k × (is ≡ was)
-StopsEarly t old new was is WriteFailed = is ≡ true
-StopsEarly t old new was is BadHeader = ⊥
-StopsEarly t old new was is BadLimits = ⊥
-StopsEarly t old new was is Unreadable = ⊥
-
--- why a run ends at a record, once the lines before it are written; whether the writer had failed, and has
-abbrev pub StopsAt : ℕ → List ℕ → Option (List ℕ) → Option (List ℕ) → Bool → Bool → RunError → Type 0
-StopsAt number lines old new was is (NoMemory n) = (n ≡ number) × Appends old new lines × (is ≡ was)
-StopsAt number lines old new was is (NoWorker n) = (n ≡ number) × Appends old new lines × (is ≡ was)
-StopsAt number lines old new was is WriteFailed = is ≡ true
-StopsAt number lines old new was is BadHeader = ⊥
-StopsAt number lines old new was is BadLimits = ⊥
-StopsAt number lines old new was is Unreadable = ⊥
-
--- the lines of the first k of these replies, from this number on, were written behind others
-pub record StopsBehind (number : ℕ) (replies : List Reply) (lines : List ℕ) (old new : Option (List ℕ)) (n : ℕ) : Type 0 where
-  pub k : ℕ
-  pub n_is : n ≡ number + k
-  pub within : k ≤ length replies
-  pub written : Appends old new (lines ++ reply_lines number (take k replies))
-
--- why a run ends before the lines of these replies are all there
-abbrev pub StopsAmong : ℕ → List Reply → List ℕ → Option (List ℕ) → Option (List ℕ) → Bool → Bool → RunError → Type 0
-StopsAmong number replies lines old new was is (NoMemory n) = StopsBehind number replies lines old new n × (is ≡ was)
-StopsAmong number replies lines old new was is (NoWorker n) = StopsBehind number replies lines old new n × (is ≡ was)
-StopsAmong number replies lines old new was is WriteFailed = is ≡ true
-StopsAmong number replies lines old new was is BadHeader = ⊥
-StopsAmong number replies lines old new was is BadLimits = ⊥
-StopsAmong number replies lines old new was is Unreadable = ⊥
-
 -- the whole text was written, and its last numbers are told
 pub record WritesText (t : Told) (old new : Option (List ℕ)) (s : Summary) : Type 0 where
   pub written : Appends old new (text t)
   pub records : s.records ≡ length t.replies
   pub refused : s.refused ≡ refused_count t.replies
-
--- a database at the start, whose limits are served
-pub record IsStarted (limits : Limits) (database : State) : Type 0 where
-  pub served : are_limits limits ≡ true
-  pub new : database ≡ new_state limits
-
--- why there is no database
-abbrev pub StartsNot : Limits → RunError → Type 0
-StartsNot limits BadLimits = are_limits limits ≡ false
-StartsNot limits (NoMemory zero) = ⊤
-StartsNot limits (NoMemory (suc k)) = ⊥
-StartsNot limits BadHeader = ⊥
-StartsNot limits (NoWorker n) = ⊥
-StartsNot limits Unreadable = ⊥
-StartsNot limits WriteFailed = ⊥
-
--- a trace of which the header was read was replayed, and its text was written
-pub record ReplaysTrace (u : Unread) (old new : Option (List ℕ)) (s : Summary) : Type 0 where
-  pub served : are_limits u.limits ≡ true
-  pub replayed : WritesText (told_of u.limits u.records (start u.limits)) old new s
-
--- the reply lines of such a trace before record number k + 1 were written
-pub record StopsInTrace (u : Unread) (old new : Option (List ℕ)) (k : ℕ) : Type 0 where
-  pub served : are_limits u.limits ≡ true
-  pub stopped : StopsBefore (told_of u.limits u.records (start u.limits)) old new k
-
--- why such a trace was not replayed to its end; whether the writer had failed, and has
-abbrev pub StopsTrace : Unread → Option (List ℕ) → Option (List ℕ) → Bool → Bool → RunError → Type 0
-StopsTrace u old new was is BadLimits = (are_limits u.limits ≡ false) × Keeps old new × (is ≡ was)
-StopsTrace u old new was is (NoMemory zero) = Keeps old new × (is ≡ was)
-StopsTrace u old new was is (NoMemory (suc k)) = StopsInTrace u old new k × (is ≡ was)
-StopsTrace u old new was is (NoWorker zero) = ⊥
-StopsTrace u old new was is (NoWorker (suc k)) = StopsInTrace u old new k × (is ≡ was)
-StopsTrace u old new was is WriteFailed = (are_limits u.limits ≡ true) × (is ≡ true)
-StopsTrace u old new was is BadHeader = ⊥
-StopsTrace u old new was is Unreadable = ⊥
-
--- ---- a run
 
 -- the input is a trace, and its replay was written
 pub record WritesReplay (input : List ℕ) (old new : Option (List ℕ)) (s : Summary) : Type 0 where
@@ -145,6 +31,7 @@ pub record StopsInReplay (input : List ℕ) (old new : Option (List ℕ)) (k : �
   pub is_trace : trace_of input ≡ Ok trace
   pub stopped : StopsBefore (told trace) old new k
 
+-- the input is a trace
 pub record IsTrace (input : List ℕ) : Type 0 where
   pub trace : Trace
   pub is_trace : trace_of input ≡ Ok trace

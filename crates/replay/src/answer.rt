@@ -13,7 +13,7 @@ ghost use Rattle.holdings.specs.Places.{IsWithin};
 ghost use Rattle.mapdb.specs.State.{left_with};
 ghost use Rattle.trace.specs.Meaning.{reply_of, request_of, IsWithinLimits};
 ghost use Rattle.trace.specs.Unread.{past};
-ghost use Rattle.replay.specs.Run.{AreAsked, replies_of, told_of, told_behind};
+ghost use Rattle.replay.specs.Steps.{AreAsked, replies_of, told_of, told_behind};
 
 use crew::{CrewError, Workers};
 use fpage::{Access, Control, Fpage, Item, Rights, with_status};

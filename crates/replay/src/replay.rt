@@ -7,9 +7,9 @@ ghost use Rattle.model.specs.Text.{reply_line, reply_lines, is_refused, refused_
 ghost use Rattle.holdings.specs.Meaning.{limits_of};
 ghost use Rattle.trace.specs.Meaning.{reply_of};
 ghost use Rattle.replay.specs.Options.{AreServed};
-ghost use Rattle.replay.specs.Run.{replies_of, told_of, PassesOn, WritesText, StopsAt, StopsAmong, StopsEarly, IsStarted, StartsNot};
-ghost use Rattle.replay.specs.Run.{ReplaysTrace, StopsTrace};
-ghost use Rattle.replay.specs.Run.{WritesReplay, EndsEarly, WritesNothing, TellsStreams};
+ghost use Rattle.replay.specs.Run.{WritesText, WritesReplay, EndsEarly, WritesNothing, TellsStreams};
+ghost use Rattle.replay.specs.Steps.{replies_of, told_of, PassesOn, StopsAt, StopsAmong, StopsEarly, IsStarted, StartsNot};
+ghost use Rattle.replay.specs.Steps.{ReplaysTrace, StopsTrace};
 
 use crate::answer::{Replies, answer_first};
 use crate::error::RunError;

@@ -2,7 +2,7 @@
 use Rattle.std.proofs.Common.{◌-◌, ◌∙◌, sym, ap, take, length}
 use Rattle.trace.specs.Meaning.{request_of}
 use Rattle.trace.specs.Unread.{Unread}
-use Rattle.replay.specs.Run.{replies_of, told_behind}
+use Rattle.replay.specs.Steps.{replies_of, told_behind}
 use Rattle.replay.proofs.Answering.{first_told}
 use Rattle.replay.proofs.answer.answer_first.Goals as goal
 

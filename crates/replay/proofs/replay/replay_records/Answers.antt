@@ -2,7 +2,7 @@
 use Rattle.std.proofs.Common.{◌≡◌, ◌+◌, ◌-◌, [], length, arith, sym, ap, refl, ◌∙◌}
 use Rattle.mapdb.specs.State.{State, left_with}
 use Rattle.trace.specs.Unread.{Unread}
-use Rattle.replay.specs.Run.{replies_of}
+use Rattle.replay.specs.Steps.{replies_of}
 use Rattle.replay.proofs.Streams.{err_of, err_from, closed}
 use Rattle.replay.proofs.Steps.{AreNext, so_far-start, so_far-more, so_far-same, so_far-stop, so_far-among, so_far-whole, none_left}
 use Rattle.replay.proofs.replay.replay_records.Goals as goal

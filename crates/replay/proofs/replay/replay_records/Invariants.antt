@@ -1,7 +1,7 @@
 -- Replies are written or left, and those to the records that are left follow.
 use Rattle.std.proofs.Common.{◌≡◌, length}
 use Rattle.mapdb.specs.State.{left_with}
-use Rattle.replay.specs.Run.{told_of}
+use Rattle.replay.specs.Steps.{told_of}
 use Rattle.replay.proofs.Steps.{SoFar}
 use Rattle.replay.proofs.replay.replay_records.Given as goal
 

@@ -2,7 +2,7 @@
 use Rattle.std.proofs.Common.{◌+◌, ◌∙◌, false, get_or, subst, refl, arith, List, ℕ}
 use Rattle.model.specs.Calls.{accessed}
 use Rattle.model.specs.Text.{reply_line}
-use Rattle.replay.specs.Run.{PassesOn}
+use Rattle.replay.specs.Steps.{PassesOn}
 use Rattle.replay.proofs.Passing.{passes_more}
 use Rattle.replay.proofs.Replays.{line_more}
 use Rattle.replay.proofs.Stops.{stops_within}

@@ -2,7 +2,7 @@
 use Rattle.std.proofs.Common.{◌≡◌, ◌++◌, map, take}
 use Rattle.model.specs.Calls.{accessed}
 use Rattle.model.specs.Text.{reply_lines}
-use Rattle.replay.specs.Run.{PassesOn}
+use Rattle.replay.specs.Steps.{PassesOn}
 use Rattle.replay.proofs.replay.write_accesses.Given as goal
 
 abbrev pub invariant-loop-i : goal.invariant-loop-i
