@@ -6,24 +6,23 @@ ghost use Rattle.replay.specs.Options.{AreServed};
 
 mod command_line;
 mod error;
+mod progress;
 #[cfg(test)]
 mod tests;
 
 use command_line::{OptionsError, parse};
 use crew::NoGate;
 use error::{status, tell};
-use replay::{Options, RunError, run};
+use progress::Progress;
+use replay::{Options, RunError, Watch, run};
 use std::alloc::{AllocError, Global};
 use std::env::Env;
-use std::io::{BufWriter, ErrorKind};
+use std::io::{BufWriter, ErrorKind, IsTerminal};
 use std::process::ExitCode;
 use std::sync::Wait;
 use std::thread::Threads;
 use std::{env, io};
 use trace::{Sink, Std};
-
-/// How many bytes of output are kept before they are written.
-const OUTPUT_BUFFER: usize = 65536;
 
 /// The largest block that the C library is to keep when it is given back: glibc goes no higher by itself than 32 MiB.
 const KEPT_BLOCK: usize = 31 << 20;
@@ -58,25 +57,31 @@ fn keep_memory(alloc: Global) {
     let _ = Vec::<u8>::with_capacity(alloc, KEPT_BLOCK);
 }
 
-/// Replays the trace on standard input to standard output.
-fn replay_input(
+/// Replays the trace on standard input to standard output, in writes as large as the watch has them.
+fn replay_input<V: Watch>(
     rt: &(impl AllocGlobal + Input + Print + Threads + Wait + Sync),
     options: &Options,
+    watch: &mut V,
 ) -> Result<(), RunError>
     requires { AreServed options.now }
 {
     keep_memory(rt.alloc());
-    let Ok(output) = BufWriter::with_capacity(rt.alloc(), OUTPUT_BUFFER, io::writer(rt)) else {
+    let Ok(output) = BufWriter::with_capacity(rt.alloc(), watch.block(), io::writer(rt)) else {
         return Err(RunError::NoMemory(0));
     };
     let mut reader = Std::new(rt.reader());
-    run(rt, &mut reader, &mut Std::new(output), options, &NoGate)?;
+    let mut writer = Std::new(output);
+    run(rt, &mut reader, &mut writer, options, &NoGate, watch)?;
     Ok(())
 }
 
 fn main(rt: HostRuntime) -> ExitCode {
+    // Replies are shown as they come; where they go elsewhere, standard error tells how far a long run has come.
+    let shows_replies = rt.stdout().is_terminal();
+    let tells = rt.stderr().is_terminal() && !shows_replies;
+    let mut progress = Progress::new(&rt, rt.stderr(), tells, shows_replies);
     let outcome = match read_command_line(&rt) {
-        Ok(options) => replay_input(&rt, &options),
+        Ok(options) => replay_input(&rt, &options, &mut progress),
         Err(OptionsError::NoMemory) => Err(RunError::NoMemory(0)),
         Err(OptionsError::Help(text)) => Std::new(io::writer(&rt))
             .write_all(text.as_bytes())
@@ -87,6 +92,7 @@ fn main(rt: HostRuntime) -> ExitCode {
             return ExitCode::from(1);
         }
     };
+    progress.end();
     match outcome {
         Ok(()) => ExitCode::SUCCESS,
         Err(error) => {

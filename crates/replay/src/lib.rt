@@ -6,8 +6,10 @@ mod error;
 mod lines;
 mod options;
 mod replay;
+mod watch;
 
 pub use answer::{Replies, answer_first};
 pub use error::RunError;
 pub use options::Options;
 pub use replay::{Summary, run};
+pub use watch::{NoWatch, Watch};

@@ -11,13 +11,12 @@ use std::alloc::Global;
 use std::marker::Model;
 use trace::{Failed, Reply, Sink, push_reply};
 
-/// How many bytes are worth a write.
-const BLOCK: usize = 32768;
-
 /// Reply lines that the sink was not given yet. A contract sees their bytes.
 #[derive(Drop)]
 pub struct Lines {
     block: String,
+    /// How many bytes are passed on at once.
+    least: usize,
     /// A line before it is put behind the others.
     line: String,
 }
@@ -31,12 +30,13 @@ impl Model for Lines {
 }
 
 impl Lines {
-    /// Makes room for lines; there is none yet.
-    pub fn new(alloc: Global) -> Self
+    /// Makes room for lines, of which so many bytes are passed on at once; there is none yet.
+    pub fn new(alloc: Global, least: usize) -> Self
         ensures { result ≡ [] }
     {
         Lines {
             block: String::new(alloc),
+            least,
             line: String::new(alloc),
         }
     }
@@ -70,7 +70,7 @@ impl Lines {
         ensures ok { OnOk result (W.failed writer.new ≡ W.failed writer.old) }
         ensures err { OnErr result (W.failed writer.new ≡ true) }
     {
-        if self.block.len() < BLOCK {
+        if self.block.len() < self.least {
             return Ok(());
         }
         self.pass_on(writer)

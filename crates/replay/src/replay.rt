@@ -15,6 +15,7 @@ use crate::answer::{Replies, answer_first};
 use crate::error::RunError;
 use crate::lines::Lines;
 use crate::options::Options;
+use crate::watch::Watch;
 use audit::report;
 use crew::{Crew, CrewError, Gate, Workers};
 use mapdb::{Database, DbError, Limits};
@@ -32,7 +33,7 @@ pub struct Summary {
     pub refused: u64,
 }
 
-/// Puts the line of a reply behind those that the sink was not given yet; first these are given to it, if they are many.
+/// Puts the line of a reply behind those that the sink was not given yet, and gives it all of them, if they are many.
 fn write_line<W: Sink>(
     writer: &mut W,
     lines: &mut Lines,
@@ -43,12 +44,12 @@ fn write_line<W: Sink>(
     ensures works { OnOk result (W.failed writer.new ≡ W.failed writer.old) }
     ensures err { IfErr result (StopsAt number lines.old (W.contents writer.old) (W.contents writer.new) (W.failed writer.old) (W.failed writer.new)) }
 {
-    if lines.pass_on_many(writer).is_err() {
-        return Err(RunError::WriteFailed);
+    if lines.push(number, reply).is_err() {
+        return Err(stop_at(writer, lines, number, CrewError::NoMemory));
     }
-    match lines.push(number, reply) {
+    match lines.pass_on_many(writer) {
         Ok(()) => Ok(()),
-        Err(_) => Err(stop_at(writer, lines, number, CrewError::NoMemory)),
+        Err(_) => Err(RunError::WriteFailed),
     }
 }
 
@@ -121,15 +122,16 @@ fn closing_text(
 }
 
 /// Replays a trace: reads it to its end, answers its records one by one, and writes the replies and the audit. One crew
-/// works all calls, and the gate hears of its work; with `plain` the crew is one worker.
+/// works all calls, and the gate hears of its work; with `plain` the crew is one worker. The watch hears how far the run has come.
 ///
 /// Where memory runs out at a record, or a thread cannot be started, the reply lines before it have been written and flushed.
-pub fn run<T: AllocGlobal + Threads + Wait + Sync, R: Source, W: Sink, G: Gate>(
+pub fn run<T: AllocGlobal + Threads + Wait + Sync, R: Source, W: Sink, G: Gate, V: Watch>(
     rt: &T,
     reader: &mut R,
     writer: &mut W,
     options: &Options,
     gate: &G,
+    watch: &mut V,
 ) -> Result<Summary, RunError>
     requires reader { R.failed reader.old ≡ false }
     requires writer { W.failed writer.old ≡ false }
@@ -149,16 +151,17 @@ pub fn run<T: AllocGlobal + Threads + Wait + Sync, R: Source, W: Sink, G: Gate>(
     let alloc = rt.alloc();
     let bytes = read_to_end(alloc, reader)?;
     let mut trace = TraceReader::new(alloc, &bytes)?;
-    replay_trace(rt, &mut trace, writer, options, gate)
+    replay_trace(rt, &mut trace, writer, options, gate, watch)
 }
 
 /// Replays a trace whose header was read: on a database with its limits, by one crew.
-fn replay_trace<T: AllocGlobal + Threads + Wait + Sync, W: Sink, G: Gate>(
+fn replay_trace<T: AllocGlobal + Threads + Wait + Sync, W: Sink, G: Gate, V: Watch>(
     rt: &T,
     trace: &mut TraceReader<'_>,
     writer: &mut W,
     options: &Options,
     gate: &G,
+    watch: &mut V,
 ) -> Result<Summary, RunError>
     requires options { AreServed options.now }
     requires first { trace.old.number ≡ 1 }
@@ -173,7 +176,7 @@ fn replay_trace<T: AllocGlobal + Threads + Wait + Sync, W: Sink, G: Gate>(
         options.workers as usize
     };
     let crew = Crew::new(rt, workers, options.piece_length as usize, gate);
-    replay_records(rt, &mut database, trace, &crew, options.plain, writer)
+    replay_records(rt, &mut database, trace, &crew, options.plain, writer, watch)
 }
 
 /// A database at the start.
@@ -190,13 +193,14 @@ fn start(alloc: Global, limits: &Limits) -> Result<Database, RunError>
 
 /// Replays the records of a trace: answers them in order, writes their reply lines, the audit lines and the end line, and
 /// flushes them. Where a record cannot be answered for want of memory or of a worker, the reply lines before it are flushed.
-pub fn replay_records<W: Sink, C: Workers>(
+pub fn replay_records<W: Sink, C: Workers, V: Watch>(
     rt: &(impl AllocGlobal + Threads + Sync),
     database: &mut Database,
     trace: &mut TraceReader<'_>,
     workers: &C,
     plain: bool,
     writer: &mut W,
+    watch: &mut V,
 ) -> Result<Summary, RunError>
     requires running { database.old.is_halted ≡ false }
     requires first { trace.old.number ≡ 1 }
@@ -207,11 +211,12 @@ pub fn replay_records<W: Sink, C: Workers>(
         (W.contents writer.old) (W.contents writer.new) (W.failed writer.old) (W.failed writer.new)) }
 {
     let alloc = rt.alloc();
-    let mut lines = Lines::new(alloc);
+    let mut lines = Lines::new(alloc, watch.block());
     let mut accesses = Vec::new(alloc);
     let mut number = trace.number();
     let mut refused = 0;
     while !trace.is_at_end() {
+        watch.hear(number);
         let replies = match answer_first(alloc, database, trace, workers, plain, &mut accesses) {
             Ok(replies) => replies,
             Err(why) => return Err(stop_at(writer, &mut lines, number, why)),

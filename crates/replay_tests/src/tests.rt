@@ -8,7 +8,7 @@ mod worked;
 use audit::{Line, check, lines};
 use crew::{Crew, Gate, NoGate};
 use mapdb::Database;
-use replay::{Options, RunError, Summary, answer_first, run};
+use replay::{NoWatch, Options, RunError, Summary, Watch, answer_first, run};
 use space::NoMemory;
 use std::alloc::Global;
 use std::sync::Wait;
@@ -62,6 +62,7 @@ fn outcome_of(
         &mut output,
         options,
         &NoGate,
+        &mut NoWatch,
     );
     (outcome, output.into_inner())
 }
@@ -202,6 +203,7 @@ fn accesses_in_a_row_are_one_call(rt: HostRuntime) -> Result<(), Fail> {
         &mut output,
         &OPTIONS,
         &counter,
+        &mut NoWatch,
     );
     let summary = Summary {
         records: 6,
@@ -320,7 +322,8 @@ fn a_sink_that_fails_at_any_call_is_write_failed(rt: HostRuntime) {
             &mut Std::new(SHORT.as_bytes()),
             &mut undisturbed,
             &OPTIONS,
-            &NoGate
+            &NoGate,
+            &mut NoWatch,
         ),
         Ok(summary)
     );
@@ -336,6 +339,7 @@ fn a_sink_that_fails_at_any_call_is_write_failed(rt: HostRuntime) {
             &mut output,
             &OPTIONS,
             &NoGate,
+            &mut NoWatch,
         );
         assert_eq!(rt; outcome, Err(RunError::WriteFailed), "{fails_at}");
         assert_eq!(rt; output.calls, fails_at);
@@ -344,6 +348,43 @@ fn a_sink_that_fails_at_any_call_is_write_failed(rt: HostRuntime) {
             "{fails_at}"
         );
     }
+}
+
+/// Has each reply line passed on as it comes, and counts what it hears.
+#[derive(Drop)]
+struct Eager {
+    heard: u64,
+    last: u64,
+}
+
+impl Watch for Eager {
+    fn block(&self) -> usize {
+        0
+    }
+
+    fn hear(&mut self, number: u64) {
+        self.heard = self.heard.wrapping_add(1);
+        self.last = number;
+    }
+}
+
+#[test]
+fn a_watch_hears_of_each_record_and_may_have_its_line_at_once(rt: HostRuntime) {
+    let mut output = sink(&rt, 0);
+    let mut watch = Eager { heard: 0, last: 0 };
+    let outcome = run(
+        &rt,
+        &mut Std::new(SHORT.as_bytes()),
+        &mut output,
+        &OPTIONS,
+        &NoGate,
+        &mut watch,
+    );
+    assert!(rt; outcome.is_ok());
+    assert_eq!(rt; output.kept.as_slice(), SHORT_OUTPUT.as_bytes());
+    // Two reply lines, none that is left, the audit with the end line, and the flush.
+    assert_eq!(rt; output.calls, 5);
+    assert_eq!(rt; (watch.heard, watch.last), (2, 2));
 }
 
 /// With ample memory this is a run that ends well. Where an allocation is refused it is told by its error, and what the
@@ -357,6 +398,7 @@ fn flushes_what_it_has_written_where_memory_runs_out(rt: HostRuntime) -> Result<
         &mut output,
         &OPTIONS,
         &NoGate,
+        &mut NoWatch,
     );
     match outcome {
         Ok(_) | Err(RunError::WriteFailed) => Ok(()),
