@@ -34,7 +34,11 @@ pub struct Progress<'a, C: Clock, E: Write + Drop> {
 impl<'a, C: Clock, E: Write + Drop> Progress<'a, C, E> {
     /// Begins to watch a run. It tells of it only if `tells`; with `line_by_line` each reply line is passed on as it comes.
     pub fn new(clock: &'a C, terminal: E, tells: bool, line_by_line: bool) -> Self {
-        let began = if tells { Instant::now(clock).ok() } else { None };
+        let began = if tells {
+            Instant::now(clock).ok()
+        } else {
+            None
+        };
         Progress {
             clock,
             terminal,

@@ -1,5 +1,5 @@
 -- What a run writes, and what it leaves where it ends early.
-use Rattle.std.specs.Prelude.{◌≡◌, ℕ, zero, suc, ◌+◌, ◌≤◌, ⊤, Bool, true, false, List, length, take, Option, Ok, Err}
+use Rattle.std.specs.Prelude.{◌≡◌, ℕ, zero, suc, ◌≤◌, ⊤, Bool, true, false, List, length, take, Option, Ok, Err}
 use Rattle.std.specs.Io.KnownBytes.{Appends, Keeps}
 use Rattle.model.specs.Replay.{Told}
 use Rattle.model.specs.Records.{Trace, bad_header, bad_limits, trace_of}

@@ -8,7 +8,7 @@ use Rattle.model.specs.Calls.{Limits, access, Request, Reply, accessed}
 use Rattle.model.specs.Answers.{answer}
 use Rattle.model.specs.Replay.{Told, replay, start}
 use Rattle.model.specs.Records.{Fields, are_limits, request}
-use Rattle.model.specs.Text.{text, reply_lines}
+use Rattle.model.specs.Text.{reply_lines}
 use Rattle.mapdb.specs.State.{State, new_state}
 use Rattle.trace.specs.Meaning.{reply_of}
 use Rattle.trace.specs.Unread.{Unread}

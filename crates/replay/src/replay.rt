@@ -176,7 +176,15 @@ fn replay_trace<T: AllocGlobal + Threads + Wait + Sync, W: Sink, G: Gate, V: Wat
         options.workers as usize
     };
     let crew = Crew::new(rt, workers, options.piece_length as usize, gate);
-    replay_records(rt, &mut database, trace, &crew, options.plain, writer, watch)
+    replay_records(
+        rt,
+        &mut database,
+        trace,
+        &crew,
+        options.plain,
+        writer,
+        watch,
+    )
 }
 
 /// A database at the start.
