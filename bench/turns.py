@@ -11,8 +11,7 @@ strips of 1,000,000 nodes, or of as many as are asked for. It is run five times,
     swaps         a loop in Rust (swaps.rs, built by `rustc -O`) that swaps as many words, one atomic operation each
     open, steps, close
                   the parts of a phase whose pieces have 256 nodes, on one thread
-    steps_by_two, steps_by_four
-                  the same steps by two threads and by four, which were started for them, each with as many turns
+    steps_by_two  the same steps by two threads, which were started for them, each with half of the turns
 
 Nothing here has a threshold.
 """
@@ -70,7 +69,6 @@ def tell(nodes, program):
     print(f"  {'phase to plain':<14}{whole / medians['plain']:>10.1f}")
     print(f"  {'steps to swaps':<14}{medians['steps'] / medians['swaps']:>10.1f}")
     print(f"  {'two to one':<14}{medians['steps_by_two'] / medians['steps']:>10.2f}")
-    print(f"  {'four to one':<14}{medians['steps_by_four'] / medians['steps']:>10.2f}")
 
 
 main()

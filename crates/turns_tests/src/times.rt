@@ -206,49 +206,6 @@ fn ended_by_two<R: Threads + Sync>(
     joined(phase, first?, second?)
 }
 
-/// The same by four threads.
-fn ended_by_four<R: Threads + Sync>(
-    rt: &R,
-    alloc: Global,
-    phase: &Open,
-    turns: Vec<Turn>,
-) -> Result<Vec<Turn>, AllocError>
-    requires { All (λ t. t.sheet ≡ phase.now) turns.items }
-    ensures { IfOk result (λ after. All (λ t. t.sheet ≡ phase.now) after.items) }
-{
-    let (first, second) = halves(alloc, phase, turns)?;
-    let (first, second) = thread::join(
-        rt,
-        || -> Result<Vec<Turn>, AllocError>
-            requires { All (λ t. t.sheet ≡ phase.now) first.items }
-            ensures { IfOk result (λ after. All (λ t. t.sheet ≡ phase.entry.now) after.items) }
-        { ended_by_two(rt, alloc, phase, first) },
-        || -> Result<Vec<Turn>, AllocError>
-            requires { All (λ t. t.sheet ≡ phase.now) second.items }
-            ensures { IfOk result (λ after. All (λ t. t.sheet ≡ phase.entry.now) after.items) }
-        { ended_by_two(rt, alloc, phase, second) },
-    );
-    joined(phase, first?, second?)
-}
-
-/// The same by two threads or four.
-fn ended_together<R: Threads + Sync>(
-    rt: &R,
-    alloc: Global,
-    phase: &Open,
-    turns: Vec<Turn>,
-    by_four: bool,
-) -> Result<Vec<Turn>, AllocError>
-    requires { All (λ t. t.sheet ≡ phase.now) turns.items }
-    ensures { IfOk result (λ after. All (λ t. t.sheet ≡ phase.now) after.items) }
-{
-    if by_four {
-        ended_by_four(rt, alloc, phase, turns)
-    } else {
-        ended_by_two(rt, alloc, phase, turns)
-    }
-}
-
 /// Turns of two lists in one.
 fn joined(
     phase: &Open,
@@ -329,19 +286,18 @@ fn times_strips(
     worked(rt, alloc, words, pieces)
 }
 
-/// Nanoseconds that two threads, or four, take for the steps of such a phase.
+/// Nanoseconds that two threads take for the steps of such a phase.
 fn times_together<R: Runtime + Threads + Sync>(
     rt: &R,
     alloc: Global,
     nodes: usize,
     most: usize,
-    by_four: bool,
 ) -> Result<u128, Fail> {
     let words = vec![in alloc; HELD; nodes]?;
     let pieces = strips_on(alloc, &words, 0, nodes, most)?;
     let (phase, turns) = Open::open(alloc, words, pieces)?;
     let start = Instant::now(rt)?;
-    let turns = ended_together(rt, alloc, &phase, turns, by_four)?;
+    let turns = ended_by_two(rt, alloc, &phase, turns)?;
     let nanos = start.elapsed(rt)?.as_nanos();
     match phase.close(turns) {
         Ok(_) => Ok(nanos),
@@ -365,8 +321,7 @@ fn tells<R: Runtime + Threads + Sync>(rt: &R, alloc: Global, nodes: usize) -> Re
     let one = times_one(rt, alloc, nodes)?;
     let (_, plain) = times_plain(rt, alloc, nodes)?;
     let (_, spent) = times_strips(rt, alloc, nodes, 256)?;
-    let steps_by_two = times_together(rt, alloc, nodes, 256, false)?;
-    let steps_by_four = times_together(rt, alloc, nodes, 256, true)?;
+    let steps_by_two = times_together(rt, alloc, nodes, 256)?;
     for (name, nanos) in [
         ("one", one),
         ("plain", plain),
@@ -374,7 +329,6 @@ fn tells<R: Runtime + Threads + Sync>(rt: &R, alloc: Global, nodes: usize) -> Re
         ("steps", spent.steps),
         ("close", spent.close),
         ("steps_by_two", steps_by_two),
-        ("steps_by_four", steps_by_four),
     ] {
         println!(rt; "{name} {nanos}")?;
     }
