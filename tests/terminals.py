@@ -116,8 +116,6 @@ def main():
 
     status, output, _, _ = run_shown(program, SHORT, True, True)
     cases.check("a short run, all of it on one terminal", fault_of_output(status, output, short))
-    status, output, _, _ = run_shown(program, LONG, True, True)
-    cases.check("a long run, all of it on one terminal", fault_of_output(status, output, long))
     cases.end()
 
 

@@ -57,11 +57,13 @@ impl<'a> TraceReader<'a> {
     ///
     /// The errors are `NoMemory`, if memory runs out, and `BadHeader`, if there is no first record or it does not have a
     /// header's form. Whether the limits are served is for the database to say.
+    // (It is not compiled into its caller, whose frame would hold the reader's buffer, on its way to the heap, as long as it runs.)
+    #[inline(never)]
     pub fn new(alloc: Global, bytes: &'a [u8]) -> Result<Self, TraceError>
         ensures ok { IfOk result (IsOpened bytes.now) }
         ensures err { IfErr result (IsFaultIn bytes.now) }
     {
-        // The reader holds its buffer in place, 16 KiB of it, which is no burden for a stack.
+        // The reader holds its buffer in place, 16 KiB of it, which is too much to keep on a stack.
         let Ok(mut rows) = Box::new(alloc, rows(alloc, bytes)) else {
             return Err(TraceError::NoMemory);
         };
