@@ -467,7 +467,8 @@ impl Database {
         if count == 0 {
             return;
         }
-        let block_of = |fpage: Fpage| fpage.first + item.base % fpage.count / count * count;
+        // All counts are powers of two.
+        let block_of = |fpage: Fpage| fpage.first + (item.base & (fpage.count - 1) & !(count - 1));
         let (source, target) = (place_of(from, block_of(item.fpage)), place_of(to, block_of(window)));
         for number in 0..count {
             let (source, target) = (self.find(source + number), target + number);
@@ -594,18 +595,17 @@ impl<W: Write> Replay<W> {
     }
 
     fn write_counts(&mut self, counts: &Counts) {
-        let named = [
-            (&b" send absent="[..], counts.absent),
-            (b" norights=", counts.norights),
-            (b" origin=", counts.origin),
-            (b" lost=", counts.lost),
-            (b" extended=", counts.extended),
-            (b" linked=", counts.linked),
-        ];
-        for (name, count) in named {
-            self.output.text(name);
-            self.output.number(count);
-        }
+        self.write_count(b" send absent=", counts.absent);
+        self.write_count(b" norights=", counts.norights);
+        self.write_count(b" origin=", counts.origin);
+        self.write_count(b" lost=", counts.lost);
+        self.write_count(b" extended=", counts.extended);
+        self.write_count(b" linked=", counts.linked);
+    }
+
+    fn write_count(&mut self, name: &[u8], count: u32) {
+        self.output.text(name);
+        self.output.number(count);
     }
 
     fn unmap<R: Read>(&mut self, record: &Records<R>) -> Result<(), Name> {

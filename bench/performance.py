@@ -1,0 +1,356 @@
+#!/usr/bin/env python3
+"""l4map with one worker beside a plain program in Rust, on the same traces, in turn; and how the cost of l4map grows.
+
+    bench/performance.py [--profile] [PROGRAM]
+
+PROGRAM is crates/l4map/out/l4map, which build.sh makes, if it is not given. The other is plain.rs, built here by `rustc -O`, as is
+launch.rs, by which both are started. Both must write the same bytes. Printed are tables in Markdown: processor time (the user's
+and the system's) of five runs each, and the peak memory. Nothing here has a threshold: the aims stand beside what was measured.
+
+With --profile it prints instead in which functions of l4map the time of an access and of an unmap goes. That needs `perf`.
+"""
+
+import filecmp
+import math
+import os
+import random
+import re
+import statistics
+import subprocess
+import sys
+import tempfile
+from typing import NamedTuple
+
+HERE = os.path.dirname(os.path.abspath(__file__))
+sys.path.insert(0, HERE)
+from bench import (  # noqa: E402
+    ALL_PAGES, FIRST_PAGE, HEADER, PAGES, TOP, accesses, aliases, audit, chain, flush, grants, pager, relay, send, send_fpage, single,
+    spread, unmap,
+)  # fmt: skip
+from workers import CALLS, SPACES as REVOKED_SPACES, mapped, revocation  # noqa: E402
+
+RUNS = 5
+FEW_RUNS = 3
+MILLION = 1_000_000
+SMALLEST = "l4map,1,2,18,1"
+ONE_FRAME = "l4map,1,512,24,1"
+LAST = 511  # the last space
+MANY = 20_000  # calls of a kind, where they are short
+SHARE = 50  # milliseconds that calls must take at least to be told apart from the rest of a run
+ONE_WORKER = ["--workers", "1"]
+FUNCTIONS = 12  # that a profile tells
+
+# What l4map may take beside the text of its trace: bytes a mapping, bytes an access of a run of accesses, and bytes at all.
+A_MAPPING, AN_ACCESS, BESIDE = 64, 32, 8 << 20
+
+
+class Compared(NamedTuple):
+    """A trace on which both programs run: what may be of each thing at most, in it and as times of the plain program."""
+
+    name: str
+    records: list
+    times: float
+    mappings: int = PAGES
+    accesses_in_a_row: int = 0
+    header: str = HEADER
+
+
+def compared():
+    """The traces of the first table."""
+    yield Compared("`accesses`: a million", accesses(MILLION), 2, accesses_in_a_row=MILLION)
+    yield Compared("`pager`: a million records", pager(MILLION), 3, PAGES + 3 * 256, 63)
+    yield Compared("`chain`: a million records", chain(MILLION), 3, PAGES + 511)
+    yield Compared("`relay`: 1,600 records of 4,096 pages", relay(1_600), 2.5, 16 * PAGES)
+    yield Compared("`grants`: 10,000 records of 512 pages", grants(10_000), 2.5, PAGES + 2 * 512)
+    yield Compared("`spread`: 100,000 records of 16 pages", spread(100_000), 2.5, PAGES + 511 * 16)
+    yield Compared("`single`: one frame at 131,072 pages more", single(64 * PAGES), 3, PAGES + 32 * PAGES)
+    yield Compared("`audit` of 1,028,096 mappings", audit(250), 2, 251 * PAGES)
+    yield Compared("a header alone, the largest limits", [], 1.5)
+    yield Compared("a header alone, the smallest limits", [], 1.5, 1, header=SMALLEST)
+
+
+class Ran(NamedTuple):
+    """Milliseconds of processor time, milliseconds by the clock, and KiB."""
+
+    processor: float
+    clock: float
+    peak: int
+
+
+class Bench:
+    """The programs, and a room for traces and outputs."""
+
+    def __init__(self, program, room):
+        self.room = room
+        self.launch = self.built("launch.rs")
+        self.ours = [program, *ONE_WORKER]
+        self.plain = [self.built("plain.rs")]
+        self.check_floor()
+
+    def path(self, name):
+        return os.path.join(self.room, name)
+
+    def built(self, source):
+        """The program of a Rust file beside this one."""
+        program = self.path(os.path.splitext(source)[0])
+        subprocess.run(["rustc", "--edition", "2021", "-O", "-o", program, os.path.join(HERE, source)], check=True)
+        return program
+
+    def check_floor(self):
+        """A program that does nothing is measured with little memory, so what is measured is the program's own."""
+        peak = self.run(["true"], self.trace([])).peak
+        if peak > 4096:
+            sys.exit(f"performance.py: the program `true` is measured with {peak} KiB")
+
+    def trace(self, records, header=HEADER):
+        path = self.path("trace.csv")
+        with open(path, "w", encoding="ascii") as it:
+            it.writelines(record + "\n" for record in (header, *records))
+        return path
+
+    def run(self, words, trace, output="output.txt"):
+        words = [self.launch, trace, self.path(output), *words]
+        told = subprocess.run(words, stdout=subprocess.PIPE, text=True, check=True).stdout
+        status, processor, clock, peak = map(int, told.split())
+        if status:
+            sys.exit(f"performance.py: {words} ended with status {status}")
+        return Ran(processor / 1000, clock / 1000, peak)
+
+    def in_turn(self, trace):
+        """The runs of both programs on a trace, which must write the same."""
+        ours, plain = [], []
+        for _ in range(RUNS):
+            ours.append(self.run(self.ours, trace, "ours.txt"))
+            plain.append(self.run(self.plain, trace, "plain.txt"))
+            if not filecmp.cmp(self.path("ours.txt"), self.path("plain.txt"), shallow=False):
+                sys.exit(f"performance.py: the programs write different bytes on {trace}")
+        return ours, plain
+
+    def clock_of(self, options, records):
+        """The median time by the clock of l4map with some options, in milliseconds."""
+        trace = self.trace(records)
+        return statistics.median(self.run([self.ours[0], *options], trace).clock for _ in range(RUNS))
+
+
+    def least_of_ours(self, records):
+        """The least processor time of l4map in a few runs on a trace of one frame, in milliseconds. All is taken back at its end, so
+        that there is little to audit."""
+        trace = self.trace([*records, unmap(0, FIRST_PAGE)], ONE_FRAME)
+        return min(self.run(self.ours, trace).processor for _ in range(FEW_RUNS))
+
+
+def median(runs):
+    return statistics.median(run.processor for run in runs)
+
+
+def least(runs):
+    return min(run.processor for run in runs)
+
+
+def peak(runs):
+    return max(run.peak for run in runs)
+
+
+def progress(text):
+    print(f"performance.py: {text}", file=sys.stderr, flush=True)
+
+
+def row(*cells):
+    print("| " + " | ".join(cells) + " |", flush=True)
+
+
+def head(*cells):
+    row(*cells)
+    row(*("---" for _ in cells))
+
+
+def compare(bench):
+    """The first table: both programs on each trace."""
+    head(
+        "Trace", "l4map ms", "least", "plain ms", "least", "times", "aim", "l4map MiB", "at most", "plain MiB",
+    )  # fmt: skip
+    for it in compared():
+        progress(it.name)
+        trace = bench.trace(it.records, it.header)
+        ours, plain = bench.in_turn(trace)
+        allowed = os.path.getsize(trace) + A_MAPPING * it.mappings + AN_ACCESS * it.accesses_in_a_row + BESIDE
+        times = f"{median(ours):,.1f}", f"{least(ours):,.1f}", f"{median(plain):,.1f}", f"{least(plain):,.1f}"
+        ratio = f"{median(ours) / median(plain):.2f}", f"{it.times:g}"
+        row(it.name, *times, *ratio, mib(peak(ours)), mib(allowed / 1024), mib(peak(plain)))
+
+
+def mib(kib):
+    return f"{kib / 1024:.1f}"
+
+
+def fpage_of(pages, first):
+    """The fpage of so many pages, all rights."""
+    return first * 4096 + 16 * (12 + pages.bit_length() - 1) + 7
+
+
+def pages_in_words(pages, rounds):
+    """All pages go to space 1 and are taken back, in words of so many pages; again and again."""
+    for _ in range(rounds):
+        for first in range(0, PAGES, pages):
+            yield send_fpage(0, 1, fpage_of(pages, first))
+        for first in range(0, PAGES, pages):
+            yield unmap(0, fpage_of(pages, first))
+
+
+def over_spaces(spaces, rounds):
+    """131,072 mappings over so many spaces are made and taken back, in words of all pages of a space; again and again."""
+    pages = 32 * PAGES // spaces
+    for _ in range(rounds):
+        for space in range(1, 1 + spaces):
+            yield send_fpage(0, space, fpage_of(pages, 0))
+        yield unmap(0, ALL_PAGES)
+
+
+def grown():
+    """What grows: its name, its size, of how many parts the time is told, and a trace."""
+    for records in (125_000, 250_000, 500_000, MILLION):
+        yield "records (accesses)", records, records, accesses(records)
+    for records in (125_000, 250_000, 500_000, MILLION):
+        yield "records (pager)", records, records, pager(records)
+    for records in (4 << shift for shift in range(12, 18)):
+        yield "mappings of a frame (single)", records // 2, records, single(records)
+    for pages in (1, 16, 256, 4096):
+        yield "pages of a word", pages, 2 * 32 * PAGES, pages_in_words(pages, 32)
+    for spaces in (32, 64, 128, 256):
+        yield "spaces", spaces, 2 * 8 * 32 * PAGES, over_spaces(spaces, 8)
+
+
+def growth(bench):
+    """The second table: one line for each size. Times a part are told beyond a start, and an exponent of these is 0 where
+    a part takes as long as at the size before, and 1 where it takes twice as long at twice the size."""
+    head("What grows", "size", "l4map ms", "ns a part", "exponent", "plain ms", "ns a part", "exponent")
+    start = [median(runs) for runs in bench.in_turn(bench.trace([]))]
+    before = None
+    for name, size, parts, records in grown():
+        progress(f"{name}, {size:,}")
+        medians = [median(runs) for runs in bench.in_turn(bench.trace(records))]
+        nanos = [(taken - first) / parts * 1e6 for taken, first in zip(medians, start)]
+        cells = []
+        for program in range(2):
+            exponent = ""
+            if before and before[0] == name:
+                exponent = exponent_of(before[2][program], nanos[program], size / before[1])
+            cells += [f"{medians[program]:,.1f}", f"{nanos[program]:,.1f}", exponent]
+        row(name, f"{size:,}", *cells)
+        before = (name, size, nanos)
+
+
+def exponent_of(before, now, times):
+    return f"{math.log(now / before) / math.log(times):.2f}" if before > 0 and now > 0 else "-"
+
+
+def one_frame(spaces):
+    """One frame at all pages of so many spaces: the first has it from space 0, and the others from the first."""
+    yield from aliases(PAGES)
+    for space in range(2, 1 + spaces):
+        yield send_fpage(1, space, ALL_PAGES)
+
+
+def map_and_unmap(space, page):
+    """A page goes to the last space, which gives it up."""
+    return send(space, LAST, page, page), flush(LAST, page)
+
+
+def ask_for_status(space, page):
+    """The status of a page is asked for twice."""
+    return 2 * (unmap(space, 4096 * page + 0xC0),)
+
+
+def grant(sender, receiver, page):
+    return f"send,{sender},{receiver},10,{page:x}00a,{page:x}0c7"
+
+
+def grant_to_and_fro(space, page):
+    return grant(space, LAST, page), grant(LAST, space, page)
+
+
+def one_page(bench):
+    """The third table: calls that are about one page of a frame with few or many mappings, none of which derives from that page."""
+    head("Call", "mappings of the frame", "l4map us")
+    for spaces in (1, 32, 510):
+        made = list(one_frame(spaces))
+        start = bench.least_of_ours(made)
+        for call in (map_and_unmap, ask_for_status, grant_to_and_fro):
+            name = call.__name__.replace("_", " ")
+            progress(f"{name}, {spaces} spaces")
+            taken, calls = time_of_calls(bench, made, start, lambda page: call(spaces, page))
+            row(name, f"{1 + spaces * PAGES:,}", f"{taken / calls * 1000:,.1f}")
+
+
+def time_of_calls(bench, made, start, calls):
+    """The milliseconds that some calls take, two for each of some pages, and how many calls these are: so many that they take a
+    share of the run."""
+    for times in (10, 500, MANY):
+        chance = random.Random(5)
+        records = [record for _ in range(times) for record in calls(chance.randrange(PAGES))]
+        taken = bench.least_of_ours(made + records) - start
+        if taken > start / 4 + SHARE:
+            break
+    return taken, 2 * times
+
+
+def workers(bench):
+    """The fourth table: a call that works all mappings of 251 spaces, by the clock."""
+    head("Workers", f"ms a call on {(1 + REVOKED_SPACES) * PAGES:,} mappings")
+    for number in (1, 2, 4):
+        progress(f"{number} workers")
+        options = ["--workers", str(number)]
+        whole, made = bench.clock_of(options, revocation()), bench.clock_of(options, mapped())
+        row(str(number), f"{(whole - made) / len(CALLS):,.1f}")
+
+
+def given_up(rounds):
+    """All pages go to space 1, which gives up one after another; again and again."""
+    for _ in range(rounds):
+        yield send_fpage(0, 1, ALL_PAGES)
+        yield from (flush(1, page) for page in range(PAGES))
+
+
+def profile(bench, name, records):
+    """The functions in which l4map spends most of its time on a trace, with their shares."""
+    samples = bench.path("samples")
+    with open(bench.trace(records), "rb") as given:
+        words = ["perf", "record", "-q", "-o", samples, *bench.ours]
+        subprocess.run(words, stdin=given, stdout=subprocess.DEVNULL, stderr=subprocess.DEVNULL, check=True)
+    words = ["perf", "report", "-i", samples, "--stdio", "-F", "overhead,sym"]
+    told = subprocess.run(words, stdout=subprocess.PIPE, stderr=subprocess.DEVNULL, text=True, check=True).stdout
+    head(name, "share")
+    for share, symbol in re.findall(r"^ *([\d.]+%) +\[[.k]\] +(\S.*?) *$", told, re.MULTILINE)[:FUNCTIONS]:
+        row(f"`{symbol}`", share)
+    print()
+
+
+def profiles(bench):
+    profile(bench, "Accesses", accesses(MILLION))
+    profile(bench, "Unmaps of one page", given_up(64))
+
+
+def version_of_rustc():
+    return subprocess.run(["rustc", "--version"], stdout=subprocess.PIPE, text=True, check=True).stdout.strip()
+
+
+def main():
+    words = sys.argv[1:]
+    is_profile = words[:1] == ["--profile"]
+    default = os.path.join(TOP, "crates", "l4map", "out", "l4map")
+    program = os.path.abspath((words[is_profile:] or [default])[0])
+    if not os.access(program, os.X_OK):
+        sys.exit(f"performance.py: there is no program {program}: ./build.sh proves it and builds it")
+    with tempfile.TemporaryDirectory() as room:
+        bench = Bench(program, room)
+        if is_profile:
+            profiles(bench)
+            return
+        print(f"medians of {RUNS} runs; {version_of_rustc()}; {os.cpu_count()} processors\n")
+        for table in (compare, growth, one_page, workers):
+            table(bench)
+            print()
+
+
+if __name__ == "__main__":
+    main()
