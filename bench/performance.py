@@ -19,7 +19,7 @@ import statistics
 import subprocess
 import sys
 import tempfile
-from typing import NamedTuple
+from typing import Iterable, NamedTuple
 
 HERE = os.path.dirname(os.path.abspath(__file__))
 sys.path.insert(0, HERE)
@@ -45,11 +45,12 @@ A_MAPPING, AN_ACCESS, BESIDE = 64, 32, 8 << 20
 
 
 class Compared(NamedTuple):
-    """A trace on which both programs run: what may be of each thing at most, in it and as times of the plain program."""
+    """A trace on which both programs run. The aim is how many times as long as the plain program l4map may take; the most mappings
+    that are held at once, and the longest run of accesses, say how much memory."""
 
     name: str
-    records: list
-    times: float
+    records: Iterable[str]
+    aim: float
     mappings: int = PAGES
     accesses_in_a_row: int = 0
     header: str = HEADER
@@ -131,7 +132,6 @@ class Bench:
         trace = self.trace(records)
         return statistics.median(self.run([self.ours[0], *options], trace).clock for _ in range(RUNS))
 
-
     def least_of_ours(self, records):
         """The least processor time of l4map in a few runs on a trace of one frame, in milliseconds. All is taken back at its end, so
         that there is little to audit."""
@@ -175,7 +175,7 @@ def compare(bench):
         ours, plain = bench.in_turn(trace)
         allowed = os.path.getsize(trace) + A_MAPPING * it.mappings + AN_ACCESS * it.accesses_in_a_row + BESIDE
         times = f"{median(ours):,.1f}", f"{least(ours):,.1f}", f"{median(plain):,.1f}", f"{least(plain):,.1f}"
-        ratio = f"{median(ours) / median(plain):.2f}", f"{it.times:g}"
+        ratio = f"{median(ours) / median(plain):.2f}", f"{it.aim:g}"
         row(it.name, *times, *ratio, mib(peak(ours)), mib(allowed / 1024), mib(peak(plain)))
 
 
@@ -189,10 +189,10 @@ def fpage_of(pages, first):
 
 
 def pages_in_words(pages, rounds):
-    """All pages go to space 1 and are taken back, in words of so many pages; again and again."""
+    """All pages go to the same pages of space 1 and are taken back, in words of so many pages; again and again."""
     for _ in range(rounds):
         for first in range(0, PAGES, pages):
-            yield send_fpage(0, 1, fpage_of(pages, first))
+            yield f"send,0,1,10,{first:x}008,{fpage_of(pages, first):x}"
         for first in range(0, PAGES, pages):
             yield unmap(0, fpage_of(pages, first))
 
@@ -224,18 +224,18 @@ def growth(bench):
     """The second table: one line for each size. Times a part are told beyond a start, and an exponent of these is 0 where
     a part takes as long as at the size before, and 1 where it takes twice as long at twice the size."""
     head("What grows", "size", "l4map ms", "ns a part", "exponent", "plain ms", "ns a part", "exponent")
-    start = [median(runs) for runs in bench.in_turn(bench.trace([]))]
+    start = [least(runs) for runs in bench.in_turn(bench.trace([]))]
     before = None
     for name, size, parts, records in grown():
         progress(f"{name}, {size:,}")
-        medians = [median(runs) for runs in bench.in_turn(bench.trace(records))]
-        nanos = [(taken - first) / parts * 1e6 for taken, first in zip(medians, start)]
+        taken = [least(runs) for runs in bench.in_turn(bench.trace(records))]
+        nanos = [(whole - first) / parts * 1e6 for whole, first in zip(taken, start)]
         cells = []
         for program in range(2):
             exponent = ""
             if before and before[0] == name:
                 exponent = exponent_of(before[2][program], nanos[program], size / before[1])
-            cells += [f"{medians[program]:,.1f}", f"{nanos[program]:,.1f}", exponent]
+            cells += [f"{taken[program]:,.1f}", f"{nanos[program]:,.1f}", exponent]
         row(name, f"{size:,}", *cells)
         before = (name, size, nanos)
 
