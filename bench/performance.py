@@ -188,21 +188,26 @@ def fpage_of(pages, first):
     return first * 4096 + 16 * (12 + pages.bit_length() - 1) + 7
 
 
+def send_pages(receiver, pages, first):
+    """So many pages of space 0 to the same pages of the receiver."""
+    return f"send,0,{receiver},10,{first:x}008,{fpage_of(pages, first):x}"
+
+
 def pages_in_words(pages, rounds):
-    """All pages go to the same pages of space 1 and are taken back, in words of so many pages; again and again."""
+    """All pages go to space 1 and are taken back, in words of so many pages; again and again."""
     for _ in range(rounds):
         for first in range(0, PAGES, pages):
-            yield f"send,0,1,10,{first:x}008,{fpage_of(pages, first):x}"
+            yield send_pages(1, pages, first)
         for first in range(0, PAGES, pages):
             yield unmap(0, fpage_of(pages, first))
 
 
 def over_spaces(spaces, rounds):
-    """131,072 mappings over so many spaces are made and taken back, in words of all pages of a space; again and again."""
+    """Each page goes to 32 of so many spaces, and all are taken back by one unmap; again and again."""
     pages = 32 * PAGES // spaces
     for _ in range(rounds):
-        for space in range(1, 1 + spaces):
-            yield send_fpage(0, space, fpage_of(pages, 0))
+        for number in range(spaces):
+            yield send_pages(1 + number, pages, number // 32 * pages)
         yield unmap(0, ALL_PAGES)
 
 
