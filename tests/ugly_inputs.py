@@ -18,7 +18,7 @@ from support.hostile_traces import lines
 from support.program import Cases, first_difference, program_path
 
 # How many bytes of memory a run may take for each byte of its input.
-MULTIPLE = 80
+MULTIPLE = 32
 
 HEADER = b"l4map,1,2,18,1\n"
 ROOT = "0,0,0,rwx,---,-"
