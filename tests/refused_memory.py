@@ -99,7 +99,8 @@ def main():
     replays = [read_replay(*row) for row in RUNS]
     for replay in replays:
         undisturbed = Ended(0, b"".join(replay.lines), b"")
-        cases.compare(f"{replay.name}: nothing is refused", undisturbed, run([program, *replay.options], replay.trace))
+        # This is what catches a body that always answers that it is out of memory, which meets every contract.
+        cases.compare(f"{replay.name}: nothing is refused (always-no-memory)", undisturbed, run([program, *replay.options], replay.trace))
     with tempfile.TemporaryDirectory() as room, ThreadPoolExecutor(max_workers=os.cpu_count()) as pool:
         library = build_library("fail_alloc.c", room)
         tasks = [
