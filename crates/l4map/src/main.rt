@@ -28,6 +28,8 @@ use trace::{Sink, Std};
 const KEPT_BLOCK: usize = 31 << 20;
 
 /// Reads the program's command line.
+// (It is not compiled into `main`, whose frame would hold all that `clap` wants of the stack as long as the program runs.)
+#[inline(never)]
 fn read_command_line(rt: &(impl AllocGlobal + Env)) -> Result<Options, OptionsError>
     ensures { IfOk result AreServed }
 {
