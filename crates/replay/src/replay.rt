@@ -6,6 +6,7 @@ ghost use Rattle.model.specs.Calls.{accessed};
 ghost use Rattle.model.specs.Text.{reply_line, reply_lines, is_refused, refused_count, audit_lines, end_line};
 ghost use Rattle.holdings.specs.Meaning.{limits_of};
 ghost use Rattle.trace.specs.Meaning.{reply_of};
+ghost use Rattle.trace.specs.Stream.{TellsFailure};
 ghost use Rattle.replay.specs.Options.{AreServed};
 ghost use Rattle.replay.specs.Run.{WritesText, WritesReplay, EndsEarly, WritesNothing, TellsStreams};
 ghost use Rattle.replay.specs.Steps.{replies_of, told_of, PassesOn, StopsAt, StopsAmong, StopsEarly, IsStarted, StartsNot};
@@ -22,7 +23,7 @@ use mapdb::{Database, DbError, Limits};
 use std::alloc::{AllocError, Global};
 use std::sync::Wait;
 use std::thread::Threads;
-use trace::{Reply, Sink, Source, TraceReader, read_to_end};
+use trace::{ReadError, Reply, Sink, Source, TraceReader, read_to_end};
 
 /// The numbers of the last line of a run.
 #[derive(Clone, Copy, Debug, PartialEq, Eq)]
@@ -149,9 +150,20 @@ pub fn run<T: AllocGlobal + Threads + Wait + Sync, R: Source, W: Sink, G: Gate, 
     ensures streams { IfErr result (TellsStreams (R.failed reader.new) (W.failed writer.new)) }
 {
     let alloc = rt.alloc();
-    let bytes = read_to_end(alloc, reader)?;
+    let bytes = read_input(alloc, reader)?;
     let mut trace = TraceReader::new(alloc, &bytes)?;
     replay_trace(rt, &mut trace, writer, options, gate, watch)
+}
+
+/// Reads a source to its end.
+// (It is not compiled into `run`, whose frame would hold what one read fills as long as the trace is replayed.)
+#[inline(never)]
+fn read_input<R: Source>(alloc: Global, reader: &mut R) -> Result<Vec<u8>, ReadError>
+    ensures bytes { IfOk result (λ bytes. IfSome (R.remaining reader.old) (λ input. bytes.items ≡ input)) }
+    ensures ok { OnOk result (R.failed reader.new ≡ R.failed reader.old) }
+    ensures err { IfErr result (TellsFailure (R.failed reader.old) (R.failed reader.new)) }
+{
+    read_to_end(alloc, reader)
 }
 
 /// Replays a trace whose header was read: on a database with its limits, by one crew.

@@ -28,5 +28,5 @@ pub returns-clause-streams : goal.returns-clause-streams
 returns-clause-streams g c =
     let contents = g.W.Sink.contents in
     let failed = g.W.Sink.failed in
-    streams c.in_ok-trace.trace (contents c.args.writer.now) (contents c.replay_trace.new.writer) (g.R.Source.failed c.read_to_end.new.source) (failed c.args.writer.now) (failed c.replay_trace.new.writer) c.replay_trace.result
+    streams c.in_ok-trace.trace (contents c.args.writer.now) (contents c.replay_trace.new.writer) (g.R.Source.failed c.read_input.new.reader) (failed c.args.writer.now) (failed c.replay_trace.new.writer) c.replay_trace.result
     (c.in_ok-bytes.ensures.ok ∙ c.requires.reader) c.requires.writer c.replay_trace.ensures.err
