@@ -1,5 +1,5 @@
 #!/usr/bin/env python3
-"""The program with a stack of 72 KiB: every trace has its answer, however long its chains are, and so has every refusal.
+"""The program with a stack of 64 KiB: every trace has its answer, however long its chains are, and so has every refusal.
 
     tests/little_stack.py [PROGRAM]
 
@@ -14,7 +14,7 @@ from concurrent.futures import ThreadPoolExecutor
 from support import hostile_traces
 from support.program import TOP, Cases, Ended, difference, program_path, run
 
-KIBIBYTES = 72
+KIBIBYTES = 64
 CHOICES = [[], ["--plain"], ["--workers", "1"], ["--workers", "64", "--piece", "1"]]
 
 # The traces that take seconds, which run with fewer choices.
