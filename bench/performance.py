@@ -5,7 +5,7 @@
 
 PROGRAM is crates/l4map/out/l4map, which build.sh makes, if it is not given. The other is plain.rs, built here by `rustc -O`, as is
 launch.rs, by which both are started. Both must write the same bytes. Printed are tables in Markdown: processor time (the user's
-and the system's) of five runs each, and the peak memory. Nothing here has a threshold: the aims stand beside what was measured.
+and the system's) of three runs each, and the peak memory. Nothing here has a threshold: the aims stand beside what was measured.
 
 With --profile it prints instead in which functions of l4map the time of an access and of an unmap goes. That needs `perf`.
 """
@@ -29,8 +29,7 @@ from bench import (  # noqa: E402
 )  # fmt: skip
 from workers import CALLS, SPACES as REVOKED_SPACES, mapped, revocation  # noqa: E402
 
-RUNS = 5
-FEW_RUNS = 3
+RUNS = 3
 MILLION = 1_000_000
 SMALLEST = "l4map,1,2,18,1"
 ONE_FRAME = "l4map,1,512,24,1"
@@ -136,7 +135,7 @@ class Bench:
         """The least processor time of l4map in a few runs on a trace of one frame, in milliseconds. All is taken back at its end, so
         that there is little to audit."""
         trace = self.trace([*records, unmap(0, FIRST_PAGE)], ONE_FRAME)
-        return min(self.run(self.ours, trace).processor for _ in range(FEW_RUNS))
+        return min(self.run(self.ours, trace).processor for _ in range(RUNS))
 
 
 def median(runs):
