@@ -1,0 +1,4 @@
+mod Digits
+mod Made
+mod Counting
+mod Replayed

@@ -1,0 +1,4 @@
+pub mod Asked
+pub mod Task
+pub mod Check
+pub mod Compare

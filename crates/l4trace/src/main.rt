@@ -1,0 +1,226 @@
+//! l4trace: explains the words of a trace, makes them, and checks traces.
+#![tactic(auto)]
+
+ghost use Rattle.std.specs.Prelude.{IfOk};
+ghost use Rattle.l4trace.specs.Task.{IsServed};
+
+mod check;
+mod command_line;
+mod compare;
+mod explain;
+mod fault;
+mod field;
+mod header;
+mod hint;
+mod make;
+mod parts;
+mod places;
+mod role;
+#[cfg(test)]
+mod tests;
+
+use check::{CheckError, Found, Subject, check_trace};
+use command_line::{Task, TaskError, parse};
+use compare::{CompareError, Comparison, compare};
+use explain::explain_all;
+use replay::RunError;
+use std::alloc::AllocError;
+use std::env::Env;
+use std::io::{BufWriter, ErrorKind};
+use std::process::ExitCode;
+use std::rt::Files;
+use std::sync::Wait;
+use std::thread::Threads;
+use std::{env, fs, io};
+use trace::{ReadError, Sink, Std, read_to_end};
+
+/// Reads the program's command line.
+fn read_command_line(rt: &(impl AllocGlobal + Env)) -> Result<Task, TaskError>
+    ensures { IfOk result IsServed }
+{
+    let alloc = rt.alloc();
+    let arguments = match env::args(rt) {
+        Ok(arguments) => arguments,
+        Err(error) if error.kind() == ErrorKind::InvalidData => {
+            return Err(TaskError::Refused(String::from_str(
+                alloc,
+                "error: an argument is not valid UTF-8\n",
+            )?));
+        }
+        Err(_) => return Err(TaskError::NoMemory),
+    };
+    let words: Vec<String> = arguments.collect(alloc)?;
+    let mut texts = Vec::with_capacity(alloc, words.len())?;
+    for word in &words {
+        texts.push(word.as_str()).map_err(AllocError::from)?;
+    }
+    parse(alloc, &texts)
+}
+
+/// Why the program ends early.
+#[derive(Clone, Copy, Debug, PartialEq, Eq)]
+pub enum ToolError {
+    /// Out of memory.
+    NoMemory,
+    /// A trace cannot be opened or read.
+    Unreadable,
+    /// A write failed.
+    WriteFailed,
+    /// A replay ended early.
+    Run(RunError),
+}
+
+impl From<ReadError> for ToolError {
+    fn from(error: ReadError) -> Self {
+        match error {
+            ReadError::Failed => ToolError::Unreadable,
+            ReadError::NoMemory => ToolError::NoMemory,
+        }
+    }
+}
+
+impl From<CheckError> for ToolError {
+    fn from(error: CheckError) -> Self {
+        match error {
+            CheckError::NoMemory => ToolError::NoMemory,
+            CheckError::WriteFailed => ToolError::WriteFailed,
+        }
+    }
+}
+
+impl From<AllocError> for ToolError {
+    fn from(_: AllocError) -> Self {
+        ToolError::NoMemory
+    }
+}
+
+/// Writes a text to standard output.
+fn print(rt: &impl Print, text: &str) -> Result<(), ToolError> {
+    Std::new(io::writer(rt))
+        .write_all(text.as_bytes())
+        .map_err(|_| ToolError::WriteFailed)
+}
+
+impl From<CompareError> for ToolError {
+    fn from(error: CompareError) -> Self {
+        match error {
+            CompareError::Run(error) => ToolError::Run(error),
+            CompareError::NoMemory => ToolError::NoMemory,
+            CompareError::WriteFailed => ToolError::WriteFailed,
+        }
+    }
+}
+
+/// Reads a file, or standard input where its name is `-`.
+fn read_trace(rt: &(impl AllocGlobal + Input + Files), name: &str) -> Result<Vec<u8>, ToolError> {
+    let alloc = rt.alloc();
+    if name == "-" {
+        return Ok(read_to_end(alloc, &mut Std::new(rt.reader()))?);
+    }
+    let Ok(file) = fs::open(rt, name) else {
+        return Err(ToolError::Unreadable);
+    };
+    Ok(read_to_end(alloc, &mut Std::new(file))?)
+}
+
+/// Checks a trace, and returns whether its header or a record is refused.
+fn check_named(
+    rt: &(impl AllocGlobal + Input + Print + Files),
+    name: &str,
+    most: u64,
+) -> Result<bool, ToolError> {
+    let bytes = read_trace(rt, name)?;
+    let Ok(output) = BufWriter::new(rt.alloc(), io::writer(rt)) else {
+        return Err(ToolError::NoMemory);
+    };
+    let mut writer = Std::new(output);
+    let subject = Subject {
+        name,
+        bytes: &bytes,
+        most,
+    };
+    let found = check_trace(rt.alloc(), &subject, &mut writer)?;
+    writer.flush().map_err(|_| ToolError::WriteFailed)?;
+    match found {
+        Found::Records {
+            records: _,
+            refused,
+        } => Ok(refused > 0),
+        _ => Ok(true),
+    }
+}
+
+/// Compares answers with those of l4map, and returns whether they differ.
+fn compare_named(
+    rt: &(impl AllocGlobal + Input + Print + Files + Threads + Wait + Sync),
+    trace: &str,
+    answers: &str,
+    audit: bool,
+) -> Result<bool, ToolError> {
+    let bytes = read_trace(rt, trace)?;
+    let told = read_trace(rt, answers)?;
+    let comparison = Comparison {
+        name: trace,
+        trace: &bytes,
+        answers: &told,
+        audit,
+    };
+    Ok(compare(rt, &comparison, &mut Std::new(io::writer(rt)))?)
+}
+
+/// Does a task, and returns whether something was found.
+fn perform(
+    rt: &(impl AllocGlobal + Input + Print + Files + Threads + Wait + Sync),
+    task: &Task,
+) -> Result<bool, ToolError>
+    requires { IsServed task.now }
+{
+    match task {
+        Task::Explain { words, bits } => {
+            let mut text = String::new(rt.alloc());
+            explain_all(&mut text, words, *bits)?;
+            print(rt, text.as_str())?;
+        }
+        Task::Tell(text) => print(rt, text.as_str())?,
+        Task::Compare {
+            trace,
+            answers,
+            audit,
+        } => return compare_named(rt, trace.as_str(), answers.as_str(), *audit),
+        Task::Check { trace, most } => return check_named(rt, trace.as_str(), *most),
+    }
+    Ok(false)
+}
+
+/// The line and the exit status of an error.
+fn told(error: ToolError) -> (&'static str, u8) {
+    match error {
+        ToolError::Run(RunError::BadHeader) => ("l4trace: BadHeader\n", 2),
+        ToolError::Run(RunError::BadLimits) => ("l4trace: BadLimits\n", 2),
+        ToolError::Run(_) => ("l4trace: the replay ended early\n", 3),
+        ToolError::NoMemory => ("l4trace: NoMemory\n", 3),
+        ToolError::Unreadable => ("l4trace: Unreadable\n", 4),
+        ToolError::WriteFailed => ("l4trace: WriteFailed\n", 4),
+    }
+}
+
+fn main(rt: HostRuntime) -> ExitCode {
+    let outcome = match read_command_line(&rt) {
+        Ok(task) => perform(&rt, &task),
+        Err(TaskError::NoMemory) => Err(ToolError::NoMemory),
+        Err(TaskError::Help(text)) => print(&rt, text.as_str()).map(|_| false),
+        Err(TaskError::Refused(text)) => {
+            // Where standard error cannot be written, the status still tells.
+            let _ = Std::new(rt.stderr()).write_all(text.as_bytes());
+            return ExitCode::from(2);
+        }
+    };
+    match outcome {
+        Ok(found) => ExitCode::from(u8::from(found)),
+        Err(error) => {
+            let (line, status) = told(error);
+            let _ = Std::new(rt.stderr()).write_all(line.as_bytes());
+            ExitCode::from(status)
+        }
+    }
+}

@@ -1,0 +1,334 @@
+#!/usr/bin/env python3
+"""What l4trace says of words and of traces, by answers worked out by hand from docs/FORMATS.md.
+
+    tests/l4trace.py [PROGRAM]
+
+The number of refused records of each trace is compared with that of the last line of l4map too.
+"""
+
+import os
+import sys
+import tempfile
+
+from support.program import TOP, Cases, Ended, give_up, run
+
+L4MAP = os.path.join(TOP, "crates", "l4map", "out", "l4map")
+NO_ITEM = "NotAnItem: its last digit is %s; that of a MapItem is 8 or 9, of a GrantItem a or b"
+HIGH_BIT = "BadControl: it has a bit above bit 6"
+
+
+def tool_path():
+    """The program named by the first argument, or the proved one. Where there is none, the script ends."""
+    default = os.path.join(TOP, "crates", "l4trace", "out", "l4trace")
+    path = os.path.abspath(sys.argv[1]) if len(sys.argv) > 1 else default
+    for program in (path, L4MAP):
+        if not os.access(program, os.X_OK):
+            give_up(f"there is no program {program}: ./build.sh proves it and builds it")
+    return path
+
+
+# A word, the bits of a space, and what the word is as an fpage, as the first word of an item and as a control word.
+WORDS = [
+    ("50c6", 24, "page 5, rights rw-; base 5000, s 12: 4K", NO_ITEM % 6, HIGH_BIT),
+    ("50CE", 24, "page 5, rights rw-; base 5000, s 12: 4K", NO_ITEM % "e", HIGH_BIT),
+    ("40e7", 24, "pages 4 to 7 (4 pages), rights rwx; base 4000, s 14: 16K", NO_ITEM % 7, HIGH_BIT),
+    ("d7", 24, "pages 0 to 1 (2 pages), rights rwx; base 0, s 13: 8K", NO_ITEM % 7, HIGH_BIT),
+    ("117", 24, "pages 0 to 31 (32 pages), rights rwx; base 0, s 17: 128K", NO_ITEM % 7, HIGH_BIT),
+    ("180", 24, "pages 0 to 4095 (4096 pages), rights ---; base 0, s 24: 16M", NO_ITEM % 0, HIGH_BIT),
+    ("14", 18, "pages 0 to 63 (64 pages), rights r--; the complete space", NO_ITEM % 4, "21 fpage words follow, without flush"),
+    ("10", 24, "pages 0 to 4095 (4096 pages), rights ---; the complete space", NO_ITEM % 0, "17 fpage words follow, without flush"),
+    ("00000005", 24, "no page, rights r-x; the nilpage", NO_ITEM % 5, "6 fpage words follow, without flush"),
+    ("a", 24, "no page, rights -w-; the nilpage", "GrantItem, send base 0: page 0", "11 fpage words follow, without flush"),
+    ("9008", 24, "BadSize: s is 0, the nilpage, but there is a base, 9000", "MapItem, send base 9000: page 9", HIGH_BIT),
+    ("9ffb", 24, "Misaligned: base 9c00 is no multiple of the size, 2^63 bytes", "GrantItem, send base 9c00: page 9", HIGH_BIT),
+    ("410", 24, "BadSize: s is 1, the complete space, but there is a base, 400", NO_ITEM % 0, HIGH_BIT),
+    ("b7", 24, "BadSize: s is 11; that of one page is 12", NO_ITEM % 7, HIGH_BIT),
+    ("40", 24, "BadSize: s is 4; that of one page is 12", NO_ITEM % 0, "1 fpage word follows, with flush"),
+    ("7f", 24, "BadSize: s is 7; that of one page is 12", NO_ITEM % "f", "64 fpage words follow, with flush"),
+    ("10d7", 24, "Misaligned: base 1000 is no multiple of the size, 8K; the next good base is 2000: 20d7", NO_ITEM % 7, HIGH_BIT),
+    ("3f0d7", 18, "Misaligned: base 3f000 is no multiple of the size, 8K", NO_ITEM % 7, HIGH_BIT),
+    ("400c7", 18, "OutOfSpace: it ends at 41000, and a space of 18 bits at 40000", NO_ITEM % 7, HIGH_BIT),
+    ("400c7", 19, "page 64, rights rwx; base 40000, s 12: 4K", NO_ITEM % 7, HIGH_BIT),
+    ("3f7", 24, "OutOfSpace: it ends at 8000000000000000, and a space of 24 bits at 1000000", NO_ITEM % 7, HIGH_BIT),
+    ("fffff0c7", 24, "OutOfSpace: it ends at 100000000, and a space of 24 bits at 1000000", NO_ITEM % 7, HIGH_BIT),
+]
+
+# Arguments, and the words that they make.
+MADE = [
+    ("--base 5000 --size 4K --rights rw", "50c6"),
+    ("--base 4000 --size 16384 --rights rwx", "40e7"),
+    ("--size complete --rights r", "14"),
+    ("--size nil --rights -", "0"),
+    ("--size 4K", "c7"),
+    ("--base ff0000 --size 64K --rights x", "ff0101"),
+    ("--map 9000", "9008"),
+    ("--grant 0", "a"),
+    ("--map 9000 --base 5000 --size 4K --rights rw", "9008,50c6"),
+    ("--grant 400 --size complete", "40a,17"),
+    ("--control 1", "0"),
+    ("--control 1 --flush", "40"),
+    ("--control 64 --flush", "7f"),
+]
+
+# Arguments that are refused, and the line that says why.
+REFUSED = [
+    ("50g6", "error: '50g6' is not 1 to 8 hexadecimal digits"),
+    ("0x50c6", "error: '0x50c6' is not 1 to 8 hexadecimal digits"),
+    ("000050c67", "error: '000050c67' is not 1 to 8 hexadecimal digits"),
+    ("--size 3K", "error: '3K' is not a size: a power of two from 4096 or 4K on, or nil, or complete"),
+    ("--size 4K --rights rwy", "error: 'rwy' is not rights: r, w and x, or - for none"),
+    ("--base 5k --size 4K", "error: '5k' is not 1 to 8 hexadecimal digits"),
+    ("--base 1000 --size 8K", "error: Misaligned: base 1000 is no multiple of the size, 8K"),
+    ("--base 1000 --size complete", "error: BadSize: s is 1, the complete space, but there is a base, 1000"),
+    ("--base 40000 --size 4K --bits 18", "error: OutOfSpace: it ends at 41000, and a space of 18 bits at 40000"),
+    ("--map 9100", "error: a send base is a multiple of 400 (1024 bytes)"),
+    ("", "error: give a word to explain, or --size, --map, --grant or --control to make one"),
+]
+
+HEADER = "l4map,1,3,18,16\n"
+A_SEND = "a send has a sender, a receiver, a window, and two words for each of 1 to 31 items"
+PADDING = "a spreadsheet fills its rows up so: leave out the commas at the end"
+
+# A record behind a header of three spaces of 18 bits: the column, the refusal and the cause, or nothing if it is taken.
+RECORDS = [
+    ("send,0,1,10,8,c7", ""),
+    ("send,0,1,10,8,c7,1008,10c7", ""),
+    ("access,2,3ffff,x", ""),
+    ("unmap,1,41,17,0", ""),
+    ("access,1,0x3abc,r", "10 BadRecord: the address is '0x3abc', not 1 to 8 hexadecimal digits; leave out the 0x"),
+    ("access,1,0,R", "12 BadRecord: the kind of access is 'R', not r, w or x; kinds are in lower case"),
+    ("access,a,0,r", "8 BadRecord: the space is 'a', not 1 to 5 decimal digits, at most 65535; spaces are decimal"),
+    ("access,65536,0,r", "8 BadRecord: the space is '65536', not 1 to 5 decimal digits, at most 65535"),
+    ("access, 1,0,r", "8 BadRecord: the space is ' 1', not 1 to 5 decimal digits, at most 65535; leave out the spaces around it"),
+    ("access,1,0", "10 BadRecord: an access has a space, an address and a kind; 2 fields stand behind the name"),
+    ("access,1,0,r,r", "14 BadRecord: an access has a space, an address and a kind; 4 fields stand behind the name"),
+    ("access,1,0,r,,", "14 BadRecord: the last 2 fields are empty; " + PADDING),
+    ("access,1,,r", "10 BadRecord: the address is '', not 1 to 8 hexadecimal digits"),
+    ("access", "1 BadRecord: an access has a space, an address and a kind; 0 fields stand behind the name"),
+    ("send,0,1,10", f"10 BadRecord: {A_SEND}; 3 fields stand behind the name"),
+    ("send,0,1,10,8", f"13 BadRecord: {A_SEND}; 4 fields stand behind the name"),
+    ("send,0,1,10,4E+07,c7", "13 BadRecord: the first word of item 1 is '4E+07', not 1 to 8 hexadecimal digits; a spreadsheet may have made a number of it: give its column the format of text"),
+    ("send,0,1,10,8,c7,8,50c7h", "20 BadRecord: the send fpage of item 2 is '50c7h', not 1 to 8 hexadecimal digits; leave out the h"),
+    ("send,0,1,10h,8,c7", "10 BadRecord: the window is '10h', not 1 to 8 hexadecimal digits; leave out the h"),
+    ("send,0,-1,10,8,c7", "8 BadRecord: the receiver is '-1', not 1 to 5 decimal digits, at most 65535"),
+    ("unmap,0", "7 BadRecord: an unmap has a space, a control word, and fpage words; 1 field stands behind the name"),
+    ("unmap,0,0,c7,", "14 BadRecord: the last field is empty; " + PADDING),
+    ("SEND,0,1,10,8,c7", "1 BadRecord: the name is 'SEND', not send, access or unmap; names are in lower case"),
+    ("send;0;1;10;8;c7", "1 BadRecord: the name is 'send;0;1;10;8;c7', not send, access or unmap; fields are separated by commas, not by semicolons"),
+    ("send\t0\t1\t10\t8\tc7", "1 BadRecord: the name is 'send\\x090\\x091\\x0910\\x098\\x09c7', not send, access or unmap; fields are separated by commas, not by tabs"),
+    ('"send,0,1,10,8,c7"', " BadRecord: the name is 'send,0,1,10,8,c7', not send, access or unmap; a quote joins fields: leave out the quotes"),
+    ("l4map,1,3,18,16", "1 BadRecord: the name is 'l4map', not send, access or unmap; a header stands only at the start"),
+    ("map,0,1", "1 BadRecord: the name is 'map', not send, access or unmap"),
+    ("send,0,1,a7,8,c7", "10 BadSize: the window is a7: s is 10; that of one page is 12"),
+    ("send,0,1,10,8,10d7", "15 Misaligned: the send fpage of item 1 is 10d7: base 1000 is no multiple of the size, 8K; the next good base is 2000: 20d7"),
+    ("send,0,1,10,8,400c7", "15 OutOfSpace: the send fpage of item 1 is 400c7: it ends at 41000, and a space of 18 bits at 40000"),
+    ("send,0,1,10,9000,c7", "13 NotAnItem: the first word of item 1 is 9000: its last digit is 0; that of a MapItem is 8 or 9, of a GrantItem a or b"),
+    ("send,0,1,10,8,c7,c,c7", "18 NotAnItem: the first word of item 2 is c: its last digit is c; that of a MapItem is 8 or 9, of a GrantItem a or b"),
+    ("send,0,3,10,8,c7", "8 NoSuchSpace: the receiver is 3; spaces are 0 to 2"),
+    ("send,3,4,10,8,c7", "6 NoSuchSpace: the sender is 3; spaces are 0 to 2"),
+    ("send,1,1,10,8,c7", "8 SameSpace: the sender is the receiver too"),
+    ("send,0,1,7,8,c7", "10 NoWindow: the window is the nilpage, which has no pages"),
+    ("access,3,0,r", "8 NoSuchSpace: the space is 3; spaces are 0 to 2"),
+    ("access,1,40000,r", "10 OutOfSpace: the address is 40000: a space of 18 bits ends at 40000"),
+    ("unmap,3,0,c7", "7 NoSuchSpace: the space is 3; spaces are 0 to 2"),
+    ("unmap,0,1,c7", "9 BadControl: the control word is 1: the fpage words behind it are 1, and it says 2"),
+    ("unmap,0,0", "9 BadControl: the control word is 0: the fpage words behind it are 0, and it says 1"),
+    ("unmap,0,80,c7", "9 BadControl: the control word is 80: it has a bit above bit 6"),
+    ("unmap,0,1,c7,10d7", "14 Misaligned: fpage word 2 is 10d7: base 1000 is no multiple of the size, 8K; the next good base is 2000: 20d7"),
+]
+
+# A header, and the line and the rest of what is told of it.
+HEADERS = [
+    (b"", "1: header: BadHeader: there is no record"),
+    (b"\n\n", "3: header: BadHeader: there is no record"),
+    (b"\n\nl4map,2,3,18,16\n", "3:7: header: BadHeader: the version is '2', not 1"),
+    (b"\xef\xbb\xbfL4MAP,1,3,18,16\n", "1:1: header: BadHeader: the first field is 'L4MAP', not l4map; names are in lower case"),
+    (b"l4map;1;3;18;16\n", "1:1: header: BadHeader: the first field is 'l4map;1;3;18;16', not l4map; fields are separated by commas, not by semicolons"),
+    (b"l4map,1,3,18\n", "1:11: header: BadHeader: a header has 5 fields: l4map, 1, spaces, bits, frames; here are 4"),
+    (b"l4map,1,3,18,16,,\n", "1:17: header: BadHeader: the last 2 fields are empty; " + PADDING),
+    (b"l4map,1,0x3,18,16\n", "1:9: header: BadHeader: the number of spaces is '0x3', not 1 to 7 decimal digits; leave out the 0x"),
+    (b"l4map,1,3,18,16.0\n", "1:14: header: BadHeader: the number of frames is '16.0', not 1 to 7 decimal digits; a spreadsheet may have made a number of it: give its column the format of text"),
+    ("l4map,1,3,18,16\n".encode("utf-16"), "1:1: header: BadHeader: the first field is '\\xff\\xfel\\x004\\x00m\\x00a\\x00p\\x00', not l4map; the file is UTF-16: save it as UTF-8"),
+    (b"send,0,1,10,8,c7\n", "1:1: header: BadHeader: the first field is 'send', not l4map"),
+    (b"l4map,1,513,18,16\n", "1:9: header: BadLimits: 513 spaces; there are 2 to 512"),
+    (b"l4map,1,3,25,16\n", "1:11: header: BadLimits: 25 bits; a space has 18 to 24"),
+    (b"l4map,1,3,18,65\n", "1:14: header: BadLimits: 65 frames; there are 1 to 64, as many as a space of 18 bits has pages"),
+]
+
+# Traces whose lines end in other ways, and where the refused records stand.
+PLACES = [
+    ("empty lines", b"l4map,1,3,18,16\n\n\nbad\n\nbad\n", ["4:1: record 1", "6:1: record 2"]),
+    ("carriage returns with line feeds", b"l4map,1,3,18,16\r\naccess,1,0,r\r\nbad\r\n", ["3:1: record 2"]),
+    ("carriage returns alone", b"l4map,1,3,18,16\raccess,1,0,r\rbad\rbad", ["3:1: record 2", "4:1: record 3"]),
+    ("a byte order mark", b"\xef\xbb\xbfl4map,1,3,18,16\nbad", ["2:1: record 1"]),
+    ("a field over two lines", b'l4map,1,3,18,16\naccess,1,"0\n",r\nbad\n', ["2: record 1", "4:1: record 2"]),
+    ("a field in quotes", b'l4map,1,3,18,16\n"access",1,g,r\n', ["2: record 1"]),
+]
+
+
+def ended(status, *lines):
+    return Ended(status, "".join(line + "\n" for line in lines).encode(), b"")
+
+
+def counted(records, refused):
+    noun = "record" if records == 1 else "records"
+    return f"{records} {noun}, {refused} refused"
+
+
+def check_words(cases, program):
+    for word, bits, fpage, item, control in WORDS:
+        lines = (word.lower().lstrip("0"), f"  fpage: {fpage}", f"  first word of an item: {item}", f"  control word: {control}")
+        cases.compare(f"word {word} of {bits} bits", ended(0, *lines), run([program, "word", word, "--bits", str(bits)]))
+    for arguments, made in MADE:
+        cases.compare(f"word {arguments}", ended(0, made), run([program, "word", *arguments.split()]))
+    for arguments, why in REFUSED:
+        wanted = Ended(2, b"", (why + "\n").encode())
+        cases.compare(f"word {arguments}", wanted, run([program, "word", *arguments.split()]))
+
+
+def compare_count(cases, name, given, got):
+    """The last line of a check has the numbers of the last line of l4map."""
+    last = run(L4MAP, given).stdout.decode().splitlines()[-1].split()
+    wanted = counted(int(last[1]), int(last[2]))
+    told = got.stdout.decode().splitlines()[-1:]
+    cases.check(f"{name}; as l4map counts", "" if told == [wanted] else f"{told} in place of {wanted}")
+
+
+def check_records(cases, program):
+    for record, told in RECORDS:
+        given = (HEADER + record + "\n").encode()
+        lines = [counted(1, 1 if told else 0)]
+        if told:
+            column, cause = told.split(" ", 1)
+            lines.insert(0, f"-:2:{column + ': ' if column else ' '}record 1: {cause}")
+        got = run([program, "check", "-"], given)
+        cases.compare(f"check {record}", ended(1 if told else 0, *lines), got)
+        compare_count(cases, f"check {record}", given, got)
+    for header, told in HEADERS:
+        cases.compare(f"check {header!r}", ended(1, f"-:{told}"), run([program, "check", "-"], header))
+    for name, given, places in PLACES:
+        got = run([program, "check", "-"], given)
+        lines = got.stdout.decode().splitlines()[:-1]
+        alike = len(lines) == len(places) and all(line.startswith(f"-:{place}: ") for line, place in zip(lines, places))
+        cases.check(f"places with {name}", "" if alike else f"{lines} in place of {places}")
+        compare_count(cases, f"places with {name}", given, got)
+
+
+def check_program(cases, program):
+    """Files, --max, help, and what cannot be read."""
+    with tempfile.TemporaryDirectory() as room:
+        path = os.path.join(room, "a trace.csv")
+        with open(path, "wb") as trace:
+            trace.write((HEADER + "bad\n" * 3 + "access,0,0,r\n").encode())
+        cause = "BadRecord: the name is 'bad', not send, access or unmap"
+        lines = [f"{path}:{n + 1}:1: record {n}: {cause}" for n in (1, 2, 3)]
+        cases.compare("check of a file", ended(1, *lines, "4 records, 3 refused"), run([program, "check", path]))
+        lines = [lines[0], ".. and 2 more; --max tells more of them", "4 records, 3 refused"]
+        cases.compare("check with --max 1", ended(1, *lines), run([program, "check", "--max", "1", path]))
+        missing = os.path.join(room, "missing")
+        cases.compare("check of no file", Ended(4, b"", b"l4trace: Unreadable\n"), run([program, "check", missing]))
+        cases.compare("check of a folder", Ended(4, b"", b"l4trace: Unreadable\n"), run([program, "check", room]))
+    for arguments, example in (("--help", "Exit status"), ("word --help", "9008,50c6"), ("check --help", "leave out the 0x"), ("compare --help", "first difference")):
+        got = run([program, *arguments.split()])
+        good = got.status == 0 and example in got.stdout.decode() and not got.stderr
+        cases.check(arguments, "" if good else f"{got}")
+    for arguments in ("", "chek t", "check", "word 50c6 --size 4K", "word --rights rw", "word --control 0", "word --flush", "compare t"):
+        got = run([program, *arguments.split()])
+        good = got.status == 2 and not got.stdout and got.stderr
+        cases.check(f"refused: {arguments}", "" if good else f"{got}")
+
+
+# Two spaces: page 0 of space 0 is mapped to 1:3, read there, and the right to write is taken from it again.
+TRACE = b"l4map,1,2,18,1\nsend,0,1,10,3008,c6\naccess,1,3abc,r\n\nunmap,0,0,c2\n"
+ANSWERS = [
+    "1 send absent=0 norights=0 origin=0 lost=0 extended=0 linked=1",
+    "2 access ok",
+    "3 unmap 000000c4",
+    "0,0,0,rwx,---,-",
+    "1,3,0,r--,---,0:0",
+    "end 3 0",
+]
+# What each record of it changes.
+CHANGES = {
+    1: ("send,0,1,10,3008,c6", 2, ["    + 1,3,0,rw-,---,0:0"]),
+    2: ("access,1,3abc,r", 3, ["    - 1,3,0,rw-,---,0:0", "    + 1,3,0,rw-,R--,0:0"]),
+    3: ("unmap,0,0,c2", 5, ["    - 1,3,0,rw-,R--,0:0", "    + 1,3,0,r--,---,0:0"]),
+}
+
+
+def changed(number, line):
+    """The answers with another line in place of the one with this number, or without it."""
+    return [*ANSWERS[: number - 1], *([line] if line else []), *ANSWERS[number:]]
+
+
+def differs(path, number, ours, theirs):
+    """What is told of a first difference."""
+    lines = [f"first difference: line {number}", f"  l4map:   {ours}", f"  answers: {theirs}"]
+    if number in CHANGES:
+        record, line, changes = CHANGES[number]
+        lines += [f"  record {number}, {path}:{line}: {record}", "  it changes these mappings:", *changes]
+    return ended(1, *lines)
+
+
+def text_of(lines):
+    return "".join(line + "\n" for line in lines).encode()
+
+
+def compare_answers(cases, program):
+    with tempfile.TemporaryDirectory() as room:
+        path = os.path.join(room, "trace.csv")
+        with open(path, "wb") as trace:
+            trace.write(TRACE)
+
+        def compared(answers, *arguments):
+            return run([program, "compare", path, "-", *arguments], answers)
+
+        same = ended(0, "no difference")
+        cases.compare("compare with the right answers", same, compared(text_of(ANSWERS)))
+        for number, other in (
+            (1, ANSWERS[0].replace("linked=1", "linked=0")),
+            (2, "2 access fault"),
+            (3, "3 unmap 000000c6"),
+            (4, "0,0,0,rwx,R--,-"),
+            (5, "1,3,0,rw-,---,0:0"),
+            (6, "end 3 1"),
+        ):
+            got = compared(text_of(changed(number, other)))
+            cases.compare(f"compare with another line {number}", differs(path, number, ANSWERS[number - 1], other), got)
+        cases.compare("compare with no reply to record 2", differs(path, 2, ANSWERS[1], ANSWERS[2]), compared(text_of(changed(2, None))))
+        cases.compare("compare with no audit", differs(path, 4, ANSWERS[3], "(the end)"), compared(text_of(ANSWERS[:3])))
+        cases.compare("compare with a line too many", differs(path, 7, "(the end)", "more"), compared(text_of([*ANSWERS, "more"])))
+        cases.compare("compare with nothing", differs(path, 1, ANSWERS[0], "(the end)"), compared(b""))
+        got = compared(text_of(ANSWERS).replace(b"\n", b"\r\n"))
+        cases.compare("compare with carriage returns", differs(path, 1, ANSWERS[0], ANSWERS[0] + "\\x0d"), got)
+        audit = ANSWERS[3:5]
+        cases.compare("--audit with the whole", same, compared(text_of(ANSWERS), "--audit"))
+        cases.compare("--audit with other replies", same, compared(text_of(changed(3, "3 unmap 000000c6")), "--audit"))
+        cases.compare("--audit with the audit alone", same, compared(text_of(audit), "--audit"))
+        wanted = ended(1, "first difference: line 2", f"  l4map:   {audit[1]}", "  answers: 1,3,0,rw-,---,0:0")
+        cases.compare("--audit with another audit", wanted, compared(text_of([audit[0], "1,3,0,rw-,---,0:0"]), "--audit"))
+        wanted = Ended(4, b"", b"l4trace: Unreadable\n")
+        cases.compare("compare with no file", wanted, run([program, "compare", path, os.path.join(room, "missing")]))
+    wanted = Ended(2, b"", b"l4trace: BadHeader\n")
+    cases.compare("compare of no trace", wanted, run([program, "compare", "-", "/dev/null"], b"l4map,2\n"))
+
+
+def check_many(cases, program):
+    """Half a million records, of which one is refused."""
+    many = (HEADER + "access,0,0,r\n" * 500_000 + "access,0,0,q\n").encode()
+    cause = "BadRecord: the kind of access is 'q', not r, w or x"
+    wanted = ended(1, f"-:500002:12: record 500001: {cause}", "500001 records, 1 refused")
+    cases.compare("check of half a million records", wanted, run([program, "check", "-"], many))
+
+
+def main():
+    program, cases = tool_path(), Cases()
+    check_words(cases, program)
+    check_records(cases, program)
+    check_program(cases, program)
+    compare_answers(cases, program)
+    check_many(cases, program)
+    cases.end()
+
+
+main()
