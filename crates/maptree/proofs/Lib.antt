@@ -25,6 +25,7 @@ pub mod Linking
 pub mod Grouping
 pub mod OnePlace
 pub mod Found
+pub mod OneReplaced
 pub mod OneRun
 pub mod Named
 pub mod Listed

@@ -26,7 +26,7 @@ module _ (p q : Place) where
   kept : (n : Node) → same_place p n.place ≡ false → replaced p q n ≡ n
   kept n apart = rw apart refl
 
-  all_kept : (ns : List Node) → is_new p ns ≡ true → map (replaced p q) ns ≡ ns
+  pub all_kept : (ns : List Node) → is_new p ns ≡ true → map (replaced p q) ns ≡ ns
   all_kept [] new = refl
   all_kept (n ∷ ns) new =
       let parts = and_parts (not (same_place p n.place)) (is_new p ns) new in

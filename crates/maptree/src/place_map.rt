@@ -22,7 +22,7 @@ impl Model for PlaceMap {
 }
 
 impl PlaceMap {
-    ghost use Rattle.std.specs.Prelude.{◌≡◌, ◌≤◌, OnOk, OnErr, None, Some, if◌then◌else◌};
+    ghost use Rattle.std.specs.Prelude.{◌≡◌, ◌≤◌, OnOk, OnErr, IfSome, None, Some, if◌then◌else◌};
     ghost use Rattle.space.specs.declared.place.Place.{Place};
     ghost use Rattle.space.specs.Place.{same_place};
     ghost use Rattle.maptree.specs.PlaceMaps.{place_for};
@@ -67,5 +67,19 @@ impl PlaceMap {
         }
         let at = self.places.get((key.page - self.first) as usize);
         at.copied().flatten()
+    }
+    /// The one entry, the first page's, where the map was never asked to hold another.
+    pub fn only(&self) -> Option<(Place, Place)>
+        ensures { IfSome result (λ o. (p : Place) → place_for self.now p ≡ (if same_place p o.0 then Some o.1 else None)) }
+    {
+        let [entry] = &self.places[..] else {
+            return None;
+        };
+        let place = (*entry)?;
+        let key = Place {
+            space: self.space,
+            page: self.first,
+        };
+        Some((key, place))
     }
 }

@@ -3,7 +3,9 @@ ghost use Rattle.std.specs.List.{list_any};
 ghost use Rattle.space.specs.Place.{same_place};
 ghost use Rattle.space.specs.declared.place.Place.{Place};
 ghost use Rattle.maptree.specs.Origins.{origin_in, place_at, AreOuterRuns};
-ghost use Rattle.maptree.specs.Nodes.{is_forest, origins_of, run_len};
+ghost use Rattle.maptree.specs.Nodes.{is_forest, are_distinct, origins_of, run_len};
+ghost use Rattle.maptree.specs.PlaceMaps.{place_for};
+ghost use Rattle.maptree.specs.Renamings.{nodes_renamed};
 
 use crate::node::Node;
 use crate::node_list::NodeList;
@@ -267,7 +269,7 @@ impl Tree {
         ensures links { self.new.links ≡ all_renamed (place_for new.now) self.old.links }
         ensures room { self.new.room ≡ self.old.room }
     {
-        self.nodes.rename_all(new);
+        replace_in(&mut self.nodes, new);
     }
 
     /// Puts a new node directly behind a node, one deeper. This takes no memory.
@@ -281,6 +283,22 @@ impl Tree {
     {
         let depth = self.nodes.get(i).depth + 1;
         self.nodes.insert(i + 1, Node { place, depth });
+    }
+}
+
+/// Each node whose place has one in the map gets that. The one entry of a map is searched for: a pass over all nodes would
+/// look each of them up.
+fn replace_in(nodes: &mut NodeList, new: &PlaceMap)
+    requires { are_distinct nodes.old.nodes ≡ true }
+    ensures nodes { nodes.new.nodes ≡ nodes_renamed (place_for new.now) nodes.old.nodes }
+    ensures room { nodes.new.room ≡ nodes.old.room }
+{
+    let Some((old, place)) = new.only() else {
+        nodes.rename_all(new);
+        return;
+    };
+    if let Some(i) = nodes.find(old) {
+        nodes.set_place(i, place);
     }
 }
 

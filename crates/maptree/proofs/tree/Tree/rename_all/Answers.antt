@@ -1,18 +1,22 @@
 -- The nodes with their new places are a forest, and the tree with its places replaced.
 use Rattle.std.proofs.Common.{subst, sym, ap, ◌∙◌}
+use Rattle.std.proofs.lemmas.Bool.{and_parts}
 use Rattle.maptree.specs.Origins.{Shape}
-use Rattle.maptree.specs.Nodes.{is_forest, origins_of}
+use Rattle.maptree.specs.Nodes.{are_depths, are_distinct, is_forest, origins_of}
 use Rattle.maptree.specs.PlaceMaps.{place_for}
 use Rattle.maptree.specs.Renamings.{all_renamed, StayApart}
 use Rattle.maptree.proofs.ManyRenamed.{all_renamed_says, all_renamed_forest}
 use Rattle.maptree.proofs.tree.Tree.rename_all.Goals as goal
 
+pub replace_in-requires : goal.replace_in-requires
+replace_in-requires c = let nodes = c.self.inside.nodes.nodes in (and_parts (are_depths 0 nodes) (are_distinct nodes) c.self.invariant).1
+
 pub invariant_of-self : goal.invariant_of-self
 invariant_of-self c =
     let new = place_for c.args.new.now in
-    ap is_forest c.rename_all.ensures.nodes ∙ all_renamed_forest new c.self.inside.nodes.nodes c.self.invariant (subst (λ (s : Shape). StayApart new s.links) (sym c.self.view_is) c.requires.apart)
+    ap is_forest c.replace_in.ensures.nodes ∙ all_renamed_forest new c.self.inside.nodes.nodes c.self.invariant (subst (λ (s : Shape). StayApart new s.links) (sym c.self.view_is) c.requires.apart)
 
 pub returns-clause-links : goal.returns-clause-links
 returns-clause-links c =
     let new = place_for c.args.new.now in
-    ap origins_of c.rename_all.ensures.nodes ∙ all_renamed_says new c.self.inside.nodes.nodes ∙ ap (λ (s : Shape). all_renamed new s.links) c.self.view_is
+    ap origins_of c.replace_in.ensures.nodes ∙ all_renamed_says new c.self.inside.nodes.nodes ∙ ap (λ (s : Shape). all_renamed new s.links) c.self.view_is
