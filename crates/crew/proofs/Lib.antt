@@ -1,5 +1,5 @@
 pub mod InPlace
-pub mod OnePiece
+pub mod InTurn
 pub mod Working
 pub mod Balances
 pub mod Places

@@ -136,7 +136,7 @@ weighs_none p (n ∷ ns) nothing = by (n == p) nothing (weighs_none p ns)
     by false nothing later = later (sym (zero-add (weigh (one_of p) ns)) ∙ nothing)
 
 -- where they weigh 1 it is
-weighs_one : (p : ℕ) (ns : List ℕ) → weigh (one_of p) ns ≡ 1 → is_none_of ns p ≡ false
+pub weighs_one : (p : ℕ) (ns : List ℕ) → weigh (one_of p) ns ≡ 1 → is_none_of ns p ≡ false
 weighs_one p ns one = by (is_none_of ns p) refl
   where
     by : (t : Bool) → is_none_of ns p ≡ t → t ≡ false
@@ -150,13 +150,13 @@ before_range p a (suc n) low =
     ap (λ t. (if t then 1 else 0) + weigh (one_of p) (range_with_len (a + 1) n)) (ne_eqb a p (λ same. omega (arith, low, same))) ∙ zero-add (weigh (one_of p) (range_with_len (a + 1) n)) ∙ before_range p (a + 1) n (omega (arith, low))
 
 -- one behind them
-behind_range : (p a n : ℕ) → a + n ≤ p → weigh (one_of p) (range_with_len a n) ≡ 0
+pub behind_range : (p a n : ℕ) → a + n ≤ p → weigh (one_of p) (range_with_len a n) ≡ 0
 behind_range p a zero high = refl
 behind_range p a (suc n) high =
     ap (λ t. (if t then 1 else 0) + weigh (one_of p) (range_with_len (a + 1) n)) (ne_eqb a p (λ same. omega (arith, high, same))) ∙ zero-add (weigh (one_of p) (range_with_len (a + 1) n)) ∙ behind_range p (a + 1) n (omega (arith, high))
 
 -- and one of them
-in_range : (p a n : ℕ) → a ≤ p → p < a + n → weigh (one_of p) (range_with_len a n) ≡ 1
+pub in_range : (p a n : ℕ) → a ≤ p → p < a + n → weigh (one_of p) (range_with_len a n) ≡ 1
 in_range p a zero from to = absurd (omega (arith, from, to))
 in_range p a (suc n) from to =
     ⊎_elim
@@ -166,7 +166,7 @@ in_range p a (suc n) from to =
     (cases_lt a p)
 
 -- numbers of which none comes twice
-distinct_once : (ns : List ℕ) → ((p : ℕ) → weigh (one_of p) ns ≤ 1) → are_distinct ns ≡ true
+pub distinct_once : (ns : List ℕ) → ((p : ℕ) → weigh (one_of p) ns ≤ 1) → are_distinct ns ≡ true
 distinct_once [] few = refl
 distinct_once (n ∷ ns) few =
     let m : ℕ = weigh (one_of n) ns in
@@ -175,7 +175,7 @@ distinct_once (n ∷ ns) few =
     rw (weighs_none n ns none) (distinct_once ns (λ p. let a : ℕ = one_of p n in let b : ℕ = weigh (one_of p) ns in let both : a + b ≤ 1 = few p in let goal : b ≤ 1 = omega arith in goal))
 
 -- numbers among which none is too great
-all_below : (n : ℕ) (ns : List ℕ) → ((p : ℕ) → n ≤ p → weigh (one_of p) ns ≡ 0) → All (λ m. m < n) ns
+pub all_below : (n : ℕ) (ns : List ℕ) → ((p : ℕ) → n ≤ p → weigh (one_of p) ns ≡ 0) → All (λ m. m < n) ns
 all_below n [] none k d less = absurd (omega (arith, less))
 all_below n (m ∷ ns) none zero d less =
     ⊎_elim (λ (low : m < n). low)
@@ -286,12 +286,12 @@ all_results s (t ∷ ts) ended low =
     (All-cons (IsResult s) d (flat_map done_of ts) (refl, one.1, refl) (all_results s ts (λ k e less. ended (suc k) e (omega (arith, less))) (λ k e less. low (suc k) e (omega (arith, less)))))
 
 -- results with numbers below n
-no_stranger : (n : ℕ) (ds : List DoneContent) → All (λ m. m < n) (done_numbers ds) → has_stranger n ds ≡ false
+pub no_stranger : (n : ℕ) (ds : List DoneContent) → All (λ m. m < n) (done_numbers ds) → has_stranger n ds ≡ false
 no_stranger n [] low = refl
 no_stranger n (d ∷ ds) low = rw (lt-leb n d.number (low 0 0 (omega arith))) (no_stranger n ds (λ k e less. low (suc k) e (omega (arith, less))))
 
 -- and with all of these
-none_missing : (n : ℕ) (ds : List DoneContent) → ((p : ℕ) → p < n → is_none_of (done_numbers ds) p ≡ false) → is_missing n ds ≡ false
+pub none_missing : (n : ℕ) (ds : List DoneContent) → ((p : ℕ) → p < n → is_none_of (done_numbers ds) p ≡ false) → is_missing n ds ≡ false
 none_missing n ds there =
     list_any_none (is_none_of (done_numbers ds)) (range_with_len 0 n) (λ k d less.
     let less' : k < n = subst (λ m. k < m) (length-range_with_len 0 n) less in

@@ -2,3 +2,4 @@ pub mod Worked
 pub mod Opening
 pub mod Hands
 pub mod Crews
+pub mod InTurn

@@ -1,15 +1,17 @@
-//! The calling thread works a phase of one piece.
+//! The calling thread works a phase alone.
 
-ghost use Rattle.std.specs.Prelude.{◌≡◌, ◌<◌, ◌∷◌, [], length, IfOk, OnOk};
-ghost use Rattle.std.specs.List.{All, AllPass};
+ghost use Rattle.std.specs.Prelude.{◌≡◌, ◌<◌, true, length, IfOk, OnOk};
+ghost use Rattle.std.specs.List.{All, AllPass, list_any};
 ghost use Rattle.space.specs.Word.{is_pack};
+ghost use Rattle.pieces.specs.Applied.{worked};
 ghost use Rattle.pieces.specs.Dones.{found_as};
 ghost use Rattle.pieces.specs.Effects.{words_after};
-ghost use Rattle.pieces.specs.Phases.{CanBeWorked, IsPiece, NamesWords};
+ghost use Rattle.pieces.specs.Phases.{CanBeWorked, IsPiece, NamesWords, is_link};
 ghost use Rattle.pieces.specs.Steps.{effects};
 ghost use Rattle.pieces.specs.Contents.{IsStrip};
 ghost use Rattle.pieces.specs.Values.{value};
 ghost use Rattle.pieces.specs.declared.piece.Piece.TheVariants as piece;
+ghost use Rattle.crew.specs.InTurn.{dones_from, go_in_turn};
 ghost use Rattle.crew.specs.Worked.{IsWorked};
 
 use crate::finding::{Found, answers, no_nodes, nothing};
@@ -19,33 +21,90 @@ use pieces::{Done, Link, Piece, Strip, are_pieces};
 use std::alloc::{AllocError, Global};
 use std::snapshot::Snapshot;
 
-/// Works a phase of one piece on the words themselves.
+/// Whether pieces can be worked one after another. A store may read what another piece puts, so a link must come first.
+pub fn may_go_in_turn(pieces: &[Piece]) -> bool
+    ensures { result ≡ go_in_turn pieces.now }
+{
+    match pieces {
+        [] => true,
+        [_, rest @ ..] => !have_link(rest),
+    }
+}
+
+/// Whether one is a link.
+fn have_link(pieces: &[Piece]) -> bool
+    ensures { result ≡ list_any is_link pieces.now }
+{
+    pieces.iter().any(|piece| is_link(piece))
+}
+
+/// Whether it is a link.
+fn is_link(piece: &Piece) -> bool
+    ensures { result ≡ is_link piece.now }
+{
+    match piece {
+        Piece::Strip(_) => false,
+        Piece::Link(_) => true,
+        Piece::Move(_) => false,
+        Piece::Touch(_) => false,
+    }
+}
+
+/// Works a phase on the words themselves, one piece after another.
 pub fn work_alone(
     alloc: Global,
     mut words: Vec<u64>,
     pieces: Vec<Piece>,
 ) -> Result<(Vec<u64>, Vec<Done>), AllocError>
-    requires one { length pieces.items ≡ 1 }
+    requires turn { go_in_turn pieces.items ≡ true }
     requires can { CanBeWorked words.items pieces.items }
     ensures { IfOk result (λ r. IsWorked words.items pieces.items r.0.items r.1.items) }
 {
-    let piece = only(pieces);
-    let of = Snapshot::of(&piece);
-    let opening = Snapshot::of(&words);
-    let mut dones = Vec::with_capacity(alloc, 1)?;
-    let found = work_piece(alloc, &mut words, piece)?;
-    dones.push(Done::new(0, found.kept, found.status, found.answers, of, opening))?;
+    let openings = openings(alloc, &words, pieces.len())?;
+    let dones = work_in_turn(alloc, &mut words, pieces, openings)?;
     Ok((words, dones))
 }
 
-/// The one piece of a list.
-fn only(mut pieces: Vec<Piece>) -> Piece
-    requires { length pieces.items ≡ 1 }
-    ensures only { pieces.items ≡ result ∷ [] }
-    ensures piece { IsPiece result }
+/// The words at opening, once for each of so many pieces. They are there for contracts alone and take no memory.
+fn openings(
+    alloc: Global,
+    words: &Vec<u64>,
+    pieces: usize,
+) -> Result<Vec<Snapshot<Vec<u64>>>, AllocError>
+    ensures many { IfOk result (λ openings. length openings.items ≡ pieces) }
+    ensures each { IfOk result (λ openings. All (λ s. s.value.items ≡ words.now.items) openings.items) }
+{
+    let mut openings = Vec::new(alloc);
+    for _ in 0..pieces {
+        openings.push(Snapshot::of(words))?;
+    }
+    Ok(openings)
+}
+
+/// Works pieces one after another, and returns what each finds out.
+fn work_in_turn(
+    alloc: Global,
+    words: &mut [u64],
+    pieces: Vec<Piece>,
+    mut openings: Vec<Snapshot<Vec<u64>>>,
+) -> Result<Vec<Done>, AllocError>
+    requires turn { go_in_turn pieces.items ≡ true }
+    requires can { CanBeWorked words.old pieces.items }
+    requires many { length openings.items ≡ length pieces.items }
+    requires each { All (λ s. s.value.items ≡ words.old) openings.items }
+    ensures words { OnOk result (words.new ≡ worked words.old pieces.items) }
+    ensures dones { IfOk result (λ dones. dones.items ≡ dones_from words.old 0 pieces.items) }
 {
     are_pieces(&pieces);
-    pieces.remove(0)
+    let mut dones = Vec::with_capacity(alloc, pieces.len())?;
+    for piece in pieces {
+        let of = Snapshot::of(&piece);
+        let opening = openings.pop().unwrap();
+        let found = work_piece(alloc, words, piece)?;
+        let number = dones.len();
+        dones.push(Done::new(number, found.kept, found.status, found.answers, of, opening))?;
+    }
+    Ok(dones)
 }
 
 /// Works a piece on words, and returns what it finds out of them.

@@ -2,7 +2,7 @@ ghost use Rattle.std.specs.Prelude.{◌<◌, ◌≤◌, length, IfOk};
 ghost use Rattle.pieces.specs.Phases.{CanBeWorked};
 ghost use Rattle.crew.specs.Worked.{IsWorked};
 
-use crate::alone::work_alone;
+use crate::alone::{may_go_in_turn, work_alone};
 use crate::error::CrewError;
 use crate::gate::Gate;
 use crate::shared::work_shared;
@@ -43,9 +43,10 @@ pub trait Workers {
 /// Works all pieces of a phase, and returns the words as they leave them and what each piece found out. The pieces are
 /// numbered from 0, in the order in which they are given.
 ///
-/// Each piece is a turn on shared words. The calling thread is the first worker, and each other a thread of its own. A single
-/// piece is worked on the words themselves, unless the gate listens. Pieces that can be worked beside one another may be worked
-/// in any order, and their steps may be mixed: what comes of it is always the same.
+/// Each piece is a turn on shared words. The calling thread is the first worker, and each other a thread of its own. Where it
+/// is the only one, it works the pieces one after another on the words themselves, unless the gate listens or a piece behind
+/// the first is a link. Pieces that can be worked beside one another may be worked in any order, and their steps may be mixed:
+/// what comes of it is always the same.
 ///
 /// Refused: `NoMemory`; `NoWorker`, where a thread could not be started. Then what was given is gone.
 pub fn work<W: Workers>(
@@ -59,11 +60,11 @@ pub fn work<W: Workers>(
     ensures { IfOk result (λ r. IsWorked words.items pieces.items r.0.items r.1.items) }
 {
     let gate = workers.gate();
-    if pieces.len() == 1 && !gate.listens() {
+    let count = workers_for(workers.most(), pieces.len());
+    if count == 1 && !gate.listens() && may_go_in_turn(&pieces) {
         let worked = work_alone(alloc, words, pieces)?;
         return Ok(worked);
     }
-    let count = workers_for(workers.most(), pieces.len());
     work_shared(workers.runtime(), alloc, gate, count, words, pieces)
 }
 
