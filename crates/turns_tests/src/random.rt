@@ -4,6 +4,7 @@ ghost use Rattle.std.specs.Prelude.{◌≡◌, ◌<◌, IfOk};
 ghost use Rattle.std.specs.List.{All};
 ghost use Rattle.pieces.specs.Phases.{CanBeWorked};
 
+use crate::assertions::assert_equal;
 use crate::tests::{last_two, with_last};
 use fpage::{Access, Rights};
 use maptree::{Node, Slice};
@@ -541,11 +542,24 @@ fn assert_end(
     seed: u64,
     round: u32,
 ) {
-    assert_eq!(rt; words, end.words.as_slice(), "seed {seed}, round {round}");
-    let same = unended == end.unended.as_slice();
-    assert!(rt; same, "other turns unended: seed {seed}, round {round}");
-    let same = are_numbered(dones, &end.ended);
-    assert!(rt; same, "other turns ended: seed {seed}, round {round}");
+    assert_equal(
+        rt,
+        (seed, round, words),
+        (seed, round, end.words.as_slice()),
+        "words",
+    );
+    assert_equal(
+        rt,
+        (seed, round, unended),
+        (seed, round, end.unended.as_slice()),
+        "unended",
+    );
+    assert_equal(
+        rt,
+        (seed, round, are_numbered(dones, &end.ended)),
+        (seed, round, true),
+        "ended",
+    );
 }
 
 /// A phase of random words, parts and steps leaves what is expected.

@@ -4,6 +4,7 @@ ghost use Rattle.std.specs.Prelude.{◌≡◌, ◌⊎◌, ◌∷◌, [], Some, I
 ghost use Rattle.std.specs.List.{All};
 ghost use Rattle.pieces.specs.Phases.{CanBeWorked};
 
+use crate::assertions::assert_equal;
 use fpage::{Access, Rights};
 use maptree::{Node, Slice};
 use pieces::{Done, Link, Move, Pair, Piece, Store, Strip, Touch, WordAccess};
@@ -214,7 +215,12 @@ fn leaves(
     after: &[u64],
 ) -> Result<(), NoMemory> {
     let (end, _, _) = closed(alloc, phase, first, others)?;
-    assert_eq!(rt; end.as_slice(), after, "{first} and {others} steps");
+    assert_equal(
+        rt,
+        (first, others, end.as_slice()),
+        (first, others, after),
+        "steps and words",
+    );
     Ok(())
 }
 
@@ -240,31 +246,36 @@ fn two_strips_closed_at_each_pair_of_counts(rt: HostRuntime) -> Result<(), Fail>
 fn both_hand_in(rt: &impl Abort, dones: &[Done]) {
     let status = [R, Rights { read: true, ..W }];
     for (k, done) in dones.iter().enumerate() {
-        assert_eq!(rt; done.number(), k);
-        assert_eq!(rt; Some(&done.status()), status.get(k));
+        assert_equal(rt, done.number(), k, "a number");
+        assert_equal(rt, Some(&done.status()), status.get(k), "a status");
     }
 }
 
 #[test]
 fn turns_hand_in_what_they_found_or_how_far_they_came(rt: HostRuntime) -> Result<(), Fail> {
     let (_, dones, unended) = closed(rt.alloc(), Phase::TwoStrips, 2, 7)?;
-    assert_eq!(rt; (dones.len(), unended.len()), (2, 0));
+    assert_equal(&rt, (dones.len(), unended.len()), (2, 0), "all steps");
     both_hand_in(&rt, &dones);
     let (_, dones, unended) = closed(rt.alloc(), Phase::TwoStrips, 0, 1)?;
-    assert_eq!(rt; dones.len(), 0);
+    assert_equal(&rt, dones.len(), 0, "one step");
     let first = Unended { piece: 0, steps: 0 };
     let second = Unended { piece: 1, steps: 1 };
-    assert_eq!(rt; unended.as_slice(), [first, second].as_slice());
+    assert_equal(
+        &rt,
+        unended.as_slice(),
+        [first, second].as_slice(),
+        "one step",
+    );
     Ok(())
 }
 
 /// What is left of the touch after so many steps: its page has this word, and its answers are there after the third step.
 fn is_marked(rt: &impl Abort, words: &[u64], dones: &[Done], steps: usize, after: u64) {
-    assert_eq!(rt; words, [after].as_slice(), "{steps} steps");
+    assert_equal(rt, words, [after].as_slice(), steps);
     for done in dones {
-        assert_eq!(rt; done.answers(), [true, false].as_slice(), "{steps} steps");
+        assert_equal(rt, done.answers(), [true, false].as_slice(), steps);
     }
-    assert_eq!(rt; dones.is_empty(), steps < 3, "{steps} steps");
+    assert_equal(rt, dones.is_empty(), steps < 3, steps);
 }
 
 #[test]
@@ -330,12 +341,22 @@ fn closes_with_both(rt: &impl Abort, phase: Open, turns: Vec<Turn>) -> Result<()
     let Err(NotAll { shared, turns }) = phase.close(turns) else {
         panic!(rt; "a turn was wanting")
     };
-    assert_eq!(rt; (turns.len(), last.is_some()), (1, true));
+    assert_equal(
+        rt,
+        (turns.len(), last.is_some()),
+        (1, true),
+        "turns, and the last",
+    );
     let turns = with_last(&shared, turns, last)?;
     let Ok((end, _, unended)) = shared.close(turns) else {
         panic!(rt; "all turns were there")
     };
-    assert_eq!(rt; (end.len(), unended.len()), (3, 2));
+    assert_equal(
+        rt,
+        (end.len(), unended.len()),
+        (3, 2),
+        "words and turns that have not ended",
+    );
     Ok(())
 }
 
@@ -345,8 +366,8 @@ fn a_phase_is_closed_once_all_turns_are_there(rt: HostRuntime) -> Result<(), Fai
     let (phase, turns) = Open::open(rt.alloc(), words, pieces)?;
     closes_with_both(&rt, phase, turns)?;
     let (end, dones, unended) = closed(rt.alloc(), Phase::NoPieces, 0, 0)?;
-    assert_eq!(rt; end.as_slice(), [0x1_0000_0507].as_slice());
-    assert!(rt; dones.is_empty() && unended.is_empty());
+    assert_equal(&rt, end.as_slice(), [0x1_0000_0507].as_slice(), "no pieces");
+    assert_equal(&rt, (dones.len(), unended.len()), (0, 0), "no pieces");
     Ok(())
 }
 
@@ -354,12 +375,11 @@ fn a_phase_is_closed_once_all_turns_are_there(rt: HostRuntime) -> Result<(), Fai
 fn ends_with_its_second_step(rt: &impl Abort, phase: &Open, mut turn: Turn)
     requires { turn.sheet ≡ phase.now }
 {
-    assert_eq!(rt; (turn.piece(), turn.steps()), (0, 0));
+    assert_equal(rt, (turn.piece(), turn.steps()), (0, 0), "at first");
     for wanted in [Progress::More, Progress::Ended, Progress::Ended] {
-        let progress = turn.step(phase);
-        assert_eq!(rt; progress, wanted);
+        assert_equal(rt, turn.step(phase), wanted, "a step");
     }
-    assert_eq!(rt; turn.steps(), 2);
+    assert_equal(rt, turn.steps(), 2, "at last");
 }
 
 #[test]
@@ -423,9 +443,11 @@ fn stepped_in_turn(alloc: Global) -> Result<(Vec<u64>, Vec<Done>, Vec<Unended>),
 #[test]
 fn turns_step_in_any_order(rt: HostRuntime) -> Result<(), Fail> {
     let (end, dones, _) = stepped_in_turn(rt.alloc())?;
-    assert_eq!(rt;
+    assert_equal(
+        &rt,
         end.as_slice(),
-        [0x1_0000_0537, 0x1_0000_0507, 0x1_0000_0505].as_slice()
+        [0x1_0000_0537, 0x1_0000_0507, 0x1_0000_0505].as_slice(),
+        "the words",
     );
     let mut numbers = [0usize; 2];
     for (k, done) in dones.iter().enumerate() {
@@ -433,6 +455,6 @@ fn turns_step_in_any_order(rt: HostRuntime) -> Result<(), Fail> {
             numbers[k] = done.number();
         }
     }
-    assert_eq!(rt; numbers, [1, 0]);
+    assert_equal(&rt, numbers, [1, 0], "the numbers");
     Ok(())
 }

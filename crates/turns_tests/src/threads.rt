@@ -3,6 +3,7 @@
 ghost use Rattle.std.specs.Prelude.{◌≡◌};
 ghost use Rattle.pieces.specs.Phases.{CanBeWorked};
 
+use crate::assertions::assert_equal;
 use crate::tests::{closed_with, last_two, two_strips};
 use pieces::Piece;
 use space::NoMemory;
@@ -62,9 +63,11 @@ fn two_threads_step_strips_with_a_common_fold_word(rt: HostRuntime) -> Result<()
     for _ in 0..100 {
         let (words, pieces) = two_strips(alloc)?;
         let end = worked_by_two(&rt, alloc, words, pieces)?;
-        assert_eq!(rt;
+        assert_equal(
+            &rt,
             end.as_slice(),
-            [0x1_0000_0537u64, 0x1_0000_0507, 0x1_0000_0505].as_slice()
+            [0x1_0000_0537, 0x1_0000_0507, 0x1_0000_0505].as_slice(),
+            "the words",
         );
     }
     Ok(())

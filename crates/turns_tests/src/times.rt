@@ -5,17 +5,18 @@ ghost use Rattle.std.specs.Prelude.{◌≡◌, IfOk};
 ghost use Rattle.std.specs.List.{All};
 ghost use Rattle.pieces.specs.Phases.{CanBeWorked};
 
+use crate::assertions::assert_equal;
 use fpage::Rights;
 use maptree::{Node, Slice};
 use pieces::{Piece, Strip, are_distinct, can_be_worked};
 use space::{NoMemory, Place};
 use std::alloc::{AllocError, Global};
-use std::env;
 use std::process::Abort;
 use std::rt::Runtime;
 use std::test::Fail;
 use std::thread::{self, Threads};
 use std::time::Instant;
+use std::{env, io};
 use turns::{Open, Turn};
 
 /// The right to write, which all nodes lose.
@@ -49,6 +50,15 @@ struct Spent {
 }
 
 impl Spent {
+    /// By the nanoseconds after which the phase was open, all steps were made, and it was closed.
+    fn of(opened: u128, stepped: u128, closed: u128) -> Spent {
+        Spent {
+            open: opened,
+            steps: stepped.saturating_sub(opened),
+            close: closed.saturating_sub(stepped),
+        }
+    }
+
     fn total(self) -> u128 {
         self.open
             .saturating_add(self.steps)
@@ -130,6 +140,21 @@ fn stepped(phase: &Open, mut turn: Turn) -> Turn
     turn
 }
 
+/// The words of a phase that is closed.
+fn closed(phase: Open, turns: Vec<Turn>) -> Result<Vec<u64>, NoMemory>
+    requires { All (λ t. t.sheet ≡ phase) turns.items }
+{
+    match phase.close(turns) {
+        Ok((words, _, _)) => Ok(words),
+        Err(_) => Err(NoMemory),
+    }
+}
+
+/// The nanoseconds since an instant.
+fn since(rt: &impl Runtime, start: Instant) -> io::Result<u128> {
+    Ok(start.elapsed(rt)?.as_nanos())
+}
+
 /// The words of a phase that is worked to its end, and what that took.
 fn worked(
     rt: &impl Runtime,
@@ -141,19 +166,11 @@ fn worked(
 {
     let start = Instant::now(rt)?;
     let (phase, turns) = Open::open(alloc, words, pieces)?;
-    let opened = start.elapsed(rt)?.as_nanos();
+    let opened = since(rt, start)?;
     let turns = ended(alloc, &phase, turns)?;
-    let stepped = start.elapsed(rt)?.as_nanos();
-    let Ok((words, _, _)) = phase.close(turns) else {
-        return Err(Fail::from(NoMemory));
-    };
-    let closed = start.elapsed(rt)?.as_nanos();
-    let spent = Spent {
-        open: opened,
-        steps: stepped.saturating_sub(opened),
-        close: closed.saturating_sub(stepped),
-    };
-    Ok((words, spent))
+    let stepped = since(rt, start)?;
+    let words = closed(phase, turns)?;
+    Ok((words, Spent::of(opened, stepped, since(rt, start)?)))
 }
 
 /// Turns dealt out into two lists.
@@ -243,7 +260,7 @@ fn times_plain(rt: &impl Runtime, alloc: Global, nodes: usize) -> Result<(Vec<u6
     let mut words = vec![in alloc; HELD; nodes]?;
     let start = Instant::now(rt)?;
     let found = narrow_all(&mut words, 0, nodes);
-    let nanos = start.elapsed(rt)?.as_nanos();
+    let nanos = since(rt, start)?;
     if found != 0 {
         return Err(Fail::from(NoMemory));
     }
@@ -298,11 +315,9 @@ fn times_together<R: Runtime + Threads + Sync>(
     let (phase, turns) = Open::open(alloc, words, pieces)?;
     let start = Instant::now(rt)?;
     let turns = ended_by_two(rt, alloc, &phase, turns)?;
-    let nanos = start.elapsed(rt)?.as_nanos();
-    match phase.close(turns) {
-        Ok(_) => Ok(nanos),
-        Err(_) => Err(Fail::from(NoMemory)),
-    }
+    let nanos = since(rt, start)?;
+    closed(phase, turns)?;
+    Ok(nanos)
 }
 
 /// The words that have lost a right, of some.
@@ -342,9 +357,9 @@ fn works_as_the_plain_loop(
     nodes: usize,
 ) -> Result<(), Fail> {
     let (words, _) = times_strips(rt, alloc, nodes, 256)?;
-    assert_eq!(rt; count_left(&words), nodes);
+    assert_equal(rt, count_left(&words), nodes, "words");
     let (plain, _) = times_plain(rt, alloc, nodes)?;
-    assert_eq!(rt; plain.as_slice(), words.as_slice());
+    assert_equal(rt, plain.as_slice(), words.as_slice(), "words");
     Ok(())
 }
 
