@@ -2,12 +2,14 @@
 
 ghost use Rattle.std.specs.Prelude.{◌≡◌, ◌<◌, ◌+◌, IfOk, OnOk, length};
 
+mod assertions;
 mod cases;
 mod cuts;
 mod large;
 mod lists;
 mod many;
 
+use assertions::assert_equal;
 use lists::{assert_runs, assert_tree, place_of, places_of, tree_of};
 use maptree::{PlaceMap, Tree};
 use space::{NoMemory, Place};
@@ -68,7 +70,7 @@ fn stands_in_preorder(rt: HostRuntime) -> Result<(), Fail> {
 fn has_run_and_origin(rt: &impl Abort, tree: &Tree, place: &str, run: &str, origin: Option<usize>) {
     let at = position(rt, tree, place_of(rt, place));
     assert_runs(rt, &[tree.run_of(at)], run);
-    assert_eq!(rt; tree.origin_of(at), origin, "{place}");
+    assert_equal(rt, tree.origin_of(at), origin, place);
 }
 
 #[test]
@@ -101,10 +103,9 @@ fn are_links(rt: &impl Abort, links: &[(Place, Option<Place>)], list: &str) {
         let Some(text) = wanted.next() else {
             panic!(rt; "more places than {list}");
         };
-        let (place, origin) = link_of(rt, text);
-        assert!(rt; link.0 == place && link.1 == origin, "{text} in {list}");
+        assert_equal(rt, *link, link_of(rt, text), text);
     }
-    assert!(rt; wanted.next().is_none(), "fewer places than {list}");
+    assert_equal(rt, wanted.next(), None, list);
 }
 
 /// The tree has the places with their origins that a text lists, in this order.
@@ -130,7 +131,7 @@ fn lists_its_places_with_their_origins(rt: HostRuntime) -> Result<(), Fail> {
 fn derives(rt: &impl Abort, tree: &Tree, place: &str, wanted: bool) {
     let middle = position(rt, tree, Place { space: 1, page: 0 });
     let at = position(rt, tree, place_of(rt, place));
-    assert_eq!(rt; tree.is_origin(middle, at), wanted, "{place}");
+    assert_equal(rt, tree.is_origin(middle, at), wanted, place);
 }
 
 #[test]
@@ -214,7 +215,7 @@ fn assert_links(
 fn assert_map(rt: &impl Abort, map: &PlaceMap, list: &str) {
     for text in list.split_whitespace() {
         let (place, other) = link_of(rt, text);
-        assert_eq!(rt; map.get(place), other, "{text}");
+        assert_equal(rt, map.get(place), other, text);
     }
 }
 

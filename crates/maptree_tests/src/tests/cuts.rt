@@ -7,6 +7,7 @@ ghost use Rattle.space.specs.Place.{same_place};
 ghost use Rattle.maptree.specs.Origins.{origin_in, AreRising, IsRun};
 ghost use Rattle.maptree.specs.Cuts.{kept_of, nodes_of, IsCut};
 
+use super::assertions::assert_equal;
 use super::cases::{BETWEEN, CASES, Case, SAMPLE, case_of};
 use super::lists::{assert_parts, assert_runs, assert_tree, place_of, places_of, tree_of};
 use super::{place, sample};
@@ -264,7 +265,7 @@ fn cuts_and_leaves(
     left: &str,
 ) -> Result<(), NoMemory> {
     let count = cut_at(alloc, tree, &[place_of(rt, named)], 1)?.len();
-    assert_eq!(rt; count, parts, "{left}");
+    assert_equal(rt, count, parts, left);
     assert_tree(rt, tree, left, NODES);
     Ok(())
 }
@@ -278,7 +279,7 @@ fn puts_back_and_leaves(
     left: &str,
 ) -> Result<(), NoMemory> {
     let count = put_back_at(alloc, tree, &[place(1, 0), place(2, 4)], 2)?;
-    assert_eq!(rt; count, nodes, "{left}");
+    assert_equal(rt, count, nodes, left);
     assert_tree(rt, tree, left, NODES);
     Ok(())
 }

@@ -6,6 +6,7 @@ ghost use Rattle.std.specs.List.{All, list_all};
 ghost use Rattle.space.specs.Place.{same_place};
 ghost use Rattle.maptree.specs.Origins.{AreRising, IsRun};
 
+use super::assertions::assert_equal;
 use super::cuts::{cut_at, nodes_in, put_back, put_back_at};
 use maptree::Tree;
 use space::{NoMemory, Place};
@@ -156,7 +157,7 @@ fn large_tree(
     let mut made = Numbered::root(alloc);
     for n in 1..nodes {
         let grown = made.grow_below(rt, nth_place(form.origin(n)))?;
-        assert!(rt; grown, "the origin of {n} is not in the tree");
+        assert_equal(rt, (n, grown), (n, true), "the origin is in the tree");
     }
     Ok(made)
 }
@@ -512,9 +513,9 @@ fn has_sums(
         (9, 1_000),
         (10, 1_000),
     ] {
-        assert_eq!(rt; sum_of(rt, &told, n), sum, "{n} {}", form.name());
+        assert_equal(rt, (n, sum_of(rt, &told, n)), (n, sum), form.name());
     }
-    assert_eq!(rt; told.len(), MADE.len());
+    assert_equal(rt, told.len(), MADE.len(), form.name());
     Ok(())
 }
 

@@ -3,6 +3,7 @@
 
 ghost use Rattle.std.specs.Prelude.{◌≡◌, ◌<◌, ◌+◌, IfOk, length};
 
+use super::assertions::assert_equal;
 use super::{position, put_below};
 use maptree::{Node, Slice, Tree};
 use space::{NoMemory, Place};
@@ -130,15 +131,15 @@ fn lists(rt: &impl Abort, list: &str, place: Place) -> bool {
 /// A node of a list stands at a position.
 fn stands(rt: &impl Abort, tree: &Tree, i: usize, node: Node, list: &str) {
     let at = position(rt, tree, node.place);
-    assert_eq!(rt; tree.node(at), node, "in {list}");
-    assert_eq!(rt; at, i, "{} in {list}", node.place);
+    assert_equal(rt, tree.node(at), node, list);
+    assert_equal(rt, at, i, list);
 }
 
 /// The run of the root that a list begins with has so many nodes.
 fn has_nodes(rt: &impl Abort, tree: &Tree, list: &str, len: usize) {
     if let Some(root) = list.split_whitespace().next() {
         let at = position(rt, tree, node_of(rt, root).place);
-        assert_eq!(rt; tree.run_of(at), 0..len, "{list}");
+        assert_equal(rt, tree.run_of(at), 0..len, list);
     }
 }
 
@@ -154,7 +155,7 @@ pub fn assert_tree(rt: &impl Abort, tree: &Tree, list: &str, all: &str) {
     for text in all.split_whitespace() {
         let place = node_of(rt, text).place;
         let found = tree.find(place);
-        assert_eq!(rt; found.is_some(), lists(rt, list, place), "{text} in {list}");
+        assert_equal(rt, found.is_some(), lists(rt, list, place), text);
     }
 }
 
@@ -175,9 +176,9 @@ pub fn assert_runs(rt: &impl Abort, runs: &[Range<usize>], list: &str) {
         let Some(text) = wanted.next() else {
             panic!(rt; "more runs than {list}");
         };
-        assert_eq!(rt; *run, run_of(rt, text), "in {list}");
+        assert_equal(rt, run, &run_of(rt, text), list);
     }
-    assert!(rt; wanted.next().is_none(), "fewer runs than {list}");
+    assert_equal(rt, wanted.next(), None, list);
 }
 
 /// The nodes are those that a text lists. This takes no memory.
@@ -187,15 +188,15 @@ fn assert_nodes(rt: &impl Abort, nodes: &[Node], list: &str) {
         let Some(text) = wanted.next() else {
             panic!(rt; "a longer part than {list}");
         };
-        assert_eq!(rt; *node, node_of(rt, text), "in {list}");
+        assert_equal(rt, *node, node_of(rt, text), list);
     }
-    assert!(rt; wanted.next().is_none(), "a shorter part than {list}");
+    assert_equal(rt, wanted.next(), None, list);
 }
 
 /// The parts are those that a text lists. This takes no memory.
 pub fn assert_parts(rt: &impl Abort, parts: &[Slice], list: &str) {
     if list.is_empty() {
-        assert!(rt; parts.is_empty(), "parts of an empty list");
+        assert_equal(rt, parts.len(), 0, "parts of an empty list");
         return;
     }
     let mut wanted = list.split(" | ");
@@ -205,5 +206,5 @@ pub fn assert_parts(rt: &impl Abort, parts: &[Slice], list: &str) {
         };
         assert_nodes(rt, &part.nodes, nodes);
     }
-    assert!(rt; wanted.next().is_none(), "fewer parts than {list}");
+    assert_equal(rt, wanted.next(), None, list);
 }

@@ -4,6 +4,7 @@ ghost use Rattle.std.specs.Prelude.{◌<◌, ◌≤◌, IfSome, length};
 ghost use Rattle.std.specs.List.{All};
 ghost use Rattle.maptree.specs.Origins.{AreRising, IsRun};
 
+use super::assertions::{assert_equal, assert_holds};
 use super::cuts::{are_absent, are_closed, nodes_in, parts_without};
 use super::large::nth_place;
 use super::{position, put_below, rename};
@@ -99,11 +100,11 @@ fn asks(rt: &impl Abort, tree: &Tree, list: &[Node], i: usize, j: usize)
     let a = position(rt, tree, list[i].place);
     let b = position(rt, tree, list[j].place);
     let end = end_of(list, i);
-    assert_eq!(rt; (a, b), (i, j));
-    assert_eq!(rt; tree.node(a), list[i]);
-    assert_eq!(rt; tree.run_of(a), i..end);
-    assert_eq!(rt; tree.origin_of(a), origin_of(list, i));
-    assert_eq!(rt; tree.is_origin(a, b), i < j && j < end);
+    assert_equal(rt, (a, b), (i, j), i);
+    assert_equal(rt, tree.node(a), list[i], i);
+    assert_equal(rt, tree.run_of(a), i..end, i);
+    assert_equal(rt, tree.origin_of(a), origin_of(list, i), i);
+    assert_equal(rt, tree.is_origin(a, b), i < j && j < end, i);
 }
 
 /// The place of a node's origin.
@@ -121,13 +122,9 @@ fn assert_all(rt: &impl Abort, alloc: Global, tree: &Tree, list: &[Node]) -> Res
     let links = tree.links(alloc)?;
     assert_eq!(rt; links.len(), list.len());
     for i in 0..list.len() {
-        let (place, origin) = links[i];
-        assert!(rt; tree.node(i) == list[i], "the node {i}");
-        assert!(rt;
-            place == list[i].place && origin == origin_at(list, i),
-            "the origin of {i}"
-        );
-        assert!(rt; tree.run_of(i) == (i..end_of(list, i)), "the run of {i}");
+        assert_equal(rt, links[i], (list[i].place, origin_at(list, i)), i);
+        assert_equal(rt, tree.node(i), list[i], i);
+        assert_equal(rt, tree.run_of(i), i..end_of(list, i), i);
     }
     Ok(())
 }
@@ -168,7 +165,12 @@ fn nth_node(parts: &[Slice], part: usize, at: usize) -> Option<Node> {
 
 /// A node of a part, by their numbers, is this one.
 fn has_node(rt: &impl Abort, parts: &[Slice], part: usize, at: usize, node: Node) {
-    assert_eq!(rt; nth_node(parts, part, at), Some(node), "{at} in {part}");
+    assert_equal(
+        rt,
+        (part, at, nth_node(parts, part, at)),
+        (part, at, Some(node)),
+        "a node of a part",
+    );
 }
 
 /// The parts have the nodes of these runs of the list, each at most so many, and no others.
@@ -190,7 +192,12 @@ fn assert_parts(
             count = count.wrapping_add(1);
         }
     }
-    assert_eq!(rt; (parts.len(), nodes_in(parts)), (begun, count));
+    assert_equal(
+        rt,
+        (parts.len(), nodes_in(parts)),
+        (begun, count),
+        "parts and nodes",
+    );
 }
 
 /// Cuts runs out of the tree, which has the nodes of a list, and puts back all but the nodes at some places.
@@ -280,7 +287,7 @@ fn thins(
     let named = some_places(alloc, list, chance)?;
     let runs = tree.outer_runs(alloc, &named)?;
     let wanted = outer_runs(alloc, list, &named)?;
-    assert_eq!(rt; runs.as_slice(), wanted.as_slice());
+    assert_equal(rt, runs.as_slice(), wanted.as_slice(), "outermost runs");
     let out = left_out(alloc, list, &runs, chance)?;
     let gone = places_within(alloc, list, &out)?;
     cuts(rt, alloc, tree, list, &runs, 1 + chance.below(300), &gone)?;
@@ -325,7 +332,12 @@ fn step(
     let (i, j) = (chance.below(list.len()), chance.below(list.len()));
     assert!(rt; i < list.len() && j < list.len());
     asks(rt, tree, list, i, j);
-    assert_eq!(rt; tree.find(nth_place(CHANGES)), None);
+    assert_equal(
+        rt,
+        tree.find(nth_place(CHANGES)),
+        None,
+        "a place that never comes",
+    );
     if n % BETWEEN == 0 {
         assert_all(rt, alloc, tree, list)?;
     }
@@ -345,6 +357,6 @@ fn is_like_a_plain_list_over_thousands_of_calls(rt: HostRuntime) -> Result<(), F
     for n in 1..CHANGES {
         step(&rt, alloc, &mut tree, &mut list, n, &mut chance)?;
     }
-    assert!(rt; LARGE < list.len(), "{} nodes", list.len());
+    assert_holds(&rt, LARGE < list.len(), "too few nodes");
     Ok(())
 }
