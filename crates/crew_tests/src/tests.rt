@@ -4,6 +4,7 @@ ghost use Rattle.std.specs.Prelude.{◌≡◌, ◌<◌, ◌≤◌, nat_lt, true,
 ghost use Rattle.std.specs.List.{list_all};
 ghost use Rattle.pieces.specs.Phases.{CanBeWorked};
 
+use crate::assertions::assert_equal;
 use crew::{Crew, CrewError, Gate, NoGate, Workers, work};
 use fpage::{Access, Rights};
 use maptree::{Node, Slice};
@@ -12,6 +13,7 @@ use pieces::{
 };
 use space::{NoMemory, Place};
 use std::alloc::{AllocError, Global};
+use std::process::Abort;
 use std::sync::Wait;
 use std::sync::atomic::{AtomicU64, Ordering};
 use std::test::Fail;
@@ -165,6 +167,9 @@ fn strip_case(alloc: Global) -> Result<(Vec<u64>, Vec<Piece>), NoMemory>
     Ok((words, pieces))
 }
 
+/// The words after the strip.
+const STRIPPED: [u64; 4] = [0x1_00ff_f53f, 0, 0, 0x1_00ff_f502];
+
 /// A list of one piece.
 fn one_piece(alloc: Global, piece: Piece) -> Result<Vec<Piece>, AllocError>
     ensures { IfOk result (λ pieces. pieces.items ≡ piece ∷ []) }
@@ -190,63 +195,127 @@ fn found(alloc: Global, dones: Vec<Done>, pieces: usize) -> Result<Gathered, NoM
     }
 }
 
-/// The words of a link after its work, and the words and answers of a touch.
-fn by_crew<R: Threads + Wait + Sync>(
-    rt: &R,
+/// The phases that the tests work.
+#[derive(Clone, Copy)]
+enum Phase {
+    Link,
+    WholeLink,
+    OneStore,
+    Touch,
+    WholeTouch,
+    Move,
+    WholeMove,
+    Strip,
+    EighteenTouches,
+}
+
+impl Phase {
+    /// The words and the pieces of the phase.
+    fn begin(self, alloc: Global) -> Result<(Vec<u64>, Vec<Piece>), NoMemory>
+        ensures { IfOk result (λ r. (0 < length r.1.items) × CanBeWorked r.0.items r.1.items) }
+    {
+        match self {
+            Phase::Link => link_case(alloc),
+            Phase::WholeLink => whole_link_case(alloc),
+            Phase::OneStore => one_store_case(alloc),
+            Phase::Touch => touch_case(alloc),
+            Phase::WholeTouch => whole_touch_case(alloc),
+            Phase::Move => move_case(alloc),
+            Phase::WholeMove => whole_move_case(alloc),
+            Phase::Strip => strip_case(alloc),
+            Phase::EighteenTouches => eighteen_touches(alloc),
+        }
+    }
+}
+
+/// What workers leave of the words of a phase, and their results.
+fn worked<W: Workers>(
+    alloc: Global,
+    workers: &W,
+    phase: Phase,
+) -> Result<(Vec<u64>, Vec<Done>), CrewError> {
+    let (words, pieces) = phase.begin(alloc)?;
+    work(workers, alloc, words, pieces)
+}
+
+/// Workers leave these words of a phase of so many pieces: what their results come to.
+fn gathers<W: Workers>(
+    rt: &impl Abort,
+    alloc: Global,
+    workers: &W,
+    phase: Phase,
+    pieces: usize,
+    after: &[u64],
+) -> Result<Gathered, CrewError> {
+    let (words, dones) = worked(alloc, workers, phase)?;
+    assert_equal(rt, words.as_slice(), after, "words");
+    assert_equal(rt, dones.len(), pieces, "results");
+    let gathered = found(alloc, dones, pieces)?;
+    Ok(gathered)
+}
+
+/// They leave these words, and answer the accesses so.
+fn answers<W: Workers>(
+    rt: &impl Abort,
+    alloc: Global,
+    workers: &W,
+    phase: Phase,
+    pieces: usize,
+    after: &[u64],
+    answers: &[bool],
+) -> Result<(), CrewError> {
+    let gathered = gathers(rt, alloc, workers, phase, pieces, after)?;
+    assert_equal(rt, gathered.answers.as_slice(), answers, "answers");
+    Ok(())
+}
+
+/// So many workers link and mark.
+fn link_and_mark(
+    rt: &(impl Abort + Threads + Wait + Sync),
     alloc: Global,
     workers: usize,
-) -> Result<(Vec<u64>, Vec<u64>, Vec<bool>), CrewError>
+) -> Result<(), CrewError>
     requires some { 1 ≤ workers }
     requires most { workers ≤ 64 }
 {
     let crew = Crew::new(rt, workers, 2, &NoGate);
-    let (words, pieces) = link_case(alloc)?;
-    let (linked, _) = work(&crew, alloc, words, pieces)?;
-    let (words, pieces) = touch_case(alloc)?;
-    let (touched, dones) = work(&crew, alloc, words, pieces)?;
-    let gathered = found(alloc, dones, 3)?;
-    Ok((linked, touched, gathered.answers))
+    let linked = [0x1_0000_0926, 0x1_0000_0902, 0x1_0000_0907, 0x1_0000_0505];
+    answers(rt, alloc, &crew, Phase::Link, 2, &linked, &[])?;
+    let touched = [0x1_0000_053f, 0];
+    answers(
+        rt,
+        alloc,
+        &crew,
+        Phase::Touch,
+        3,
+        &touched,
+        &[true, false, true],
+    )
 }
 
 #[test]
 fn crews_read_words_at_opening_and_add_marks_up(rt: HostRuntime) -> Result<(), Fail> {
     let alloc = rt.alloc();
-    for (linked, touched, answers) in [
-        by_crew(&rt, alloc, 1)?,
-        by_crew(&rt, alloc, 4)?,
-        by_crew(&rt, alloc, 64)?,
-    ] {
-        assert_eq!(rt;
-            linked.as_slice(),
-            [0x1_0000_0926, 0x1_0000_0902, 0x1_0000_0907, 0x1_0000_0505].as_slice()
-        );
-        assert_eq!(rt; touched.as_slice(), [0x1_0000_053f, 0].as_slice());
-        assert_eq!(rt; answers.as_slice(), [true, false, true].as_slice());
-    }
+    link_and_mark(&rt, alloc, 1)?;
+    link_and_mark(&rt, alloc, 4)?;
+    link_and_mark(&rt, alloc, 64)?;
     let crew = Crew::new(&rt, 64, 7, &NoGate);
-    assert_eq!(rt; crew.piece_length(), 7);
-    assert_eq!(rt; crew.most(), 64);
+    assert_equal(&rt, (crew.piece_length(), crew.most()), (7, 64), "a crew");
     Ok(())
 }
 
 #[test]
 fn one_worker_links_and_moves_in_several_pieces(rt: HostRuntime) -> Result<(), Fail> {
-    let alloc = rt.alloc();
     let crew = Crew::new(&rt, 1, 2, &NoGate);
-    let (words, pieces) = link_case(alloc)?;
-    let (after, dones) = work(&crew, alloc, words, pieces)?;
-    assert_eq!(rt;
-        after.as_slice(),
-        [0x1_0000_0926, 0x1_0000_0902, 0x1_0000_0907, 0x1_0000_0505].as_slice()
-    );
-    assert_eq!(rt; dones.len(), 2);
-    let (words, pieces) = move_case(alloc)?;
-    let (after, dones) = work(&crew, alloc, words, pieces)?;
-    assert_eq!(rt;
-        after.as_slice(),
-        [0, 0x1_0000_0904, 0, 0x1_0000_0506].as_slice()
-    );
-    assert_eq!(rt; dones.len(), 2);
+    for (phase, after) in [
+        (
+            Phase::Link,
+            [0x1_0000_0926, 0x1_0000_0902, 0x1_0000_0907, 0x1_0000_0505],
+        ),
+        (Phase::Move, [0, 0x1_0000_0904, 0, 0x1_0000_0506]),
+    ] {
+        answers(&rt, rt.alloc(), &crew, phase, 2, &after, &[])?;
+    }
     Ok(())
 }
 
@@ -254,17 +323,10 @@ fn one_worker_links_and_moves_in_several_pieces(rt: HostRuntime) -> Result<(), F
 fn one_worker_links_in_a_single_piece(rt: HostRuntime) -> Result<(), Fail> {
     let alloc = rt.alloc();
     let crew = Crew::new(&rt, 1, 3, &NoGate);
-    let (words, pieces) = whole_link_case(alloc)?;
-    let (after, dones) = work(&crew, alloc, words, pieces)?;
-    assert_eq!(rt;
-        after.as_slice(),
-        [0x1_0000_0926, 0x1_0000_0902, 0x1_0000_0907, 0x1_0000_0505].as_slice()
-    );
-    assert_eq!(rt; dones.len(), 1);
-    let (words, pieces) = one_store_case(alloc)?;
-    let (after, dones) = work(&crew, alloc, words, pieces)?;
-    assert_eq!(rt; after.as_slice(), [0x1_0000_0926, 0x1_0000_090e].as_slice());
-    assert_eq!(rt; dones.len(), 1);
+    let linked = [0x1_0000_0926, 0x1_0000_0902, 0x1_0000_0907, 0x1_0000_0505];
+    answers(&rt, alloc, &crew, Phase::WholeLink, 1, &linked, &[])?;
+    let linked = [0x1_0000_0926, 0x1_0000_090e];
+    answers(&rt, alloc, &crew, Phase::OneStore, 1, &linked, &[])?;
     Ok(())
 }
 
@@ -272,46 +334,50 @@ fn one_worker_links_in_a_single_piece(rt: HostRuntime) -> Result<(), Fail> {
 fn one_worker_moves_and_marks_in_a_single_piece(rt: HostRuntime) -> Result<(), Fail> {
     let alloc = rt.alloc();
     let crew = Crew::new(&rt, 1, 3, &NoGate);
-    let (words, pieces) = whole_move_case(alloc)?;
-    let (after, dones) = work(&crew, alloc, words, pieces)?;
-    assert_eq!(rt;
-        after.as_slice(),
-        [0, 0x1_0000_0904, 0, 0x1_0000_0506].as_slice()
-    );
-    assert_eq!(rt; dones.len(), 1);
-    let (words, pieces) = whole_touch_case(alloc)?;
-    let (after, dones) = work(&crew, alloc, words, pieces)?;
-    assert_eq!(rt; after.as_slice(), [0x1_0000_053f, 0].as_slice());
-    let gathered = found(alloc, dones, 1)?;
-    assert_eq!(rt; gathered.answers.as_slice(), [true, false, true].as_slice());
+    let moved = [0, 0x1_0000_0904, 0, 0x1_0000_0506];
+    answers(&rt, alloc, &crew, Phase::WholeMove, 1, &moved, &[])?;
+    let marked = [0x1_0000_053f, 0];
+    answers(
+        &rt,
+        alloc,
+        &crew,
+        Phase::WholeTouch,
+        1,
+        &marked,
+        &[true, false, true],
+    )?;
     Ok(())
+}
+
+/// One node is kept, this one.
+fn keeps(rt: &impl Abort, slices: &[Slice], node: Node) {
+    let mut kept = 0_usize;
+    for slice in slices {
+        for kept_node in &slice.nodes {
+            assert_equal(rt, *kept_node, node, "a node");
+            kept = kept.wrapping_add(1);
+        }
+    }
+    assert_equal(rt, kept, 1, "nodes");
 }
 
 #[test]
 fn one_worker_strips_and_marks(rt: HostRuntime) -> Result<(), Fail> {
     let alloc = rt.alloc();
     let crew = Crew::new(&rt, 1, 1, &NoGate);
-    let (words, pieces) = strip_case(alloc)?;
-    let (after, dones) = work(&crew, alloc, words, pieces)?;
-    assert_eq!(rt;
-        after.as_slice(),
-        [0x1_00ff_f53f, 0, 0, 0x1_00ff_f502].as_slice()
-    );
-    let gathered = found(alloc, dones, 1)?;
-    assert_eq!(rt; gathered.status, Rights::all());
-    let mut kept = 0usize;
-    for slice in &gathered.slices {
-        for kept_node in &slice.nodes {
-            assert_eq!(rt; *kept_node, node(3));
-            kept = kept.wrapping_add(1);
-        }
-    }
-    assert_eq!(rt; kept, 1);
-    let (words, pieces) = touch_case(alloc)?;
-    let (after, dones) = work(&crew, alloc, words, pieces)?;
-    assert_eq!(rt; after.as_slice(), [0x1_0000_053f, 0].as_slice());
-    let gathered = found(alloc, dones, 3)?;
-    assert_eq!(rt; gathered.answers.as_slice(), [true, false, true].as_slice());
+    let gathered = gathers(&rt, alloc, &crew, Phase::Strip, 1, &STRIPPED)?;
+    assert_equal(&rt, gathered.status, Rights::all(), "status");
+    keeps(&rt, &gathered.slices, node(3));
+    let marked = [0x1_0000_053f, 0];
+    answers(
+        &rt,
+        alloc,
+        &crew,
+        Phase::Touch,
+        3,
+        &marked,
+        &[true, false, true],
+    )?;
     Ok(())
 }
 
@@ -394,41 +460,51 @@ fn eighteen_touches(alloc: Global) -> Result<(Vec<u64>, Vec<Piece>), NoMemory>
     Ok((words, pieces))
 }
 
+/// There are eighteen answers, by turns yes and no.
+fn take_turns(rt: &impl Abort, answers: &[bool]) {
+    for (number, answer) in answers.iter().enumerate() {
+        assert_equal(rt, *answer, number % 2 == 0, number);
+    }
+    assert_equal(rt, answers.len(), 18, "answers");
+}
+
+/// A count is at least the one number and at most the other.
+fn lies_within(rt: &impl Abort, count: &AtomicU64, least: u64, most: u64, name: &str) {
+    let found = count.load(Ordering::SeqCst);
+    assert_equal(rt, found, found.max(least).min(most), name);
+}
+
 #[test]
 fn two_of_four_workers_work_eighteen_pieces_and_one_steals(rt: HostRuntime) -> Result<(), Fail> {
-    let alloc = rt.alloc();
     let gate = Meeting::new();
     let crew = Crew::new(&rt, 4, 1, &gate);
-    let (words, pieces) = eighteen_touches(alloc)?;
-    let (after, dones) = work(&crew, alloc, words, pieces)?;
-    assert_eq!(rt; after.as_slice(), [0x1_0000_052f, 0].as_slice());
-    let gathered = found(alloc, dones, 18)?;
-    for (number, answer) in gathered.answers.iter().enumerate() {
-        assert_eq!(rt; *answer, number % 2 == 0, "{number}");
+    let marked = [0x1_0000_052f, 0];
+    let gathered = gathers(&rt, rt.alloc(), &crew, Phase::EighteenTouches, 18, &marked)?;
+    take_turns(&rt, &gathered.answers);
+    for (name, count, least, most) in [
+        ("begun", &gate.begun, 18, 18),
+        ("ended", &gate.ended, 18, 18),
+        ("first", &gate.first, 1, u64::MAX),
+        ("second", &gate.second, 10, u64::MAX),
+        ("stolen", &gate.stolen, 1, u64::MAX),
+    ] {
+        lies_within(&rt, count, least, most, name);
     }
-    assert_eq!(rt; gathered.answers.len(), 18);
-    assert_eq!(rt; gate.begun.load(Ordering::SeqCst), 18);
-    assert_eq!(rt; gate.ended.load(Ordering::SeqCst), 18);
-    assert!(rt; gate.first.load(Ordering::SeqCst) != 0);
-    assert!(rt; gate.second.load(Ordering::SeqCst) > 9);
-    assert!(rt; gate.stolen.load(Ordering::SeqCst) != 0);
     Ok(())
 }
 
 #[test]
 fn a_gate_that_listens_hears_of_a_single_piece(rt: HostRuntime) -> Result<(), Fail> {
-    let alloc = rt.alloc();
     let gate = Meeting::new();
     gate.stolen.store(1, Ordering::SeqCst);
     let crew = Crew::new(&rt, 4, 1, &gate);
-    let (words, pieces) = strip_case(alloc)?;
-    let (after, _) = work(&crew, alloc, words, pieces)?;
-    assert_eq!(rt;
-        after.as_slice(),
-        [0x1_00ff_f53f, 0, 0, 0x1_00ff_f502].as_slice()
-    );
-    assert_eq!(rt; gate.begun.load(Ordering::SeqCst), 1);
-    assert_eq!(rt; gate.ended.load(Ordering::SeqCst), 1);
-    assert_eq!(rt; gate.first.load(Ordering::SeqCst), 1);
+    gathers(&rt, rt.alloc(), &crew, Phase::Strip, 1, &STRIPPED)?;
+    for (name, count) in [
+        ("begun", &gate.begun),
+        ("ended", &gate.ended),
+        ("first", &gate.first),
+    ] {
+        lies_within(&rt, count, 1, 1, name);
+    }
     Ok(())
 }
