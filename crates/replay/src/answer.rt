@@ -1,6 +1,6 @@
 //! Records, answered.
 
-ghost use Rattle.std.specs.Prelude.{◌≡◌, ◌<◌, ◌≤◌, ◌+◌, ◌-◌, ◌∷◌, ◌++◌, [], true, false, Ok, map, take, length, IfOk, OnOk};
+ghost use Rattle.std.specs.Prelude.{◌≡◌, ◌<◌, ◌≤◌, ◌+◌, ◌-◌, ◌∷◌, ◌++◌, [], true, false, Ok, Some, map, take, length, IfOk, IfSome, MatchOption, OnOk};
 ghost use Rattle.std.specs.List.{All, zip};
 ghost use Rattle.fpage.specs.Fpage.{IsFpageOf};
 ghost use Rattle.fpage.specs.Control.{with_status};
@@ -12,7 +12,7 @@ ghost use Rattle.holdings.specs.Meaning.{limits_of};
 ghost use Rattle.holdings.specs.Places.{IsWithin};
 ghost use Rattle.mapdb.specs.State.{left_with};
 ghost use Rattle.trace.specs.Meaning.{reply_of, request_of, IsWithinLimits};
-ghost use Rattle.trace.specs.Unread.{past};
+ghost use Rattle.trace.specs.Unread.{past, first_request, access_in};
 ghost use Rattle.replay.specs.Steps.{AreAsked, replies_of, told_of, told_behind};
 
 use crew::{CrewError, Workers};
@@ -21,6 +21,10 @@ use mapdb::{Database, DbError, Limits};
 use space::{NoMemory, Place};
 use std::alloc::{AllocError, Global};
 use trace::{Call, Refusal, Reply, TraceReader};
+
+/// How many accesses in a row are one call of the database at most. The lists of a longer call would take more memory and no
+/// less time.
+const MOST_ACCESSES: usize = 65_536;
 
 /// The replies to the records of one call of the database.
 #[derive(Debug, Drop)]
@@ -32,8 +36,8 @@ pub enum Replies {
 }
 
 /// Takes the next record, answers it, and leaves what it changed; an unmap by recursion if `plain`. Where it is an access, the
-/// accesses right behind it are taken and answered too: they are one call of the database. The accesses are put in place of
-/// those that were there.
+/// accesses right behind it are taken and answered too, up to 65,536 in all: they are one call of the database. The accesses
+/// are put in place of those that were there.
 ///
 /// Not answered where memory or a worker is refused: `NoMemory`, `NoWorker`.
 pub fn answer_first<W: Workers>(
@@ -133,10 +137,28 @@ fn read_accesses(
 {
     accesses.clear();
     put_access(accesses, first)?;
-    while let Some(access) = trace.next_access(limits)? {
+    while let Some(access) = next_of_call(limits, trace, accesses.len())? {
         put_access(accesses, access)?;
     }
     Ok(())
+}
+
+/// Takes the next record if it asks for an access, and the call that has so many of them may have one more.
+fn next_of_call(
+    limits: &Limits,
+    trace: &mut TraceReader<'_>,
+    taken: usize,
+) -> Result<Option<(Place, Access)>, NoMemory>
+    requires limits { are_limits (limits_of limits.now) ≡ true }
+    ensures access { IfOk result (λ access. IfSome access (λ a.
+        Some a ≡ access_in (first_request (limits_of limits.now) trace.old.records))) }
+    ensures within { IfOk result (λ access. IfSome access (λ a. IsWithin (limits_of limits.now) a.0)) }
+    ensures taken { IfOk result (λ access. MatchOption access (trace.new ≡ trace.old) (λ _. trace.new ≡ past 1 trace.old)) }
+{
+    if taken >= MOST_ACCESSES {
+        return Ok(None);
+    }
+    trace.next_access(limits)
 }
 
 /// Puts an access behind the others.
