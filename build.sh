@@ -1,9 +1,9 @@
 #!/usr/bin/env bash
-# Proves the crates, lowest first, and builds the program l4map. ./test.sh also runs the tests and the gate's other checks.
+# Proves the crates, lowest first, and builds the programs l4map and l4trace. ./test.sh also runs the tests and the gate's other checks.
 #
 #   ./build.sh
 #
-# A crate that has not changed since it was proved is not proved again. The exit status is 0 exactly where the program is built.
+# A crate that has not changed since it was proved is not proved again. The exit status is 0 exactly where both are built.
 set -u
 
 fail() {
@@ -44,4 +44,4 @@ for crate in "${crates[@]}"; do
     fi
 done
 rm -f -- "$log"
-printf '%s: the proved program is %s\n' "$0" "$top/crates/l4map/out/l4map"
+printf '%s: the proved programs are %s and %s\n' "$0" "$top/crates/l4map/out/l4map" "$top/crates/l4trace/out/l4trace"

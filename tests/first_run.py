@@ -25,6 +25,7 @@ ANSWER = (
 )
 DONE = Ended(0, ANSWER, b"")
 NOBODY = 65534
+PROGRAMS = ("l4map", "l4trace")
 
 # What run.sh says where the program is not built, before anything else, and where the program cannot be run to its end.
 NOTICE = b"./run.sh: the program is not built; running it without proofs, in half a minute (./build.sh proves and builds it)\n"
@@ -201,12 +202,13 @@ def check_build(cases, copy, room):
     asked = os.path.join(room, "asked")
     env = stand_in(room, f'echo "$(basename "$PWD") $*" >> {asked}\n')
     got = run(["./build.sh"], env=env, cwd=copy)
-    last = f"./build.sh: the proved program is {copy}/crates/l4map/out/l4map".encode()
+    paths = [f"{copy}/crates/{name}/out/{name}" for name in PROGRAMS]
+    last = f"./build.sh: the proved programs are {' and '.join(paths)}".encode()
     right = got.status == 0 and got.stdout.splitlines()[-1] == last and not got.stderr
-    cases.check("./build.sh tells where the program is", "" if right else f"it ended with {got}")
+    cases.check("./build.sh tells where the programs are", "" if right else f"it ended with {got}")
     with open(asked, encoding="ascii") as file:
         words = file.read().splitlines()
-    wanted = [f"{crate} run -- --version" if crate == "l4map" else f"{crate} lib" for crate in crates]
+    wanted = [f"{crate} run -- --version" if crate in PROGRAMS else f"{crate} lib" for crate in crates]
     cases.check("./build.sh builds each crate", "" if words == wanted else f"it asked for {words}")
     check_broken_build(cases, copy, room)
     wanted = Ended(1, b"", b"./build.sh: no argument is taken; usage: ./build.sh\n")

@@ -9,6 +9,7 @@ The number of refused records of each trace is compared with that of the last li
 import os
 import sys
 import tempfile
+from xml.etree import ElementTree
 
 from support.program import TOP, Cases, Ended, give_up, run
 
@@ -228,11 +229,11 @@ def check_program(cases, program):
         missing = os.path.join(room, "missing")
         cases.compare("check of no file", Ended(4, b"", b"l4trace: Unreadable\n"), run([program, "check", missing]))
         cases.compare("check of a folder", Ended(4, b"", b"l4trace: Unreadable\n"), run([program, "check", room]))
-    for arguments, example in (("--help", "Exit status"), ("word --help", "9008,50c6"), ("check --help", "leave out the 0x"), ("compare --help", "first difference")):
+    for arguments, example in (("--help", "Exit status"), ("word --help", "9008,50c6"), ("check --help", "leave out the 0x"), ("compare --help", "first difference"), ("show --help", "2:4 r-x"), ("why --help", "took --x"), ("random --help", "conflicts")):
         got = run([program, *arguments.split()])
         good = got.status == 0 and example in got.stdout.decode() and not got.stderr
         cases.check(arguments, "" if good else f"{got}")
-    for arguments in ("", "chek t", "check", "word 50c6 --size 4K", "word --rights rw", "word --control 0", "word --flush", "compare t"):
+    for arguments in ("", "chek t", "check", "word 50c6 --size 4K", "word --rights rw", "word --control 0", "word --flush", "compare t", "show", "why t", "random", "show t --svg --dot", "show t --space 1 --diff"):
         got = run([program, *arguments.split()])
         good = got.status == 2 and not got.stdout and got.stderr
         cases.check(f"refused: {arguments}", "" if good else f"{got}")
@@ -313,12 +314,242 @@ def compare_answers(cases, program):
     cases.compare("compare of no trace", wanted, run([program, "compare", "-", "/dev/null"], b"l4map,2\n"))
 
 
+# Four spaces. Page 0:0 goes to 1:0 and 2:0, and from 1:0 to 3:0 and 3:4; 0:1 to 2:5; then 0:1 to 1:0, which takes all back that 1:0 passed on.
+TREES = [
+    "l4map,1,4,18,2",
+    "send,0,1,10,8,c7",
+    "send,0,2,10,8,c6",
+    "send,1,3,10,8,c7,4008,c5",
+    "send,0,2,10,5008,10c7",
+    "send,0,1,10,8,10c7",
+]
+AFTER_4 = [
+    "frame 0",
+    "  0:0 rwx ---",
+    "  ├─ 1:0 rwx ---",
+    "  │  ├─ 3:0 rwx ---",
+    "  │  └─ 3:4 r-x ---",
+    "  └─ 2:0 rw- ---",
+    "frame 1",
+    "  0:1 rwx ---",
+    "+ └─ 2:5 rwx ---",
+]
+AFTER_5 = [
+    "frame 0",
+    "  0:0 rwx ---",
+    "  └─ 2:0 rw- ---",
+    "frame 1",
+    "  0:1 rwx ---",
+    "* ├─ 1:0 rwx ---, was rwx --- of frame 0 from 0:0",
+    "  └─ 2:5 rwx ---",
+    "no longer held",
+    "- 3:0 rwx --- of frame 0",
+    "- 3:4 r-x --- of frame 0",
+]
+DIFF_5 = [
+    "frame 0",
+    "  0:0 rwx ---       |   0:0 rwx ---",
+    "* ├─ 1:0 rwx ---    |   └─ 2:0 rw- ---",
+    "- │  ├─ 3:0 rwx --- |",
+    "- │  └─ 3:4 r-x --- |",
+    "  └─ 2:0 rw- ---    |",
+    "frame 1",
+    "  0:1 rwx ---    |   0:1 rwx ---",
+    "  └─ 2:5 rwx --- | * ├─ 1:0 rwx ---",
+    "                 |   └─ 2:5 rwx ---",
+]
+TABLE_HEAD = "    page      base  frame  rights  status  origin"
+# Arguments behind the name of the trace, and what is shown under the heading of a record.
+SHOWN = [
+    ("--at 0", 0, ["frame 0", "  0:0 rwx ---", "frame 1", "  0:1 rwx ---"]),
+    ("--at 4", 4, AFTER_4),
+    ("--at 4 --frame 1", 4, AFTER_4[6:]),
+    ("--at 4 --max 3", 4, [*AFTER_4[:4], ".. and 4 more; --max draws more of them"]),
+    ("", 5, AFTER_5),
+    ("--at 99", 5, AFTER_5),
+    ("--at 5 --diff", 5, DIFF_5),
+    ("--at 5 --diff --frame 1", 5, DIFF_5[6:]),
+    ("--at 4 --diff", 4, ["frame 1", "  0:1 rwx --- |   0:1 rwx ---", "              | + └─ 2:5 rwx ---"]),
+    (
+        "--at 3 --space 3",
+        3,
+        ["space 3: 2 of 64 pages held", TABLE_HEAD, "+      0         0      0  rwx     ---     1:0", "+      4      4000      0  r-x     ---     1:0"],
+    ),
+    ("--space 3", 5, ["space 3: 0 of 64 pages held", TABLE_HEAD, "- 3:0 rwx --- of frame 0", "- 3:4 r-x --- of frame 0"]),
+    ("--space 2 --frame 1", 5, ["space 2: 1 of 64 pages held", TABLE_HEAD, "       5      5000      1  rwx     ---     0:1"]),
+]
+
+
+def record_at(path, records, number):
+    """How a record of a trace, a list of lines without empty ones, is named: record 0 is its header."""
+    return f"record {number}, {path}:{number + 1}: {records[number]}"
+
+
+def written(room, name, lines):
+    path = os.path.join(room, name)
+    with open(path, "wb") as trace:
+        trace.write(text_of(lines))
+    return path
+
+
+# Each mapping after record 4 of TREES by rows: what its text says, and its origin.
+NODES = [("0:0", 0, "rwx", ""), ("1:0", 0, "rwx", "0:0"), ("3:0", 0, "rwx", "1:0"), ("3:4", 0, "r-x", "1:0"), ("2:0", 0, "rw-", "0:0"), ("0:1", 1, "rwx", ""), ("2:5", 1, "rwx", "0:1")]
+
+
+def dot_of_nodes():
+    lines = ["digraph holdings {", "  node [shape=box, fontname=monospace];"]
+    for place, frame, rights, origin in NODES:
+        colour = ", color=green" if place == "2:5" else ""
+        lines.append(f'  "{place}" [label="{place}\\nframe {frame}\\n{rights} ---"{colour}];')
+        if origin:
+            lines.append(f'  "{origin}" -> "{place}";')
+    return ended(0, *lines, "}")
+
+
+def check_picture(cases, name, got, title):
+    """The picture is XML, its title is the heading, and its texts are the frames and the mappings, each once, below its origin."""
+    try:
+        root = ElementTree.fromstring(got.stdout)
+    except ElementTree.ParseError as error:
+        cases.check(name, f"no XML: {error}")
+        return
+    space = "{http://www.w3.org/2000/svg}"
+    found = [(text.get("class"), text.text, int(text.get("x"))) for text in root.iter(space + "text")]
+    wanted = []
+    depths = {"": -1}
+    for place, frame, rights, origin in NODES:
+        depths[place] = depths[origin] + 1
+        if not origin:
+            wanted.append(("frame", f"frame {frame}", 8))
+        wanted.append(("page new" if place == "2:5" else "page same", f"{place} {rights} ---", 16 + 32 * depths[place]))
+    cases.check(name, "" if found == wanted and root.find(space + "title").text == title else f"{found}")
+    cases.check(name + ": branches", "" if len(list(root.iter(space + "path"))) == 5 else "not one for each origin")
+
+
+def show_traces(cases, program):
+    with tempfile.TemporaryDirectory() as room:
+        path = written(room, "trees.csv", TREES)
+        for arguments, number, lines in SHOWN:
+            heading = "after " + record_at(path, TREES, number) if number else "at the start"
+            cases.compare(f"show {arguments}", ended(0, heading, *lines), run([program, "show", path, *arguments.split()]))
+        cases.compare("show --dot", dot_of_nodes(), run([program, "show", path, "--at", "4", "--dot"]))
+        check_picture(cases, "show --svg", run([program, "show", path, "--at", "4", "--svg"]), "after " + record_at(path, TREES, 4))
+        odd = written(room, "a<b>&c.csv", TREES)
+        check_picture(cases, "show --svg with a name", run([program, "show", odd, "--at", "4", "--svg"]), "after " + record_at(odd, TREES, 4))
+        got = run([program, "show", path, "--at", "4", "--svg", "--max", "2"]).stdout.decode()
+        cases.check("show --svg --max", "" if ">.. and 5 more<" in got and got.count('class="page') == 2 else got)
+        for arguments in ("--space 4", "--frame 2"):
+            wanted = Ended(2, b"", b"l4trace: there is no such space or frame\n")
+            cases.compare(f"show {arguments}", wanted, run([program, "show", path, *arguments.split()]))
+        # An access that is seen, and an unmap that reads and clears what was seen.
+        path = written(room, "seen.csv", TRACE.decode().replace("\n\n", "\n").splitlines())
+        lines = ["frame 0", "  0:0 rwx ---", "* └─ 1:3 r-- ---, was rw- R--"]
+        cases.compare("show what was seen", ended(0, f"after record 3, {path}:4: unmap,0,0,c2", *lines), run([program, "show", path]))
+        chain = ["l4map,1,500,18,1", *(f"send,{n},{n + 1},10,8,c7" for n in range(40))]
+        got = run([program, "show", written(room, "chain.csv", chain)]).stdout.decode().splitlines()
+        cases.check("show a long chain", "" if got[-1] == "+ (level 40) 40:0 rwx ---" and len(got) == 43 else f"{got[-3:]}")
+    cases.compare("show of no trace", Ended(2, b"", b"l4trace: BadHeader\n"), run([program, "show", "-"], b"x\n"))
+    cases.compare("show of bad limits", Ended(2, b"", b"l4trace: BadLimits\n"), run([program, "show", "-"], b"l4map,1,1,18,1\n"))
+
+
+# A page comes, is narrowed, gains a right again, and goes; then it is granted.
+LIFE = ["l4map,1,4,18,2", "send,0,1,10,8,c5", "unmap,0,0,c1", "access,1,0,r", "send,0,1,10,8,c6", "unmap,1,40,c7", "send,0,1,10,a,c7"]
+
+
+def why_pages(cases, program):
+    with tempfile.TemporaryDirectory() as room:
+        path = written(room, "trees.csv", TREES)
+
+        def at(number):
+            return record_at(path, TREES, number)
+
+        def asked(page, *arguments):
+            return run([program, "why", path, "--page", page, *arguments])
+
+        chain = ["it came from", f"  3:4 r-x --- from 1:0, since {at(3)}", f"  1:0 rwx --- from 0:0, since {at(1)}", "  0:0 rwx ---, a root, since the start"]
+        come = ["what changed its rights", f"  {at(3)}", "    gave r-x of frame 0 from 1:0"]
+        cases.compare("why of a chain", ended(0, f"3:4 holds frame 0 with r-x, after {at(4)}", *chain, *come), asked("3:4", "--at", "4"))
+        gone = [f"  {at(5)}", "    took r-x; nothing is left"]
+        cases.compare("why of a page that is gone", ended(0, f"3:4 holds nothing, after {at(5)}", *come, *gone), asked("3:4"))
+        lines = ["it came from", f"  1:0 rwx --- from 0:1, since {at(5)}", "  0:1 rwx ---, a root, since the start"]
+        lines += ["what changed its rights", f"  {at(1)}", "    gave rwx of frame 0 from 0:0", f"  {at(5)}", "    replaced what was held: gave rwx of frame 1 from 0:1"]
+        cases.compare("why of a page that was replaced", ended(0, f"1:0 holds frame 1 with rwx, after {at(5)}", *lines), asked("1:0"))
+        lines = ["it came from", "  0:0 rwx ---, a root, since the start", "no record changed its rights"]
+        cases.compare("why at the start", ended(0, "0:0 holds frame 0 with rwx, at the start", *lines), asked("0:0", "--at", "0"))
+        cases.compare("why of a page never held", ended(0, f"3:63 holds nothing, after {at(5)}", "no record changed its rights"), asked("3:63"))
+        for page in ("4:0", "0:64"):
+            cases.compare(f"why {page}", Ended(2, b"", b"l4trace: there is no such space or frame\n"), asked(page))
+        wanted = Ended(2, b"", b"error: '3' is not a page: a space, a colon and a page, as 2:4\n")
+        cases.compare("why 3", wanted, asked("3"))
+        path = written(room, "life.csv", LIFE)
+
+        def then(number):
+            return record_at(path, LIFE, number)
+
+        changes = ["what changed its rights"]
+        for number, what in (
+            (1, "gave r-x of frame 0 from 0:0"),
+            (2, "took --x: r-x became r--"),
+            (4, "gave -w-: r-- became rw-"),
+            (5, "took rw-; nothing is left"),
+            (6, "gave rwx of frame 0, as a root"),
+        ):
+            changes += [f"  {then(number)}", f"    {what}"]
+        lines = [f"1:0 holds frame 0 with rwx, after {then(6)}", "it came from", f"  1:0 rwx ---, a root, since {then(6)}", *changes]
+        cases.compare("why of a life", ended(0, *lines), run([program, "why", path, "--page", "1:0"]))
+
+
+SHAPES = ("chain", "tree", "pagers", "conflicts", "fpages")
+
+
+def make_random(cases, program):
+    """Traces made at random: as long as asked, the same again, refused as asked, and replayed by l4map."""
+    for shape in SHAPES:
+        plan = ["random", "--seed", "7", "--records", "2000", "--shape", shape]
+        trace = run([program, *plan]).stdout
+        cases.check(f"random {shape}: the same again", "" if trace and trace == run([program, *plan]).stdout else "it differs")
+        other = run([program, *plan[:2], "8", *plan[3:]]).stdout
+        cases.check(f"random {shape}: another seed", "" if trace != other else "it is the same")
+        for percent, least, most in ((0, 0, 0), (20, 300, 500), (100, 2000, 2000)):
+            given = run([program, *plan, "--refused", str(percent)]).stdout
+            last = run([program, "check", "-", "--max", "0"], given).stdout.decode().splitlines()[-1]
+            records, refused = last.split(", ")
+            good = records == "2000 records" and least <= int(refused.split()[0]) <= most
+            cases.check(f"random {shape}: {percent} of 100 refused", "" if good else last)
+        compare_random(cases, program, shape, trace)
+    given = run([program, *"random --seed 1 --records 300 --spaces 512 --bits 24 --frames 64".split()]).stdout
+    cases.check("random: header", "" if given.startswith(b"l4map,1,512,24,64\n") else given[:40].decode())
+    for arguments in ("--spaces 1", "--bits 25", "--frames 65", "--refused 101", "--shape ring", "--records x"):
+        got = run([program, *"random --seed 1 --records 1".split(), *arguments.split()])
+        cases.check(f"random {arguments}", "" if got.status == 2 and not got.stdout and got.stderr else f"{got}")
+
+
+def compare_random(cases, program, shape, trace):
+    """The answers of l4map are the same as themselves, and one that is changed is found."""
+    answers = run([L4MAP], trace).stdout
+    lines = answers.decode().splitlines()
+    linked = [line for line in lines if " send " in line and "linked=0" not in line]
+    cases.check(f"random {shape}: pages are mapped", "" if len(linked) > 100 else f"{len(linked)} sends link a page")
+    with tempfile.TemporaryDirectory() as room:
+        path = os.path.join(room, "trace.csv")
+        with open(path, "wb") as file:
+            file.write(trace)
+        cases.compare(f"random {shape}: its answers", ended(0, "no difference"), run([program, "compare", path, "-"], answers))
+        lines[999] = lines[999] + "x"
+        got = run([program, "compare", path, "-"], text_of(lines)).stdout.decode()
+        cases.check(f"random {shape}: a wrong answer", "" if got.startswith("first difference: line 1000\n") else got[:200])
+
+
 def check_many(cases, program):
     """Half a million records, of which one is refused."""
     many = (HEADER + "access,0,0,r\n" * 500_000 + "access,0,0,q\n").encode()
     cause = "BadRecord: the kind of access is 'q', not r, w or x"
     wanted = ended(1, f"-:500002:12: record 500001: {cause}", "500001 records, 1 refused")
     cases.compare("check of half a million records", wanted, run([program, "check", "-"], many))
+    got = run([program, "show", "-"], many).stdout.decode()
+    cases.check("show after half a million records", "" if got.startswith("after record 500001, -:500002: access,0,0,q\n") else got[:200])
+    got = run([program, "why", "-", "--page", "0:0"], many).stdout.decode()
+    cases.check("why after half a million records", "" if got.startswith("0:0 holds frame 0 with rwx, after record 500001,") else got[:200])
 
 
 def main():
@@ -327,6 +558,9 @@ def main():
     check_records(cases, program)
     check_program(cases, program)
     compare_answers(cases, program)
+    show_traces(cases, program)
+    why_pages(cases, program)
+    make_random(cases, program)
     check_many(cases, program)
     cases.end()
 

@@ -2,3 +2,4 @@ mod Digits
 mod Made
 mod Counting
 mod Replayed
+mod Moments

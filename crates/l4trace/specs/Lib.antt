@@ -2,3 +2,8 @@ pub mod Asked
 pub mod Task
 pub mod Check
 pub mod Compare
+pub mod Moment
+pub mod Tree
+pub mod Show
+pub mod History
+pub mod Random

@@ -1,12 +1,16 @@
 -- What a task of the command line promises.
 use Rattle.std.specs.Prelude.{⊤}
 use Rattle.fpage.specs.Fpage.{IsSpaceBits}
+use Rattle.l4trace.specs.Random.{IsPlan}
 use Rattle.l4trace.specs.declared.command_line.Task.{Task}
-use Rattle.l4trace.specs.declared.command_line.Task.TheVariants.{Explain, Tell, Compare, Check}
+use Rattle.l4trace.specs.declared.command_line.Task.TheVariants.{Explain, Tell, Compare, Show, Why, Random, Check}
 
--- words are explained for spaces that there are
+-- words are explained for spaces that there are, and traces are made for limits that are served
 abbrev pub IsServed : Task → Type 0
 IsServed (Explain words bits) = IsSpaceBits bits
 IsServed (Tell text) = ⊤
 IsServed (Compare trace answers audit) = ⊤
+IsServed (Show trace view) = ⊤
+IsServed (Why trace question) = ⊤
+IsServed (Random plan) = IsPlan plan
 IsServed (Check trace most) = ⊤

@@ -9,6 +9,12 @@ use crate::explain::{Extent, push_extent_fault};
 use crate::field;
 use crate::make::{Size, control_word, fpage_word, item_word};
 use crate::parts::{rights_of, size_of};
+use crate::plan::Plan;
+use crate::random_command::{random_command, random_task};
+use crate::show::View;
+use crate::show_command::{show_command, show_task};
+use crate::why::Question;
+use crate::why_command::{why_command, why_task};
 use clap::error::ErrorKind;
 use clap::{Arg, ArgAction, ArgMatches, Command, Error, value_parser};
 use fpage::{FpageError, ItemKind};
@@ -16,7 +22,7 @@ use std::alloc::{AllocError, Global};
 use std::fmt::Write;
 
 const ABOUT: &str =
-    "Explains the words of a trace of calls on an L4 mapping database, makes such words, checks traces, and compares the answers to them with those of l4map.";
+    "Explains the words of a trace of calls on an L4 mapping database, makes such words, checks traces, shows what they hold and why, makes some at random, and compares the answers to them with those of l4map.";
 
 const EXAMPLE: &str =
     "Words, bases and addresses are hexadecimal; pages, spaces, sizes and bits are decimal.
@@ -89,6 +95,18 @@ pub enum Task {
         answers: String,
         audit: bool,
     },
+    /// Show what a trace, a file or `-` for standard input, holds.
+    Show {
+        trace: String,
+        view: View,
+    },
+    /// Tell where a page of a trace, a file or `-` for standard input, came from.
+    Why {
+        trace: String,
+        question: Question,
+    },
+    /// Write a trace made at random.
+    Random(Plan),
     /// Check a trace, a file or `-` for standard input, and tell at most so many refused records.
     Check {
         trace: String,
@@ -248,6 +266,9 @@ fn command<'a>(alloc: Global) -> Result<Command<'a>, AllocError> {
         .subcommand_required(true)
         .subcommand(word_command(alloc)?)?
         .subcommand(check_command(alloc)?)?
+        .subcommand(show_command(alloc)?)?
+        .subcommand(why_command(alloc)?)?
+        .subcommand(random_command(alloc)?)?
         .subcommand(compare_command(alloc)?)
 }
 
@@ -260,6 +281,9 @@ pub fn parse<'a>(alloc: Global, words: &'a [&'a str]) -> Result<Task, TaskError>
         Ok(matches) => match matches.subcommand() {
             Some(("word", asked)) => word_task(alloc, asked),
             Some(("check", asked)) => check_task(alloc, asked),
+            Some(("show", asked)) => show_task(alloc, asked),
+            Some(("why", asked)) => why_task(alloc, asked),
+            Some(("random", asked)) => random_task(alloc, asked),
             Some((_, asked)) => compare_task(alloc, asked),
             None => Err(refused(alloc, "no subcommand is named")),
         },
@@ -284,7 +308,7 @@ fn fault(alloc: Global, error: &Error) -> TaskError {
 }
 
 /// A refusal of the command line.
-fn refused(alloc: Global, why: &str) -> TaskError {
+pub fn refused(alloc: Global, why: &str) -> TaskError {
     match format!(in alloc; "error: {why}\n") {
         Ok(text) => TaskError::Refused(text),
         Err(_) => TaskError::NoMemory,
@@ -292,7 +316,7 @@ fn refused(alloc: Global, why: &str) -> TaskError {
 }
 
 /// A refusal of one word of the command line.
-fn refused_value(alloc: Global, value: &str, wanted: &str) -> TaskError {
+pub fn refused_value(alloc: Global, value: &str, wanted: &str) -> TaskError {
     match format!(in alloc; "error: '{value}' is not {wanted}\n") {
         Ok(text) => TaskError::Refused(text),
         Err(_) => TaskError::NoMemory,

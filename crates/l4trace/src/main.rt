@@ -1,29 +1,53 @@
-//! l4trace: explains the words of a trace, makes them, and checks traces.
+//! l4trace: explains the words of a trace and makes them, checks traces, shows what they hold, and compares answers to them.
 #![tactic(auto)]
 
 ghost use Rattle.std.specs.Prelude.{IfOk};
+ghost use Rattle.l4trace.specs.Random.{IsPlan};
 ghost use Rattle.l4trace.specs.Task.{IsServed};
 
+mod answering;
 mod check;
 mod command_line;
 mod compare;
+mod dice;
+mod diff;
+mod dot;
 mod explain;
 mod fault;
 mod field;
 mod header;
 mod hint;
+mod history;
+mod lines;
 mod make;
+mod mark;
+mod moment;
 mod parts;
 mod places;
+mod plan;
+mod random;
+mod random_command;
+mod record_text;
 mod role;
+mod show;
+mod show_command;
+mod spoil;
+mod svg;
+mod table;
 #[cfg(test)]
 mod tests;
+mod tree;
+mod why;
+mod why_command;
 
 use check::{CheckError, Found, Subject, check_trace};
 use command_line::{Task, TaskError, parse};
 use compare::{CompareError, Comparison, compare};
 use explain::explain_all;
+use plan::Plan;
+use random::{RandomError, write_random};
 use replay::RunError;
+use show::{ShowError, View, push_view};
 use std::alloc::AllocError;
 use std::env::Env;
 use std::io::{BufWriter, ErrorKind};
@@ -33,6 +57,7 @@ use std::sync::Wait;
 use std::thread::Threads;
 use std::{env, fs, io};
 use trace::{ReadError, Sink, Std, read_to_end};
+use why::{Question, push_why};
 
 /// Reads the program's command line.
 fn read_command_line(rt: &(impl AllocGlobal + Env)) -> Result<Task, TaskError>
@@ -68,6 +93,8 @@ pub enum ToolError {
     WriteFailed,
     /// A replay ended early.
     Run(RunError),
+    /// There is no such space or frame.
+    Unknown,
 }
 
 impl From<ReadError> for ToolError {
@@ -107,6 +134,25 @@ impl From<CompareError> for ToolError {
             CompareError::Run(error) => ToolError::Run(error),
             CompareError::NoMemory => ToolError::NoMemory,
             CompareError::WriteFailed => ToolError::WriteFailed,
+        }
+    }
+}
+
+impl From<RandomError> for ToolError {
+    fn from(error: RandomError) -> Self {
+        match error {
+            RandomError::NoMemory => ToolError::NoMemory,
+            RandomError::WriteFailed => ToolError::WriteFailed,
+        }
+    }
+}
+
+impl From<ShowError> for ToolError {
+    fn from(error: ShowError) -> Self {
+        match error {
+            ShowError::Run(error) => ToolError::Run(error),
+            ShowError::NoMemory => ToolError::NoMemory,
+            ShowError::Unknown => ToolError::Unknown,
         }
     }
 }
@@ -168,6 +214,42 @@ fn compare_named(
     Ok(compare(rt, &comparison, &mut Std::new(io::writer(rt)))?)
 }
 
+/// Shows what a trace holds.
+fn show_named(
+    rt: &(impl AllocGlobal + Input + Print + Files + Threads + Wait + Sync),
+    name: &str,
+    view: &View,
+) -> Result<(), ToolError> {
+    let bytes = read_trace(rt, name)?;
+    let mut text = String::new(rt.alloc());
+    push_view(rt, &mut text, name, &bytes, view)?;
+    print(rt, text.as_str())
+}
+
+/// Tells where a page of a trace came from.
+fn why_named(
+    rt: &(impl AllocGlobal + Input + Print + Files + Threads + Wait + Sync),
+    name: &str,
+    question: &Question,
+) -> Result<(), ToolError> {
+    let bytes = read_trace(rt, name)?;
+    let mut text = String::new(rt.alloc());
+    push_why(rt, &mut text, name, &bytes, question)?;
+    print(rt, text.as_str())
+}
+
+/// Writes a trace made at random.
+fn write_planned(rt: &(impl AllocGlobal + Print), plan: &Plan) -> Result<(), ToolError>
+    requires { IsPlan plan.now }
+{
+    let Ok(output) = BufWriter::new(rt.alloc(), io::writer(rt)) else {
+        return Err(ToolError::NoMemory);
+    };
+    let mut writer = Std::new(output);
+    write_random(rt.alloc(), plan, &mut writer)?;
+    writer.flush().map_err(|_| ToolError::WriteFailed)
+}
+
 /// Does a task, and returns whether something was found.
 fn perform(
     rt: &(impl AllocGlobal + Input + Print + Files + Threads + Wait + Sync),
@@ -187,6 +269,9 @@ fn perform(
             answers,
             audit,
         } => return compare_named(rt, trace.as_str(), answers.as_str(), *audit),
+        Task::Show { trace, view } => show_named(rt, trace.as_str(), view)?,
+        Task::Why { trace, question } => why_named(rt, trace.as_str(), question)?,
+        Task::Random(plan) => write_planned(rt, plan)?,
         Task::Check { trace, most } => return check_named(rt, trace.as_str(), *most),
     }
     Ok(false)
@@ -197,6 +282,7 @@ fn told(error: ToolError) -> (&'static str, u8) {
     match error {
         ToolError::Run(RunError::BadHeader) => ("l4trace: BadHeader\n", 2),
         ToolError::Run(RunError::BadLimits) => ("l4trace: BadLimits\n", 2),
+        ToolError::Unknown => ("l4trace: there is no such space or frame\n", 2),
         ToolError::Run(_) => ("l4trace: the replay ended early\n", 3),
         ToolError::NoMemory => ("l4trace: NoMemory\n", 3),
         ToolError::Unreadable => ("l4trace: Unreadable\n", 4),
