@@ -7,6 +7,7 @@ The number of refused records of each trace is compared with that of the last li
 """
 
 import os
+import shutil
 import sys
 import tempfile
 from xml.etree import ElementTree
@@ -552,8 +553,37 @@ def check_many(cases, program):
     cases.check("why after half a million records", "" if got.startswith("0:0 holds frame 0 with rwx, after record 500001,") else got[:200])
 
 
+def check_script(cases, program):
+    """trace.sh runs the program, and tells where there is none."""
+    script = os.path.join(TOP, "trace.sh")
+    for words in (["word", "50c6"], ["word", "x"], ["--help"], ["check", "examples/chain-and-its-revocation.csv"]):
+        cases.compare(f"trace.sh {' '.join(words)}", run([program, *words], cwd=TOP), run([script, *words], cwd=TOP))
+    with tempfile.TemporaryDirectory() as room:
+        lone = shutil.copy(script, room)
+        why = f"{lone}: l4trace is not built; {room}/build.sh proves and builds it\n"
+        cases.compare("trace.sh without the program", Ended(125, b"", why.encode()), run([lone, "word", "50c6"]))
+
+
+def check_readme(cases, program):
+    """What README shows of l4trace is what it says."""
+    with open(os.path.join(TOP, "README.md"), encoding="utf-8") as file:
+        section = file.read().split("## When something differs\n")[1].split("\n## ")[0]
+    shown = [block[len("$ ./trace.sh ") :] for block in section.split("```\n")[1::2] if block.startswith("$ ./trace.sh ")]
+    cases.check("README shows five commands", "" if len(shown) == 5 else f"it shows {len(shown)}")
+    for block in shown:
+        words, lines = block.split("\n", 1)
+        words, _, target = words.partition(" > ")
+        if target:
+            with open(os.path.join(TOP, "docs", target), encoding="utf-8") as file:
+                lines = file.read()
+        got = run([program, *words.split()], cwd=TOP)
+        cases.check(f"README: {words}", "" if got.stdout.decode() == lines and not got.stderr else f"it says {got}")
+
+
 def main():
     program, cases = tool_path(), Cases()
+    check_script(cases, program)
+    check_readme(cases, program)
     check_words(cases, program)
     check_records(cases, program)
     check_program(cases, program)

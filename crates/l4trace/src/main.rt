@@ -34,8 +34,6 @@ mod show_command;
 mod spoil;
 mod svg;
 mod table;
-#[cfg(test)]
-mod tests;
 mod tree;
 mod why;
 mod why_command;
