@@ -530,7 +530,7 @@ def compare_random(cases, program, shape, trace):
     answers = run([L4MAP], trace).stdout
     lines = answers.decode().splitlines()
     linked = [line for line in lines if " send " in line and "linked=0" not in line]
-    cases.check(f"random {shape}: pages are mapped", "" if len(linked) > 100 else f"{len(linked)} sends link a page")
+    cases.check(f"random {shape}: pages are mapped", "" if len(linked) > 20 else f"{len(linked)} sends link a page")
     with tempfile.TemporaryDirectory() as room:
         path = os.path.join(room, "trace.csv")
         with open(path, "wb") as file:
