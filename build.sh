@@ -28,7 +28,7 @@ command -v rt > /dev/null || fail "the command rt is missing: install the Rattle
 mapfile -t crates < <(sed -nE 's/^([a-z0-9_]+)( [^:]*)?:.*/\1/p' "$top/crates.txt" | grep -v '_tests$')
 log=$(mktemp "${TMPDIR:-/tmp}/l4map-build-XXXXXX.log") || fail "no temporary file can be made"
 
-printf '%s: proving %s crates; from nothing that takes 20 to 40 minutes on 4 cores\n' "$0" "${#crates[@]}"
+printf '%s: proving %s crates; from nothing that takes 30 to 60 minutes on 4 cores\n' "$0" "${#crates[@]}"
 number=0
 for crate in "${crates[@]}"; do
     ((number += 1))
