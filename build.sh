@@ -32,7 +32,7 @@ printf '%s: proving %s crates; from nothing that takes 30 to 60 minutes on 4 cor
 number=0
 for crate in "${crates[@]}"; do
     ((number += 1))
-    printf '  %s of %s  %-8s ' "$number" "${#crates[@]}" "$crate"
+    printf '  %s of %s  %-13s ' "$number" "${#crates[@]}" "$crate"
     SECONDS=0
     if ! (build_crate "$crate") < /dev/null > "$log" 2>&1; then
         printf 'failed\n'

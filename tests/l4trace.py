@@ -7,9 +7,13 @@ The number of refused records of each trace is compared with that of the last li
 """
 
 import os
+import pty
+import re
 import shutil
+import subprocess
 import sys
 import tempfile
+import tty
 from xml.etree import ElementTree
 
 from support.program import TOP, Cases, Ended, give_up, run
@@ -456,6 +460,9 @@ def show_traces(cases, program):
 # A page comes, is narrowed, gains a right again, and goes; then it is granted.
 LIFE = ["l4map,1,4,18,2", "send,0,1,10,8,c5", "unmap,0,0,c1", "access,1,0,r", "send,0,1,10,8,c6", "unmap,1,40,c7", "send,0,1,10,a,c7"]
 
+# Page 0:0 goes to 1:0, from there to 2:5, and then 1:0 is granted to 3:7, which takes its place in the tree.
+GRANT = ["l4map,1,4,18,1", "send,0,1,10,8,c7", "send,1,2,10,5008,c5", "send,1,3,10,700a,c7"]
+
 
 def why_pages(cases, program):
     with tempfile.TemporaryDirectory() as room:
@@ -498,6 +505,92 @@ def why_pages(cases, program):
             changes += [f"  {then(number)}", f"    {what}"]
         lines = [f"1:0 holds frame 0 with rwx, after {then(6)}", "it came from", f"  1:0 rwx ---, a root, since {then(6)}", *changes]
         cases.compare("why of a life", ended(0, *lines), run([program, "why", path, "--page", "1:0"]))
+        path = written(room, "grant.csv", GRANT)
+        first, second, third = (record_at(path, GRANT, number) for number in (1, 2, 3))
+        root = "  0:0 rwx ---, a root, since the start"
+        lines = [f"3:7 holds frame 0 with rwx, after {third}", "it came from", f"  3:7 rwx --- from 0:0, since {third}", root]
+        lines += ["what changed its rights", f"  {third}", "    gave rwx of frame 0 from 0:0"]
+        cases.compare("why of a page that was granted", ended(0, *lines), run([program, "why", path, "--page", "3:7"]))
+        lines = [f"1:0 holds nothing, after {third}", "what changed its rights", f"  {first}", "    gave rwx of frame 0 from 0:0"]
+        lines += [f"  {third}", "    took rwx; nothing is left"]
+        cases.compare("why of a page that was granted away", ended(0, *lines), run([program, "why", path, "--page", "1:0"]))
+        lines = [f"2:5 holds frame 0 with r-x, after {third}", "it came from", f"  2:5 r-x --- from 3:7, since {third}"]
+        lines += [f"  3:7 rwx --- from 0:0, since {third}", root, "what changed its rights", f"  {second}", "    gave r-x of frame 0 from 1:0"]
+        lines += [f"  {third}", "    replaced what was held: gave r-x of frame 0 from 3:7"]
+        cases.compare("why of a page below one that was granted", ended(0, *lines), run([program, "why", path, "--page", "2:5"]))
+
+
+GREEN, RED, YELLOW, RESET = "\x1b[32m", "\x1b[31m", "\x1b[33m", "\x1b[0m"
+
+
+def on_terminal(arguments, given=b""):
+    """What a program writes to a terminal as its standard output."""
+    main, other = pty.openpty()
+    tty.setraw(other)
+    ran = subprocess.Popen(arguments, stdin=subprocess.PIPE, stdout=other, stderr=subprocess.DEVNULL)
+    os.close(other)
+    ran.stdin.write(given)
+    ran.stdin.close()
+    written = b""
+    while True:
+        try:
+            came = os.read(main, 1 << 16)
+        except OSError:  # the other end of the terminal is closed
+            came = b""
+        if not came:
+            break
+        written += came
+    os.close(main)
+    ran.wait()
+    return written.decode()
+
+
+def check_colors(cases, program):
+    """Lines are coloured on a terminal, or as they are asked to be; without the colours the text is the same."""
+    with tempfile.TemporaryDirectory() as room:
+        path, life = written(room, "trees.csv", TREES), written(room, "life.csv", LIFE)
+        heading = "after " + record_at(path, TREES, 5)
+        tree = [*AFTER_5[:5], YELLOW + AFTER_5[5] + RESET, *AFTER_5[6:8], *(RED + line + RESET for line in AFTER_5[8:])]
+        shown = ended(0, heading, *tree)
+        cases.compare("show --color always", shown, run([program, "show", path, "--color", "always"]))
+        plain = ended(0, heading, *AFTER_5)
+        cases.compare("show --color never", plain, run([program, "show", path, "--color", "never"]))
+        cases.compare("show to a file", plain, run([program, "show", path, "--color", "auto"]))
+        got = on_terminal([program, "show", path])
+        cases.check("show on a terminal", "" if got == shown.stdout.decode() else repr(got))
+        got = on_terminal([program, "show", path, "--color=never"])
+        cases.check("show on a terminal, not coloured", "" if got == plain.stdout.decode() else repr(got))
+        lines = [
+            "frame 1",
+            "  0:1 rwx --- |   0:1 rwx ---",
+            f"              | {GREEN}+ └─ 2:5 rwx ---{RESET}",
+        ]
+        got = run([program, "show", path, "--at", "4", "--diff", "--color", "always"])
+        cases.compare("show --diff --color always", ended(0, "after " + record_at(path, TREES, 4), *lines), got)
+        got = run([program, "show", path, "--diff", "--color", "always"]).stdout.decode()
+        left = f"{RED}- │  ├─ 3:0 rwx ---{RESET} |"
+        cases.check("show --diff --color always: the left column", "" if left in got.splitlines() else got)
+        for form in ("--svg", "--dot"):
+            wanted = run([program, "show", path, form])
+            cases.compare(f"show {form} --color always", wanted, run([program, "show", path, form, "--color", "always"]))
+        got = run([program, "why", life, "--page", "1:0", "--color", "always"]).stdout.decode()
+        for line in (f"{GREEN}    gave r-x of frame 0 from 0:0{RESET}", f"{RED}    took --x: r-x became r--{RESET}"):
+            cases.check(f"why --color always: {line!r}", "" if line in got.splitlines() else got)
+        trace = os.path.join(room, "trace.csv")
+        with open(trace, "wb") as file:
+            file.write(TRACE)
+        answers = text_of(changed(2, "2 access fault"))
+        got = run([program, "compare", trace, "-", "--color", "always"], answers).stdout.decode().splitlines()
+        wanted = [f"{RED}    - 1,3,0,rw-,---,0:0{RESET}", f"{GREEN}    + 1,3,0,rw-,R--,0:0{RESET}"]
+        cases.check("compare --color always", "" if got[-2:] == wanted else f"{got}")
+        got = on_terminal([program, "compare", trace, "-"], answers).splitlines()
+        cases.check("compare on a terminal", "" if got[-2:] == wanted else f"{got}")
+        for command in (["show", path], ["why", path, "--page", "1:0"], ["compare", path, path]):
+            colored = run([program, *command, "--color", "always"]).stdout.decode()
+            stripped = re.sub("\x1b\\[[0-9]+m", "", colored)
+            cases.check(f"{command[0]} without its colours", "" if stripped != colored and stripped == run([program, *command]).stdout.decode() else repr(colored))
+        wanted = Ended(2, b"", b"error: 'red' is not auto, always or never\n")
+        cases.compare("show --color red", wanted, run([program, "show", path, "--color", "red"]))
 
 
 SHAPES = ("chain", "tree", "pagers", "conflicts", "fpages")
@@ -530,7 +623,7 @@ def compare_random(cases, program, shape, trace):
     answers = run([L4MAP], trace).stdout
     lines = answers.decode().splitlines()
     linked = [line for line in lines if " send " in line and "linked=0" not in line]
-    cases.check(f"random {shape}: pages are mapped", "" if len(linked) > 20 else f"{len(linked)} sends link a page")
+    cases.check(f"random {shape}: pages are mapped", "" if len(linked) > 100 else f"{len(linked)} sends link a page")
     with tempfile.TemporaryDirectory() as room:
         path = os.path.join(room, "trace.csv")
         with open(path, "wb") as file:
@@ -590,6 +683,7 @@ def main():
     compare_answers(cases, program)
     show_traces(cases, program)
     why_pages(cases, program)
+    check_colors(cases, program)
     make_random(cases, program)
     check_many(cases, program)
     cases.end()

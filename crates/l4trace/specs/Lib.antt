@@ -1,9 +1,1 @@
-pub mod Asked
 pub mod Task
-pub mod Check
-pub mod Compare
-pub mod Moment
-pub mod Tree
-pub mod Show
-pub mod History
-pub mod Random

@@ -1,7 +1,7 @@
 -- What a task of the command line promises.
 use Rattle.std.specs.Prelude.{⊤}
 use Rattle.fpage.specs.Fpage.{IsSpaceBits}
-use Rattle.l4trace.specs.Random.{IsPlan}
+use Rattle.random_traces.specs.Random.{IsPlan}
 use Rattle.l4trace.specs.declared.command_line.Task.{Task}
 use Rattle.l4trace.specs.declared.command_line.Task.TheVariants.{Explain, Tell, Compare, Show, Why, Random, Check}
 
@@ -9,8 +9,8 @@ use Rattle.l4trace.specs.declared.command_line.Task.TheVariants.{Explain, Tell, 
 abbrev pub IsServed : Task → Type 0
 IsServed (Explain words bits) = IsSpaceBits bits
 IsServed (Tell text) = ⊤
-IsServed (Compare trace answers audit) = ⊤
-IsServed (Show trace view) = ⊤
-IsServed (Why trace question) = ⊤
+IsServed (Compare trace answers audit color) = ⊤
+IsServed (Show trace view color) = ⊤
+IsServed (Why trace question color) = ⊤
 IsServed (Random plan) = IsPlan plan
 IsServed (Check trace most) = ⊤

@@ -2,24 +2,24 @@
 
 ghost use Rattle.std.specs.Prelude.{IfOk};
 ghost use Rattle.fpage.specs.Fpage.{IsSpaceBits};
-ghost use Rattle.l4trace.specs.Asked.{IsSize};
+ghost use Rattle.texts.specs.Asked.{IsSize};
 ghost use Rattle.l4trace.specs.Task.{IsServed};
 
-use crate::explain::{Extent, push_extent_fault};
-use crate::field;
-use crate::make::{Size, control_word, fpage_word, item_word};
-use crate::parts::{rights_of, size_of};
-use crate::plan::Plan;
+use crate::paint::ColorChoice;
 use crate::random_command::{random_command, random_task};
-use crate::show::View;
 use crate::show_command::{show_command, show_task};
-use crate::why::Question;
 use crate::why_command::{why_command, why_task};
 use clap::error::ErrorKind;
 use clap::{Arg, ArgAction, ArgMatches, Command, Error, value_parser};
+use drawings::View;
 use fpage::{FpageError, ItemKind};
+use moments::Question;
+use random_traces::Plan;
 use std::alloc::{AllocError, Global};
 use std::fmt::Write;
+use texts::{
+    Extent, Size, control_word, field, fpage_word, item_word, push_extent_fault, rights_of, size_of,
+};
 
 const ABOUT: &str =
     "Explains the words of a trace of calls on an L4 mapping database, makes such words, checks traces, shows what they hold and why, makes some at random, and compares the answers to them with those of l4map.";
@@ -94,16 +94,19 @@ pub enum Task {
         trace: String,
         answers: String,
         audit: bool,
+        color: ColorChoice,
     },
     /// Show what a trace, a file or `-` for standard input, holds.
     Show {
         trace: String,
         view: View,
+        color: ColorChoice,
     },
     /// Tell where a page of a trace, a file or `-` for standard input, came from.
     Why {
         trace: String,
         question: Question,
+        color: ColorChoice,
     },
     /// Write a trace made at random.
     Random(Plan),
@@ -216,6 +219,24 @@ fn with_control<'a>(alloc: Global, command: Command<'a>) -> Result<Command<'a>, 
     command.arg(control)?.arg(flush)
 }
 
+/// The option that says when lines are coloured.
+pub fn color_option<'a>(alloc: Global) -> Arg<'a> {
+    Arg::new(alloc, "color")
+        .long("color")
+        .value_name("WHEN")
+        .default_value("auto")
+        .help("When lines are coloured: auto (on a terminal), always or never")
+}
+
+/// When lines are to be coloured.
+pub fn asked_color(alloc: Global, asked: &ArgMatches) -> Result<ColorChoice, TaskError> {
+    let name = asked.get_str("color").unwrap_or("auto");
+    match ColorChoice::of_name(name) {
+        Some(color) => Ok(color),
+        None => Err(refused_value(alloc, name, "auto, always or never")),
+    }
+}
+
 /// The subcommand `check`.
 fn check_command<'a>(alloc: Global) -> Result<Command<'a>, AllocError> {
     let trace = Arg::new(alloc, "trace")
@@ -254,7 +275,8 @@ fn compare_command<'a>(alloc: Global) -> Result<Command<'a>, AllocError> {
         .after_help(COMPARE_EXAMPLE)
         .arg(trace)?
         .arg(answers)?
-        .arg(audit)
+        .arg(audit)?
+        .arg(color_option(alloc))
 }
 
 /// The command line of the program.
@@ -378,10 +400,12 @@ fn compare_task(alloc: Global, asked: &ArgMatches) -> Result<Task, TaskError>
     let trace = String::from_str(alloc, asked.get_str("trace").unwrap_or("-"))?;
     let answers = String::from_str(alloc, asked.get_str("answers").unwrap_or("-"))?;
     let audit = asked.get_flag("audit");
+    let color = asked_color(alloc, asked)?;
     Ok(Task::Compare {
         trace,
         answers,
         audit,
+        color,
     })
 }
 

@@ -2,60 +2,33 @@
 #![tactic(auto)]
 
 ghost use Rattle.std.specs.Prelude.{IfOk};
-ghost use Rattle.l4trace.specs.Random.{IsPlan};
+ghost use Rattle.random_traces.specs.Random.{IsPlan};
 ghost use Rattle.l4trace.specs.Task.{IsServed};
 
-mod answering;
-mod check;
 mod command_line;
-mod compare;
-mod dice;
-mod diff;
-mod dot;
-mod explain;
-mod fault;
-mod field;
-mod header;
-mod hint;
-mod history;
-mod lines;
-mod make;
-mod mark;
-mod moment;
-mod parts;
-mod places;
-mod plan;
-mod random;
+mod paint;
 mod random_command;
-mod record_text;
-mod role;
-mod show;
 mod show_command;
-mod spoil;
-mod svg;
-mod table;
-mod tree;
-mod why;
 mod why_command;
 
-use check::{CheckError, Found, Subject, check_trace};
+use checks::{CheckError, Found, Subject, check_trace};
 use command_line::{Task, TaskError, parse};
-use compare::{CompareError, Comparison, compare};
-use explain::explain_all;
-use plan::Plan;
-use random::{RandomError, write_random};
+use differences::{CompareError, Comparison, compare};
+use drawings::{Form, View};
+use moments::{Question, ShowError, push_view, push_why};
+use paint::painted;
+use random_traces::{Plan, RandomError, write_random};
 use replay::RunError;
-use show::{ShowError, View, push_view};
 use std::alloc::AllocError;
 use std::env::Env;
-use std::io::{BufWriter, ErrorKind};
+use std::io::{BufWriter, ErrorKind, IsTerminal};
 use std::process::ExitCode;
 use std::rt::Files;
 use std::sync::Wait;
 use std::thread::Threads;
 use std::{env, fs, io};
+use texts::explain_all;
 use trace::{ReadError, Sink, Std, read_to_end};
-use why::{Question, push_why};
 
 /// Reads the program's command line.
 fn read_command_line(rt: &(impl AllocGlobal + Env)) -> Result<Task, TaskError>
@@ -194,12 +167,27 @@ fn check_named(
     }
 }
 
+/// Writes a text to standard output, coloured or as it is.
+fn print_painted(
+    rt: &(impl AllocGlobal + Print),
+    text: &[u8],
+    colored: bool,
+) -> Result<(), ToolError> {
+    let mut writer = Std::new(io::writer(rt));
+    if colored {
+        let shown = painted(rt.alloc(), text)?;
+        return writer.write_all(&shown).map_err(|_| ToolError::WriteFailed);
+    }
+    writer.write_all(text).map_err(|_| ToolError::WriteFailed)
+}
+
 /// Compares answers with those of l4map, and returns whether they differ.
 fn compare_named(
     rt: &(impl AllocGlobal + Input + Print + Files + Threads + Wait + Sync),
     trace: &str,
     answers: &str,
     audit: bool,
+    colored: bool,
 ) -> Result<bool, ToolError> {
     let bytes = read_trace(rt, trace)?;
     let told = read_trace(rt, answers)?;
@@ -209,7 +197,11 @@ fn compare_named(
         answers: &told,
         audit,
     };
-    Ok(compare(rt, &comparison, &mut Std::new(io::writer(rt)))?)
+    let mut writer = Std::new(Vec::new(rt.alloc()));
+    let differs = compare(rt, &comparison, &mut writer)?;
+    let text = writer.into_inner();
+    print_painted(rt, &text, colored)?;
+    Ok(differs)
 }
 
 /// Shows what a trace holds.
@@ -217,11 +209,13 @@ fn show_named(
     rt: &(impl AllocGlobal + Input + Print + Files + Threads + Wait + Sync),
     name: &str,
     view: &View,
+    colored: bool,
 ) -> Result<(), ToolError> {
     let bytes = read_trace(rt, name)?;
     let mut text = String::new(rt.alloc());
     push_view(rt, &mut text, name, &bytes, view)?;
-    print(rt, text.as_str())
+    let is_text = matches!(view.form, Form::Text | Form::Diff);
+    print_painted(rt, text.as_bytes(), colored && is_text)
 }
 
 /// Tells where a page of a trace came from.
@@ -229,11 +223,12 @@ fn why_named(
     rt: &(impl AllocGlobal + Input + Print + Files + Threads + Wait + Sync),
     name: &str,
     question: &Question,
+    colored: bool,
 ) -> Result<(), ToolError> {
     let bytes = read_trace(rt, name)?;
     let mut text = String::new(rt.alloc());
     push_why(rt, &mut text, name, &bytes, question)?;
-    print(rt, text.as_str())
+    print_painted(rt, text.as_bytes(), colored)
 }
 
 /// Writes a trace made at random.
@@ -248,10 +243,11 @@ fn write_planned(rt: &(impl AllocGlobal + Print), plan: &Plan) -> Result<(), Too
     writer.flush().map_err(|_| ToolError::WriteFailed)
 }
 
-/// Does a task, and returns whether something was found.
+/// Does a task, with standard output on a terminal or elsewhere, and returns whether something was found.
 fn perform(
     rt: &(impl AllocGlobal + Input + Print + Files + Threads + Wait + Sync),
     task: &Task,
+    is_terminal: bool,
 ) -> Result<bool, ToolError>
     requires { IsServed task.now }
 {
@@ -266,9 +262,19 @@ fn perform(
             trace,
             answers,
             audit,
-        } => return compare_named(rt, trace.as_str(), answers.as_str(), *audit),
-        Task::Show { trace, view } => show_named(rt, trace.as_str(), view)?,
-        Task::Why { trace, question } => why_named(rt, trace.as_str(), question)?,
+            color,
+        } => {
+            let colored = color.is_colored(is_terminal);
+            return compare_named(rt, trace.as_str(), answers.as_str(), *audit, colored);
+        }
+        Task::Show { trace, view, color } => {
+            show_named(rt, trace.as_str(), view, color.is_colored(is_terminal))?;
+        }
+        Task::Why {
+            trace,
+            question,
+            color,
+        } => why_named(rt, trace.as_str(), question, color.is_colored(is_terminal))?,
         Task::Random(plan) => write_planned(rt, plan)?,
         Task::Check { trace, most } => return check_named(rt, trace.as_str(), *most),
     }
@@ -289,8 +295,9 @@ fn told(error: ToolError) -> (&'static str, u8) {
 }
 
 fn main(rt: HostRuntime) -> ExitCode {
+    let is_terminal = rt.stdout().is_terminal();
     let outcome = match read_command_line(&rt) {
-        Ok(task) => perform(&rt, &task),
+        Ok(task) => perform(&rt, &task, is_terminal),
         Err(TaskError::NoMemory) => Err(ToolError::NoMemory),
         Err(TaskError::Help(text)) => print(&rt, text.as_str()).map(|_| false),
         Err(TaskError::Refused(text)) => {

@@ -4,8 +4,8 @@ ghost use Rattle.std.specs.Prelude.{IfOk};
 ghost use Rattle.l4trace.specs.Task.{IsServed};
 
 use crate::command_line::{Task, TaskError, refused, refused_value};
-use crate::plan::{Plan, Shape};
 use clap::{Arg, ArgMatches, Command, value_parser};
+use random_traces::{Plan, Shape};
 use std::alloc::{AllocError, Global};
 
 const ABOUT: &str =

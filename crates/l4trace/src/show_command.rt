@@ -3,9 +3,9 @@
 ghost use Rattle.std.specs.Prelude.{IfOk};
 ghost use Rattle.l4trace.specs.Task.{IsServed};
 
-use crate::command_line::{Task, TaskError};
-use crate::show::{Form, View};
+use crate::command_line::{Task, TaskError, asked_color, color_option};
 use clap::{Arg, ArgAction, ArgMatches, Command, value_parser};
+use drawings::{Form, View};
 use std::alloc::{AllocError, Global};
 
 const ABOUT: &str =
@@ -53,7 +53,8 @@ pub fn show_command<'a>(alloc: Global) -> Result<Command<'a>, AllocError> {
         .arg(diff)?
         .arg(dot)?
         .arg(svg)?
-        .arg(number(alloc, "max", "How many mappings are drawn").default_value("1000"))
+        .arg(number(alloc, "max", "How many mappings are drawn").default_value("1000"))?
+        .arg(color_option(alloc))
 }
 
 /// An option that says how trees are drawn.
@@ -99,7 +100,8 @@ pub fn show_task(alloc: Global, asked: &ArgMatches) -> Result<Task, TaskError>
         form: form_of(asked),
         most: asked.get_one::<u64>("max").unwrap_or(1000),
     };
-    Ok(Task::Show { trace, view })
+    let color = asked_color(alloc, asked)?;
+    Ok(Task::Show { trace, view, color })
 }
 
 /// A number, or the largest one where it is larger.

@@ -3,12 +3,12 @@
 ghost use Rattle.std.specs.Prelude.{IfOk};
 ghost use Rattle.l4trace.specs.Task.{IsServed};
 
-use crate::command_line::{Task, TaskError, refused_value};
-use crate::field;
-use crate::why::Question;
+use crate::command_line::{Task, TaskError, asked_color, color_option, refused_value};
 use clap::{Arg, ArgMatches, Command, value_parser};
+use moments::Question;
 use space::Place;
 use std::alloc::{AllocError, Global};
+use texts::field;
 
 const ABOUT: &str =
     "Tells where a page came from: the page from which it has its frame, and so on to the root, each with the record since which that is so; and which records gave rights to the page or took them.";
@@ -48,7 +48,8 @@ pub fn why_command<'a>(alloc: Global) -> Result<Command<'a>, AllocError> {
         .after_help(EXAMPLE)
         .arg(trace)?
         .arg(page)?
-        .arg(at)
+        .arg(at)?
+        .arg(color_option(alloc))
 }
 
 /// The task of the subcommand `why`.
@@ -61,9 +62,11 @@ pub fn why_task(alloc: Global, asked: &ArgMatches) -> Result<Task, TaskError>
         return Err(refused_value(alloc, page, "a page: a space, a colon and a page, as 2:4"));
     };
     let at = asked.get_one::<u64>("at").unwrap_or(u64::MAX);
+    let color = asked_color(alloc, asked)?;
     Ok(Task::Why {
         trace,
         question: Question { place, at },
+        color,
     })
 }
 

@@ -1,0 +1,337 @@
+//! The answers of another implementation to a trace, compared with those of l4map.
+
+ghost use Rattle.std.specs.Prelude.{◌≡◌, ◌↔◌, ◌≤◌, take, length, IsNone, IfSome, IfOk};
+ghost use Rattle.differences.specs.Compare.{IsReplayOf};
+
+use crew::NoGate;
+use replay::{NoWatch, Options, RunError, run};
+use space::NoMemory;
+use std::alloc::{AllocError, Global};
+use std::fmt::Write;
+use std::sync::Wait;
+use std::thread::Threads;
+use texts::{Places, field, push_shown};
+use trace::{Failed, Sink, Std};
+
+/// How many bytes of a line are shown.
+const SHOWN: usize = 400;
+
+/// How many changed mappings are shown.
+const CHANGES: usize = 40;
+
+/// Where two texts differ first.
+#[derive(Clone, Copy, Debug, PartialEq, Eq)]
+pub struct Difference<'a> {
+    /// The number of the line, from 1.
+    pub line: u64,
+    /// The line of the first text; none where it has ended.
+    pub ours: Option<&'a [u8]>,
+    /// The line of the second text; none where it has ended.
+    pub theirs: Option<&'a [u8]>,
+}
+
+/// How many bytes at the front of two texts are the same.
+fn alike(ours: &[u8], theirs: &[u8]) -> usize
+    ensures front { take result ours.now ≡ take result theirs.now }
+    ensures within { result ≤ length ours.now }
+{
+    for (i, byte) in ours.iter().enumerate() {
+        if theirs.get(i).copied() != Some(*byte) {
+            return i;
+        }
+    }
+    ours.len()
+}
+
+/// Where two texts differ first; none exactly where they are the same.
+pub fn first_difference<'a>(ours: &'a [u8], theirs: &'a [u8]) -> Option<Difference<'a>>
+    ensures { IsNone result ↔ (ours.now ≡ theirs.now) }
+{
+    if ours == theirs {
+        return None;
+    }
+    let front = alike(ours, theirs);
+    let ended = ours
+        .get(..front)
+        .unwrap_or(&[])
+        .iter()
+        .filter(|byte| **byte == b'\n')
+        .count();
+    Some(Difference {
+        line: (ended as u64).saturating_add(1),
+        ours: line_at(ours, front),
+        theirs: line_at(theirs, front),
+    })
+}
+
+/// The line of a text in which the byte at an index stands, without its line feed; none behind the last line.
+fn line_at(text: &[u8], at: usize) -> Option<&[u8]> {
+    let before = text.get(..at)?;
+    let back = before
+        .iter()
+        .rev()
+        .take_while(|byte| **byte != b'\n')
+        .count();
+    let rest = text.get(at.saturating_sub(back)..)?;
+    if rest.is_empty() {
+        return None;
+    }
+    let length = rest.iter().take_while(|byte| **byte != b'\n').count();
+    rest.get(..length)
+}
+
+/// What l4map writes for a trace.
+pub fn replayed<T: AllocGlobal + Threads + Wait + Sync>(
+    rt: &T,
+    bytes: &[u8],
+) -> Result<Vec<u8>, RunError>
+    ensures { IfOk result (λ text. IsReplayOf bytes.now text.items) }
+{
+    let mut reader = Std::new(bytes);
+    let mut writer = Std::new(Vec::new(rt.alloc()));
+    let options = Options {
+        workers: 1,
+        piece_length: 256,
+        plain: false,
+    };
+    run(
+        rt,
+        &mut reader,
+        &mut writer,
+        &options,
+        &NoGate,
+        &mut NoWatch,
+    )?;
+    Ok(writer.into_inner())
+}
+
+/// The lines of a text that tell of mappings: those with a comma, each with its line feed.
+pub fn audit_of(alloc: Global, text: &[u8]) -> Result<Vec<u8>, AllocError> {
+    let mut audit = Vec::new(alloc);
+    let mut rest = text;
+    for _ in 0..text.len() {
+        if rest.is_empty() {
+            break;
+        }
+        let (line, behind) = split_line(rest);
+        if line.contains(&b',') {
+            audit.extend_from_slice(line)?;
+        }
+        rest = behind;
+    }
+    Ok(audit)
+}
+
+/// The first line of a text with its line feed, and what is behind it.
+fn split_line(text: &[u8]) -> (&[u8], &[u8]) {
+    let length = text.iter().take_while(|byte| **byte != b'\n').count();
+    let end = length.saturating_add(1).min(text.len());
+    text.split_at(end)
+}
+
+/// The space and the page of an audit line; the last place of all where a line has none.
+fn place_of(line: &[u8]) -> (u32, u32) {
+    let (space, rest) = split_cell(line);
+    let (page, _) = split_cell(rest);
+    match (field::number(space, 10, 5), field::number(page, 10, 7)) {
+        (Some(space), Some(page)) => (space, page),
+        _ => (u32::MAX, u32::MAX),
+    }
+}
+
+/// What stands before the first comma, and what behind it.
+fn split_cell(line: &[u8]) -> (&[u8], &[u8]) {
+    let length = line.iter().take_while(|byte| **byte != b',').count();
+    let cell = line.get(..length).unwrap_or(&[]);
+    let rest = line.get(length.saturating_add(1)..).unwrap_or(&[]);
+    (cell, rest)
+}
+
+/// Appends the mappings that differ between two audits: a line with `-` for each of the first, and with `+` for each of the
+/// second.
+pub fn push_changes(text: &mut String, before: &[u8], after: &[u8]) -> Result<(), AllocError> {
+    let mut old = before;
+    let mut new = after;
+    let mut shown = 0usize;
+    for _ in 0..before.len().saturating_add(after.len()) {
+        if old.is_empty() && new.is_empty() {
+            return Ok(());
+        }
+        let (gone, old_rest) = split_line(old);
+        let (come, new_rest) = split_line(new);
+        let (left, right) = (place_of(gone), place_of(come));
+        let is_old = !gone.is_empty() && (come.is_empty() || left <= right);
+        let is_new = !come.is_empty() && (gone.is_empty() || right <= left);
+        if !(is_old && is_new && gone == come) {
+            if shown >= CHANGES {
+                return text.push_str("    ..\n");
+            }
+            shown += 1;
+            push_change(text, if is_old { Some(gone) } else { None }, "-")?;
+            push_change(text, if is_new { Some(come) } else { None }, "+")?;
+        }
+        if is_old {
+            old = old_rest;
+        }
+        if is_new {
+            new = new_rest;
+        }
+    }
+    Ok(())
+}
+
+/// Appends a line that differs, if there is one.
+fn push_change(text: &mut String, line: Option<&[u8]>, sign: &str) -> Result<(), AllocError> {
+    let Some(line) = line else {
+        return Ok(());
+    };
+    write!(text, "    {sign} ")?;
+    push_shown(text, line.strip_suffix(b"\n").unwrap_or(line), SHOWN)?;
+    text.push_str("\n")
+}
+
+/// Why a comparison ended early.
+#[derive(Clone, Copy, Debug, PartialEq, Eq)]
+pub enum CompareError {
+    /// The replay ended early.
+    Run(RunError),
+    /// Out of memory.
+    NoMemory,
+    /// A write failed.
+    WriteFailed,
+}
+
+impl From<RunError> for CompareError {
+    fn from(error: RunError) -> Self {
+        CompareError::Run(error)
+    }
+}
+
+impl From<AllocError> for CompareError {
+    fn from(_: AllocError) -> Self {
+        CompareError::NoMemory
+    }
+}
+
+impl From<NoMemory> for CompareError {
+    fn from(_: NoMemory) -> Self {
+        CompareError::NoMemory
+    }
+}
+
+impl From<Failed> for CompareError {
+    fn from(_: Failed) -> Self {
+        CompareError::WriteFailed
+    }
+}
+
+/// A trace, and the answers to it that are compared with those of l4map.
+#[derive(Clone, Copy)]
+pub struct Comparison<'a> {
+    /// The name of the trace.
+    pub name: &'a str,
+    pub trace: &'a [u8],
+    pub answers: &'a [u8],
+    /// Whether the audits alone are compared.
+    pub audit: bool,
+}
+
+/// Compares answers with those of l4map, writes where they differ first, and returns whether they do.
+pub fn compare<T: AllocGlobal + Threads + Wait + Sync, W: Sink>(
+    rt: &T,
+    comparison: &Comparison<'_>,
+    writer: &mut W,
+) -> Result<bool, CompareError> {
+    let text = replayed(rt, comparison.trace)?;
+    if comparison.audit {
+        let ours = audit_of(rt.alloc(), &text)?;
+        let theirs = audit_of(rt.alloc(), comparison.answers)?;
+        let difference = first_difference(&ours, &theirs);
+        return tell(rt, comparison, difference, 0, writer);
+    }
+    let records = text
+        .split(|byte| *byte == b'\n')
+        .take_while(|line| is_reply(line))
+        .count();
+    let difference = first_difference(&text, comparison.answers);
+    tell(rt, comparison, difference, records as u64, writer)
+}
+
+/// Whether a line is a reply: it has a space, and begins with a digit.
+fn is_reply(line: &[u8]) -> bool {
+    match line.first() {
+        Some(byte) => byte.is_ascii_digit() && line.contains(&b' '),
+        None => false,
+    }
+}
+
+/// Writes that texts are the same, or where they differ first: the line of each, and for the reply to a record what stands in
+/// the trace and what the record changed. The first lines are replies to so many records.
+fn tell<T: AllocGlobal + Threads + Wait + Sync, W: Sink>(
+    rt: &T,
+    comparison: &Comparison<'_>,
+    difference: Option<Difference<'_>>,
+    records: u64,
+    writer: &mut W,
+) -> Result<bool, CompareError> {
+    let Some(difference) = difference else {
+        writer.write_all(b"no difference\n")?;
+        return Ok(false);
+    };
+    let mut text = String::new(rt.alloc());
+    let number = difference.line;
+    write!(text, "first difference: line {number}\n")?;
+    push_side(&mut text, "l4map:   ", difference.ours)?;
+    push_side(&mut text, "answers: ", difference.theirs)?;
+    if difference.ours == difference.theirs {
+        text.push_str("  the line feed is missing in one of them\n")?;
+    }
+    if number <= records {
+        push_record(rt, comparison, number, &mut text)?;
+    }
+    writer.write_all(text.as_bytes())?;
+    Ok(true)
+}
+
+/// Appends one text's line of a difference.
+fn push_side(text: &mut String, name: &str, line: Option<&[u8]>) -> Result<(), AllocError> {
+    text.push_str("  ")?;
+    text.push_str(name)?;
+    match line {
+        Some(line) => push_shown(text, line, SHOWN)?,
+        None => text.push_str("(the end)")?,
+    }
+    text.push_str("\n")
+}
+
+/// Appends a record as it stands in the trace, and the mappings that it changed.
+fn push_record<T: AllocGlobal + Threads + Wait + Sync>(
+    rt: &T,
+    comparison: &Comparison<'_>,
+    number: u64,
+    text: &mut String,
+) -> Result<(), CompareError> {
+    let alloc = rt.alloc();
+    let trace = comparison.trace;
+    let mut places = Places::new(alloc, trace)?;
+    let mut before = places.next_place()?;
+    let mut span = places.next_place()?;
+    for _ in 1..number {
+        before = span;
+        span = places.next_place()?;
+    }
+    let name = comparison.name;
+    let line = span.line;
+    write!(text, "  record {number}, {name}:{line}: ")?;
+    push_shown(text, span.text(trace), SHOWN)?;
+    let old = replayed(rt, trace.get(..before.end).unwrap_or(trace))?;
+    let new = replayed(rt, trace.get(..span.end).unwrap_or(trace))?;
+    let (old, new) = (audit_of(alloc, &old)?, audit_of(alloc, &new)?);
+    if old.as_slice() == new.as_slice() {
+        text.push_str("\n  it changes no mapping\n")?;
+        return Ok(());
+    }
+    text.push_str("\n  it changes these mappings:\n")?;
+    push_changes(text, &old, &new)?;
+    Ok(())
+}

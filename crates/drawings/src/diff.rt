@@ -1,0 +1,135 @@
+//! Trees before and after a record, side by side.
+
+use crate::lines::{Others, lines_of, push_more, rows_of_frame};
+use crate::mark::{Mark, mark_of};
+use crate::moment::Moment;
+use crate::tree::Row;
+use crate::view::View;
+use mapdb::Mapping;
+use std::alloc::{AllocError, Global};
+use std::fmt::Write;
+
+/// How many characters the left column has at most.
+const WIDTH: usize = 60;
+
+/// Appends the trees that a record changed, before it on the left and after it on the right. With a frame, its tree whether
+/// or not it changed.
+pub fn push_diff(
+    alloc: Global,
+    text: &mut String,
+    moment: &Moment,
+    old: &[Row],
+    new: &[Row],
+    view: &View,
+) -> Result<(), AllocError> {
+    let (mut left, mut right) = (old, new);
+    let mut drawn = 0u64;
+    for _ in 0..old.len().saturating_add(new.len()) {
+        let Some(frame) = first_frame(left, right) else {
+            break;
+        };
+        let (before, left_rest) = left.split_at(rows_of_frame(left, frame));
+        let (after, right_rest) = right.split_at(rows_of_frame(right, frame));
+        if view.frame.is_some() || differ(before, after, moment) {
+            if drawn >= view.most {
+                return push_more(text, left.len().saturating_add(right.len()));
+            }
+            let room = view.most - drawn;
+            write!(text, "frame {frame}\n")?;
+            drawn = drawn.saturating_add(push_frame(alloc, text, moment, before, after, room)?);
+        }
+        left = left_rest;
+        right = right_rest;
+    }
+    if drawn == 0 {
+        text.push_str("no mapping changed\n")?;
+    }
+    Ok(())
+}
+
+/// The lower frame of the first rows, if there is a row.
+fn first_frame(left: &[Row], right: &[Row]) -> Option<u32> {
+    match (left.first(), right.first()) {
+        (Some(old), Some(new)) => Some(old.mapping.frame.min(new.mapping.frame)),
+        (Some(row), None) | (None, Some(row)) => Some(row.mapping.frame),
+        (None, None) => None,
+    }
+}
+
+/// Whether a mapping of a frame is not the same before and after.
+fn differ(before: &[Row], after: &[Row], moment: &Moment) -> bool {
+    has_change(before, &moment.after) || has_change(after, &moment.before)
+}
+
+/// Whether a row differs from what its place holds among others.
+fn has_change(rows: &[Row], others: &[Mapping]) -> bool {
+    rows.iter()
+        .any(|row| mark_of(&row.mapping, others) != Mark::Same)
+}
+
+/// Appends the trees of a frame before and after, at most so many lines, and returns how many lines these are.
+fn push_frame(
+    alloc: Global,
+    text: &mut String,
+    moment: &Moment,
+    before: &[Row],
+    after: &[Row],
+    most: u64,
+) -> Result<u64, AllocError> {
+    let left = lines_of(
+        alloc,
+        before,
+        &Others {
+            mappings: &moment.after,
+            alone: "- ",
+            tells: false,
+        },
+    )?;
+    let right = lines_of(
+        alloc,
+        after,
+        &Others {
+            mappings: &moment.before,
+            alone: "+ ",
+            tells: false,
+        },
+    )?;
+    push_columns(text, &left, &right, most)
+}
+
+/// Appends lines side by side, at most so many, and returns how many they are.
+fn push_columns(
+    text: &mut String,
+    left: &[String],
+    right: &[String],
+    most: u64,
+) -> Result<u64, AllocError> {
+    let width = left
+        .iter()
+        .map(|line| width_of(line))
+        .max()
+        .unwrap_or(0)
+        .min(WIDTH);
+    let count = left.len().max(right.len());
+    for i in 0..count {
+        if i as u64 >= most {
+            push_more(text, count - i)?;
+            return Ok(most);
+        }
+        let before = left.get(i).map_or("", |line| line.as_str());
+        let after = right.get(i).map_or("", |line| line.as_str());
+        text.push_str(before)?;
+        for _ in before.chars().count()..width {
+            text.push_str(" ")?;
+        }
+        text.push_str(if after.is_empty() { " |" } else { " | " })?;
+        text.push_str(after)?;
+        text.push_str("\n")?;
+    }
+    Ok(count as u64)
+}
+
+/// How many characters a line has.
+fn width_of(line: &String) -> usize {
+    line.as_str().chars().count()
+}

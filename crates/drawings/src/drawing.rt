@@ -1,0 +1,129 @@
+//! Trees, drawn as they are to be shown.
+
+ghost use Rattle.std.specs.Prelude.{◌≡◌, IfOk, filter};
+ghost use Rattle.drawings.specs.Show.{is_chosen};
+
+use crate::diff::push_diff;
+use crate::dot::push_dot;
+use crate::lines::{Branches, Others, push_more, push_row};
+use crate::mark::{mapping_at, push_mapping};
+use crate::moment::Moment;
+use crate::svg::push_svg;
+use crate::tree::{Row, tree_rows};
+use crate::view::{Form, View};
+use mapdb::Mapping;
+use std::alloc::{AllocError, Global};
+use std::fmt::Write;
+
+/// The mappings of a frame and of a space, where these are given.
+pub fn chosen(
+    alloc: Global,
+    mappings: &[Mapping],
+    frame: Option<u32>,
+    space: Option<u32>,
+) -> Result<Vec<Mapping>, AllocError>
+    ensures { IfOk result (λ chosen. chosen.items ≡ filter (is_chosen frame space) mappings.now) }
+{
+    mappings
+        .iter()
+        .copied()
+        .filter(|mapping| is_chosen(mapping, frame, space))
+        .collect(alloc)
+}
+
+/// Whether a mapping is of a frame and of a space, where these are given.
+fn is_chosen(mapping: &Mapping, frame: Option<u32>, space: Option<u32>) -> bool
+    ensures { result ≡ is_chosen frame space mapping.now }
+{
+    let of_frame = match frame {
+        Some(frame) => mapping.frame == frame,
+        None => true,
+    };
+    let of_space = match space {
+        Some(space) => u32::from(mapping.place.space) == space,
+        None => true,
+    };
+    of_frame && of_space
+}
+
+/// Appends the trees of a moment, under a heading.
+pub fn push_drawing(
+    alloc: Global,
+    text: &mut String,
+    heading: &str,
+    moment: &Moment,
+    view: &View,
+) -> Result<(), AllocError> {
+    let before = chosen(alloc, &moment.before, view.frame, None)?;
+    let after = chosen(alloc, &moment.after, view.frame, None)?;
+    let rows = tree_rows(alloc, &after)?;
+    match view.form {
+        Form::Dot => push_dot(text, &rows, &before, view.most),
+        Form::Svg => push_svg(alloc, text, heading, &rows, &before, view.most),
+        Form::Diff => {
+            let old = tree_rows(alloc, &before)?;
+            write!(text, "{heading}\n")?;
+            push_diff(alloc, text, moment, &old, &rows, view)
+        }
+        Form::Text => {
+            write!(text, "{heading}\n")?;
+            push_trees(alloc, text, &rows, &moment.before, view.most)?;
+            push_gone(text, &before, &moment.after, view.most)
+        }
+    }
+}
+
+/// Appends the trees of frames. Mappings that differ from those before are marked.
+fn push_trees(
+    alloc: Global,
+    text: &mut String,
+    rows: &[Row],
+    before: &[Mapping],
+    most: u64,
+) -> Result<(), AllocError> {
+    let others = Others {
+        mappings: before,
+        alone: "+ ",
+        tells: true,
+    };
+    let mut branches = Branches::new(alloc);
+    let mut last = None;
+    for (i, row) in rows.iter().enumerate() {
+        if i as u64 >= most {
+            return push_more(text, rows.len() - i);
+        }
+        if last != Some(row.mapping.frame) {
+            last = Some(row.mapping.frame);
+            write!(text, "frame {}\n", row.mapping.frame)?;
+        }
+        push_row(text, &mut branches, row, &others)?;
+        text.push_str("\n")?;
+    }
+    Ok(())
+}
+
+/// Appends the mappings whose places hold nothing any more.
+fn push_gone(
+    text: &mut String,
+    before: &[Mapping],
+    after: &[Mapping],
+    most: u64,
+) -> Result<(), AllocError> {
+    let mut count = 0u64;
+    for (i, mapping) in before.iter().enumerate() {
+        if mapping_at(after, mapping.place).is_some() {
+            continue;
+        }
+        if count == 0 {
+            text.push_str("no longer held\n")?;
+        }
+        if count >= most {
+            return push_more(text, before.len() - i);
+        }
+        count = count.saturating_add(1);
+        text.push_str("- ")?;
+        push_mapping(text, mapping)?;
+        write!(text, " of frame {}\n", mapping.frame)?;
+    }
+    Ok(())
+}

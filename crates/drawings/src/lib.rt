@@ -1,0 +1,19 @@
+//! Derivation trees and the pages of spaces, drawn as text and as pictures.
+#![tactic(auto)]
+
+mod diff;
+mod dot;
+mod drawing;
+mod lines;
+mod mark;
+mod moment;
+mod svg;
+mod table;
+mod tree;
+mod view;
+
+pub use drawing::{chosen, push_drawing};
+pub use mark::{mapping_at, push_mapping, push_place};
+pub use moment::Moment;
+pub use table::push_table;
+pub use view::{Form, View};

@@ -1,0 +1,64 @@
+//! The pages of a space, as a table.
+
+use crate::lines::push_more;
+use crate::mark::{Mark, mapping_at, mark_of, push_mapping, push_origin, push_status, push_was};
+use crate::moment::Moment;
+use crate::view::View;
+use mapdb::Mapping;
+use std::alloc::AllocError;
+use std::fmt::Write;
+use texts::push_rights;
+
+/// Appends the pages that a space holds, one a line, of these mappings of it before and after. Pages that differ are marked.
+pub fn push_table(
+    text: &mut String,
+    moment: &Moment,
+    space: u32,
+    before: &[Mapping],
+    after: &[Mapping],
+    view: &View,
+) -> Result<(), AllocError> {
+    let pages = 1u32 << (moment.limits.bits.clamp(18, 24) - 12);
+    let held = after.len();
+    write!(text, "space {space}: {held} of {pages} pages held\n")?;
+    text.push_str("    page      base  frame  rights  status  origin\n")?;
+    let mut count = 0u64;
+    for (i, mapping) in after.iter().enumerate() {
+        if count >= view.most {
+            return push_more(text, after.len() - i);
+        }
+        count = count.saturating_add(1);
+        push_page(text, mapping, mark_of(mapping, &moment.before))?;
+    }
+    for mapping in before {
+        if mapping_at(&moment.after, mapping.place).is_none() && count < view.most {
+            count = count.saturating_add(1);
+            text.push_str("- ")?;
+            push_mapping(text, mapping)?;
+            write!(text, " of frame {}\n", mapping.frame)?;
+        }
+    }
+    Ok(())
+}
+
+/// Appends the line of a page.
+fn push_page(text: &mut String, mapping: &Mapping, mark: Mark) -> Result<(), AllocError> {
+    text.push_str(match mark {
+        Mark::Same => "  ",
+        Mark::Alone => "+ ",
+        Mark::Changed(_) => "* ",
+    })?;
+    let page = mapping.place.page;
+    let base = u64::from(page) * 4096;
+    let frame = mapping.frame;
+    write!(text, "{page:>6}  {base:>8x}  {frame:>5}  ")?;
+    push_rights(text, mapping.rights)?;
+    text.push_str("     ")?;
+    push_status(text, mapping.status)?;
+    text.push_str("     ")?;
+    push_origin(text, mapping.origin)?;
+    if let Mark::Changed(was) = mark {
+        push_was(text, mapping, &was)?;
+    }
+    text.push_str("\n")
+}

@@ -1,5 +1,0 @@
-mod Digits
-mod Made
-mod Counting
-mod Replayed
-mod Moments

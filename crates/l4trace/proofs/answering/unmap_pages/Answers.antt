@@ -1,8 +1,0 @@
--- What the words leave is what the database leaves.
-use Rattle.l4trace.proofs.Moments.{unmapped}
-use Rattle.l4trace.proofs.answering.unmap_pages.Goals as goal
-
-pub returns : goal.returns
-returns g c =
-    let told = c.unmap-outcome.ensures in
-    record { left = unmapped c.args.database.now c.unmap-outcome.new.self c.args.space c.args.control.flush c.args.words.now c.args.fpages.now c.unmap-outcome.result c.requires.count told.refused told.left c.in_ok-check_answered.ensures }

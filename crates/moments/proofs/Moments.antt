@@ -1,0 +1,124 @@
+-- What records leave, one after another.
+use Rattle.std.proofs.Common.{◌≡◌, ℕ, zero, suc, Bool, ◌+◌, ◌-◌, ◌<◌, ◌≤◌, List, [], ◌∷◌, ◌++◌, take, drop, map, length, min, true, false, nat_lt, Option, Some, None, Result, Ok, Err, IfErr, OnOk, if◌then◌else◌, ◌⊎◌, inl, inr, refl, sym, ap, ◌∙◌, arith, zero-add}
+use Rattle.std.proofs.lemmas.List.{take-map, take-append-drop, take-take, drop-take, drop-drop, take_all, drop_all, length-map}
+use Rattle.std.specs.List.{zip}
+use Rattle.std.specs.Option.{option_map}
+use Rattle.fpage.specs.Fpage.{Flexpage}
+use Rattle.model.specs.Holdings.{Holdings}
+use Rattle.model.specs.Strip.{strip}
+use Rattle.model.specs.Calls.{Limits, Request, unmap, no_such_space}
+use Rattle.model.specs.Answers.{answer, pages_in, unless_refused, unmap_answer, unmapped_answer}
+use Rattle.model.specs.Replay.{replay, start}
+use Rattle.model.specs.Records.{Fields, Trace, are_limits, bad_limits, checked_limits, request, trace_of, trace_of_records, with_limits}
+use Rattle.holdings.specs.Mappings.{mapped_of}
+use Rattle.mapdb.specs.State.{State, IsRefused, error_of, left_with, new_state, unmap_left, unmap_refusal}
+use Rattle.mapdb.specs.declared.error.DbError.{DbError}
+use Rattle.mapdb.specs.declared.error.DbError.TheVariants.{NoSuchSpace, Halted}
+use Rattle.trace.specs.Unread.{Unread, IsOpened, first_request}
+use Rattle.drawings.specs.declared.moment.Moment.{Moment}
+use Rattle.moments.specs.Moment.{left_by, held_after, IsMoment, IsRecordCount}
+
+-- ---- records
+
+-- some records, and then others
+left_append : (limits : Limits) (xs ys : List Fields) (h : Holdings) → left_by limits (xs ++ ys) h ≡ left_by limits ys (left_by limits xs h)
+left_append limits [] ys h = refl
+left_append limits (x ∷ xs) ys h = left_append limits xs ys (answer limits h (request limits x)).left
+
+-- the first records, and then those behind them
+pub left_more : (limits : Limits) (n m : ℕ) (xs : List Fields) (h : Holdings) → left_by limits (take m (drop n xs)) (left_by limits (take n xs) h) ≡ left_by limits (take (n + m) xs) h
+left_more limits n m xs h =
+    let all = take (n + m) xs in
+    let front : take n all ≡ take n xs = take-take n (n + m) xs (omega arith) in
+    sym (left_append limits (take n xs) (take m (drop n xs)) h)
+    ∙ ap (λ l. left_by limits l h) ((λ i. sym front i ++ sym (drop-take n m xs) i) ∙ take-append-drop n all)
+
+-- the first record, by what it asks for
+pub left_first : (limits : Limits) (rows : List Fields) (h : Holdings) (r : Request) → first_request limits rows ≡ Some r → left_by limits (take 1 rows) h ≡ (answer limits h r).left
+left_first limits [] h r is = cc
+left_first limits (f ∷ rows) h r is =
+    let same : request limits f ≡ r = cc in
+    ap (λ x. (answer limits h x).left) same
+
+-- ---- an unmap
+
+-- what it leaves, in the parts that the database gives
+pub unmap_leaves : (space : ℕ) (f : Bool) (words : List ℕ) (fpages : List Flexpage) (h : Holdings) → length fpages ≡ length words
+    → (unmap_answer space f (zip words fpages) h).left ≡ unmap_left space f fpages h
+unmap_leaves space f [] [] h same = refl
+unmap_leaves space f [] (p ∷ fpages) h same = absurd (omega (arith, same))
+unmap_leaves space f (w ∷ words) [] h same = absurd (omega (arith, same))
+unmap_leaves space f (w ∷ words) (p ∷ fpages) h same = unmap_leaves space f words fpages (strip h (pages_in space p) p.rights f) (omega (arith, same))
+
+-- ---- a trace
+
+-- the trace of a header that was read, whose limits are served
+abbrev pub trace_behind : Unread → Trace
+trace_behind u = record { limits = u.limits; requests = map (request u.limits) u.records }
+
+pub opened_trace : (bytes : List ℕ) (u : Unread) → IsOpened bytes u → are_limits u.limits ≡ true → trace_of bytes ≡ Ok (trace_behind u)
+opened_trace bytes u head served =
+    ap (trace_of_records request) head.records
+    ∙ ap (λ o. with_limits request u.records (checked_limits o)) head.limits
+    ∙ ap (λ b. with_limits request u.records (if b then Ok u.limits else Err bad_limits)) served
+
+-- what it holds after so many records
+pub held_by : (u : Unread) (n : ℕ) → left_by u.limits (take n u.records) (start u.limits) ≡ held_after (trace_behind u) n
+held_by u n = ap (λ l. (replay (answer u.limits) (start u.limits) l).last) (sym (take-map (request u.limits) n u.records))
+
+-- how many records it has
+pub count_is : (bytes : List ℕ) (u : Unread) (n : ℕ) → IsOpened bytes u → IsRecordCount bytes n → n ≡ length (trace_behind u).requests
+count_is bytes u n head count =
+    let all = ap length head.records in
+    let each = length-map u.records (request u.limits) in
+    omega (arith, all, each, count)
+
+-- ---- databases
+
+-- one record more
+pub left_step : (s d : State) (rows left : List Fields) (i : ℕ) → left ≡ drop i rows → d ≡ left_with s (left_by s.limits (take i rows) s.holdings)
+    → left_with d (left_by d.limits (take 1 left) d.holdings) ≡ left_with s (left_by s.limits (take (i + 1) rows) s.holdings)
+left_step s d rows left i left_is d_is =
+    (λ j. left_with (d_is j) (left_by (d_is j).limits (take 1 (left_is j)) (d_is j).holdings))
+    ∙ ap (left_with s) (left_more s.limits i 1 rows s.holdings)
+
+-- what an unmap that was answered leaves
+pub unmapped : {A : Type 0} (s new : State) (space : ℕ) (f : Bool) (words : List ℕ) (fpages : List Flexpage) (r : Result A DbError) → length fpages ≡ length words
+    → IsRefused (unmap_refusal s space) s new r → OnOk r (new ≡ left_with s (unmap_left space f fpages s.holdings)) → (IfErr r (λ e. e ≡ NoSuchSpace))
+    → new ≡ left_with s (answer s.limits s.holdings (Ok (unmap space f (zip words fpages)))).left
+unmapped {A} s new space f words fpages (Ok v) same refused left why = by s.is_halted (nat_lt space s.limits.spaces) refused
+  where
+    by : (halted there : Bool) → IsRefused {A = A} (if halted then Some Halted else option_map error_of (if there then None else Some no_such_space)) s new (Ok v)
+        → new ≡ left_with s (unless_refused (if there then None else Some no_such_space) s.holdings (unmapped_answer (unmap_answer space f (zip words fpages) s.holdings))).left
+    by true there refused = absurd (cc refused.0)
+    by false true refused = left ∙ ap (left_with s) (sym (unmap_leaves space f words fpages s.holdings same))
+    by false false refused = absurd (cc refused.0)
+unmapped {A} s new space f words fpages (Err e) same refused left why = by s.is_halted (nat_lt space s.limits.spaces) refused
+  where
+    by : (halted there : Bool) → IsRefused {A = A} (if halted then Some Halted else option_map error_of (if there then None else Some no_such_space)) s new (Err e)
+        → new ≡ left_with s (unless_refused (if there then None else Some no_such_space) s.holdings (unmapped_answer (unmap_answer space f (zip words fpages) s.holdings))).left
+    by true there refused = absurd (cc (refused.0, why))
+    by false true refused = absurd (elim refused as (λ _. ⊥) [ inl memory ↦ cc (memory, why) | inr worker ↦ cc (worker, why) ])
+    by false false refused = refused.1
+
+-- what is held around a record
+pub moment_is : (bytes : List ℕ) (at count earlier : ℕ) (u u1 : Unread) (d0 d1 d2 : State) (m : Moment)
+    → IsOpened bytes u → are_limits u.limits ≡ true → IsRecordCount bytes count → m.records ≡ min at count → earlier ≡ m.records - 1
+    → d0 ≡ new_state u.limits → u1.records ≡ drop earlier u.records → d1 ≡ left_with d0 (left_by d0.limits (take earlier u.records) d0.holdings)
+    → d2 ≡ left_with d1 (left_by d1.limits (take (m.records - earlier) u1.records) d1.holdings)
+    → map mapped_of m.before.items ≡ d1.holdings → map mapped_of m.after.items ≡ d2.holdings → IsMoment bytes at m
+moment_is bytes at count earlier u u1 d0 d1 d2 m head served counted records earlier_is d0_is left d1_is d2_is before after =
+    let trace = trace_behind u in
+    let holds : State → Holdings = λ s. s.holdings in
+    let first : d1 ≡ left_with (new_state u.limits) (left_by u.limits (take earlier u.records) (start u.limits)) =
+    d1_is ∙ (λ j. left_with (d0_is j) (left_by (d0_is j).limits (take earlier u.records) (d0_is j).holdings)) in
+    let second : d2 ≡ left_with (new_state u.limits) (left_by u.limits (take (m.records - earlier) (drop earlier u.records)) (left_by u.limits (take earlier u.records) (start u.limits))) =
+    d2_is ∙ (λ j. left_with (first j) (left_by (first j).limits (take (m.records - earlier) (left j)) (first j).holdings)) in
+    let whole : earlier + (m.records - earlier) ≡ m.records = omega (arith, earlier_is) in
+    record {
+      trace = trace;
+      is = opened_trace bytes u head served;
+      records = records ∙ ap (min at) (count_is bytes u count head counted);
+      before = before ∙ ap holds first ∙ held_by u earlier ∙ ap (held_after trace) earlier_is;
+      after = after ∙ ap holds second ∙ left_more u.limits earlier (m.records - earlier) u.records (start u.limits) ∙ ap (λ n. left_by u.limits (take n u.records) (start u.limits)) whole ∙ held_by u m.records;
+    }

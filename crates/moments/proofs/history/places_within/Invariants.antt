@@ -1,0 +1,8 @@
+-- There is each page so far.
+use Rattle.std.specs.List.{All}
+use Rattle.holdings.specs.Meaning.{limits_of}
+use Rattle.holdings.specs.Places.{IsWithin}
+use Rattle.moments.proofs.history.places_within.Given as goal
+
+abbrev pub invariant-loop-place : goal.invariant-loop-place
+invariant-loop-place l = All (IsWithin (limits_of l.limits)) l.within.items

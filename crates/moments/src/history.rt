@@ -1,0 +1,163 @@
+//! What the records of a trace changed of some pages.
+
+ghost use Rattle.std.specs.Prelude.{◌≡◌, true, IfOk, map, option_map};
+ghost use Rattle.model.specs.Holdings.{at};
+ghost use Rattle.holdings.specs.Meaning.{limits_of};
+ghost use Rattle.holdings.specs.Places.{IsWithin};
+ghost use Rattle.std.specs.List.{All};
+ghost use Rattle.moments.specs.History.{held_of};
+
+use crate::answering::{answer_records, start};
+use crew::{Crew, NoGate};
+use mapdb::{Database, Limits, Mapping};
+use replay::RunError;
+use space::Place;
+use std::alloc::{AllocError, Global};
+use std::sync::Wait;
+use std::thread::Threads;
+use trace::TraceReader;
+
+/// What a record changed of a page, but for its status.
+#[derive(Clone, Copy, Debug, PartialEq, Eq)]
+pub struct Change {
+    /// The number of the record, from 1.
+    pub record: u64,
+    pub place: Place,
+    /// What the page held before; none where it held nothing.
+    pub before: Option<Mapping>,
+    /// What it holds after.
+    pub after: Option<Mapping>,
+}
+
+impl Change {
+    /// Whether the page came from another place, or was not held, before or after.
+    pub fn is_link(&self) -> bool {
+        match (self.before, self.after) {
+            (Some(before), Some(after)) => {
+                before.frame != after.frame || before.origin != after.origin
+            }
+            _ => true,
+        }
+    }
+}
+
+/// Whether there is such a page.
+pub fn is_within(limits: &Limits, place: Place) -> bool
+    ensures { result ≡ true → IsWithin (limits_of limits.now) place }
+{
+    if limits.bits < 12 || limits.bits >= 32 {
+        return false;
+    }
+    u32::from(place.space) < limits.spaces && place.page < 1 << (limits.bits - 12)
+}
+
+/// What a page holds.
+fn mapping_of(database: &Database, place: Place) -> Result<Option<Mapping>, RunError>
+    requires { IsWithin database.now.limits place }
+    ensures { IfOk result (λ held. option_map held_of held ≡ at database.now.holdings place) }
+{
+    let (Ok(entry), Ok(origin)) = (database.entry(place), database.origin(place)) else {
+        return Err(RunError::NoMemory(0));
+    };
+    let Some(entry) = entry else {
+        return Ok(None);
+    };
+    Ok(Some(Mapping {
+        place,
+        frame: entry.frame,
+        rights: entry.rights,
+        status: entry.status,
+        origin,
+    }))
+}
+
+/// What some pages hold.
+fn mappings_of(
+    alloc: Global,
+    database: &Database,
+    places: &[Place],
+) -> Result<Vec<Option<Mapping>>, RunError>
+    requires { All (IsWithin database.now.limits) places.now }
+    ensures { IfOk result (λ held. map (option_map held_of) held.items ≡ map (at database.now.holdings) places.now) }
+{
+    let mut held = Vec::new(alloc);
+    for place in places {
+        let mapping = mapping_of(database, *place)?;
+        if held.push(mapping).is_err() {
+            return Err(RunError::NoMemory(0));
+        }
+    }
+    Ok(held)
+}
+
+/// What the first so many records of a trace changed of some pages, record by record.
+pub fn changes<T: AllocGlobal + Threads + Wait + Sync>(
+    rt: &T,
+    bytes: &[u8],
+    records: u64,
+    places: &[Place],
+) -> Result<Vec<Change>, RunError> {
+    let alloc = rt.alloc();
+    let mut reader = TraceReader::new(alloc, bytes)?;
+    let mut database = start(alloc, &reader.limits())?;
+    let places = places_within(alloc, &reader.limits(), places)?;
+    let crew = Crew::new(rt, 1, 256, &NoGate);
+    let mut held = mappings_of(alloc, &database, &places)?;
+    let mut changes = Vec::new(alloc);
+    for i in 0..records {
+        answer_records(alloc, &mut database, &mut reader, 1, &crew)?;
+        let after = mappings_of(alloc, &database, &places)?;
+        if push_changes(&mut changes, i + 1, &places, &held, &after).is_err() {
+            return Err(RunError::NoMemory(0));
+        }
+        held = after;
+    }
+    Ok(changes)
+}
+
+/// Those of some pages that there are.
+fn places_within(alloc: Global, limits: &Limits, places: &[Place]) -> Result<Vec<Place>, RunError>
+    ensures { IfOk result (λ within. All (IsWithin (limits_of limits.now)) within.items) }
+{
+    let mut within = Vec::new(alloc);
+    for place in places {
+        if is_within(limits, *place) && within.push(*place).is_err() {
+            return Err(RunError::NoMemory(0));
+        }
+    }
+    Ok(within)
+}
+
+/// Appends what a record changed of some pages, of which this was held before and after.
+fn push_changes(
+    changes: &mut Vec<Change>,
+    record: u64,
+    places: &[Place],
+    before: &[Option<Mapping>],
+    after: &[Option<Mapping>],
+) -> Result<(), AllocError> {
+    for (i, place) in places.iter().enumerate() {
+        let old = before.get(i).copied().unwrap_or(None);
+        let new = after.get(i).copied().unwrap_or(None);
+        if !is_same(old, new) {
+            changes.push(Change {
+                record,
+                place: *place,
+                before: old,
+                after: new,
+            })?;
+        }
+    }
+    Ok(())
+}
+
+/// Whether what a page holds is the same, but for its status.
+fn is_same(before: Option<Mapping>, after: Option<Mapping>) -> bool {
+    match (before, after) {
+        (None, None) => true,
+        (Some(old), Some(new)) => {
+            old.frame == new.frame && old.rights == new.rights && old.origin == new.origin
+        }
+        _ => false,
+    }
+}

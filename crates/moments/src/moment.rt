@@ -1,0 +1,68 @@
+//! What a trace holds after one of its records.
+
+ghost use Rattle.std.specs.Prelude.{◌≡◌, IfOk, map};
+ghost use Rattle.holdings.specs.Mappings.{mapped_of};
+ghost use Rattle.moments.specs.Moment.{IsMoment, IsRecordCount};
+
+use crate::answering::{answer_records, start};
+use crew::{Crew, NoGate};
+use drawings::Moment;
+use mapdb::{Database, Mapping};
+use replay::RunError;
+use std::alloc::Global;
+use std::sync::Wait;
+use std::thread::Threads;
+use trace::TraceReader;
+
+/// How many records a trace has behind its header.
+fn record_count(alloc: Global, bytes: &[u8]) -> Result<u64, RunError>
+    ensures { IfOk result (IsRecordCount bytes.now) }
+{
+    let mut reader = TraceReader::new(alloc, bytes)?;
+    let mut count = 0u64;
+    while !reader.is_at_end() {
+        match reader.next_record() {
+            Ok(Some(_)) if count < u64::MAX => count += 1,
+            _ => return Err(RunError::NoMemory(0)),
+        }
+    }
+    Ok(count)
+}
+
+/// Every mapping of a database, by rising place.
+fn held(alloc: Global, database: &Database) -> Result<Vec<Mapping>, RunError>
+    ensures { IfOk result (λ held. map mapped_of held.items ≡ database.now.holdings) }
+{
+    match database.mappings(alloc) {
+        Ok(mappings) => Ok(mappings),
+        Err(_) => Err(RunError::NoMemory(0)),
+    }
+}
+
+/// What is held before and after the record with this number, or the last where there are fewer.
+pub fn moment_at<T: AllocGlobal + Threads + Wait + Sync>(
+    rt: &T,
+    bytes: &[u8],
+    at: u64,
+) -> Result<Moment, RunError>
+    ensures { IfOk result (IsMoment bytes.now at) }
+{
+    let alloc = rt.alloc();
+    let count = record_count(alloc, bytes)?;
+    let mut reader = TraceReader::new(alloc, bytes)?;
+    let limits = reader.limits();
+    let mut database = start(alloc, &limits)?;
+    let crew = Crew::new(rt, 1, 256, &NoGate);
+    let records = at.min(count);
+    let earlier = records.saturating_sub(1);
+    answer_records(alloc, &mut database, &mut reader, earlier, &crew)?;
+    let before = held(alloc, &database)?;
+    answer_records(alloc, &mut database, &mut reader, records - earlier, &crew)?;
+    let after = held(alloc, &database)?;
+    Ok(Moment {
+        limits,
+        records,
+        before,
+        after,
+    })
+}

@@ -1,0 +1,237 @@
+//! Where a page came from, and which records took rights from it.
+
+use crate::history::{Change, changes, is_within};
+use crate::moment::moment_at;
+use crate::show::ShowError;
+use drawings::{Moment, mapping_at, push_mapping, push_place};
+use mapdb::Mapping;
+use space::Place;
+use std::alloc::{AllocError, Global};
+use std::fmt::Write;
+use std::sync::Wait;
+use std::thread::Threads;
+use texts::{RecordTexts, push_rights};
+
+/// How many pages of a chain of origins are told.
+const LEVELS: usize = 64;
+
+/// How many records that changed a page are told.
+const RECORDS: usize = 100;
+
+/// A page of which is asked, after a record; the last of the trace where it has fewer.
+#[derive(Clone, Copy, Debug)]
+pub struct Question {
+    pub place: Place,
+    pub at: u64,
+}
+
+/// A page, the page from which it came, and so on to the root, at most so many.
+fn chain_of(
+    alloc: Global,
+    mappings: &[Mapping],
+    place: Place,
+    most: usize,
+) -> Result<Vec<Mapping>, AllocError> {
+    let mut chain = Vec::new(alloc);
+    let mut next = Some(place);
+    for _ in 0..most {
+        let Some(place) = next else {
+            break;
+        };
+        let Some(mapping) = mapping_at(mappings, place) else {
+            break;
+        };
+        next = mapping.origin;
+        chain.push(mapping).map_err(AllocError::from)?;
+    }
+    Ok(chain)
+}
+
+/// The pages of a chain of mappings, or the page alone where the chain is empty.
+fn places_of(
+    alloc: Global,
+    limits: &mapdb::Limits,
+    chain: &[Mapping],
+    place: Place,
+) -> Result<Vec<Place>, AllocError> {
+    let mut places = Vec::new(alloc);
+    places.push(place)?;
+    for mapping in chain.iter().skip(1) {
+        if is_within(limits, mapping.place) {
+            places.push(mapping.place)?;
+        }
+    }
+    Ok(places)
+}
+
+/// Appends where a page of a trace with this name came from, and which records changed its rights.
+pub fn push_why<T: AllocGlobal + Threads + Wait + Sync>(
+    rt: &T,
+    text: &mut String,
+    name: &str,
+    bytes: &[u8],
+    question: &Question,
+) -> Result<(), ShowError> {
+    let alloc = rt.alloc();
+    let Question { place, at } = *question;
+    let moment = moment_at(rt, bytes, at)?;
+    if !is_within(&moment.limits, place) {
+        return Err(ShowError::Unknown);
+    }
+    let chain = chain_of(alloc, &moment.after, place, LEVELS)?;
+    let places = places_of(alloc, &moment.limits, &chain, place)?;
+    let changes = changes(rt, bytes, moment.records, &places)?;
+    let mut numbers = Vec::new(alloc);
+    numbers.push(moment.records)?;
+    for change in &changes {
+        if change.is_link() || change.place == place {
+            numbers.push(change.record)?;
+        }
+    }
+    let texts = RecordTexts::new(alloc, name, bytes, numbers)?;
+    push_page(text, &moment, place, chain.first(), &texts)?;
+    push_chain(text, &chain, &changes, &texts)?;
+    push_changes(text, place, &changes, &texts)?;
+    Ok(())
+}
+
+/// Appends what a page holds.
+fn push_page(
+    text: &mut String,
+    moment: &Moment,
+    place: Place,
+    held: Option<&Mapping>,
+    texts: &RecordTexts,
+) -> Result<(), AllocError> {
+    push_place(text, place)?;
+    match held {
+        Some(mapping) => {
+            write!(text, " holds frame {} with ", mapping.frame)?;
+            push_rights(text, mapping.rights)?;
+        }
+        None => text.push_str(" holds nothing")?,
+    }
+    if moment.records == 0 {
+        return text.push_str(", at the start\n");
+    }
+    text.push_str(", after ")?;
+    texts.push(text, moment.records)?;
+    text.push_str("\n")
+}
+
+/// Appends a chain of origins, each page with the record since which it has its frame from there.
+fn push_chain(
+    text: &mut String,
+    chain: &[Mapping],
+    changes: &[Change],
+    texts: &RecordTexts,
+) -> Result<(), AllocError> {
+    if chain.is_empty() {
+        return Ok(());
+    }
+    text.push_str("it came from\n")?;
+    for mapping in chain {
+        text.push_str("  ")?;
+        push_mapping(text, mapping)?;
+        match mapping.origin {
+            Some(origin) => {
+                text.push_str(" from ")?;
+                push_place(text, origin)?;
+            }
+            None => text.push_str(", a root")?,
+        }
+        let made = changes
+            .iter()
+            .rev()
+            .find(|change| change.place == mapping.place && change.is_link());
+        match made {
+            Some(change) => {
+                text.push_str(", since ")?;
+                texts.push(text, change.record)?;
+            }
+            None => text.push_str(", since the start")?,
+        }
+        text.push_str("\n")?;
+    }
+    match chain.last() {
+        Some(mapping) if mapping.origin.is_some() => {
+            text.push_str("  .. and more above it: ask for this page\n")
+        }
+        _ => Ok(()),
+    }
+}
+
+/// Appends the records that changed the rights of a page, or from where it has them; the last ones, where there are many.
+fn push_changes(
+    text: &mut String,
+    place: Place,
+    changes: &[Change],
+    texts: &RecordTexts,
+) -> Result<(), AllocError> {
+    let count = changes
+        .iter()
+        .filter(|change| change.place == place)
+        .count();
+    if count == 0 {
+        return text.push_str("no record changed its rights\n");
+    }
+    text.push_str("what changed its rights\n")?;
+    let untold = count.saturating_sub(RECORDS);
+    if untold > 0 {
+        write!(text, "  .. {untold} records before these\n")?;
+    }
+    for change in changes
+        .iter()
+        .filter(|change| change.place == place)
+        .skip(untold)
+    {
+        text.push_str("  ")?;
+        texts.push(text, change.record)?;
+        text.push_str("\n    ")?;
+        push_change(text, change)?;
+        text.push_str("\n")?;
+    }
+    Ok(())
+}
+
+/// Appends what a record changed of a page.
+fn push_change(text: &mut String, change: &Change) -> Result<(), AllocError> {
+    match (change.before, change.after) {
+        (None, Some(after)) => push_come(text, &after),
+        (Some(before), None) => {
+            text.push_str("took ")?;
+            push_rights(text, before.rights)?;
+            text.push_str("; nothing is left")
+        }
+        (Some(before), Some(after)) => {
+            if change.is_link() {
+                text.push_str("replaced what was held: ")?;
+                push_come(text, &after)?;
+                return Ok(());
+            }
+            let taken = before.rights.without(after.rights);
+            let given = after.rights.without(before.rights);
+            text.push_str(if given.is_empty() { "took " } else { "gave " })?;
+            push_rights(text, if given.is_empty() { taken } else { given })?;
+            text.push_str(": ")?;
+            push_rights(text, before.rights)?;
+            text.push_str(" became ")?;
+            push_rights(text, after.rights)
+        }
+        (None, None) => Ok(()),
+    }
+}
+
+/// Appends what came to be held, and from where.
+fn push_come(text: &mut String, mapping: &Mapping) -> Result<(), AllocError> {
+    text.push_str("gave ")?;
+    push_rights(text, mapping.rights)?;
+    write!(text, " of frame {}", mapping.frame)?;
+    match mapping.origin {
+        Some(origin) => {
+            text.push_str(" from ")?;
+            push_place(text, origin)
+        }
+        None => text.push_str(", as a root"),
+    }
+}
