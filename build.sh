@@ -24,8 +24,9 @@ build_crate() {
 (($# == 0)) || fail "no argument is taken; usage: $0"
 top=$(dirname -- "$(readlink -f -- "${BASH_SOURCE[0]}")")
 command -v rt > /dev/null || fail "the command rt is missing: install the Rattle kit and put its bin folder on the PATH"
-# (a crate NAME_tests has the tests of the crate NAME, and nothing to build)
-mapfile -t crates < <(sed -nE 's/^([a-z0-9_]+)( [^:]*)?:.*/\1/p' "$top/crates.txt" | grep -v '_tests$')
+# (a crate NAME_tests has the tests of the crate NAME, and nothing to build; capi is the library that ./library.sh builds, and
+# raw_box is there for it alone)
+mapfile -t crates < <(sed -nE 's/^([a-z0-9_]+)( [^:]*)?:.*/\1/p' "$top/crates.txt" | grep -vE '_tests$|^capi$|^raw_box$')
 log=$(mktemp "${TMPDIR:-/tmp}/l4map-build-XXXXXX.log") || fail "no temporary file can be made"
 
 printf '%s: proving %s crates; from nothing that takes 30 to 60 minutes on 4 cores\n' "$0" "${#crates[@]}"

@@ -238,7 +238,7 @@ def check_program(cases, program):
         got = run([program, *arguments.split()])
         good = got.status == 0 and example in got.stdout.decode() and not got.stderr
         cases.check(arguments, "" if good else f"{got}")
-    for arguments in ("", "chek t", "check", "word 50c6 --size 4K", "word --rights rw", "word --control 0", "word --flush", "compare t", "show", "why t", "random", "show t --svg --dot", "show t --space 1 --diff"):
+    for arguments in ("", "chek t", "check", "word 50c6 --size 4K", "word --rights rw", "word --control 0", "word --flush", "compare t", "show", "why t", "random", "show t --svg --dot", "show t --space 1 --diff", "compare t a --audit --part"):
         got = run([program, *arguments.split()])
         good = got.status == 2 and not got.stdout and got.stderr
         cases.check(f"refused: {arguments}", "" if good else f"{got}")
@@ -313,6 +313,23 @@ def compare_answers(cases, program):
         cases.compare("--audit with the audit alone", same, compared(text_of(audit), "--audit"))
         wanted = ended(1, "first difference: line 2", f"  l4map:   {audit[1]}", "  answers: 1,3,0,rw-,---,0:0")
         cases.compare("--audit with another audit", wanted, compared(text_of([audit[0], "1,3,0,rw-,---,0:0"]), "--audit"))
+        for name, lines in (
+            ("the replies alone", ANSWERS[:3]),
+            ("one reply", ANSWERS[1:2]),
+            ("a reply and a mapping", [ANSWERS[2], ANSWERS[4]]),
+            ("the end line alone", ANSWERS[5:]),
+            ("nothing", []),
+            ("the whole", ANSWERS),
+        ):
+            cases.compare(f"--part with {name}", same, compared(text_of(lines), "--part"))
+        wanted = differs(path, 3, ANSWERS[2], "3 unmap 000000c6").stdout.replace(b"first difference: line 3", b"first difference: line 1")
+        cases.compare("--part with another reply", Ended(1, wanted, b""), compared(b"3 unmap 000000c6\n", "--part"))
+        wanted = ended(1, "first difference: line 2", f"  l4map:   {ANSWERS[4]}", "  answers: 1,3,0,rw-,---,0:0")
+        cases.compare("--part with another mapping", wanted, compared(text_of([ANSWERS[0], "1,3,0,rw-,---,0:0"]), "--part"))
+        wanted = ended(1, "first difference: line 2", "  l4map:   (the end)", "  answers: 1,4,0,rw-,---,0:0")
+        cases.compare("--part with a mapping too many", wanted, compared(text_of([ANSWERS[4], "1,4,0,rw-,---,0:0"]), "--part"))
+        wanted = ended(1, "first difference: line 2", "  l4map:   (the end)", f"  answers: {ANSWERS[1]}")
+        cases.compare("--part with a reply twice", wanted, compared(text_of([ANSWERS[1], ANSWERS[1]]), "--part"))
         wanted = Ended(4, b"", b"l4trace: Unreadable\n")
         cases.compare("compare with no file", wanted, run([program, "compare", path, os.path.join(room, "missing")]))
     wanted = Ended(2, b"", b"l4trace: BadHeader\n")

@@ -42,7 +42,7 @@ TESTS = {
     ],
     "crew_tests": [
         "crews_read_words_at_opening_and_add_marks_up",
-        "one_worker_links_and_moves_in_several_pieces",
+        "the_calling_thread_alone_links_and_moves_in_several_pieces",
         "one_worker_links_in_a_single_piece",
         "one_worker_moves_and_marks_in_a_single_piece",
         "one_worker_strips_and_marks",

@@ -19,7 +19,6 @@ use Rattle.pieces.specs.declared.link.Store.{Store}
 use Rattle.pieces.specs.declared.moving.Pair.{Pair}
 use Rattle.pieces.specs.declared.touch.WordAccess.{WordAccess}
 use Rattle.pieces.specs.declared.piece.Piece.TheVariants as piece
-use Rattle.pieces.proofs.AllSteps.{words_none}
 use Rattle.pieces.proofs.InTurn.{one_step_more, write_more, add_more, add_from}
 use Rattle.pieces.proofs.OneByOne.{distinct_apart, eqb_turned}
 use Rattle.pieces.proofs.Packs.{same_word_after}
@@ -86,33 +85,27 @@ links_more w xs k d within =
     ap (λ ys. map (effect w) (map (store_step w) ys)) (take_more xs k d within) ∙ ap (map (effect w)) (map-append (store_step w) (take k xs) (get_or xs k d ∷ []))
     ∙ map-append (effect w) (map (store_step w) (take k xs)) (store_step w (get_or xs k d) ∷ [])
 
-module _ (old now : List ℕ) (xs : List Store) (k : ℕ) (d : Store) (once : are_distinct (puts_of xs) ≡ true) (within : k < length xs) (so_far : now ≡ words_after old (effects old (piece.Link (take k xs)))) where
+module _ (o old now : List ℕ) (xs : List Store) (k : ℕ) (d : Store) (once : are_distinct (puts_of xs) ≡ true) (within : k < length xs) (so_far : now ≡ words_after old (effects o (piece.Link (take k xs)))) where
   put_fresh : is_none_of (puts_of (take k xs)) (get_or xs k d).put ≡ true
   put_fresh =
       (both (is_none_of (puts_of (take k xs)) (get_or xs k d).put) (list_all (is_none_of (puts_of (take k xs))) (puts_of (drop (k + 1) xs)))
       (distinct_apart (puts_of (take k xs)) (puts_of (get_or xs k d ∷ drop (k + 1) xs))
       (ap are_distinct (sym (ap puts_of (around xs k d within) ∙ map-append (λ (s : Store). s.put) (take k xs) (get_or xs k d ∷ drop (k + 1) xs))) ∙ once))).0
 
-  put_unwritten : is_none_of (writes_at (effects old (piece.Link (take k xs)))) (get_or xs k d).put ≡ true
-  put_unwritten = ap (λ js. is_none_of js (get_or xs k d).put) (links_write old (take k xs)) ∙ put_fresh
+  put_unwritten : is_none_of (writes_at (effects o (piece.Link (take k xs)))) (get_or xs k d).put ≡ true
+  put_unwritten = ap (λ js. is_none_of js (get_or xs k d).put) (links_write o (take k xs)) ∙ put_fresh
 
-  put_next : (x : ℕ) → x ≡ linked_word old (get_or xs k d) → (get_or xs k d).put < length old → set now (get_or xs k d).put x ≡ words_after old (effects old (piece.Link (take (k + 1) xs)))
+  put_next : (x : ℕ) → x ≡ linked_word o (get_or xs k d) → (get_or xs k d).put < length old → set now (get_or xs k d).put x ≡ words_after old (effects o (piece.Link (take (k + 1) xs)))
   put_next x is_word there =
-      ap (λ v. set v (get_or xs k d).put x) so_far ∙ write_more old (effects old (piece.Link (take k xs))) (get_or xs k d).put x put_unwritten there
-      ∙ ap (words_after old) (ap (λ y. effects old (piece.Link (take k xs)) ++ writes (get_or xs k d).put y ∷ []) is_word ∙ sym (links_more old xs k d within))
+      ap (λ v. set v (get_or xs k d).put x) so_far ∙ write_more old (effects o (piece.Link (take k xs))) (get_or xs k d).put x put_unwritten there
+      ∙ ap (words_after old) (ap (λ y. effects o (piece.Link (take k xs)) ++ writes (get_or xs k d).put y ∷ []) is_word ∙ sym (links_more o xs k d within))
 
 -- the same of the store that was read from the list
-pub put_next_of : (old now : List ℕ) (xs : List Store) (k : ℕ) (s : Store) → s ≡ get_or xs k s → are_distinct (puts_of xs) ≡ true → k < length xs → now ≡ words_after old (effects old (piece.Link (take k xs)))
-    → (x : ℕ) → x ≡ linked_word old s → s.put < length old → set now s.put x ≡ words_after old (effects old (piece.Link (take (k + 1) xs)))
-put_next_of old now xs k s is once within so_far x is_word there =
-    subst (λ (t : Store). set now t.put x ≡ words_after old (effects old (piece.Link (take (k + 1) xs)))) (sym is)
-    (put_next old now xs k s once within so_far x (is_word ∙ ap (linked_word old) is) (subst (λ (t : Store). t.put < length old) is there))
-
--- before the only store nothing was put
-pub nothing_put : (old now : List ℕ) (xs : List Store) (k : ℕ) → length xs ≤ 1 → k < length xs → now ≡ words_after old (effects old (piece.Link (take k xs))) → now ≡ old
-nothing_put old now xs k few within so_far =
-    let first : k ≡ 0 = omega (arith, few, within) in
-    so_far ∙ ap (λ n. words_after old (effects old (piece.Link (take n xs)))) first ∙ words_none 0 old
+pub put_next_of : (o old now : List ℕ) (xs : List Store) (k : ℕ) (s : Store) → s ≡ get_or xs k s → are_distinct (puts_of xs) ≡ true → k < length xs → now ≡ words_after old (effects o (piece.Link (take k xs)))
+    → (x : ℕ) → x ≡ linked_word o s → s.put < length old → set now s.put x ≡ words_after old (effects o (piece.Link (take (k + 1) xs)))
+put_next_of o old now xs k s is once within so_far x is_word there =
+    subst (λ (t : Store). set now t.put x ≡ words_after old (effects o (piece.Link (take (k + 1) xs)))) (sym is)
+    (put_next o old now xs k s once within so_far x (is_word ∙ ap (linked_word o) is) (subst (λ (t : Store). t.put < length old) is there))
 
 -- the word that was made for a store
 pub made_for : (w : List ℕ) (xs : List Store) (k : ℕ) (s : Store) → s ≡ get_or xs k s → k < length xs → get_or (map (linked_word w) xs) k 0 ≡ linked_word w s

@@ -1,25 +1,29 @@
 -- Pieces worked one after another, on the words as they stand, and what they hand in.
-use Rattle.std.proofs.Common.{◌≡◌, ℕ, zero, suc, ◌+◌, ◌-◌, ◌<◌, ◌≤◌, Bool, true, false, ◌||◌, not, List, [], ◌∷◌, ◌++◌, length, map, take, drop, get_or, Some, refl, ap, ◌∙◌, sym, subst, arith, zero-add, ⊎_elim}
-use Rattle.std.specs.Prelude.{slice_get}
-use Rattle.std.specs.List.{All, AllPass, flat_map, list_all, list_any, range_with_len}
+use Rattle.std.proofs.Common.{◌≡◌, ℕ, zero, suc, ◌+◌, ◌<◌, ◌≤◌, Bool, true, false, ◌||◌, List, [], ◌∷◌, ◌++◌, length, map, take, drop, get_or, Some, refl, ap, ◌∙◌, sym, subst, arith, append_assoc, zero-add, ⊎_elim}
+use Rattle.std.specs.Prelude.{slice_get, nat_lt}
+use Rattle.std.specs.List.{All, AllPass, flat_map, list_all, range_with_len}
 use Rattle.std.proofs.lemmas.Bool.{cases_lt}
-use Rattle.std.proofs.lemmas.List.{append-nil, take_more, take_all, take-append-drop}
+use Rattle.std.proofs.lemmas.Grind.{flat_map-append}
+use Rattle.std.proofs.lemmas.List.{append-nil, length-append, length-map, take_more, take-append-drop}
 use Rattle.space.specs.Word.{is_pack}
 use Rattle.pieces.specs.Applied.{worked}
 use Rattle.pieces.specs.Distinct.{is_none_of, are_distinct}
+use Rattle.pieces.specs.DistinctParts.{all_split}
 use Rattle.pieces.specs.Dones.{DoneContent, IsDone}
 use Rattle.pieces.specs.Effects.{words_after}
 use Rattle.pieces.specs.Gathering.{numbers_of}
 use Rattle.pieces.specs.Laws.{AreDone, spare_held}
-use Rattle.pieces.specs.Phases.{CanBeWorked, IsPiece, NamesWords, changes, folds, held, is_link}
+use Rattle.pieces.specs.Phases.{CanBeWorked, IsPiece, NamesWords, changes, is_link, named}
 use Rattle.pieces.specs.Steps.{effects}
 use Rattle.pieces.specs.Values.{Value, value}
 use Rattle.pieces.specs.declared.piece.Piece.{Piece}
+use Rattle.pieces.specs.declared.piece.Piece.TheVariants as piece
 use Rattle.pieces.proofs.AllSteps.{length_words, words_none, worked_all}
-use Rattle.pieces.proofs.NamedWords.{one_names}
-use Rattle.pieces.proofs.OneByOne.{first_can, all_first, changes_apart, folds_of_others_apart, others_find_the_same, one_after_another, others_can, all_held_apart}
+use Rattle.pieces.proofs.NamedWords.{one_names, stores_within}
+use Rattle.pieces.proofs.OneByOne.{first_can, all_first, changes_apart, folds_of_others_apart, others_find_the_same, one_after_another, worked_then, all_held_apart}
 use Rattle.pieces.proofs.Packs.{packs_after_steps, pieces_suit}
-use Rattle.crew.specs.InTurn.{dones_from, go_in_turn}
+use Rattle.crew.specs.InTurn.{dones_from, effects_in, made_of, stores_of}
+use Rattle.crew.specs.Opening.{linked_word}
 use Rattle.crew.specs.Worked.{IsWorked}
 use Rattle.crew.proofs.Wholes.{one_of, weighs_one, behind_range, in_range, distinct_once, all_below, no_stranger, none_missing}
 use Rattle.crew.specs.Hands.{weigh}
@@ -43,13 +47,6 @@ others_of {A = A} F xs x all is each = by xs (subst (All F) is each)
     by (y ∷ xs) each zero d less = each 0 d (omega arith)
     by (y ∷ xs) each (suc k) d less = by xs (λ j e low. each (suc j) e (omega (arith, low))) k d (omega (arith, less))
 
--- those behind the first piece
-pub behind_first : (ps : List Piece) → 1 ≤ length ps → go_in_turn ps ≡ not (list_any is_link (take (length ps - 1) (drop 1 ps)))
-behind_first [] some = absurd (omega (arith, some))
-behind_first (p ∷ ps) some =
-    let others : suc (length ps) - 1 ≡ length ps = omega arith in
-    ap (λ qs. not (list_any is_link qs)) (sym (ap (λ n. take n ps) others ∙ take_all (length ps) ps (omega arith)))
-
 -- ---- the next piece
 
 -- the pieces before it, itself, and those behind it
@@ -66,49 +63,30 @@ around ps front p are within is =
     same [] = refl
     same (x ∷ xs) = ap (λ ys. x ∷ ys) (same xs)
 
-none_apart : (is : List ℕ) → list_all (is_none_of []) is ≡ true
-none_apart [] = refl
-none_apart (i ∷ is) = none_apart is
+-- no link is among a piece that is none
+unlinked : (b : Bool) → b ≡ false → (b || false) ≡ false
+unlinked true is = absurd (cc is)
+unlinked false is = refl
 
--- one of some pieces none of which is a link
-unlinked_in : (front : List Piece) (p : Piece) (rest : List Piece) → not (list_any is_link ((front ++ p ∷ []) ++ rest)) ≡ true → (is_link p || false) ≡ false
-unlinked_in [] p rest none = here (is_link p) (list_any is_link rest) none
-  where
-    here : (a b : Bool) → not (a || b) ≡ true → (a || false) ≡ false
-    here true b none = absurd (cc none)
-    here false b none = refl
-unlinked_in (q ∷ front) p rest none = unlinked_in front p rest (behind (is_link q) (list_any is_link ((front ++ p ∷ []) ++ rest)) none)
-  where
-    behind : (a b : Bool) → not (a || b) ≡ true → not b ≡ true
-    behind true b none = absurd (cc none)
-    behind false b none = none
-
-module _ (w : List ℕ) (ps front : List Piece) (p : Piece) (rest : List Piece) (is : (front ++ p ∷ []) ++ rest ≡ ps) (each : All IsPiece ps) (can : CanBeWorked w ps) (turn : go_in_turn ps ≡ true) where
+module _ (w : List ℕ) (ps front : List Piece) (p : Piece) (rest : List Piece) (is : (front ++ p ∷ []) ++ rest ≡ ps) (each : All IsPiece ps) (can : CanBeWorked w ps) where
   can_so_far : CanBeWorked w (front ++ p ∷ [])
   can_so_far = first_can w (front ++ p ∷ []) rest (subst (CanBeWorked w) (sym is) can)
 
   each_so_far : All IsPiece (front ++ p ∷ [])
   each_so_far = all_first (front ++ p ∷ []) rest (subst (All IsPiece) (sym is) each)
 
-  -- the pieces before it change no word at which it needs a page
-  spared : spare_held front (p ∷ []) ≡ true
-  spared = by front (ap go_in_turn is ∙ turn) (changes_apart w front (p ∷ []) can_so_far) (folds_of_others_apart w front (p ∷ []) can_so_far)
-    where
-      by : (front : List Piece) → go_in_turn ((front ++ p ∷ []) ++ rest) ≡ true → list_all (is_none_of (flat_map changes front)) (flat_map changes (p ∷ [])) ≡ true
-          → list_all (is_none_of (flat_map changes front)) (flat_map folds (p ∷ [])) ≡ true → spare_held front (p ∷ []) ≡ true
-      by [] turned apart folded = none_apart (flat_map held (p ∷ []))
-      by (q ∷ front) turned apart folded = all_held_apart (flat_map changes (q ∷ front)) (p ∷ []) (unlinked_in front p rest turned) apart folded
-
-  -- so it can be worked on the words that they leave
-  still_can : CanBeWorked (worked w front) (p ∷ [])
-  still_can = others_can w front (p ∷ []) each_so_far can_so_far spared
-
+  -- the words that the pieces before it leave
   pub still_packs : AllPass is_pack (worked w front)
-  still_packs = still_can.packs
+  still_packs = subst (AllPass is_pack) (sym (worked_all w front)) (packs_after_steps w (flat_map (effects w) front) can.packs (pieces_suit w front (first_can w front (p ∷ []) can_so_far).entries))
 
-  -- names words
+  as_many_words : length (worked w front) ≡ length w
+  as_many_words = ap length (worked_all w front) ∙ length_words 0 w (flat_map (effects w) front)
+
+  -- it names words
   pub still_names : NamesWords (worked w front) p
-  still_names = one_names (worked w front) (p ∷ []) 0 p still_can.within refl
+  still_names =
+      let all = all_split (λ i. nat_lt i (length w)) (flat_map named front) (flat_map named (p ∷ [])) (ap (list_all (λ i. nat_lt i (length w))) (sym (flat_map-append named front (p ∷ []))) ∙ can_so_far.within) in
+      subst (λ n. list_all (λ i. nat_lt i n) (named p) ≡ true) (sym as_many_words) (one_names w (p ∷ []) 0 p all.1 refl)
 
   -- finds the same out
   pub finds_the_same : value (worked w front) p ≡ value w p
@@ -118,11 +96,87 @@ module _ (w : List ℕ) (ps front : List Piece) (p : Piece) (rest : List Piece) 
       first [] = value w p
       first (v ∷ vs) = v
 
-  -- and leaves the words as all of them do
-  pub worked_more : words_after (worked w front) (effects (worked w front) p) ≡ worked w (front ++ p ∷ [])
-  worked_more =
+  -- and leaves the words as all of them do: a link does what it does by the words at opening
+  by_opening : words_after (worked w front) (effects w p) ≡ worked w (front ++ p ∷ [])
+  by_opening = ap (words_after (worked w front)) (sym (append-nil (effects w p))) ∙ sym (worked_then w front (p ∷ []) each_so_far can_so_far)
+
+  -- and any other by the words as they stand, since the pieces before it change no word at which it needs a page
+  by_words : is_link p ≡ false → words_after (worked w front) (effects (worked w front) p) ≡ worked w (front ++ p ∷ [])
+  by_words none =
+      let spared : spare_held front (p ∷ []) ≡ true = all_held_apart (flat_map changes front) (p ∷ []) (unlinked (is_link p) none) (changes_apart w front (p ∷ []) can_so_far) (folds_of_others_apart w front (p ∷ []) can_so_far) in
       ap (words_after (worked w front)) (sym (append-nil (effects (worked w front) p))) ∙ sym (worked_all (worked w front) (p ∷ []))
       ∙ sym (one_after_another w front (p ∷ []) each_so_far can_so_far spared)
+
+-- the words with one piece more
+pub worked_more : (w : List ℕ) (ps front : List Piece) (p : Piece) (rest : List Piece) → (front ++ p ∷ []) ++ rest ≡ ps → All IsPiece ps → CanBeWorked w ps
+    → words_after (worked w front) (effects_in w (worked w front) p) ≡ worked w (front ++ p ∷ [])
+worked_more w ps front (piece.Strip s) rest is each can = by_words w ps front (piece.Strip s) rest is each can refl
+worked_more w ps front (piece.Link stores) rest is each can = by_opening w ps front (piece.Link stores) rest is each can
+worked_more w ps front (piece.Move pairs) rest is each can = by_words w ps front (piece.Move pairs) rest is each can refl
+worked_more w ps front (piece.Touch list) rest is each can = by_words w ps front (piece.Touch list) rest is each can refl
+
+-- ---- the words that were made for links
+
+same_behind : {A : Type 0} (xs ys zs : List A) → xs ++ ys ≡ xs ++ zs → ys ≡ zs
+same_behind [] ys zs same = same
+same_behind (x ∷ xs) ys zs same = same_behind xs ys zs (ap behind same)
+  where
+    behind : {A : Type 0} → List A → List A
+    behind [] = []
+    behind (x ∷ xs) = xs
+
+-- those of one piece more
+pub made_more : (w : List ℕ) (ps : List Piece) (k : ℕ) (p : Piece) → p ≡ get_or ps k p → k < length ps → flat_map (made_of w) (take k ps) ++ made_of w p ≡ flat_map (made_of w) (take (k + 1) ps)
+made_more w ps k p is within =
+    ap (λ xs. flat_map (made_of w) (take k ps) ++ xs) (sym (append-nil (made_of w p))) ∙ sym (flat_map-append (made_of w) (take k ps) (p ∷ []))
+    ∙ ap (λ q. flat_map (made_of w) (take k ps ++ q ∷ [])) is ∙ ap (flat_map (made_of w)) (sym (take_more ps k p within))
+
+piece_at : (ps : List Piece) (k : ℕ) (p : Piece) → p ≡ get_or ps k p → k < length ps → slice_get ps k ≡ Some p
+piece_at [] k p is within = absurd (omega (arith, within))
+piece_at (q ∷ ps) zero p is within = ap Some (sym is)
+piece_at (q ∷ ps) (suc k) p is within = piece_at ps k p is (omega (arith, within))
+
+-- the stores of a piece that names words
+stores_named : (w : List ℕ) (p : Piece) → NamesWords w p → All (λ s. (s.read < length w) × (s.put < length w)) (stores_of p)
+stores_named w (piece.Strip s) names k d less = absurd (omega (arith, less))
+stores_named w (piece.Link stores) names k d less = stores_within (length w) stores names k d less
+stores_named w (piece.Move pairs) names k d less = absurd (omega (arith, less))
+stores_named w (piece.Touch list) names k d less = absurd (omega (arith, less))
+
+pub stores_at : (w : List ℕ) (ps : List Piece) (k : ℕ) (p : Piece) → CanBeWorked w ps → p ≡ get_or ps k p → k < length ps → All (λ s. (s.read < length w) × (s.put < length w)) (stores_of p)
+stores_at w ps k p can is within = stores_named w p (one_names w ps k p can.within (piece_at ps k p is within))
+
+taken_front : {A : Type 0} (xs ys : List A) → take (length xs) (xs ++ ys) ≡ xs
+taken_front [] ys = refl
+taken_front (x ∷ xs) ys = ap (λ zs. x ∷ zs) (taken_front xs ys)
+
+dropped_front : {A : Type 0} (xs ys : List A) → drop (length xs) (xs ++ ys) ≡ ys
+dropped_front [] ys = refl
+dropped_front (x ∷ xs) ys = dropped_front xs ys
+
+-- those of the next piece stand before those of the pieces behind it
+module _ (w : List ℕ) (ps front : List Piece) (p : Piece) (rest : List Piece) (left : List ℕ) (is : (front ++ p ∷ []) ++ rest ≡ ps) (are : flat_map (made_of w) front ++ left ≡ flat_map (made_of w) ps) where
+  pub left_is : left ≡ made_of w p ++ flat_map (made_of w) rest
+  left_is =
+      same_behind (flat_map (made_of w) front) left (made_of w p ++ flat_map (made_of w) rest)
+      (are ∙ ap (flat_map (made_of w)) (sym is) ∙ flat_map-append (made_of w) (front ++ p ∷ []) rest ∙ ap (λ xs. xs ++ flat_map (made_of w) rest) (flat_map-append (made_of w) front (p ∷ []) ∙ ap (λ xs. flat_map (made_of w) front ++ xs) (append-nil (made_of w p)))
+      ∙ append_assoc (flat_map (made_of w) front) (made_of w p) (flat_map (made_of w) rest))
+
+  as_many_made : length (made_of w p) ≡ length (stores_of p)
+  as_many_made = length-map (stores_of p) (linked_word w)
+
+  pub enough_left : (n : ℕ) → n ≡ length (stores_of p) → n ≤ length left
+  enough_left n many =
+      let all : length left ≡ length (made_of w p) + length (flat_map (made_of w) rest) = ap length left_is ∙ length-append (made_of w p) (flat_map (made_of w) rest) in
+      let made = as_many_made in omega (arith, many, all, made)
+
+  pub made_first : (n : ℕ) → n ≡ length (stores_of p) → take n left ≡ made_of w p
+  made_first n many = ap (λ k. take k left) (many ∙ sym as_many_made) ∙ ap (take (length (made_of w p))) left_is ∙ taken_front (made_of w p) (flat_map (made_of w) rest)
+
+  pub made_then : (n : ℕ) → n ≡ length (stores_of p) → flat_map (made_of w) (front ++ p ∷ []) ++ drop n left ≡ flat_map (made_of w) ps
+  made_then n many =
+      let dropped : drop n left ≡ flat_map (made_of w) rest = ap (λ k. drop k left) (many ∙ sym as_many_made) ∙ ap (drop (length (made_of w p))) left_is ∙ dropped_front (made_of w p) (flat_map (made_of w) rest) in
+      ap (λ xs. flat_map (made_of w) (front ++ p ∷ []) ++ xs) dropped ∙ sym (flat_map-append (made_of w) (front ++ p ∷ []) rest) ∙ ap (flat_map (made_of w)) is
 
 -- without a piece the words are as they were
 pub worked_none : (w : List ℕ) → w ≡ worked w []

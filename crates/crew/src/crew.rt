@@ -1,9 +1,19 @@
-ghost use Rattle.std.specs.Prelude.{◌≡◌, ◌≤◌};
+ghost use Rattle.std.specs.Prelude.{◌≡◌, ◌<◌, ◌≤◌, length, IfOk};
+ghost use Rattle.pieces.specs.Phases.{CanBeWorked};
+ghost use Rattle.crew.specs.Worked.{IsWorked};
 
-use crate::gate::Gate;
+use crate::alone::work_alone;
+use crate::error::CrewError;
+use crate::gate::{Gate, NoGate};
+use crate::shared::work_shared;
 use crate::workers::Workers;
+use pieces::{Done, Piece};
+use std::alloc::Global;
 use std::sync::Wait;
 use std::thread::Threads;
+
+/// There is a worker for so many pieces at most: to start a thread takes longer than to work fewer.
+const PIECES_OF_A_WORKER: usize = 8;
 
 /// Worker threads, who work the pieces of a phase beside one another.
 #[derive(Drop)]
@@ -17,7 +27,7 @@ pub struct Crew<'a, R, G> {
     ghost workers_most: { workers ≤ 64 },
 }
 
-impl<'a, R: Threads + Wait + Sync, G: Gate> Crew<'a, R, G> {
+impl<'a, R: Threads + Wait, G: Gate> Crew<'a, R, G> {
     /// So many workers, at most 64, with the most nodes, stores, pairs or accesses of a piece. The gate will hear of their work.
     pub fn new(rt: &'a R, workers: usize, piece_length: usize, gate: &'a G) -> Crew<'a, R, G>
         requires some { 1 ≤ workers }
@@ -33,26 +43,62 @@ impl<'a, R: Threads + Wait + Sync, G: Gate> Crew<'a, R, G> {
             piece_length,
         }
     }
+
+    /// The most nodes, stores, pairs or accesses that a piece is to have.
+    pub fn piece_length(&self) -> usize
+        ensures is { result ≡ self.now.piece_length }
+        ensures some { 1 ≤ result }
+    {
+        self.piece_length
+    }
 }
 
-impl<'a, R: Threads + Wait + Sync, G: Gate> Workers for Crew<'a, R, G> {
-    type Runtime = R;
-
-    type Listener = G;
-
-    fn runtime(&self) -> &R {
-        self.rt
+/// Works all pieces of a phase, and returns the words as they leave them and what each piece found out. The pieces are
+/// numbered from 0, in the order in which they are given.
+///
+/// Each piece is a turn on shared words. The calling thread is the first worker, and each other a thread of its own. Where it
+/// is the only one, it works the pieces one after another on the words themselves, unless the gate listens. Pieces that can be
+/// worked beside one another may be worked in any order, and their steps may be mixed: what comes of it is always the same.
+///
+/// Refused: `NoMemory`; `NoWorker`, where a thread could not be started. Then what was given is gone.
+pub fn work<R: Threads + Wait, G: Gate>(
+    crew: &Crew<'_, R, G>,
+    alloc: Global,
+    words: Vec<u64>,
+    pieces: Vec<Piece>,
+) -> Result<(Vec<u64>, Vec<Done>), CrewError>
+    requires some { 0 < length pieces.items }
+    requires can { CanBeWorked words.items pieces.items }
+    ensures { IfOk result (λ r. IsWorked words.items pieces.items r.0.items r.1.items) }
+{
+    let count = workers_for(crew.workers, pieces.len());
+    if count == 1 && !crew.gate.listens() {
+        let worked = work_alone(alloc, words, pieces)?;
+        return Ok(worked);
     }
+    work_shared(crew.rt, alloc, crew.gate, count, words, pieces)
+}
 
-    fn gate(&self) -> &G {
-        self.gate
-    }
+/// How many workers so many pieces have: as many as are allowed, but at most one for every eight pieces, and at least one.
+fn workers_for(most: usize, pieces: usize) -> usize
+    ensures some { 1 ≤ result }
+    ensures most { 1 ≤ most → result ≤ most }
+{
+    most.min(pieces / PIECES_OF_A_WORKER).max(1)
+}
 
-    fn most(&self) -> usize {
-        self.workers
-    }
-
+/// A crew whose gate listens does the work for a type of its user's: an impl for every gate is refused (docs/DECISIONS.md).
+impl<'a, R: Threads + Wait> Workers for Crew<'a, R, NoGate> {
     fn piece_length(&self) -> usize {
         self.piece_length
+    }
+
+    fn work(
+        &self,
+        alloc: Global,
+        words: Vec<u64>,
+        pieces: Vec<Piece>,
+    ) -> Result<(Vec<u64>, Vec<Done>), CrewError> {
+        work(self, alloc, words, pieces)
     }
 }

@@ -1,6 +1,6 @@
 //! The steps of a piece, one after another, on the words themselves.
 
-ghost use Rattle.std.specs.Prelude.{◌≡◌, ◌<◌, ◌≤◌, true, false, map, take, length, ◌∷◌, [], IfOk};
+ghost use Rattle.std.specs.Prelude.{◌≡◌, ◌<◌, ◌≤◌, true, false, map, take, length, ◌∷◌, ◌++◌, [], OnOk};
 ghost use Rattle.std.specs.List.{All, AllPass};
 ghost use Rattle.space.specs.Word.{is_pack};
 ghost use Rattle.pieces.specs.Distinct.{are_distinct};
@@ -13,8 +13,9 @@ ghost use Rattle.crew.specs.Opening.{narrows, linked_word, marks_made};
 use fpage::Rights;
 use maptree::Node;
 use pieces::steps::{bits, linked, moved, narrowed, remains, status};
-use pieces::{Link, Masks, Move, Touch, move_node};
-use std::alloc::{AllocError, Global};
+use pieces::{Link, Masks, Move, Store, Touch, move_node};
+use std::alloc::AllocError;
+use std::snapshot::Snapshot;
 
 /// Narrows the words at some indexes, each by its mask. The nodes whose words are left with a right move to the front, in
 /// their order. Returns how many these are, and the union of the status that the words had.
@@ -58,40 +59,23 @@ pub fn fold(words: &mut [u64], index: usize, status: Rights)
     words[index] |= bits(status);
 }
 
-/// Puts the word of a store, if there is one. Of several, one might read what another puts.
-pub fn put(words: &mut [u64], link: &Link)
-    requires packs { AllPass is_pack words.old }
-    requires within { All (λ s. (s.read < length words.old) × (s.put < length words.old)) link.now }
-    requires few { length link.now ≤ 1 }
-    ensures { words.new ≡ words_after words.old (effects words.old (piece.Link link.now)) }
-{
-    for k in 0..link.len() {
-        let store = link.store(k);
-        let source = words[store.read];
-        let target = words[store.put];
-        words[store.put] = linked(target, source, store.rights);
-    }
-}
-
-/// The words that stores put, one for each.
-pub fn words_to_put(alloc: Global, words: &[u64], link: &Link) -> Result<Vec<u64>, AllocError>
+/// Makes the words that stores put, one for each, behind others.
+pub fn make_words(words: &[u64], stores: &[Store], made: &mut Vec<u64>) -> Result<(), AllocError>
     requires packs { AllPass is_pack words.now }
-    requires within { All (λ s. (s.read < length words.now) × (s.put < length words.now)) link.now }
-    ensures { IfOk result (λ made. made.items ≡ map (linked_word words.now) link.now) }
+    requires within { All (λ s. (s.read < length words.now) × (s.put < length words.now)) stores.now }
+    ensures { OnOk result (made.new.items ≡ made.old.items ++ map (linked_word words.now) stores.now) }
 {
-    let mut made = Vec::with_capacity(alloc, link.len())?;
-    for k in 0..link.len() {
-        let store = link.store(k);
+    for store in stores {
         made.push(linked(words[store.put], words[store.read], store.rights))?;
     }
-    Ok(made)
+    Ok(())
 }
 
-/// Puts the words that were made for stores.
-pub fn put_words(words: &mut [u64], link: &Link, made: &[u64])
+/// Puts the words that were made for stores, of the words at opening.
+pub fn put_words(words: &mut [u64], link: &Link, made: &[u64], opening: &Snapshot<Vec<u64>>)
     requires within { All (λ s. (s.read < length words.old) × (s.put < length words.old)) link.now }
-    requires made { made.now ≡ map (linked_word words.old) link.now }
-    ensures { words.new ≡ words_after words.old (effects words.old (piece.Link link.now)) }
+    requires made { made.now ≡ map (linked_word opening.now.value.items) link.now }
+    ensures { words.new ≡ words_after words.old (effects opening.now.value.items (piece.Link link.now)) }
 {
     for k in 0..link.len() {
         let store = link.store(k);

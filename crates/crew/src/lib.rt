@@ -17,7 +17,7 @@ mod shared;
 mod team;
 mod workers;
 
-pub use crew::Crew;
+pub use crew::{Crew, work};
 pub use error::CrewError;
 pub use gate::{Gate, NoGate};
-pub use workers::{Workers, work};
+pub use workers::{Alone, Workers};

@@ -1,6 +1,5 @@
 //! The pieces of a phase, worked on words that the workers share.
 
-ghost use denote.Param.Send.{IsSync};
 ghost use Rattle.std.specs.Prelude.{◌≡◌, ℕ, ◌<◌, ◌≤◌, length, IfOk};
 ghost use Rattle.std.specs.List.{All};
 ghost use Rattle.pieces.specs.Phases.{CanBeWorked};
@@ -27,7 +26,7 @@ use turns::{Open, Turn};
 /// Works the pieces of a phase: each is a turn on shared words, which one of so many workers takes from its own deque or steals.
 ///
 /// Refused: `NoMemory`; `NoWorker`, where a thread could not be started.
-pub fn work_shared<R: Threads + Wait + Sync, G: Gate>(
+pub fn work_shared<R: Threads + Wait, G: Gate>(
     rt: &R,
     alloc: Global,
     gate: &G,
@@ -35,7 +34,6 @@ pub fn work_shared<R: Threads + Wait + Sync, G: Gate>(
     words: Vec<u64>,
     pieces: Vec<Piece>,
 ) -> Result<(Vec<u64>, Vec<Done>), CrewError>
-    requires ready { IsSync R.row }
     requires some { 1 ≤ workers }
     requires few { workers < 1024 }
     requires can { CanBeWorked words.items pieces.items }
@@ -50,7 +48,7 @@ pub fn work_shared<R: Threads + Wait + Sync, G: Gate>(
 }
 
 /// Works the turns of a phase to their end, dealt to so many workers.
-fn work_turns<N: Which + Send + Sync, R: Threads + Wait + Sync, G: Gate>(
+fn work_turns<N: Which + Send + Sync, R: Threads + Wait, G: Gate>(
     rt: &R,
     alloc: Global,
     gate: &G,
@@ -58,7 +56,6 @@ fn work_turns<N: Which + Send + Sync, R: Threads + Wait + Sync, G: Gate>(
     shared: &Open,
     turns: Vec<Turn>,
 ) -> Result<Vec<Turn>, CrewError>
-    requires ready { IsSync R.row }
     requires some { 1 ≤ workers }
     requires few { workers < 1024 }
     requires phase { shared.now ≡ N.sheet }
@@ -71,14 +68,13 @@ fn work_turns<N: Which + Send + Sync, R: Threads + Wait + Sync, G: Gate>(
 }
 
 /// Works the turns that were dealt, with a worker for each deque.
-fn work_deques<N: Which + Send + Sync, M: Crewed + Send + Sync, R: Threads + Wait + Sync, G: Gate>(
+fn work_deques<N: Which + Send + Sync, M: Crewed + Send + Sync, R: Threads + Wait, G: Gate>(
     rt: &R,
     alloc: Global,
     gate: &G,
     shared: &Open,
     deques: Vec<Dealt<N>>,
 ) -> Result<Vec<Turn>, CrewError>
-    requires ready { IsSync R.row }
     requires some { 1 ≤ length M.crew }
     requires few { length M.crew < 1024 }
     requires phase { shared.now ≡ N.sheet }

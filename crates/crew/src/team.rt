@@ -1,6 +1,5 @@
 //! The threads of the workers of a phase.
 
-ghost use denote.Param.Send.{IsSync};
 ghost use Rattle.std.specs.Prelude.{◌≡◌, ◌+◌, ◌++◌, ◌∷◌, [], length, IfOk, OnOk};
 ghost use Rattle.crew.specs.Crews.{ArePlacedFrom};
 
@@ -43,19 +42,13 @@ fn start<'s, 'e, N: Which + Send + Sync + 'e, M: Crewed + Send + Sync + 'e, G: G
 /// The workers work, each on a thread of its own but the first, which is the calling thread. With one no thread is started.
 ///
 /// Refused: `NoMemory`; `NoWorker`, where a thread could not be started. Those that were started have ended by then.
-pub fn work_together<
-    N: Which + Send + Sync,
-    M: Crewed + Send + Sync,
-    R: Threads + Wait + Sync,
-    G: Gate,
->(
+pub fn work_together<N: Which + Send + Sync, M: Crewed + Send + Sync, R: Threads + Wait, G: Gate>(
     rt: &R,
     alloc: Global,
     bench: &Bench<'_, N, M, G>,
     first: Lot<N, M>,
     others: Vec<Lot<N, M>>,
 ) -> Result<Vec<Emptied<N, M>>, CrewError>
-    requires ready { IsSync R.row }
     requires first { first.own.place ≡ 0 }
     requires others { ArePlacedFrom 1 others.items }
     ensures { IfOk result (λ lots. ArePlacedFrom 0 lots.items × (length lots.items ≡ length others.items + 1)) }

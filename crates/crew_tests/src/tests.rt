@@ -5,7 +5,7 @@ ghost use Rattle.std.specs.List.{list_all};
 ghost use Rattle.pieces.specs.Phases.{CanBeWorked};
 
 use crate::assertions::assert_equal;
-use crew::{Crew, CrewError, Gate, NoGate, Workers, work};
+use crew::{Alone, Crew, CrewError, Gate, NoGate, Workers, work};
 use fpage::{Access, Rights};
 use maptree::{Node, Slice};
 use pieces::{
@@ -235,7 +235,7 @@ fn worked<W: Workers>(
     phase: Phase,
 ) -> Result<(Vec<u64>, Vec<Done>), CrewError> {
     let (words, pieces) = phase.begin(alloc)?;
-    work(workers, alloc, words, pieces)
+    workers.work(alloc, words, pieces)
 }
 
 /// Workers leave these words of a phase of so many pieces: what their results come to.
@@ -300,13 +300,12 @@ fn crews_read_words_at_opening_and_add_marks_up(rt: HostRuntime) -> Result<(), F
     link_and_mark(&rt, alloc, 4)?;
     link_and_mark(&rt, alloc, 64)?;
     let crew = Crew::new(&rt, 64, 7, &NoGate);
-    assert_equal(&rt, (crew.piece_length(), crew.most()), (7, 64), "a crew");
+    assert_equal(&rt, crew.piece_length(), 7, "a crew");
     Ok(())
 }
 
 #[test]
-fn one_worker_links_and_moves_in_several_pieces(rt: HostRuntime) -> Result<(), Fail> {
-    let crew = Crew::new(&rt, 1, 2, &NoGate);
+fn the_calling_thread_alone_links_and_moves_in_several_pieces(rt: HostRuntime) -> Result<(), Fail> {
     for (phase, after) in [
         (
             Phase::Link,
@@ -314,7 +313,16 @@ fn one_worker_links_and_moves_in_several_pieces(rt: HostRuntime) -> Result<(), F
         ),
         (Phase::Move, [0, 0x1_0000_0904, 0, 0x1_0000_0506]),
     ] {
-        answers(&rt, rt.alloc(), &crew, phase, 2, &after, &[])?;
+        answers(
+            &rt,
+            rt.alloc(),
+            &Crew::new(&rt, 1, 2, &NoGate),
+            phase,
+            2,
+            &after,
+            &[],
+        )?;
+        answers(&rt, rt.alloc(), &Alone, phase, 2, &after, &[])?;
     }
     Ok(())
 }
@@ -426,6 +434,27 @@ impl Gate for Meeting {
     }
 }
 
+/// A crew whose gate holds pieces until others have begun.
+#[derive(Drop)]
+struct Held<'a, R> {
+    crew: Crew<'a, R, Meeting>,
+}
+
+impl<'a, R: Threads + Wait> Workers for Held<'a, R> {
+    fn piece_length(&self) -> usize {
+        self.crew.piece_length()
+    }
+
+    fn work(
+        &self,
+        alloc: Global,
+        words: Vec<u64>,
+        pieces: Vec<Piece>,
+    ) -> Result<(Vec<u64>, Vec<Done>), CrewError> {
+        work(&self.crew, alloc, words, pieces)
+    }
+}
+
 /// Waits until a count is not 0, giving the processor away, or for some seconds.
 fn wait_for(count: &AtomicU64) {
     for _ in 0..10_000_000u64 {
@@ -477,7 +506,9 @@ fn lies_within(rt: &impl Abort, count: &AtomicU64, least: u64, most: u64, name: 
 #[test]
 fn two_of_four_workers_work_eighteen_pieces_and_one_steals(rt: HostRuntime) -> Result<(), Fail> {
     let gate = Meeting::new();
-    let crew = Crew::new(&rt, 4, 1, &gate);
+    let crew = Held {
+        crew: Crew::new(&rt, 4, 1, &gate),
+    };
     let marked = [0x1_0000_052f, 0];
     let gathered = gathers(&rt, rt.alloc(), &crew, Phase::EighteenTouches, 18, &marked)?;
     take_turns(&rt, &gathered.answers);
@@ -497,7 +528,9 @@ fn two_of_four_workers_work_eighteen_pieces_and_one_steals(rt: HostRuntime) -> R
 fn a_gate_that_listens_hears_of_a_single_piece(rt: HostRuntime) -> Result<(), Fail> {
     let gate = Meeting::new();
     gate.stolen.store(1, Ordering::SeqCst);
-    let crew = Crew::new(&rt, 4, 1, &gate);
+    let crew = Held {
+        crew: Crew::new(&rt, 4, 1, &gate),
+    };
     gathers(&rt, rt.alloc(), &crew, Phase::Strip, 1, &STRIPPED)?;
     for (name, count) in [
         ("begun", &gate.begun),

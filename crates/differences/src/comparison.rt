@@ -3,14 +3,14 @@
 ghost use Rattle.std.specs.Prelude.{◌≡◌, ◌↔◌, ◌≤◌, take, length, IsNone, IfSome, IfOk};
 ghost use Rattle.differences.specs.Compare.{IsReplayOf};
 
-use crew::NoGate;
+use crate::answers::{Key, audit_of, key_of, named_lines, place_of, split_line};
 use replay::{NoWatch, Options, RunError, run};
 use space::NoMemory;
 use std::alloc::{AllocError, Global};
 use std::fmt::Write;
 use std::sync::Wait;
 use std::thread::Threads;
-use texts::{Places, field, push_shown};
+use texts::{Places, push_shown};
 use trace::{Failed, Sink, Std};
 
 /// How many bytes of a line are shown.
@@ -94,57 +94,8 @@ pub fn replayed<T: AllocGlobal + Threads + Wait + Sync>(
         piece_length: 256,
         plain: false,
     };
-    run(
-        rt,
-        &mut reader,
-        &mut writer,
-        &options,
-        &NoGate,
-        &mut NoWatch,
-    )?;
+    run(rt, &mut reader, &mut writer, &options, &mut NoWatch)?;
     Ok(writer.into_inner())
-}
-
-/// The lines of a text that tell of mappings: those with a comma, each with its line feed.
-pub fn audit_of(alloc: Global, text: &[u8]) -> Result<Vec<u8>, AllocError> {
-    let mut audit = Vec::new(alloc);
-    let mut rest = text;
-    for _ in 0..text.len() {
-        if rest.is_empty() {
-            break;
-        }
-        let (line, behind) = split_line(rest);
-        if line.contains(&b',') {
-            audit.extend_from_slice(line)?;
-        }
-        rest = behind;
-    }
-    Ok(audit)
-}
-
-/// The first line of a text with its line feed, and what is behind it.
-fn split_line(text: &[u8]) -> (&[u8], &[u8]) {
-    let length = text.iter().take_while(|byte| **byte != b'\n').count();
-    let end = length.saturating_add(1).min(text.len());
-    text.split_at(end)
-}
-
-/// The space and the page of an audit line; the last place of all where a line has none.
-fn place_of(line: &[u8]) -> (u32, u32) {
-    let (space, rest) = split_cell(line);
-    let (page, _) = split_cell(rest);
-    match (field::number(space, 10, 5), field::number(page, 10, 7)) {
-        (Some(space), Some(page)) => (space, page),
-        _ => (u32::MAX, u32::MAX),
-    }
-}
-
-/// What stands before the first comma, and what behind it.
-fn split_cell(line: &[u8]) -> (&[u8], &[u8]) {
-    let length = line.iter().take_while(|byte| **byte != b',').count();
-    let cell = line.get(..length).unwrap_or(&[]);
-    let rest = line.get(length.saturating_add(1)..).unwrap_or(&[]);
-    (cell, rest)
 }
 
 /// Appends the mappings that differ between two audits: a line with `-` for each of the first, and with `+` for each of the
@@ -232,8 +183,19 @@ pub struct Comparison<'a> {
     pub name: &'a str,
     pub trace: &'a [u8],
     pub answers: &'a [u8],
-    /// Whether the audits alone are compared.
-    pub audit: bool,
+    /// Which of the lines are compared.
+    pub scope: Scope,
+}
+
+/// Which lines of the answers are compared.
+#[derive(Clone, Copy, Debug, PartialEq, Eq)]
+pub enum Scope {
+    /// All.
+    Whole,
+    /// Those of the audit alone.
+    Audit,
+    /// Those that the answers have: of each, the reply to the record of its number, or the mapping of its page.
+    Part,
 }
 
 /// Compares answers with those of l4map, writes where they differ first, and returns whether they do.
@@ -242,36 +204,29 @@ pub fn compare<T: AllocGlobal + Threads + Wait + Sync, W: Sink>(
     comparison: &Comparison<'_>,
     writer: &mut W,
 ) -> Result<bool, CompareError> {
+    let alloc = rt.alloc();
     let text = replayed(rt, comparison.trace)?;
-    if comparison.audit {
-        let ours = audit_of(rt.alloc(), &text)?;
-        let theirs = audit_of(rt.alloc(), comparison.answers)?;
-        let difference = first_difference(&ours, &theirs);
-        return tell(rt, comparison, difference, 0, writer);
-    }
-    let records = text
-        .split(|byte| *byte == b'\n')
-        .take_while(|line| is_reply(line))
-        .count();
-    let difference = first_difference(&text, comparison.answers);
-    tell(rt, comparison, difference, records as u64, writer)
-}
-
-/// Whether a line is a reply: it has a space, and begins with a digit.
-fn is_reply(line: &[u8]) -> bool {
-    match line.first() {
-        Some(byte) => byte.is_ascii_digit() && line.contains(&b' '),
-        None => false,
+    let answers = comparison.answers;
+    match comparison.scope {
+        Scope::Whole => tell(rt, comparison, first_difference(&text, answers), writer),
+        Scope::Audit => {
+            let ours = audit_of(alloc, &text)?;
+            let theirs = audit_of(alloc, answers)?;
+            tell(rt, comparison, first_difference(&ours, &theirs), writer)
+        }
+        Scope::Part => {
+            let ours = named_lines(alloc, &text, answers)?;
+            tell(rt, comparison, first_difference(&ours, answers), writer)
+        }
     }
 }
 
 /// Writes that texts are the same, or where they differ first: the line of each, and for the reply to a record what stands in
-/// the trace and what the record changed. The first lines are replies to so many records.
+/// the trace and what the record changed.
 fn tell<T: AllocGlobal + Threads + Wait + Sync, W: Sink>(
     rt: &T,
     comparison: &Comparison<'_>,
     difference: Option<Difference<'_>>,
-    records: u64,
     writer: &mut W,
 ) -> Result<bool, CompareError> {
     let Some(difference) = difference else {
@@ -286,8 +241,8 @@ fn tell<T: AllocGlobal + Threads + Wait + Sync, W: Sink>(
     if difference.ours == difference.theirs {
         text.push_str("  the line feed is missing in one of them\n")?;
     }
-    if number <= records {
-        push_record(rt, comparison, number, &mut text)?;
+    if let Some(Key::Reply(record)) = difference.ours.map(key_of) {
+        push_record(rt, comparison, record, &mut text)?;
     }
     writer.write_all(text.as_bytes())?;
     Ok(true)
@@ -308,7 +263,7 @@ fn push_side(text: &mut String, name: &str, line: Option<&[u8]>) -> Result<(), A
 fn push_record<T: AllocGlobal + Threads + Wait + Sync>(
     rt: &T,
     comparison: &Comparison<'_>,
-    number: u64,
+    number: u32,
     text: &mut String,
 ) -> Result<(), CompareError> {
     let alloc = rt.alloc();

@@ -1,6 +1,9 @@
 //! The answers of another implementation to a trace, compared with those of l4map.
 #![tactic(auto)]
 
+mod answers;
 mod comparison;
 
-pub use comparison::{CompareError, Comparison, Difference, compare, first_difference, replayed};
+pub use comparison::{
+    CompareError, Comparison, Difference, Scope, compare, first_difference, replayed,
+};

@@ -5,7 +5,7 @@ ghost use Rattle.space.specs.Shards.{is_taken};
 ghost use Rattle.pieces.specs.Gathering.{all_found, fault_in, IsGathered};
 ghost use Rattle.holdings.specs.Inner.Words.{CanBeWorkedIn, IsPhaseWorked};
 
-use crew::{CrewError, Workers, work};
+use crew::{CrewError, Workers};
 use pieces::{Done, Gathered, Piece, gather};
 use space::Shards;
 use std::alloc::Global;
@@ -24,7 +24,7 @@ pub fn work_phase<W: Workers>(
 {
     let count = pieces.len();
     let words = shards.take_words();
-    let (words, dones) = work(workers, alloc, words, pieces)?;
+    let (words, dones) = workers.work(alloc, words, pieces)?;
     shards.put_words(words);
     gathered(alloc, dones, count)
 }

@@ -4,7 +4,7 @@ ghost use Rattle.std.specs.Prelude.{OnOk, IsFalse};
 ghost use Rattle.space.specs.Shards.{is_taken};
 ghost use Rattle.holdings.specs.Inner.Words.{CanBeWorkedIn, IsWritten};
 
-use crew::{CrewError, Workers, work};
+use crew::{CrewError, Workers};
 use pieces::Piece;
 use space::Shards;
 use std::alloc::Global;
@@ -24,7 +24,7 @@ pub fn write_phase<W: Workers>(
         return Ok(());
     }
     let words = shards.take_words();
-    let (words, _) = work(workers, alloc, words, pieces)?;
+    let (words, _) = workers.work(alloc, words, pieces)?;
     shards.put_words(words);
     Ok(())
 }

@@ -11,7 +11,6 @@ mod progress;
 mod tests;
 
 use command_line::{OptionsError, parse};
-use crew::NoGate;
 use error::{status, tell};
 use progress::Progress;
 use replay::{Options, RunError, Watch, run};
@@ -73,7 +72,7 @@ fn replay_input<V: Watch>(
     };
     let mut reader = Std::new(rt.reader());
     let mut writer = Std::new(output);
-    run(rt, &mut reader, &mut writer, options, &NoGate, watch)?;
+    run(rt, &mut reader, &mut writer, options, watch)?;
     Ok(())
 }
 

@@ -9,7 +9,7 @@ use Rattle.l4trace.specs.declared.command_line.Task.TheVariants.{Explain, Tell, 
 abbrev pub IsServed : Task → Type 0
 IsServed (Explain words bits) = IsSpaceBits bits
 IsServed (Tell text) = ⊤
-IsServed (Compare trace answers audit color) = ⊤
+IsServed (Compare trace answers scope color) = ⊤
 IsServed (Show trace view color) = ⊤
 IsServed (Why trace question color) = ⊤
 IsServed (Random plan) = IsPlan plan

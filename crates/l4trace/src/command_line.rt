@@ -11,6 +11,7 @@ use crate::show_command::{show_command, show_task};
 use crate::why_command::{why_command, why_task};
 use clap::error::ErrorKind;
 use clap::{Arg, ArgAction, ArgMatches, Command, Error, value_parser};
+use differences::Scope;
 use drawings::View;
 use fpage::{FpageError, ItemKind};
 use moments::Question;
@@ -89,11 +90,11 @@ pub enum Task {
     },
     /// Write the words that were made.
     Tell(String),
-    /// Compare answers with those of l4map to a trace, or their audits alone. Each is a file, or `-` for standard input.
+    /// Compare answers with those of l4map to a trace, or some lines of them. Each is a file, or `-` for standard input.
     Compare {
         trace: String,
         answers: String,
-        audit: bool,
+        scope: Scope,
         color: ColorChoice,
     },
     /// Show what a trace, a file or `-` for standard input, holds.
@@ -269,13 +270,19 @@ fn compare_command<'a>(alloc: Global) -> Result<Command<'a>, AllocError> {
     let audit = Arg::new(alloc, "audit")
         .long("audit")
         .action(ArgAction::SetTrue)
+        .conflicts_with("part")?
         .help("Compare the audits alone");
+    let part = Arg::new(alloc, "part")
+        .long("part")
+        .action(ArgAction::SetTrue)
+        .help("Compare only the lines that the answers have: replies by number, mappings by page");
     Command::new(alloc, "compare")
         .about(COMPARE_ABOUT)
         .after_help(COMPARE_EXAMPLE)
         .arg(trace)?
         .arg(answers)?
         .arg(audit)?
+        .arg(part)?
         .arg(color_option(alloc))
 }
 
@@ -399,14 +406,24 @@ fn compare_task(alloc: Global, asked: &ArgMatches) -> Result<Task, TaskError>
 {
     let trace = String::from_str(alloc, asked.get_str("trace").unwrap_or("-"))?;
     let answers = String::from_str(alloc, asked.get_str("answers").unwrap_or("-"))?;
-    let audit = asked.get_flag("audit");
     let color = asked_color(alloc, asked)?;
     Ok(Task::Compare {
         trace,
         answers,
-        audit,
+        scope: scope_of(asked),
         color,
     })
+}
+
+/// Which lines of the answers are to be compared.
+fn scope_of(asked: &ArgMatches) -> Scope {
+    if asked.get_flag("audit") {
+        Scope::Audit
+    } else if asked.get_flag("part") {
+        Scope::Part
+    } else {
+        Scope::Whole
+    }
 }
 
 /// The words that texts spell.

@@ -13,7 +13,7 @@ mod why_command;
 
 use checks::{CheckError, Found, Subject, check_trace};
 use command_line::{Task, TaskError, parse};
-use differences::{CompareError, Comparison, compare};
+use differences::{CompareError, Comparison, Scope, compare};
 use drawings::{Form, View};
 use moments::{Question, ShowError, push_view, push_why};
 use paint::painted;
@@ -186,7 +186,7 @@ fn compare_named(
     rt: &(impl AllocGlobal + Input + Print + Files + Threads + Wait + Sync),
     trace: &str,
     answers: &str,
-    audit: bool,
+    scope: Scope,
     colored: bool,
 ) -> Result<bool, ToolError> {
     let bytes = read_trace(rt, trace)?;
@@ -195,7 +195,7 @@ fn compare_named(
         name: trace,
         trace: &bytes,
         answers: &told,
-        audit,
+        scope,
     };
     let mut writer = Std::new(Vec::new(rt.alloc()));
     let differs = compare(rt, &comparison, &mut writer)?;
@@ -261,11 +261,11 @@ fn perform(
         Task::Compare {
             trace,
             answers,
-            audit,
+            scope,
             color,
         } => {
             let colored = color.is_colored(is_terminal);
-            return compare_named(rt, trace.as_str(), answers.as_str(), *audit, colored);
+            return compare_named(rt, trace.as_str(), answers.as_str(), *scope, colored);
         }
         Task::Show { trace, view, color } => {
             show_named(rt, trace.as_str(), view, color.is_colored(is_terminal))?;

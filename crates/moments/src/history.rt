@@ -8,7 +8,7 @@ ghost use Rattle.std.specs.List.{All};
 ghost use Rattle.moments.specs.History.{held_of};
 
 use crate::answering::{answer_records, start};
-use crew::{Crew, NoGate};
+use crew::Alone;
 use mapdb::{Database, Limits, Mapping};
 use replay::RunError;
 use space::Place;
@@ -101,11 +101,10 @@ pub fn changes<T: AllocGlobal + Threads + Wait + Sync>(
     let mut reader = TraceReader::new(alloc, bytes)?;
     let mut database = start(alloc, &reader.limits())?;
     let places = places_within(alloc, &reader.limits(), places)?;
-    let crew = Crew::new(rt, 1, 256, &NoGate);
     let mut held = mappings_of(alloc, &database, &places)?;
     let mut changes = Vec::new(alloc);
     for i in 0..records {
-        answer_records(alloc, &mut database, &mut reader, 1, &crew)?;
+        answer_records(alloc, &mut database, &mut reader, 1, &Alone)?;
         let after = mappings_of(alloc, &database, &places)?;
         if push_changes(&mut changes, i + 1, &places, &held, &after).is_err() {
             return Err(RunError::NoMemory(0));

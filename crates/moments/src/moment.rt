@@ -5,7 +5,7 @@ ghost use Rattle.holdings.specs.Mappings.{mapped_of};
 ghost use Rattle.moments.specs.Moment.{IsMoment, IsRecordCount};
 
 use crate::answering::{answer_records, start};
-use crew::{Crew, NoGate};
+use crew::Alone;
 use drawings::Moment;
 use mapdb::{Database, Mapping};
 use replay::RunError;
@@ -52,12 +52,11 @@ pub fn moment_at<T: AllocGlobal + Threads + Wait + Sync>(
     let mut reader = TraceReader::new(alloc, bytes)?;
     let limits = reader.limits();
     let mut database = start(alloc, &limits)?;
-    let crew = Crew::new(rt, 1, 256, &NoGate);
     let records = at.min(count);
     let earlier = records.saturating_sub(1);
-    answer_records(alloc, &mut database, &mut reader, earlier, &crew)?;
+    answer_records(alloc, &mut database, &mut reader, earlier, &Alone)?;
     let before = held(alloc, &database)?;
-    answer_records(alloc, &mut database, &mut reader, records - earlier, &crew)?;
+    answer_records(alloc, &mut database, &mut reader, records - earlier, &Alone)?;
     let after = held(alloc, &database)?;
     Ok(Moment {
         limits,

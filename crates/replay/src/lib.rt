@@ -11,5 +11,5 @@ mod watch;
 pub use answer::{Replies, answer_first};
 pub use error::RunError;
 pub use options::Options;
-pub use replay::{Summary, run};
+pub use replay::{Summary, run, run_by};
 pub use watch::{NoWatch, Watch};

@@ -18,7 +18,7 @@ use crate::lines::Lines;
 use crate::options::Options;
 use crate::watch::Watch;
 use audit::report;
-use crew::{Crew, CrewError, Gate, Workers};
+use crew::{Crew, CrewError, NoGate, Workers};
 use mapdb::{Database, DbError, Limits};
 use std::alloc::{AllocError, Global};
 use std::sync::Wait;
@@ -123,15 +123,14 @@ fn closing_text(
 }
 
 /// Replays a trace: reads it to its end, answers its records one by one, and writes the replies and the audit. One crew
-/// works all calls, and the gate hears of its work; with `plain` the crew is one worker. The watch hears how far the run has come.
+/// works all calls; with `plain` the crew is one worker. The watch hears how far the run has come.
 ///
 /// Where memory runs out at a record, or a thread cannot be started, the reply lines before it have been written and flushed.
-pub fn run<T: AllocGlobal + Threads + Wait + Sync, R: Source, W: Sink, G: Gate, V: Watch>(
+pub fn run<T: AllocGlobal + Threads + Wait + Sync, R: Source, W: Sink, V: Watch>(
     rt: &T,
     reader: &mut R,
     writer: &mut W,
     options: &Options,
-    gate: &G,
     watch: &mut V,
 ) -> Result<Summary, RunError>
     requires reader { R.failed reader.old ≡ false }
@@ -149,10 +148,42 @@ pub fn run<T: AllocGlobal + Threads + Wait + Sync, R: Source, W: Sink, G: Gate, 
     ensures nothing { IfErr result (WritesNothing (W.contents writer.old) (W.contents writer.new)) }
     ensures streams { IfErr result (TellsStreams (R.failed reader.new) (W.failed writer.new)) }
 {
+    let workers = if options.plain {
+        1
+    } else {
+        options.workers as usize
+    };
+    let crew = Crew::new(rt, workers, options.piece_length as usize, &NoGate);
+    run_by(rt, reader, writer, options.plain, &crew, watch)
+}
+
+/// The same, whoever works the calls; with `plain` unmaps go by recursion on the calling thread.
+pub fn run_by<T: AllocGlobal + Threads + Sync, R: Source, W: Sink, C: Workers, V: Watch>(
+    rt: &T,
+    reader: &mut R,
+    writer: &mut W,
+    plain: bool,
+    workers: &C,
+    watch: &mut V,
+) -> Result<Summary, RunError>
+    requires reader { R.failed reader.old ≡ false }
+    requires writer { W.failed writer.old ≡ false }
+
+    // The replay theorem: what is written is the text of the replay of the calls that the input means.
+    ensures replayed { IfOk result (λ summary. IfSome (R.remaining reader.old) (λ input.
+        WritesReplay input (W.contents writer.old) (W.contents writer.new) summary)) }
+    ensures ok { OnOk result ((R.failed reader.new ≡ false) × (W.failed writer.new ≡ false)) }
+
+    // Why it ended early, and what was written by then.
+    ensures ended { IfErr result (λ e. IfSome (R.remaining reader.old) (λ input.
+        EndsEarly input (W.contents writer.old) (W.contents writer.new) e)) }
+    ensures nothing { IfErr result (WritesNothing (W.contents writer.old) (W.contents writer.new)) }
+    ensures streams { IfErr result (TellsStreams (R.failed reader.new) (W.failed writer.new)) }
+{
     let alloc = rt.alloc();
     let bytes = read_input(alloc, reader)?;
     let mut trace = TraceReader::new(alloc, &bytes)?;
-    replay_trace(rt, &mut trace, writer, options, gate, watch)
+    replay_trace(rt, &mut trace, writer, plain, workers, watch)
 }
 
 /// Reads a source to its end.
@@ -166,37 +197,22 @@ fn read_input<R: Source>(alloc: Global, reader: &mut R) -> Result<Vec<u8>, ReadE
     read_to_end(alloc, reader)
 }
 
-/// Replays a trace whose header was read: on a database with its limits, by one crew.
-fn replay_trace<T: AllocGlobal + Threads + Wait + Sync, W: Sink, G: Gate, V: Watch>(
+/// Replays a trace whose header was read, on a database with its limits.
+fn replay_trace<T: AllocGlobal + Threads + Sync, W: Sink, C: Workers, V: Watch>(
     rt: &T,
     trace: &mut TraceReader<'_>,
     writer: &mut W,
-    options: &Options,
-    gate: &G,
+    plain: bool,
+    workers: &C,
     watch: &mut V,
 ) -> Result<Summary, RunError>
-    requires options { AreServed options.now }
     requires first { trace.old.number ≡ 1 }
     ensures ok { IfOk result (ReplaysTrace trace.old (W.contents writer.old) (W.contents writer.new)) }
     ensures works { OnOk result (W.failed writer.new ≡ W.failed writer.old) }
     ensures err { IfErr result (StopsTrace trace.old (W.contents writer.old) (W.contents writer.new) (W.failed writer.old) (W.failed writer.new)) }
 {
     let mut database = start(rt.alloc(), &trace.limits())?;
-    let workers = if options.plain {
-        1
-    } else {
-        options.workers as usize
-    };
-    let crew = Crew::new(rt, workers, options.piece_length as usize, gate);
-    replay_records(
-        rt,
-        &mut database,
-        trace,
-        &crew,
-        options.plain,
-        writer,
-        watch,
-    )
+    replay_records(rt, &mut database, trace, workers, plain, writer, watch)
 }
 
 /// A database at the start.

@@ -6,9 +6,10 @@ ghost use Rattle.replay.specs.Options.{AreServed};
 mod worked;
 
 use audit::{Line, check, lines};
-use crew::{Crew, Gate, NoGate};
+use crew::{Crew, CrewError, Gate, NoGate, Workers, work};
 use mapdb::Database;
-use replay::{NoWatch, Options, RunError, Summary, Watch, answer_first, run};
+use pieces::{Done, Piece};
+use replay::{NoWatch, Options, RunError, Summary, Watch, answer_first, run, run_by};
 use space::NoMemory;
 use std::alloc::Global;
 use std::sync::Wait;
@@ -61,7 +62,6 @@ fn outcome_of(
         &mut Std::new(input.as_bytes()),
         &mut output,
         options,
-        &NoGate,
         &mut NoWatch,
     );
     (outcome, output.into_inner())
@@ -188,6 +188,27 @@ impl Gate for Counter {
     fn end(&self, _worker: usize, _turn: &Turn, _shared: &Open) {}
 }
 
+/// A crew of one worker, whose gate counts pieces.
+#[derive(Drop)]
+struct Counted<'a, R> {
+    crew: Crew<'a, R, Counter>,
+}
+
+impl<'a, R: Threads + Wait> Workers for Counted<'a, R> {
+    fn piece_length(&self) -> usize {
+        self.crew.piece_length()
+    }
+
+    fn work(
+        &self,
+        alloc: Global,
+        words: Vec<u64>,
+        pieces: Vec<Piece>,
+    ) -> Result<(Vec<u64>, Vec<Done>), CrewError> {
+        work(&self.crew, alloc, words, pieces)
+    }
+}
+
 /// Three accesses, a refused one, two accesses: two calls, each of one piece.
 #[test]
 fn accesses_in_a_row_are_one_call(rt: HostRuntime) -> Result<(), Fail> {
@@ -197,12 +218,14 @@ fn accesses_in_a_row_are_one_call(rt: HostRuntime) -> Result<(), Fail> {
     };
     let input =
         "l4map,1,2,18,4\naccess,0,0,r\naccess,0,1000,w\naccess,0,4000,x\naccess,0,40000,r\naccess,1,0,r\naccess,0,0,x\n";
-    let outcome = run(
+    let outcome = run_by(
         &rt,
         &mut Std::new(input.as_bytes()),
         &mut output,
-        &OPTIONS,
-        &counter,
+        false,
+        &Counted {
+            crew: Crew::new(&rt, 4, 256, &counter),
+        },
         &mut NoWatch,
     );
     let summary = Summary {
@@ -322,7 +345,6 @@ fn a_sink_that_fails_at_any_call_is_write_failed(rt: HostRuntime) {
             &mut Std::new(SHORT.as_bytes()),
             &mut undisturbed,
             &OPTIONS,
-            &NoGate,
             &mut NoWatch,
         ),
         Ok(summary)
@@ -338,7 +360,6 @@ fn a_sink_that_fails_at_any_call_is_write_failed(rt: HostRuntime) {
             &mut Std::new(SHORT.as_bytes()),
             &mut output,
             &OPTIONS,
-            &NoGate,
             &mut NoWatch,
         );
         assert_eq!(rt; outcome, Err(RunError::WriteFailed), "{fails_at}");
@@ -377,7 +398,6 @@ fn a_watch_hears_of_each_record_and_may_have_its_line_at_once(rt: HostRuntime) {
         &mut Std::new(SHORT.as_bytes()),
         &mut output,
         &OPTIONS,
-        &NoGate,
         &mut watch,
     );
     assert!(rt; outcome.is_ok());
@@ -397,7 +417,6 @@ fn flushes_what_it_has_written_where_memory_runs_out(rt: HostRuntime) -> Result<
         &mut Std::new(SHORT.as_bytes()),
         &mut output,
         &OPTIONS,
-        &NoGate,
         &mut NoWatch,
     );
     match outcome {

@@ -15,11 +15,14 @@ ghost use Rattle.trace.specs.Unread.{access_in};
 use crate::call::{Call, CallError, Refusal};
 use crate::field;
 use crate::records::{Fields, Record};
-use fpage::{Access, Control, Fpage, Item};
+use fpage::{Access, Control, Fpage, Item, ItemKind};
 use mapdb::Limits;
 use space::{NoMemory, Place};
 use std::alloc::Global;
 use std::mem;
+
+/// The word of an fpage without pages.
+const NILPAGE: u32 = 0;
 
 /// The memory of the parts of calls, used again from call to call.
 #[derive(Drop)]
@@ -204,11 +207,13 @@ fn read_items(words: &[u32], bits: u32, items: &mut Vec<Item>) -> Result<(), Cal
     ensures items { ReadsWords (λ _. items.new.items) (read_items bits words.now) result }
     ensures within { OnOk result (All (λ item. IsFpageOf bits item.sent) items.new.items) }
 {
-    items.clear();
-    for i in 0..words.len() / 2 {
-        let item = Item::read(words[2 * i], words[2 * i + 1], bits)?;
-        items.push(item)?;
-    }
+    let none = Item {
+        kind: ItemKind::Map,
+        base: 0,
+        sent: Fpage::read(NILPAGE, bits)?,
+    };
+    items.resize(words.len() / 2, none)?;
+    words::read_items(words, bits, items)?;
     Ok(())
 }
 
@@ -256,11 +261,8 @@ fn read_fpages(words: &[u32], bits: u32, fpages: &mut Vec<Fpage>) -> Result<(), 
     ensures count { OnOk result (length fpages.new.items ≡ length words.now) }
     ensures within { OnOk result (All (IsFpageOf bits) fpages.new.items) }
 {
-    fpages.clear();
-    for word in words {
-        let fpage = Fpage::read(*word, bits)?;
-        fpages.push(fpage)?;
-    }
+    fpages.resize(words.len(), Fpage::read(NILPAGE, bits)?)?;
+    words::read_fpages(words, bits, fpages)?;
     Ok(())
 }
 

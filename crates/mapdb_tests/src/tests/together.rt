@@ -1,11 +1,14 @@
 //! Workers run at once, and each piece of a call is a turn that one of them works to its end: heard through a gate.
 
 use super::unmaps::{CHAIN, Step, work};
-use crew::{Crew, Gate, NoGate};
+use crew::{Crew, CrewError, Gate, NoGate, Workers};
 use mapdb::Database;
+use pieces::{Done, Piece};
+use std::alloc::Global;
+use std::sync::Wait;
 use std::sync::atomic::{AtomicU64, Ordering};
 use std::test::Fail;
-use std::thread::yield_now;
+use std::thread::{Threads, yield_now};
 use turns::{Open, Turn};
 
 /// How often the first piece looks whether another has begun.
@@ -60,6 +63,27 @@ impl Gate for Meeting {
     }
 }
 
+/// A crew whose gate holds the piece that begins first.
+#[derive(Drop)]
+struct Held<'a, R> {
+    crew: Crew<'a, R, Meeting>,
+}
+
+impl<'a, R: Threads + Wait> Workers for Held<'a, R> {
+    fn piece_length(&self) -> usize {
+        self.crew.piece_length()
+    }
+
+    fn work(
+        &self,
+        alloc: Global,
+        words: Vec<u64>,
+        pieces: Vec<Piece>,
+    ) -> Result<(Vec<u64>, Vec<Done>), CrewError> {
+        crew::work(&self.crew, alloc, words, pieces)
+    }
+}
+
 #[test]
 fn two_pieces_of_eighteen_are_worked_at_once(rt: HostRuntime) -> Result<(), Fail> {
     let alloc = rt.alloc();
@@ -69,7 +93,9 @@ fn two_pieces_of_eighteen_are_worked_at_once(rt: HostRuntime) -> Result<(), Fail
         work(&rt, &mut database, alloc, &workers, step, false)?;
     }
     let gate = Meeting::new();
-    let workers = Crew::new(&rt, 4, 1, &gate);
+    let workers = Held {
+        crew: Crew::new(&rt, 4, 1, &gate),
+    };
     let status = Step::Unmap(0, 0, 0x10, 0x10);
     work(&rt, &mut database, alloc, &workers, status, false)?;
     assert_eq!(rt; gate.met.load(Ordering::SeqCst), 1);

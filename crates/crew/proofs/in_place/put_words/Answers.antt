@@ -13,6 +13,6 @@ loop-k-preserved c =
     let within : c.loop-k.k < length c.args.link.now = omega (arith, c.len-k-end.ensures.len) in
     let low = (c.requires.within c.loop-k.k c.store-store.result within).1 in
     let s = c.store-store.result in
-    put_next_of c.args.words.now c.loop-k.words c.args.link.now c.loop-k.k s c.store-store.ensures c.len-k-end.ensures.distinct within c.loop-k.invariant _
-    (ap (λ ys. get_or ys c.loop-k.k 0) c.requires.made ∙ made_for c.args.words.now c.args.link.now c.loop-k.k s c.store-store.ensures within)
+    put_next_of c.args.opening.now.value.items c.args.words.now c.loop-k.words c.args.link.now c.loop-k.k s c.store-store.ensures c.len-k-end.ensures.distinct within c.loop-k.invariant _
+    (ap (λ ys. get_or ys c.loop-k.k 0) c.requires.made ∙ made_for c.args.opening.now.value.items c.args.link.now c.loop-k.k s c.store-store.ensures within)
     (subst (λ (t : Store). t.put < length c.args.words.now) (sym c.store-store.ensures) low)

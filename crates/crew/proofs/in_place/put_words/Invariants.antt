@@ -6,4 +6,4 @@ use Rattle.pieces.specs.declared.piece.Piece.TheVariants as piece
 use Rattle.crew.proofs.in_place.put_words.Given as goal
 
 abbrev pub invariant-loop-k : goal.invariant-loop-k
-invariant-loop-k l = l.words ≡ words_after l.initial.words (effects l.initial.words (piece.Link (take l.k l.link)))
+invariant-loop-k l = l.words ≡ words_after l.initial.words (effects l.opening.value.items (piece.Link (take l.k l.link)))

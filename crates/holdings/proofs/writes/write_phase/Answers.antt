@@ -9,7 +9,7 @@ use Rattle.holdings.proofs.writes.write_phase.Goals as goal
 pub work-requires-clause-can : goal.work-requires-clause-can
 work-requires-clause-can g c =
     let t = c.take_words-words in
-    λ _ _. c.requires.can t.result.items (words_taken c.args.shards.now t.result.items t.ensures.count t.ensures.packs t.ensures.words)
+    c.requires.can t.result.items (words_taken c.args.shards.now t.result.items t.ensures.count t.ensures.packs t.ensures.words)
 
 pub returns : goal.returns
 returns g c =

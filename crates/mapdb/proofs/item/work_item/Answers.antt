@@ -19,12 +19,14 @@ use Rattle.mapdb.proofs.OneItem.{flush_left, planned, lawful_then, planned_then,
 use Rattle.mapdb.proofs.item.work_item.Given.{Over}
 use Rattle.mapdb.proofs.item.work_item.Goals as goal
 
-pub strip-requires-clause-within : goal.strip-requires-clause-within
-strip-requires-clause-within g c =
+pub strip-requires : goal.strip-requires
+strip-requires g c =
     let limits = c.args.held.limits in
     let transfers = subst (All (IsTransferWithin limits)) (sym (c.deref.ensures.value ∙ c.in_ok-plan.ensures.transfers)) (planned c.args.held c.args.pages.now c.in_ok-plan.ensures.consistent c.requires.pages).within in
-    λ _ _. subst (All (IsWithin limits)) (sym c.deref-2.ensures.value)
-    (all_within limits c.in_ok-replaced.replaced.items (λ p named. ends_within limits Target c.deref.result.now transfers p (sym (c.in_ok-replaced.ensures p) ∙ named)))
+    record {
+      within = subst (All (IsWithin limits)) (sym c.deref-2.ensures.value)
+          (all_within limits c.in_ok-replaced.replaced.items (λ p named. ends_within limits Target c.deref.result.now transfers p (sym (c.in_ok-replaced.ensures p) ∙ named)));
+    }
 
 module _ (g : Over) (c : goal.After-deref-3 g) where
   flushed : c.in_ok-held.held ≡ left_with c.args.held (strip c.args.held.holdings (ends_of Target (transfers_of c.args.held.holdings (job_of_pages c.args.pages.now) (job_of_pages c.args.pages.now).pairs)) all_rights true)
@@ -36,16 +38,16 @@ module _ (g : Over) (c : goal.After-deref-3 g) where
   shown = c.deref-3.ensures.value ∙ c.in_ok-plan.ensures.transfers
 
 pub map_or_grant-requires-clause-lawful : goal.map_or_grant-requires-clause-lawful
-map_or_grant-requires-clause-lawful g c = λ _ _. lawful_then c.args.held c.args.pages.now c.in_ok-plan.ensures.consistent c.requires.pages c.in_ok-held.held (flushed g c)
+map_or_grant-requires-clause-lawful g c = lawful_then c.args.held c.args.pages.now c.in_ok-plan.ensures.consistent c.requires.pages c.in_ok-held.held (flushed g c)
 
 pub map_or_grant-requires-clause-planned : goal.map_or_grant-requires-clause-planned
-map_or_grant-requires-clause-planned g c = λ _ _. subst (ArePlanned c.in_ok-held.held.limits) (sym (shown g c)) (planned_then c.args.held c.args.pages.now c.in_ok-plan.ensures.consistent c.requires.pages c.in_ok-held.held (flushed g c))
+map_or_grant-requires-clause-planned g c = subst (ArePlanned c.in_ok-held.held.limits) (sym (shown g c)) (planned_then c.args.held c.args.pages.now c.in_ok-plan.ensures.consistent c.requires.pages c.in_ok-held.held (flushed g c))
 
 pub map_or_grant-requires-clause-all_go : goal.map_or_grant-requires-clause-all_go
-map_or_grant-requires-clause-all_go g c = λ _ _ grants. subst AllGo (sym (shown g c)) (grant_goes c.args.held.holdings (job_of_pages c.args.pages.now) grants (job_of_pages c.args.pages.now).pairs)
+map_or_grant-requires-clause-all_go g c = λ grants. subst AllGo (sym (shown g c)) (grant_goes c.args.held.holdings (job_of_pages c.args.pages.now) grants (job_of_pages c.args.pages.now).pairs)
 
 pub map_or_grant-requires-clause-ready : goal.map_or_grant-requires-clause-ready
-map_or_grant-requires-clause-ready g c = λ _ _. subst (AreReady c.in_ok-held.held.holdings c.args.pages.now.rights) (sym (shown g c)) (ready_then c.args.held c.args.pages.now c.in_ok-plan.ensures.consistent c.requires.pages c.in_ok-held.held (flushed g c))
+map_or_grant-requires-clause-ready g c = subst (AreReady c.in_ok-held.held.holdings c.args.pages.now.rights) (sym (shown g c)) (ready_then c.args.held c.args.pages.now c.in_ok-plan.ensures.consistent c.requires.pages c.in_ok-held.held (flushed g c))
 
 module _ (g : Over) (c : goal.After-of_transfers g) where
   flushed_before : c.in_ok-held.held ≡ left_with c.args.held (strip c.args.held.holdings (ends_of Target (transfers_of c.args.held.holdings (job_of_pages c.args.pages.now) (job_of_pages c.args.pages.now).pairs)) all_rights true)

@@ -31,11 +31,13 @@ within old now from to window item p same from_less to_less differ window_within
       differ = λ one. differ (sym source ∙ one ∙ target);
     })
 
-pub work_item-requires-clause-pages : goal.work_item-requires-clause-pages
-work_item-requires-clause-pages g c =
+pub work_item-requires : goal.work_item-requires
+work_item-requires g c =
     let sent = subst (λ (item : Item). IsFpageOf c.args.held.limits.bits item.sent) (sym c.item-item.is) (c.requires.items c.loop-item.item-index c.item-item.result c.loop-item-test.true) in
-    λ _ _. within c.args.held.limits c.loop-item.held.limits c.args.from c.args.to c.args.window.now c.item-item.result c.item_pages-pages.result c.loop-item.invariant.limits
-    c.requires.from c.requires.to c.requires.differ c.requires.window sent c.item_pages-pages.ensures.source c.item_pages-pages.ensures.target c.item_pages-pages.ensures.within
+    record {
+      pages = within c.args.held.limits c.loop-item.held.limits c.args.from c.args.to c.args.window.now c.item-item.result c.item_pages-pages.result c.loop-item.invariant.limits
+          c.requires.from c.requires.to c.requires.differ c.requires.window sent c.item_pages-pages.ensures.source c.item_pages-pages.ensures.target c.item_pages-pages.ensures.within;
+    }
 
 pub plus-reply-requires : goal.plus-reply-requires
 plus-reply-requires g c =

@@ -9,9 +9,9 @@ use Rattle.holdings.specs.Contents.{IsStripped}
 use Rattle.mapdb.proofs.NamedPlaces.{all_within, named_set}
 use Rattle.mapdb.proofs.unmap.unmap_word.Goals as goal
 
-pub strip-requires-clause-within : goal.strip-requires-clause-within
-strip-requires-clause-within g c =
-    λ _ _. subst (All (IsWithin c.args.held.limits)) (sym (c.deref.ensures.value ∙ c.in_ok-places.ensures)) (all_within c.args.held.limits c.args.space c.requires.space c.args.fpage.now.first c.args.fpage.now.count c.requires.fpage)
+pub strip-requires : goal.strip-requires
+strip-requires g c =
+    record { within = subst (All (IsWithin c.args.held.limits)) (sym (c.deref.ensures.value ∙ c.in_ok-places.ensures)) (all_within c.args.held.limits c.args.space c.requires.space c.args.fpage.now.first c.args.fpage.now.count c.requires.fpage) }
 
 pub returns : goal.returns
 returns g c =

@@ -22,7 +22,7 @@ pub work_phase-requires-clause-can : goal.work_phase-requires-clause-can
 work_phase-requires-clause-can g c =
     let d = c.self.inside in
     let within = subst (λ (s : Contents). All (λ (t : Place × Access). IsWithin s.limits t.0) c.args.accesses.now) (sym c.self.view_is) c.requires.within in
-    λ _ _. accesses_can d.shards d.trees.items c.self.invariant c.args.accesses.now within c.piece_length.result c.piece_length.ensures c.in_ok-pieces.pieces.items
+    accesses_can d.shards d.trees.items c.self.invariant c.args.accesses.now within c.piece_length.result c.piece_length.ensures c.in_ok-pieces.pieces.items
     (are_pieces c.in_ok-list.list.items _ c.piece_length.result c.in_ok-pieces.pieces.items c.in_ok-list.ensures c.in_ok-pieces.ensures)
 
 pub invariant_of-result-2 : goal.invariant_of-result-2

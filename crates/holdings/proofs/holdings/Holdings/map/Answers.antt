@@ -20,7 +20,7 @@ insert_links-requires g c =
 
 pub write_phase-requires-clause-can : goal.write_phase-requires-clause-can
 write_phase-requires-clause-can g c =
-    λ _ _. stores_can c.self.inside.shards c.self.inside.trees.items c.self.invariant c.args.self c.self.view_is c.args.rights c.args.transfers.now c.requires.planned c.requires.ready
+    stores_can c.self.inside.shards c.self.inside.trees.items c.self.invariant c.args.self c.self.view_is c.args.rights c.args.transfers.now c.requires.planned c.requires.ready
     c.in_ok-stores.stores.items c.in_ok-stores.ensures c.piece_length.result c.piece_length.ensures c.in_ok-pieces.pieces.items c.in_ok-pieces.ensures
 
 pub invariant_of-result : goal.invariant_of-result

@@ -20,7 +20,7 @@ rename_links-requires g c =
 
 pub write_phase-requires-clause-can : goal.write_phase-requires-clause-can
 write_phase-requires-clause-can g c =
-    λ _ _. pairs_can c.self.inside.shards c.self.inside.trees.items c.self.invariant c.args.self c.self.view_is c.args.transfers.now c.requires.planned c.requires.all_go c.requires.free
+    pairs_can c.self.inside.shards c.self.inside.trees.items c.self.invariant c.args.self c.self.view_is c.args.transfers.now c.requires.planned c.requires.all_go c.requires.free
     c.in_ok-pairs.pairs.items c.in_ok-pairs.ensures c.piece_length.result c.piece_length.ensures c.in_ok-pieces.pieces.items c.in_ok-pieces.ensures
 
 pub invariant_of-result : goal.invariant_of-result

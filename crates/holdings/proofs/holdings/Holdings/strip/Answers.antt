@@ -35,7 +35,7 @@ pub work_phase-requires-clause-can : goal.work_phase-requires-clause-can
 work_phase-requires-clause-can g c =
     let d = c.self.inside in
     let is = planned d.shards d.trees.items c.deref.result.now (any_of c.args.places.now) c.args.revoked c.args.flush c.in_ok-plan.plan c.deref.ensures.value c.in_ok-plan.ensures in
-    λ _ _. plan_can d.shards d.trees.items c.self.invariant (any_of c.args.places.now) c.args.revoked c.args.flush c.in_ok-plan.plan is
+    plan_can d.shards d.trees.items c.self.invariant (any_of c.args.places.now) c.args.revoked c.args.flush c.in_ok-plan.plan is
 
 pub prune_gone-requires-clause-can : goal.prune_gone-requires-clause-can
 prune_gone-requires-clause-can g c =

@@ -20,14 +20,16 @@ within limits is [] small = λ k d less. absurd (omega arith)
 within limits is (a ∷ rest) small =
     All-cons (λ a. IsWithin limits a.0) a rest (subst (λ l. IsWithin l a.0) (sym is) (record { space = small.0; page = small.1 })) (within limits is rest small.2)
 
-pub access_all-requires-clause-within : goal.access_all-requires-clause-within
-access_all-requires-clause-within g c =
+pub access_all-requires : goal.access_all-requires
+access_all-requires g c =
     let one = c.place.ensures in
     let two = c.place-2.ensures in
     let three = c.place-3.ensures in
     let four = c.place-4.ensures in
     let five = c.place-5.ensures in
     let six = c.place-6.ensures in
-    λ _ _. within c.in_ok-database.database.limits (ap (λ s. s.limits) c.in_ok-database.ensures.ok)
-    ((c.place.result, Read) ∷ (c.place-2.result, Read) ∷ (c.place-3.result, Write) ∷ (c.place-4.result, Execute) ∷ (c.place-5.result, Execute) ∷ (c.place-6.result, Execute) ∷ [])
-    (one.space, one.page, (two.space, two.page, (three.space, three.page, (four.space, four.page, (five.space, five.page, (six.space, six.page, tt))))))
+    record {
+      within = within c.in_ok-database.database.limits (ap (λ s. s.limits) c.in_ok-database.ensures.ok)
+          ((c.place.result, Read) ∷ (c.place-2.result, Read) ∷ (c.place-3.result, Write) ∷ (c.place-4.result, Execute) ∷ (c.place-5.result, Execute) ∷ (c.place-6.result, Execute) ∷ [])
+          (one.space, one.page, (two.space, two.page, (three.space, three.page, (four.space, four.page, (five.space, five.page, (six.space, six.page, tt))))));
+    }

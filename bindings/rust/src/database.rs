@@ -1,0 +1,554 @@
+use core::cell::UnsafeCell;
+use core::fmt;
+use core::ptr::null_mut;
+
+use crate::mappings::Mappings;
+use crate::raw;
+use crate::{Error, Fpage, Item, Place, Rights, Space};
+
+/// How much a database is for.
+#[derive(Clone, Copy, Debug, PartialEq, Eq)]
+pub struct Limits {
+    /// How many spaces there are: 2 to 512.
+    pub spaces: u32,
+    /// Each space has `2^bits` bytes: 18 to 24.
+    pub bits: u32,
+    /// How many frames there are: 1 to the number of pages of a space.
+    pub frames: u32,
+}
+
+/// A kind of access.
+#[derive(Clone, Copy, Debug, PartialEq, Eq)]
+pub enum Access {
+    /// To read.
+    Read,
+    /// To write.
+    Write,
+    /// To execute.
+    Execute,
+}
+
+impl Access {
+    /// The right that an access of this kind needs.
+    pub const fn needs(self) -> Rights {
+        match self {
+            Access::Read => Rights::READ,
+            Access::Write => Rights::WRITE,
+            Access::Execute => Rights::EXECUTE,
+        }
+    }
+}
+
+/// How many pages of a send had which outcome.
+#[derive(Clone, Copy, Debug, Default, PartialEq, Eq)]
+pub struct Counts {
+    /// The sender does not hold the page.
+    pub absent: u32,
+    /// The sender's page has none of the rights that the item asks for.
+    pub norights: u32,
+    /// The receiver's page is one from which the sender's page derives; nothing is done.
+    pub origin: u32,
+    /// The sender's page was gone before its turn.
+    pub lost: u32,
+    /// The receiver's page derives directly from the sender's already, and gained the rights.
+    pub extended: u32,
+    /// The receiver now holds the page.
+    pub linked: u32,
+}
+
+/// What a page holds.
+#[derive(Clone, Copy, Debug, PartialEq, Eq)]
+pub struct Entry {
+    /// Which frame.
+    pub frame: u32,
+    /// Which kinds of access it allows.
+    pub rights: Rights,
+    /// Which kinds of access it has seen since its status was cleared.
+    pub status: Rights,
+}
+
+/// A mapping database.
+///
+/// At the start space 0 holds page `i` as frame `i` with all rights, for each `i` below the number of frames, and nothing
+/// else is held. A database stays on the thread that made it.
+pub struct Database {
+    handle: UnsafeCell<raw::Handle>,
+}
+
+impl Database {
+    /// Makes a database.
+    ///
+    /// # Errors
+    ///
+    /// [`Error::BadLimits`], and [`Error::NoMemory`].
+    pub fn new(limits: Limits) -> Result<Database, Error> {
+        let mut handle = raw::Handle { at: null_mut() };
+        // SAFETY: the handle is empty.
+        Error::check(unsafe {
+            raw::l4map_new(&mut handle, limits.spaces, limits.bits, limits.frames)
+        })?;
+        Ok(Database {
+            handle: UnsafeCell::new(handle),
+        })
+    }
+
+    /// Maps or grants pages of the space `from` to pages of the space `to` within its window, item after item.
+    ///
+    /// # Errors
+    ///
+    /// The first that fits: [`Error::Halted`]; [`Error::BadCall`] without items or with more than 31; of the window and then of
+    /// each item in order [`Error::NotAnItem`], [`Error::BadSize`], [`Error::Misaligned`] or [`Error::OutOfSpace`];
+    /// [`Error::NoSuchSpace`]; [`Error::SameSpace`]; [`Error::NoWindow`]. [`Error::Halted`] too where memory runs out.
+    pub fn send(
+        &mut self,
+        from: Space,
+        to: Space,
+        window: Fpage,
+        items: &[Item],
+    ) -> Result<Counts, Error> {
+        let mut reply = raw::SendReply::default();
+        let words = items.as_ptr().cast::<u32>();
+        // SAFETY: an `Item` is two words; the words and the reply are lent for the call, and apart from one another.
+        Error::check(unsafe {
+            raw::l4map_send(
+                self.handle.get(),
+                from.0,
+                to.0,
+                window.word(),
+                words,
+                2 * items.len(),
+                &mut reply,
+            )
+        })?;
+        Ok(Counts {
+            absent: reply.absent,
+            norights: reply.norights,
+            origin: reply.origin,
+            lost: reply.lost,
+            extended: reply.extended,
+            linked: reply.linked,
+        })
+    }
+
+    /// Takes the rights of each fpage from all that derives from its pages. Each comes back with a status in place of its
+    /// rights: what was seen of its pages and of all that derives from them. That status is cleared.
+    ///
+    /// ```
+    /// use l4map::{Access, Database, Fpage, Item, Limits, Rights, Space};
+    ///
+    /// # fn main() -> Result<(), l4map::Error> {
+    /// let mut database = Database::new(Limits { spaces: 2, bits: 18, frames: 1 })?;
+    /// let page = Fpage::page(0, Rights::ALL);
+    /// database.send(Space(0), Space(1), Fpage::complete(Rights::NONE), &[Item::map(page, 0)])?;
+    /// database.access(Space(1), 0, Access::Write)?;
+    ///
+    /// let mut fpages = [page.with_rights(Rights::WRITE)];
+    /// database.unmap(Space(0), &mut fpages)?;
+    /// assert_eq!(fpages[0].rights(), Rights::READ | Rights::WRITE);
+    /// assert!(!database.access(Space(1), 0, Access::Write)?);
+    /// assert!(database.access(Space(0), 0, Access::Write)?);
+    /// # Ok(())
+    /// # }
+    /// ```
+    ///
+    /// # Errors
+    ///
+    /// The first that fits: [`Error::Halted`]; [`Error::BadControl`] without fpages or with more than 64; of each fpage in
+    /// order [`Error::BadSize`], [`Error::Misaligned`] or [`Error::OutOfSpace`]; [`Error::NoSuchSpace`].
+    /// [`Error::Halted`] too where memory runs out. The fpages are as they were then.
+    pub fn unmap(&mut self, space: Space, fpages: &mut [Fpage]) -> Result<(), Error> {
+        self.revoke(space, 0, fpages)
+    }
+
+    /// As [`unmap`](Database::unmap), and the pages of the space itself lose the rights too.
+    ///
+    /// # Errors
+    ///
+    /// Those of [`unmap`](Database::unmap).
+    pub fn flush(&mut self, space: Space, fpages: &mut [Fpage]) -> Result<(), Error> {
+        self.revoke(space, FLUSH, fpages)
+    }
+
+    /// [`unmap`](Database::unmap) of one fpage, which answers its status.
+    ///
+    /// # Errors
+    ///
+    /// Those of [`unmap`](Database::unmap).
+    pub fn unmap_page(&mut self, space: Space, mut fpage: Fpage) -> Result<Rights, Error> {
+        self.unmap(space, core::slice::from_mut(&mut fpage))?;
+        Ok(fpage.rights())
+    }
+
+    /// [`flush`](Database::flush) of one fpage, which answers its status.
+    ///
+    /// # Errors
+    ///
+    /// Those of [`unmap`](Database::unmap).
+    pub fn flush_page(&mut self, space: Space, mut fpage: Fpage) -> Result<Rights, Error> {
+        self.flush(space, core::slice::from_mut(&mut fpage))?;
+        Ok(fpage.rights())
+    }
+
+    fn revoke(&mut self, space: Space, flush: u32, fpages: &mut [Fpage]) -> Result<(), Error> {
+        let words = fpages.as_mut_ptr().cast::<u32>();
+        let control = control(fpages.len()) + flush;
+        // SAFETY: an `Fpage` is a word; the words are lent for the call.
+        Error::check(unsafe {
+            raw::l4map_unmap(self.handle.get(), space.0, control, words, fpages.len())
+        })
+    }
+
+    /// Accesses the page of an address, in bytes. Whether the access was made: the status of the page then says so.
+    /// Otherwise it is a fault, and nothing changes.
+    ///
+    /// # Errors
+    ///
+    /// The first that fits: [`Error::Halted`]; [`Error::NoSuchSpace`]; [`Error::OutOfSpace`]. [`Error::Halted`] too where
+    /// memory runs out.
+    pub fn access(&mut self, space: Space, address: u32, access: Access) -> Result<bool, Error> {
+        let mut made = 0;
+        // SAFETY: what is made is lent for the call.
+        Error::check(unsafe {
+            raw::l4map_access(
+                self.handle.get(),
+                space.0,
+                address,
+                access.needs().bits(),
+                &mut made,
+            )
+        })?;
+        Ok(made == 1)
+    }
+
+    /// What a page holds, if it holds something.
+    ///
+    /// # Errors
+    ///
+    /// The first that fits: [`Error::Halted`]; [`Error::NoSuchSpace`]; [`Error::OutOfSpace`].
+    pub fn entry(&self, place: Place) -> Result<Option<Entry>, Error> {
+        let mut reply = raw::EntryReply::default();
+        // SAFETY: the reply is lent for the call, and no other call runs, since a database stays on its thread.
+        Error::check(unsafe {
+            raw::l4map_entry(
+                self.handle.get(),
+                place.space.0,
+                place.page.into(),
+                &mut reply,
+            )
+        })?;
+        Ok((reply.held == 1).then(|| Entry {
+            frame: reply.frame,
+            rights: Rights::from_bits(reply.rights),
+            status: Rights::from_bits(reply.status),
+        }))
+    }
+
+    /// From which page a page came, if it is held and came from another.
+    ///
+    /// # Errors
+    ///
+    /// The first that fits: [`Error::Halted`]; [`Error::NoSuchSpace`]; [`Error::OutOfSpace`].
+    pub fn origin(&self, place: Place) -> Result<Option<Place>, Error> {
+        let mut reply = raw::OriginReply::default();
+        // SAFETY: as in `entry`.
+        Error::check(unsafe {
+            raw::l4map_origin(
+                self.handle.get(),
+                place.space.0,
+                place.page.into(),
+                &mut reply,
+            )
+        })?;
+        Ok((reply.known == 1).then(|| place_of(reply.space, reply.page)))
+    }
+
+    /// Every mapping, by rising place.
+    ///
+    /// # Errors
+    ///
+    /// [`Error::Halted`].
+    pub fn mappings(&self) -> Result<Mappings<'_>, Error> {
+        Mappings::of(self)
+    }
+
+    /// Writes the first mappings at or behind a page to `some`, and tells how many they are.
+    pub(crate) fn mappings_from(
+        &self,
+        space: u16,
+        page: u32,
+        some: &mut [raw::Mapping],
+    ) -> Result<usize, Error> {
+        let mut count = 0;
+        // SAFETY: both are lent for the call, and apart from one another; the rest as in `entry`.
+        Error::check(unsafe {
+            raw::l4map_mappings(
+                self.handle.get(),
+                space,
+                page,
+                some.as_mut_ptr(),
+                some.len(),
+                &mut count,
+            )
+        })?;
+        Ok(count)
+    }
+}
+
+impl Drop for Database {
+    fn drop(&mut self) {
+        // SAFETY: no call runs.
+        unsafe { raw::l4map_free(self.handle.get()) }
+    }
+}
+
+impl fmt::Debug for Database {
+    fn fmt(&self, f: &mut fmt::Formatter<'_>) -> fmt::Result {
+        f.debug_struct("Database").finish_non_exhaustive()
+    }
+}
+
+/// The bit of a control word by which a space's own pages lose the rights too.
+const FLUSH: u32 = 1 << 6;
+
+/// The control word for so many fpage words; where there are none, or more than 64, one that names another number.
+fn control(n: usize) -> u32 {
+    if (1..=64).contains(&n) {
+        n as u32 - 1
+    } else {
+        0
+    }
+}
+
+/// A place by its two numbers, which are those of a place of a database.
+pub(crate) fn place_of(space: u32, page: u32) -> Place {
+    Place {
+        space: Space(space as u16),
+        page: page as u16,
+    }
+}
+
+#[cfg(test)]
+mod tests {
+    use super::{Access, Counts, Database, Entry, Limits};
+    use crate::{Error, Fpage, Item, Place, Rights, Space};
+    use std::vec;
+
+    const WINDOW: Fpage = Fpage::complete(Rights::NONE);
+
+    fn small() -> Database {
+        let limits = Limits {
+            spaces: 3,
+            bits: 18,
+            frames: 32,
+        };
+        Database::new(limits).unwrap()
+    }
+
+    fn place(space: u16, page: u16) -> Place {
+        Place {
+            space: Space(space),
+            page,
+        }
+    }
+
+    #[test]
+    fn limits_that_are_not_served() {
+        for (spaces, bits, frames) in [
+            (1, 18, 1),
+            (513, 18, 1),
+            (2, 17, 1),
+            (2, 25, 1),
+            (2, 18, 0),
+            (2, 18, 65),
+        ] {
+            let limits = Limits {
+                spaces,
+                bits,
+                frames,
+            };
+            assert_eq!(Database::new(limits).unwrap_err(), Error::BadLimits);
+        }
+    }
+
+    #[test]
+    fn the_start() {
+        let database = small();
+        let root = Entry {
+            frame: 31,
+            rights: Rights::ALL,
+            status: Rights::NONE,
+        };
+        assert_eq!(database.entry(place(0, 31)), Ok(Some(root)));
+        assert_eq!(database.entry(place(0, 32)), Ok(None));
+        assert_eq!(database.origin(place(0, 31)), Ok(None));
+        assert_eq!(database.entry(place(3, 64)), Err(Error::NoSuchSpace));
+        assert_eq!(database.origin(place(2, 64)), Err(Error::OutOfSpace));
+    }
+
+    /// The send of tests/c/calls.c in which each outcome has a number of its own.
+    #[test]
+    fn outcomes_of_a_send() {
+        let mut database = small();
+        let (low, high) = (Space(0), Space(1));
+        let pages = |first, pages| Fpage::pages(first, pages, Rights::ALL).unwrap();
+        let mut send = |from, to, items: &[Item]| database.send(from, to, WINDOW, items).unwrap();
+        send(low, high, &[Item::map(pages(0, 32), 0)]);
+        send(
+            low,
+            high,
+            &[Item::map(pages(5, 1), 40), Item::map(pages(7, 1), 41)],
+        );
+        send(
+            high,
+            low,
+            &[Item::map(pages(0, 4).with_rights(Rights::READ), 32)],
+        );
+        let counts = send(
+            high,
+            low,
+            &[
+                Item::map(pages(48, 16), 0),
+                Item::map(pages(8, 8).with_rights(Rights::NONE), 0),
+                Item::map(pages(0, 2), 0),
+                Item::map(pages(40, 2), 4),
+                Item::map(pages(0, 4), 32),
+                Item::map(pages(16, 16), 48),
+            ],
+        );
+        let wanted = Counts {
+            absent: 16,
+            norights: 8,
+            origin: 2,
+            lost: 1,
+            extended: 4,
+            linked: 17,
+        };
+        assert_eq!(counts, wanted);
+        assert_eq!(database.origin(place(0, 5)), Ok(Some(place(1, 41))));
+        assert_eq!(database.entry(place(0, 4)), Ok(None));
+    }
+
+    #[test]
+    fn a_grant_moves_the_page() {
+        let mut database = small();
+        let page = Fpage::page(3, Rights::READ);
+        let counts = database
+            .send(Space(0), Space(2), WINDOW, &[Item::grant(page, 9)])
+            .unwrap();
+        assert_eq!(counts.linked, 1);
+        let granted = Entry {
+            frame: 3,
+            rights: Rights::READ,
+            status: Rights::NONE,
+        };
+        assert_eq!(database.entry(place(2, 9)), Ok(Some(granted)));
+        assert_eq!(database.entry(place(0, 3)), Ok(None));
+    }
+
+    #[test]
+    fn refusals_of_a_send() {
+        let mut database = small();
+        let good = Item::map(Fpage::page(0, Rights::ALL), 0);
+        let item = |fpage| Item::from_words([8, fpage]);
+        for (from, to, window, items, why) in [
+            (9, 9, 0xb7, vec![], Error::BadCall),
+            (9, 9, 0xb7, vec![good; 32], Error::BadCall),
+            (9, 9, 0xb7, vec![Item::from_words([0, 0])], Error::BadSize),
+            (9, 9, 0x10d0, vec![good], Error::Misaligned),
+            (
+                9,
+                9,
+                0,
+                vec![good, Item::from_words([4, 0xc7])],
+                Error::NotAnItem,
+            ),
+            (9, 9, 0, vec![item(0xb7)], Error::BadSize),
+            (9, 9, 0, vec![item(0x10d7)], Error::Misaligned),
+            (9, 9, 0, vec![item(0x400c7)], Error::OutOfSpace),
+            (9, 9, 0, vec![good], Error::NoSuchSpace),
+            (1, 1, 0, vec![good], Error::SameSpace),
+            (0, 1, 0, vec![good; 31], Error::NoWindow),
+        ] {
+            let refused = database.send(Space(from), Space(to), Fpage::from_word(window), &items);
+            assert_eq!(refused, Err(why));
+        }
+        assert_eq!(database.mappings().unwrap().count(), 32);
+    }
+
+    #[test]
+    fn an_unmap_reports_and_a_flush_takes() {
+        let mut database = small();
+        let (page, all) = (Fpage::page(0, Rights::ALL), Space(0));
+        database
+            .send(all, Space(1), WINDOW, &[Item::map(page, 6)])
+            .unwrap();
+        assert_eq!(database.access(Space(1), 0x6fff, Access::Execute), Ok(true));
+        assert_eq!(database.access(Space(1), 0x7000, Access::Read), Ok(false));
+        let mut fpages = [page.with_rights(Rights::NONE), Fpage::page(1, Rights::NONE)];
+        database.unmap(all, &mut fpages).unwrap();
+        assert_eq!(fpages.map(Fpage::word), [0xc5, 0x10c0]);
+        assert_eq!(
+            database.unmap_page(all, page.with_rights(Rights::EXECUTE)),
+            Ok(Rights::NONE)
+        );
+        assert_eq!(
+            database.access(Space(1), 0x6000, Access::Execute),
+            Ok(false)
+        );
+        assert_eq!(database.access(Space(1), 0x6000, Access::Write), Ok(true));
+        let own = Fpage::complete(Rights::ALL);
+        assert_eq!(
+            database.flush_page(Space(1), own),
+            Ok(Rights::READ | Rights::WRITE)
+        );
+        assert_eq!(database.entry(place(1, 6)), Ok(None));
+        assert_eq!(
+            database.entry(place(0, 0)).unwrap().unwrap().rights,
+            Rights::ALL
+        );
+    }
+
+    #[test]
+    fn refusals_of_an_unmap() {
+        let mut database = small();
+        for (space, words, why) in [
+            (9, vec![], Error::BadControl),
+            (9, vec![0; 65], Error::BadControl),
+            (9, vec![0; 128], Error::BadControl),
+            (9, vec![0xc7, 0x57], Error::BadSize),
+            (9, vec![0x10d7], Error::Misaligned),
+            (9, vec![0x400c7], Error::OutOfSpace),
+            (3, vec![0xc7; 64], Error::NoSuchSpace),
+        ] {
+            let given: vec::Vec<_> = words.into_iter().map(Fpage::from_word).collect();
+            let mut fpages = given.clone();
+            assert_eq!(database.unmap(Space(space), &mut fpages), Err(why));
+            assert_eq!(database.flush(Space(space), &mut fpages), Err(why));
+            assert_eq!(fpages, given);
+        }
+        assert_eq!(database.unmap(Space(0), &mut [Fpage::NIL; 64]), Ok(()));
+    }
+
+    #[test]
+    fn refusals_of_an_access() {
+        let mut database = small();
+        assert_eq!(
+            database.access(Space(3), 0x40000, Access::Read),
+            Err(Error::NoSuchSpace)
+        );
+        assert_eq!(
+            database.access(Space(2), 0x40000, Access::Read),
+            Err(Error::OutOfSpace)
+        );
+        assert_eq!(database.access(Space(0), 0x1ffff, Access::Write), Ok(true));
+    }
+
+    #[test]
+    fn two_databases_are_apart() {
+        let (mut one, other) = (small(), small());
+        one.flush_page(Space(0), Fpage::complete(Rights::ALL))
+            .unwrap();
+        assert_eq!(one.mappings().unwrap().count(), 0);
+        assert_eq!(other.mappings().unwrap().count(), 32);
+    }
+}

@@ -1,0 +1,170 @@
+use core::fmt;
+
+use crate::database::place_of;
+use crate::raw;
+use crate::{Database, Error, Place, Rights};
+
+/// What a page holds, and from which page it came.
+#[derive(Clone, Copy, Debug, PartialEq, Eq)]
+pub struct Mapping {
+    /// The page.
+    pub place: Place,
+    /// Which frame it holds.
+    pub frame: u32,
+    /// Which kinds of access it allows.
+    pub rights: Rights,
+    /// Which kinds of access it has seen since its status was cleared.
+    pub status: Rights,
+    /// The page from which it came; a root came from none.
+    pub origin: Option<Place>,
+}
+
+impl From<&raw::Mapping> for Mapping {
+    fn from(told: &raw::Mapping) -> Mapping {
+        Mapping {
+            place: place_of(told.space, told.page),
+            frame: told.frame,
+            rights: Rights::from_bits(told.rights),
+            status: Rights::from_bits(told.status),
+            origin: (told.has_origin == 1).then(|| place_of(told.origin_space, told.origin_page)),
+        }
+    }
+}
+
+/// How many mappings are asked for at once.
+const SOME: usize = 16;
+
+/// The mappings of a database, by rising place. It takes no memory but its own.
+///
+/// ```
+/// use l4map::{Database, Limits, Rights};
+///
+/// # fn main() -> Result<(), l4map::Error> {
+/// let database = Database::new(Limits { spaces: 2, bits: 18, frames: 2 })?;
+/// for mapping in database.mappings()? {
+///     assert_eq!(mapping.rights, Rights::ALL);
+///     assert_eq!(u32::from(mapping.place.page), mapping.frame);
+///     assert_eq!(mapping.origin, None);
+/// }
+/// # Ok(())
+/// # }
+/// ```
+pub struct Mappings<'a> {
+    database: &'a Database,
+    some: [raw::Mapping; SOME],
+    count: usize,
+    given: usize,
+}
+
+impl<'a> Mappings<'a> {
+    /// All of a database.
+    pub(crate) fn of(database: &'a Database) -> Result<Mappings<'a>, Error> {
+        let mut some = [raw::Mapping::default(); SOME];
+        let count = database.mappings_from(0, 0, &mut some)?;
+        Ok(Mappings {
+            database,
+            some,
+            count,
+            given: 0,
+        })
+    }
+
+    /// Asks for those behind the last one, if there may be more.
+    fn go_on(&mut self) {
+        if self.count == SOME {
+            let last = self.some[SOME - 1];
+            // It is not refused: the database is lent, so that nothing can have halted it.
+            let more =
+                self.database
+                    .mappings_from(last.space as u16, last.page + 1, &mut self.some);
+            self.count = more.unwrap_or(0);
+            self.given = 0;
+        }
+    }
+}
+
+impl Iterator for Mappings<'_> {
+    type Item = Mapping;
+
+    fn next(&mut self) -> Option<Mapping> {
+        if self.given == self.count {
+            self.go_on();
+        }
+        let mapping = self.some[..self.count].get(self.given)?;
+        self.given += 1;
+        Some(mapping.into())
+    }
+}
+
+impl fmt::Debug for Mappings<'_> {
+    fn fmt(&self, f: &mut fmt::Formatter<'_>) -> fmt::Result {
+        f.debug_struct("Mappings").finish_non_exhaustive()
+    }
+}
+
+#[cfg(test)]
+mod tests {
+    use super::Mapping;
+    use crate::{Access, Database, Fpage, Item, Limits, Place, Rights, Space};
+    use std::vec::Vec;
+
+    /// The pages 0 to 32 of space 0, of which so many are held, and the same in space 1.
+    fn held_twice(frames: u16) -> (Database, Vec<Mapping>) {
+        let limits = Limits {
+            spaces: 2,
+            bits: 18,
+            frames: frames.into(),
+        };
+        let mut database = Database::new(limits).unwrap();
+        let (all, some) = (Fpage::complete(Rights::ALL), Rights::READ | Rights::EXECUTE);
+        let item = Item::map(all.with_rights(some), 0);
+        database.send(Space(0), Space(1), all, &[item]).unwrap();
+        let place = |space, page| Place {
+            space: Space(space),
+            page,
+        };
+        let root = |page| Mapping {
+            place: place(0, page),
+            frame: page.into(),
+            rights: Rights::ALL,
+            status: Rights::NONE,
+            origin: None,
+        };
+        let mapped = |page| Mapping {
+            place: place(1, page),
+            rights: some,
+            origin: Some(place(0, page)),
+            ..root(page)
+        };
+        let wanted = (0..frames)
+            .map(root)
+            .chain((0..frames).map(mapped))
+            .collect();
+        (database, wanted)
+    }
+
+    #[test]
+    fn mappings_by_rising_place() {
+        for frames in [1, 7, 8, 9, 16, 32, 64] {
+            let (database, wanted) = held_twice(frames);
+            assert_eq!(database.mappings().unwrap().collect::<Vec<_>>(), wanted);
+        }
+    }
+
+    #[test]
+    fn a_mapping_tells_its_status() {
+        let (mut database, mut wanted) = held_twice(1);
+        database.access(Space(1), 0, Access::Execute).unwrap();
+        wanted[1].status = Rights::READ | Rights::EXECUTE;
+        assert_eq!(database.mappings().unwrap().collect::<Vec<_>>(), wanted);
+    }
+
+    #[test]
+    fn the_end_stays_the_end() {
+        let (database, _) = held_twice(8);
+        let mut mappings = database.mappings().unwrap();
+        assert_eq!(mappings.by_ref().count(), 16);
+        assert_eq!(mappings.next(), None);
+        assert_eq!(mappings.next(), None);
+    }
+}

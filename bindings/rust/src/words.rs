@@ -1,0 +1,183 @@
+use core::fmt;
+
+use crate::Rights;
+
+const PAGE_BITS: u32 = 12;
+const PAGE_BYTES: u32 = 1 << PAGE_BITS;
+
+/// An address space, by its number from 0.
+#[derive(Clone, Copy, Debug, PartialEq, Eq, PartialOrd, Ord, Hash)]
+pub struct Space(pub u16);
+
+/// A page of a space, by its number from 0: page `i` has the addresses from `4096 * i` on.
+#[derive(Clone, Copy, Debug, PartialEq, Eq, PartialOrd, Ord, Hash)]
+pub struct Place {
+    /// The space.
+    pub space: Space,
+    /// The page of the space.
+    pub page: u16,
+}
+
+/// The space and the page, as `2:4`.
+impl fmt::Display for Place {
+    fn fmt(&self, f: &mut fmt::Formatter<'_>) -> fmt::Result {
+        write!(f, "{}:{}", self.space.0, self.page)
+    }
+}
+
+/// A run of pages and a set of rights, as a word of 32 bits: the number of pages is a power of two, and the first page a
+/// multiple of that number.
+///
+/// ```
+/// use l4map::{Fpage, Rights};
+///
+/// let fpage = Fpage::pages(4, 4, Rights::ALL).unwrap();
+/// assert_eq!(fpage.word(), 0x40e7);
+/// assert_eq!(Fpage::page(5, Rights::READ | Rights::WRITE).word(), 0x50c6);
+/// assert_eq!(Fpage::complete(Rights::READ).word(), 0x14);
+/// ```
+#[repr(transparent)]
+#[derive(Clone, Copy, Debug, PartialEq, Eq, Hash)]
+pub struct Fpage(u32);
+
+impl Fpage {
+    /// No page.
+    pub const NIL: Fpage = Fpage(0);
+
+    /// One page.
+    pub const fn page(page: u16, rights: Rights) -> Fpage {
+        Fpage(page as u32 * PAGE_BYTES + (PAGE_BITS << 4) + rights.bits())
+    }
+
+    /// So many pages from a first one on, if that is an fpage.
+    pub const fn pages(first: u16, pages: u32, rights: Rights) -> Option<Fpage> {
+        if !pages.is_power_of_two() || first as u32 % pages != 0 {
+            return None;
+        }
+        let size = PAGE_BITS + pages.trailing_zeros();
+        Some(Fpage(
+            first as u32 * PAGE_BYTES + (size << 4) + rights.bits(),
+        ))
+    }
+
+    /// All pages of the space.
+    pub const fn complete(rights: Rights) -> Fpage {
+        Fpage((1 << 4) + rights.bits())
+    }
+
+    /// Any word; a call refuses those that are no fpages of its space.
+    pub const fn from_word(word: u32) -> Fpage {
+        Fpage(word)
+    }
+
+    /// The word.
+    pub const fn word(self) -> u32 {
+        self.0
+    }
+
+    /// The rights; in the answer of an unmap the status.
+    pub const fn rights(self) -> Rights {
+        Rights::from_bits(self.0)
+    }
+
+    /// The same pages with other rights.
+    pub const fn with_rights(self, rights: Rights) -> Fpage {
+        Fpage(self.0 & !7 | rights.bits())
+    }
+}
+
+/// What a send sends, as two words: an fpage of the sender, and where it goes in the receiver's window.
+///
+/// ```
+/// use l4map::{Fpage, Item, Rights};
+///
+/// let fpage = Fpage::page(5, Rights::READ | Rights::WRITE);
+/// assert_eq!(Item::map(fpage, 9).words(), [0x9008, 0x50c6]);
+/// assert_eq!(Item::grant(fpage, 0).words(), [0xa, 0x50c6]);
+/// ```
+#[repr(transparent)]
+#[derive(Clone, Copy, Debug, PartialEq, Eq, Hash)]
+pub struct Item([u32; 2]);
+
+impl Item {
+    /// Maps the fpage to page `base` of the receiver, or where that page lies in the larger of fpage and window.
+    pub const fn map(fpage: Fpage, base: u16) -> Item {
+        Item([base as u32 * PAGE_BYTES + 8, fpage.word()])
+    }
+
+    /// Grants the fpage: the sender holds it no longer.
+    pub const fn grant(fpage: Fpage, base: u16) -> Item {
+        Item([base as u32 * PAGE_BYTES + 10, fpage.word()])
+    }
+
+    /// Any two words; a send refuses those that are no item.
+    pub const fn from_words(words: [u32; 2]) -> Item {
+        Item(words)
+    }
+
+    /// The two words.
+    pub const fn words(self) -> [u32; 2] {
+        self.0
+    }
+}
+
+#[cfg(test)]
+mod tests {
+    use super::{Fpage, Item, Place, Space};
+    use crate::Rights;
+    use std::string::ToString;
+
+    #[test]
+    fn words_of_fpages() {
+        for (fpage, word) in [
+            (Some(Fpage::NIL), 0),
+            (Some(Fpage::complete(Rights::ALL)), 0x17),
+            (Some(Fpage::page(0, Rights::ALL)), 0xc7),
+            (Some(Fpage::page(4095, Rights::NONE)), 0xfff0c0),
+            (Fpage::pages(0, 1, Rights::READ), 0xc4),
+            (Fpage::pages(0, 2, Rights::ALL), 0xd7),
+            (Fpage::pages(0, 32, Rights::ALL), 0x117),
+            (Fpage::pages(2048, 2048, Rights::WRITE), 0x800172),
+        ] {
+            assert_eq!(fpage.map(Fpage::word), Some(word));
+        }
+    }
+
+    #[test]
+    fn no_fpages() {
+        assert_eq!(Fpage::pages(0, 0, Rights::ALL), None);
+        assert_eq!(Fpage::pages(0, 3, Rights::ALL), None);
+        assert_eq!(Fpage::pages(2, 4, Rights::ALL), None);
+    }
+
+    #[test]
+    fn rights_of_fpages() {
+        let fpage = Fpage::from_word(0x50c6);
+        assert_eq!(fpage.rights(), Rights::READ | Rights::WRITE);
+        assert_eq!(fpage.with_rights(Rights::EXECUTE).word(), 0x50c1);
+    }
+
+    #[test]
+    fn words_of_items() {
+        let fpage = Fpage::page(1, Rights::READ);
+        assert_eq!(Item::map(fpage, 4095).words(), [0xfff008, 0x10c4]);
+        assert_eq!(Item::grant(fpage, 3).words(), [0x300a, 0x10c4]);
+        assert_eq!(Item::from_words([4, 5]).words(), [4, 5]);
+    }
+
+    #[test]
+    fn places_are_told_by_space_and_page() {
+        let place = Place {
+            space: Space(2),
+            page: 4,
+        };
+        assert_eq!(place.to_string(), "2:4");
+        assert!(
+            place
+                > Place {
+                    space: Space(1),
+                    page: 5
+                }
+        );
+    }
+}

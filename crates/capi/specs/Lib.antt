@@ -1,0 +1,12 @@
+pub mod Owned
+pub mod Held
+pub mod Codes
+pub mod Errors
+pub mod Look
+pub mod Told
+pub mod Boxed
+pub mod New
+pub mod Asked
+pub mod Replied
+pub mod Called
+pub mod Listed

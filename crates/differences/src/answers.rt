@@ -1,0 +1,103 @@
+//! The lines of answers: replies to records, mappings, and the end line.
+
+use std::alloc::{AllocError, Global};
+use texts::field;
+
+/// What a line tells of, in the order of a run's lines.
+#[derive(Clone, Copy, Debug, PartialEq, Eq, PartialOrd, Ord)]
+pub enum Key {
+    /// The record of this number.
+    Reply(u32),
+    /// What a page of a space holds: the space and the page.
+    Mapping(u32, u32),
+    /// The end, or nothing that a run tells of.
+    Other,
+}
+
+/// What a line tells of.
+pub fn key_of(line: &[u8]) -> Key {
+    if line.contains(&b',') {
+        let (space, page) = place_of(line);
+        return Key::Mapping(space, page);
+    }
+    let length = line.iter().take_while(|byte| **byte != b' ').count();
+    match field::number(line.get(..length).unwrap_or(&[]), 10, 9) {
+        Some(number) => Key::Reply(number),
+        None => Key::Other,
+    }
+}
+
+/// The lines of one text that tell of what a line of the other tells of too. The lines of both are in the order of a run's.
+pub fn named_lines(alloc: Global, text: &[u8], named: &[u8]) -> Result<Vec<u8>, AllocError> {
+    let mut lines = Vec::new(alloc);
+    let mut rest = text;
+    let mut left = named;
+    for _ in 0..text.len() {
+        if rest.is_empty() {
+            break;
+        }
+        let (line, behind) = split_line(rest);
+        let key = key_of(line);
+        left = from_key(left, key);
+        if !left.is_empty() && key_of(split_line(left).0) == key {
+            lines.extend_from_slice(line)?;
+        }
+        rest = behind;
+    }
+    Ok(lines)
+}
+
+/// A text from its first line on that tells of this or of what comes behind it.
+fn from_key(text: &[u8], key: Key) -> &[u8] {
+    let mut rest = text;
+    for _ in 0..text.len() {
+        let (line, behind) = split_line(rest);
+        if rest.is_empty() || key_of(line) >= key {
+            break;
+        }
+        rest = behind;
+    }
+    rest
+}
+
+/// The lines of a text that tell of mappings: those with a comma, each with its line feed.
+pub fn audit_of(alloc: Global, text: &[u8]) -> Result<Vec<u8>, AllocError> {
+    let mut audit = Vec::new(alloc);
+    let mut rest = text;
+    for _ in 0..text.len() {
+        if rest.is_empty() {
+            break;
+        }
+        let (line, behind) = split_line(rest);
+        if line.contains(&b',') {
+            audit.extend_from_slice(line)?;
+        }
+        rest = behind;
+    }
+    Ok(audit)
+}
+
+/// The first line of a text with its line feed, and what is behind it.
+pub fn split_line(text: &[u8]) -> (&[u8], &[u8]) {
+    let length = text.iter().take_while(|byte| **byte != b'\n').count();
+    let end = length.saturating_add(1).min(text.len());
+    text.split_at(end)
+}
+
+/// The space and the page of an audit line; the last place of all where a line has none.
+pub fn place_of(line: &[u8]) -> (u32, u32) {
+    let (space, rest) = split_cell(line);
+    let (page, _) = split_cell(rest);
+    match (field::number(space, 10, 5), field::number(page, 10, 7)) {
+        (Some(space), Some(page)) => (space, page),
+        _ => (u32::MAX, u32::MAX),
+    }
+}
+
+/// What stands before the first comma, and what behind it.
+fn split_cell(line: &[u8]) -> (&[u8], &[u8]) {
+    let length = line.iter().take_while(|byte| **byte != b',').count();
+    let cell = line.get(..length).unwrap_or(&[]);
+    let rest = line.get(length.saturating_add(1)..).unwrap_or(&[]);
+    (cell, rest)
+}
