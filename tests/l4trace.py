@@ -254,11 +254,21 @@ ANSWERS = [
     "1,3,0,r--,---,0:0",
     "end 3 0",
 ]
-# What each record of it changes.
+# What each record of it changes: the mappings, and the tree of frame 0, before the record and after it.
 CHANGES = {
-    1: ("send,0,1,10,3008,c6", 2, ["    + 1,3,0,rw-,---,0:0"]),
-    2: ("access,1,3abc,r", 3, ["    - 1,3,0,rw-,---,0:0", "    + 1,3,0,rw-,R--,0:0"]),
-    3: ("unmap,0,0,c2", 5, ["    - 1,3,0,rw-,R--,0:0", "    + 1,3,0,r--,---,0:0"]),
+    1: ("send,0,1,10,3008,c6", 2, ["    + 1,3,0,rw-,---,0:0"], ["  0:0 rwx --- |   0:0 rwx ---", "              | + └─ 1:3 rw- ---"]),
+    2: (
+        "access,1,3abc,r",
+        3,
+        ["    - 1,3,0,rw-,---,0:0", "    + 1,3,0,rw-,R--,0:0"],
+        ["  0:0 rwx ---    |   0:0 rwx ---", "* └─ 1:3 rw- --- | * └─ 1:3 rw- R--"],
+    ),
+    3: (
+        "unmap,0,0,c2",
+        5,
+        ["    - 1,3,0,rw-,R--,0:0", "    + 1,3,0,r--,---,0:0"],
+        ["  0:0 rwx ---    |   0:0 rwx ---", "* └─ 1:3 rw- R-- | * └─ 1:3 r-- ---"],
+    ),
 }
 
 
@@ -271,8 +281,9 @@ def differs(path, number, ours, theirs):
     """What is told of a first difference."""
     lines = [f"first difference: line {number}", f"  l4map:   {ours}", f"  answers: {theirs}"]
     if number in CHANGES:
-        record, line, changes = CHANGES[number]
+        record, line, changes, trees = CHANGES[number]
         lines += [f"  record {number}, {path}:{line}: {record}", "  it changes these mappings:", *changes]
+        lines += ["the trees before and after it:", "frame 0", *trees]
     return ended(1, *lines)
 
 
@@ -301,6 +312,9 @@ def compare_answers(cases, program):
         ):
             got = compared(text_of(changed(number, other)))
             cases.compare(f"compare with another line {number}", differs(path, number, ANSWERS[number - 1], other), got)
+        cut = differs(path, 3, ANSWERS[2], "3 unmap 000000c6").stdout.replace(CHANGES[3][3][1].encode(), b".. and 1 more; --max draws more of them")
+        got = compared(text_of(changed(3, "3 unmap 000000c6")), "--max", "1")
+        cases.compare("compare with --max 1", Ended(1, cut, b""), got)
         cases.compare("compare with no reply to record 2", differs(path, 2, ANSWERS[1], ANSWERS[2]), compared(text_of(changed(2, None))))
         cases.compare("compare with no audit", differs(path, 4, ANSWERS[3], "(the end)"), compared(text_of(ANSWERS[:3])))
         cases.compare("compare with a line too many", differs(path, 7, "(the end)", "more"), compared(text_of([*ANSWERS, "more"])))
@@ -598,10 +612,11 @@ def check_colors(cases, program):
             file.write(TRACE)
         answers = text_of(changed(2, "2 access fault"))
         got = run([program, "compare", trace, "-", "--color", "always"], answers).stdout.decode().splitlines()
-        wanted = [f"{RED}    - 1,3,0,rw-,---,0:0{RESET}", f"{GREEN}    + 1,3,0,rw-,R--,0:0{RESET}"]
-        cases.check("compare --color always", "" if got[-2:] == wanted else f"{got}")
+        wanted = [f"{RED}    - 1,3,0,rw-,---,0:0{RESET}", f"{GREEN}    + 1,3,0,rw-,R--,0:0{RESET}", "the trees before and after it:", "frame 0"]
+        wanted += ["  0:0 rwx ---    |   0:0 rwx ---", f"{YELLOW}* └─ 1:3 rw- ---{RESET} | {YELLOW}* └─ 1:3 rw- R--{RESET}"]
+        cases.check("compare --color always", "" if got[-6:] == wanted else f"{got}")
         got = on_terminal([program, "compare", trace, "-"], answers).splitlines()
-        cases.check("compare on a terminal", "" if got[-2:] == wanted else f"{got}")
+        cases.check("compare on a terminal", "" if got[-6:] == wanted else f"{got}")
         for command in (["show", path], ["why", path, "--page", "1:0"], ["compare", path, path]):
             colored = run([program, *command, "--color", "always"]).stdout.decode()
             stripped = re.sub("\x1b\\[[0-9]+m", "", colored)

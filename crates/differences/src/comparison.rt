@@ -4,13 +4,13 @@ ghost use Rattle.std.specs.Prelude.{◌≡◌, ◌↔◌, ◌≤◌, take, lengt
 ghost use Rattle.differences.specs.Compare.{IsReplayOf};
 
 use crate::answers::{Key, audit_of, key_of, named_lines, place_of, split_line};
-use replay::{NoWatch, Options, RunError, run};
+use crew::Alone;
+use replay::{NoWatch, RunError, run_by};
 use space::NoMemory;
 use std::alloc::{AllocError, Global};
 use std::fmt::Write;
-use std::sync::Wait;
 use std::thread::Threads;
-use texts::{Places, push_shown};
+use texts::{Places, Scope, push_shown};
 use trace::{Failed, Sink, Std};
 
 /// How many bytes of a line are shown.
@@ -81,20 +81,12 @@ fn line_at(text: &[u8], at: usize) -> Option<&[u8]> {
 }
 
 /// What l4map writes for a trace.
-pub fn replayed<T: AllocGlobal + Threads + Wait + Sync>(
-    rt: &T,
-    bytes: &[u8],
-) -> Result<Vec<u8>, RunError>
+pub fn replayed<T: AllocGlobal + Threads + Sync>(rt: &T, bytes: &[u8]) -> Result<Vec<u8>, RunError>
     ensures { IfOk result (λ text. IsReplayOf bytes.now text.items) }
 {
     let mut reader = Std::new(bytes);
     let mut writer = Std::new(Vec::new(rt.alloc()));
-    let options = Options {
-        workers: 1,
-        piece_length: 256,
-        plain: false,
-    };
-    run(rt, &mut reader, &mut writer, &options, &mut NoWatch)?;
+    run_by(rt, &mut reader, &mut writer, false, &Alone, &mut NoWatch)?;
     Ok(writer.into_inner())
 }
 
@@ -187,23 +179,21 @@ pub struct Comparison<'a> {
     pub scope: Scope,
 }
 
-/// Which lines of the answers are compared.
+/// What a comparison found.
 #[derive(Clone, Copy, Debug, PartialEq, Eq)]
-pub enum Scope {
-    /// All.
-    Whole,
-    /// Those of the audit alone.
-    Audit,
-    /// Those that the answers have: of each, the reply to the record of its number, or the mapping of its page.
-    Part,
+pub enum Compared {
+    /// No line differs.
+    Same,
+    /// A line differs. Where the first is a reply to a record that changed a mapping, the number of this record.
+    Differs(Option<u32>),
 }
 
-/// Compares answers with those of l4map, writes where they differ first, and returns whether they do.
-pub fn compare<T: AllocGlobal + Threads + Wait + Sync, W: Sink>(
+/// Compares answers with those of l4map, and writes where they differ first.
+pub fn compare<T: AllocGlobal + Threads + Sync, W: Sink>(
     rt: &T,
     comparison: &Comparison<'_>,
     writer: &mut W,
-) -> Result<bool, CompareError> {
+) -> Result<Compared, CompareError> {
     let alloc = rt.alloc();
     let text = replayed(rt, comparison.trace)?;
     let answers = comparison.answers;
@@ -223,15 +213,15 @@ pub fn compare<T: AllocGlobal + Threads + Wait + Sync, W: Sink>(
 
 /// Writes that texts are the same, or where they differ first: the line of each, and for the reply to a record what stands in
 /// the trace and what the record changed.
-fn tell<T: AllocGlobal + Threads + Wait + Sync, W: Sink>(
+fn tell<T: AllocGlobal + Threads + Sync, W: Sink>(
     rt: &T,
     comparison: &Comparison<'_>,
     difference: Option<Difference<'_>>,
     writer: &mut W,
-) -> Result<bool, CompareError> {
+) -> Result<Compared, CompareError> {
     let Some(difference) = difference else {
         writer.write_all(b"no difference\n")?;
-        return Ok(false);
+        return Ok(Compared::Same);
     };
     let mut text = String::new(rt.alloc());
     let number = difference.line;
@@ -241,11 +231,13 @@ fn tell<T: AllocGlobal + Threads + Wait + Sync, W: Sink>(
     if difference.ours == difference.theirs {
         text.push_str("  the line feed is missing in one of them\n")?;
     }
+    let mut changed_by = None;
     if let Some(Key::Reply(record)) = difference.ours.map(key_of) {
-        push_record(rt, comparison, record, &mut text)?;
+        let has_changed = push_record(rt, comparison, record, &mut text)?;
+        changed_by = has_changed.then_some(record);
     }
     writer.write_all(text.as_bytes())?;
-    Ok(true)
+    Ok(Compared::Differs(changed_by))
 }
 
 /// Appends one text's line of a difference.
@@ -259,13 +251,13 @@ fn push_side(text: &mut String, name: &str, line: Option<&[u8]>) -> Result<(), A
     text.push_str("\n")
 }
 
-/// Appends a record as it stands in the trace, and the mappings that it changed.
-fn push_record<T: AllocGlobal + Threads + Wait + Sync>(
+/// Appends a record as it stands in the trace, and the mappings that it changed, and returns whether it changed any.
+fn push_record<T: AllocGlobal + Threads + Sync>(
     rt: &T,
     comparison: &Comparison<'_>,
     number: u32,
     text: &mut String,
-) -> Result<(), CompareError> {
+) -> Result<bool, CompareError> {
     let alloc = rt.alloc();
     let trace = comparison.trace;
     let mut places = Places::new(alloc, trace)?;
@@ -284,9 +276,9 @@ fn push_record<T: AllocGlobal + Threads + Wait + Sync>(
     let (old, new) = (audit_of(alloc, &old)?, audit_of(alloc, &new)?);
     if old.as_slice() == new.as_slice() {
         text.push_str("\n  it changes no mapping\n")?;
-        return Ok(());
+        return Ok(false);
     }
     text.push_str("\n  it changes these mappings:\n")?;
     push_changes(text, &old, &new)?;
-    Ok(())
+    Ok(true)
 }

@@ -2,32 +2,28 @@
 #![tactic(auto)]
 
 ghost use Rattle.std.specs.Prelude.{IfOk};
+ghost use Rattle.fpage.specs.Fpage.{IsSpaceBits};
 ghost use Rattle.random_traces.specs.Random.{IsPlan};
-ghost use Rattle.l4trace.specs.Task.{IsServed};
+ghost use Rattle.command_lines.specs.Task.{IsServed};
 
-mod command_line;
 mod paint;
-mod random_command;
-mod show_command;
-mod why_command;
 
 use checks::{CheckError, Found, Subject, check_trace};
-use command_line::{Task, TaskError, parse};
-use differences::{CompareError, Comparison, Scope, compare};
-use drawings::{Form, View};
-use moments::{Question, ShowError, push_view, push_why};
+use command_lines::{Task, TaskError, parse};
+use differences::{CompareError, Compared, Comparison, compare};
+use drawings::{Form, Question, View};
+use moments::{ShowError, push_changed_trees, push_view, push_why};
 use paint::painted;
 use random_traces::{Plan, RandomError, write_random};
 use replay::RunError;
-use std::alloc::AllocError;
+use std::alloc::{AllocError, Global};
 use std::env::Env;
 use std::io::{BufWriter, ErrorKind, IsTerminal};
 use std::process::ExitCode;
 use std::rt::Files;
-use std::sync::Wait;
 use std::thread::Threads;
 use std::{env, fs, io};
-use texts::explain_all;
+use texts::{Scope, explain_all};
 use trace::{ReadError, Sink, Std, read_to_end};
 
 /// Reads the program's command line.
@@ -66,6 +62,8 @@ pub enum ToolError {
     Run(RunError),
     /// There is no such space or frame.
     Unknown,
+    /// A record had no answer, for a cause other than memory.
+    Ended,
 }
 
 impl From<ReadError> for ToolError {
@@ -121,9 +119,11 @@ impl From<RandomError> for ToolError {
 impl From<ShowError> for ToolError {
     fn from(error: ShowError) -> Self {
         match error {
-            ShowError::Run(error) => ToolError::Run(error),
+            ShowError::BadHeader => ToolError::Run(RunError::BadHeader),
+            ShowError::BadLimits => ToolError::Run(RunError::BadLimits),
             ShowError::NoMemory => ToolError::NoMemory,
             ShowError::Unknown => ToolError::Unknown,
+            ShowError::Ended => ToolError::Ended,
         }
     }
 }
@@ -181,12 +181,42 @@ fn print_painted(
     writer.write_all(text).map_err(|_| ToolError::WriteFailed)
 }
 
+/// Appends the trees that the record changed whose reply is the first difference, at most so many mappings of them.
+fn push_trees(
+    alloc: Global,
+    text: &mut Vec<u8>,
+    trace: &[u8],
+    found: Compared,
+    most: u64,
+) -> Result<(), ToolError> {
+    let Compared::Differs(Some(record)) = found else {
+        return Ok(());
+    };
+    let mut trees = String::new(alloc);
+    push_changed_trees(alloc, &mut trees, trace, u64::from(record), most)?;
+    Ok(text.extend_from_slice(trees.as_bytes())?)
+}
+
+/// What is told of a comparison, and what it found.
+fn comparison_text(
+    rt: &(impl AllocGlobal + Threads + Sync),
+    comparison: &Comparison<'_>,
+    most: u64,
+) -> Result<(Vec<u8>, Compared), ToolError> {
+    let mut writer = Std::new(Vec::new(rt.alloc()));
+    let found = compare(rt, comparison, &mut writer)?;
+    let mut text = writer.into_inner();
+    push_trees(rt.alloc(), &mut text, comparison.trace, found, most)?;
+    Ok((text, found))
+}
+
 /// Compares answers with those of l4map, and returns whether they differ.
 fn compare_named(
-    rt: &(impl AllocGlobal + Input + Print + Files + Threads + Wait + Sync),
+    rt: &(impl AllocGlobal + Input + Print + Files + Threads + Sync),
     trace: &str,
     answers: &str,
     scope: Scope,
+    most: u64,
     colored: bool,
 ) -> Result<bool, ToolError> {
     let bytes = read_trace(rt, trace)?;
@@ -197,37 +227,35 @@ fn compare_named(
         answers: &told,
         scope,
     };
-    let mut writer = Std::new(Vec::new(rt.alloc()));
-    let differs = compare(rt, &comparison, &mut writer)?;
-    let text = writer.into_inner();
+    let (text, found) = comparison_text(rt, &comparison, most)?;
     print_painted(rt, &text, colored)?;
-    Ok(differs)
+    Ok(found != Compared::Same)
 }
 
 /// Shows what a trace holds.
 fn show_named(
-    rt: &(impl AllocGlobal + Input + Print + Files + Threads + Wait + Sync),
+    rt: &(impl AllocGlobal + Input + Print + Files),
     name: &str,
     view: &View,
     colored: bool,
 ) -> Result<(), ToolError> {
     let bytes = read_trace(rt, name)?;
     let mut text = String::new(rt.alloc());
-    push_view(rt, &mut text, name, &bytes, view)?;
+    push_view(rt.alloc(), &mut text, name, &bytes, view)?;
     let is_text = matches!(view.form, Form::Text | Form::Diff);
     print_painted(rt, text.as_bytes(), colored && is_text)
 }
 
 /// Tells where a page of a trace came from.
 fn why_named(
-    rt: &(impl AllocGlobal + Input + Print + Files + Threads + Wait + Sync),
+    rt: &(impl AllocGlobal + Input + Print + Files),
     name: &str,
     question: &Question,
     colored: bool,
 ) -> Result<(), ToolError> {
     let bytes = read_trace(rt, name)?;
     let mut text = String::new(rt.alloc());
-    push_why(rt, &mut text, name, &bytes, question)?;
+    push_why(rt.alloc(), &mut text, name, &bytes, question)?;
     print_painted(rt, text.as_bytes(), colored)
 }
 
@@ -243,29 +271,40 @@ fn write_planned(rt: &(impl AllocGlobal + Print), plan: &Plan) -> Result<(), Too
     writer.flush().map_err(|_| ToolError::WriteFailed)
 }
 
+/// Writes what words are, for spaces of `2^bits` bytes.
+fn print_explained(
+    rt: &(impl AllocGlobal + Print),
+    words: &[u32],
+    bits: u32,
+) -> Result<(), ToolError>
+    requires { IsSpaceBits bits }
+{
+    let mut text = String::new(rt.alloc());
+    explain_all(&mut text, words, bits)?;
+    print(rt, text.as_str())
+}
+
 /// Does a task, with standard output on a terminal or elsewhere, and returns whether something was found.
 fn perform(
-    rt: &(impl AllocGlobal + Input + Print + Files + Threads + Wait + Sync),
+    rt: &(impl AllocGlobal + Input + Print + Files + Threads + Sync),
     task: &Task,
     is_terminal: bool,
 ) -> Result<bool, ToolError>
     requires { IsServed task.now }
 {
     match task {
-        Task::Explain { words, bits } => {
-            let mut text = String::new(rt.alloc());
-            explain_all(&mut text, words, *bits)?;
-            print(rt, text.as_str())?;
-        }
+        Task::Explain { words, bits } => print_explained(rt, words, *bits)?,
         Task::Tell(text) => print(rt, text.as_str())?,
         Task::Compare {
             trace,
             answers,
             scope,
+            most,
             color,
         } => {
+            let (trace, answers) = (trace.as_str(), answers.as_str());
             let colored = color.is_colored(is_terminal);
-            return compare_named(rt, trace.as_str(), answers.as_str(), *scope, colored);
+            return compare_named(rt, trace, answers, *scope, *most, colored);
         }
         Task::Show { trace, view, color } => {
             show_named(rt, trace.as_str(), view, color.is_colored(is_terminal))?;
@@ -287,7 +326,7 @@ fn told(error: ToolError) -> (&'static str, u8) {
         ToolError::Run(RunError::BadHeader) => ("l4trace: BadHeader\n", 2),
         ToolError::Run(RunError::BadLimits) => ("l4trace: BadLimits\n", 2),
         ToolError::Unknown => ("l4trace: there is no such space or frame\n", 2),
-        ToolError::Run(_) => ("l4trace: the replay ended early\n", 3),
+        ToolError::Run(_) | ToolError::Ended => ("l4trace: the replay ended early\n", 3),
         ToolError::NoMemory => ("l4trace: NoMemory\n", 3),
         ToolError::Unreadable => ("l4trace: Unreadable\n", 4),
         ToolError::WriteFailed => ("l4trace: WriteFailed\n", 4),

@@ -4,36 +4,6 @@ ghost use Rattle.std.specs.Prelude.{◌≤◌, length};
 
 use std::alloc::{AllocError, Global};
 
-/// When lines are coloured.
-#[derive(Clone, Copy, Debug, PartialEq, Eq)]
-pub enum ColorChoice {
-    /// Where standard output is a terminal.
-    Auto,
-    Always,
-    Never,
-}
-
-impl ColorChoice {
-    /// The choice that a text names.
-    pub fn of_name(name: &str) -> Option<Self> {
-        match name {
-            "auto" => Some(ColorChoice::Auto),
-            "always" => Some(ColorChoice::Always),
-            "never" => Some(ColorChoice::Never),
-            _ => None,
-        }
-    }
-
-    /// Whether lines are coloured, on a terminal or elsewhere.
-    pub fn is_colored(self, is_terminal: bool) -> bool {
-        match self {
-            ColorChoice::Auto => is_terminal,
-            ColorChoice::Always => true,
-            ColorChoice::Never => false,
-        }
-    }
-}
-
 /// What stands between two columns.
 const BAR: &[u8] = b" | ";
 
@@ -47,13 +17,19 @@ const RESET: &[u8] = b"\x1b[0m";
 /// sequences it is the same.
 pub fn painted(alloc: Global, text: &[u8]) -> Result<Vec<u8>, AllocError> {
     let mut all = Vec::with_capacity(alloc, text.len())?;
+    push_lines(&mut all, text)?;
+    Ok(all)
+}
+
+/// Appends each line of a text.
+fn push_lines(all: &mut Vec<u8>, text: &[u8]) -> Result<(), AllocError> {
     for (i, line) in text.split(|byte| *byte == b'\n').enumerate() {
         if i > 0 {
             all.extend_from_slice(b"\n")?;
         }
-        push_line(&mut all, line)?;
+        push_line(all, line)?;
     }
-    Ok(all)
+    Ok(())
 }
 
 /// Appends a line, each of two columns in its own colour.

@@ -1,4 +1,4 @@
-//! Records, answered one by one.
+//! Records, answered one by one on the calling thread.
 
 ghost use Rattle.std.specs.Prelude.{◌≡◌, ◌<◌, drop, length, take, true, false, Ok, IfOk, IfErr, OnOk};
 ghost use Rattle.std.specs.List.{All, zip};
@@ -13,34 +13,33 @@ ghost use Rattle.mapdb.specs.declared.error.DbError.TheVariants.{NoSuchSpace};
 ghost use Rattle.trace.specs.Meaning.{IsWithinLimits, request_of};
 ghost use Rattle.moments.specs.Moment.{left_by};
 
-use crew::Workers;
+use crate::error::ShowError;
+use crew::Alone;
 use fpage::{Access, Control, Fpage, Item, Rights};
 use mapdb::{Database, DbError, Limits};
-use replay::RunError;
 use space::Place;
 use std::alloc::Global;
 use trace::{Call, Refusal, TraceReader};
 
 /// A database at the start.
-pub fn start(alloc: Global, limits: &Limits) -> Result<Database, RunError>
+pub fn start(alloc: Global, limits: &Limits) -> Result<Database, ShowError>
     ensures served { OnOk result (are_limits (limits_of limits.now) ≡ true) }
     ensures new { IfOk result (λ database. database ≡ new_state (limits_of limits.now)) }
 {
     match Database::new(alloc, limits.spaces, limits.bits, limits.frames) {
         Ok(database) => Ok(database),
-        Err(DbError::BadLimits) => Err(RunError::BadLimits),
-        Err(_) => Err(RunError::NoMemory(0)),
+        Err(DbError::BadLimits) => Err(ShowError::BadLimits),
+        Err(_) => Err(ShowError::NoMemory),
     }
 }
 
 /// Answers the records that come next, at most so many.
-pub fn answer_records<W: Workers>(
+pub fn answer_records(
     alloc: Global,
     database: &mut Database,
     reader: &mut TraceReader<'_>,
     most: u64,
-    workers: &W,
-) -> Result<(), RunError>
+) -> Result<(), ShowError>
     requires running { database.old.is_halted ≡ false }
     ensures taken { OnOk result (reader.new.records ≡ drop most reader.old.records) }
     ensures left { OnOk result (database.new ≡ left_with database.old
@@ -51,19 +50,18 @@ pub fn answer_records<W: Workers>(
         if reader.is_at_end() {
             return Ok(());
         }
-        answer_next(alloc, database, reader, &limits, workers)?;
+        answer_next(alloc, database, reader, &limits)?;
     }
     Ok(())
 }
 
 /// Answers the record that comes next.
-fn answer_next<W: Workers>(
+fn answer_next(
     alloc: Global,
     database: &mut Database,
     reader: &mut TraceReader<'_>,
     limits: &Limits,
-    workers: &W,
-) -> Result<(), RunError>
+) -> Result<(), ShowError>
     requires running { database.old.is_halted ≡ false }
     requires limits { limits_of limits.now ≡ database.old.limits }
     requires served { are_limits (limits_of limits.now) ≡ true }
@@ -73,9 +71,9 @@ fn answer_next<W: Workers>(
         (left_by database.old.limits (take 1 reader.old.records) database.old.holdings)) }
 {
     let Ok(asked) = reader.next_call(limits) else {
-        return Err(RunError::NoMemory(0));
+        return Err(ShowError::NoMemory);
     };
-    answer_record(alloc, database, &asked, workers)?;
+    answer_record(alloc, database, &asked)?;
     if let Ok(call) = asked {
         reader.reuse(call);
     }
@@ -83,12 +81,11 @@ fn answer_next<W: Workers>(
 }
 
 /// Answers a record that was read.
-fn answer_record<W: Workers>(
+fn answer_record(
     alloc: Global,
     database: &mut Database,
     asked: &Result<Call, Refusal>,
-    workers: &W,
-) -> Result<(), RunError>
+) -> Result<(), ShowError>
     requires running { database.old.is_halted ≡ false }
     requires within { IfOk asked.now (IsWithinLimits database.old.limits) }
     ensures left { OnOk result (database.new ≡ left_with database.old
@@ -96,9 +93,7 @@ fn answer_record<W: Workers>(
 {
     match asked {
         Err(_) => Ok(()),
-        Ok(Call::Access { place, access }) => {
-            access_page(alloc, database, *place, *access, workers)
-        }
+        Ok(Call::Access { place, access }) => { access_page(alloc, database, *place, *access) }
         Ok(
             Call::Send {
                 from,
@@ -106,7 +101,7 @@ fn answer_record<W: Workers>(
                 window,
                 items,
             },
-        ) => send_items(alloc, database, *from, *to, window, items, workers),
+        ) => send_items(alloc, database, *from, *to, window, items),
         Ok(
             Call::Unmap {
                 space,
@@ -114,71 +109,68 @@ fn answer_record<W: Workers>(
                 words,
                 fpages,
             },
-        ) => unmap_pages(alloc, database, *space, *control, words, fpages, workers),
+        ) => unmap_pages(alloc, database, *space, *control, words, fpages),
     }
 }
 
 /// An access of a page.
-fn access_page<W: Workers>(
+fn access_page(
     alloc: Global,
     database: &mut Database,
     place: Place,
     kind: Access,
-    workers: &W,
-) -> Result<(), RunError>
+) -> Result<(), ShowError>
     requires within { IsWithin database.old.limits place }
     ensures left { OnOk result (database.new ≡ left_with database.old
         (answer database.old.limits database.old.holdings (Ok (access place kind))).left) }
 {
-    match database.access_all(alloc, &[(place, kind)], workers) {
+    match database.access_all(alloc, &[(place, kind)], &Alone) {
         Ok(_) => Ok(()),
         Err(error) => Err(unanswered(error)),
     }
 }
 
 /// A send, whose items are worked in order.
-fn send_items<W: Workers>(
+fn send_items(
     alloc: Global,
     database: &mut Database,
     from: u16,
     to: u16,
     window: &Fpage,
     items: &[Item],
-    workers: &W,
-) -> Result<(), RunError>
+) -> Result<(), ShowError>
     requires window { IsFpageOf database.old.limits.bits window.now }
     requires items { All (λ item. IsFpageOf database.old.limits.bits item.sent) items.now }
     ensures left { OnOk result (database.new ≡ left_with database.old
         (answer database.old.limits database.old.holdings (Ok (send from to window.now items.now))).left) }
 {
-    match database.send(alloc, from, to, window, items, workers) {
+    match database.send(alloc, from, to, window, items, &Alone) {
         Ok(_) | Err(DbError::NoSuchSpace | DbError::SameSpace | DbError::NoWindow) => Ok(()),
         Err(error) => Err(unanswered(error)),
     }
 }
 
 /// An unmap, whose words come with the fpage of each.
-fn unmap_pages<W: Workers>(
+fn unmap_pages(
     alloc: Global,
     database: &mut Database,
     space: u16,
     control: Control,
     words: &[u32],
     fpages: &[Fpage],
-    workers: &W,
-) -> Result<(), RunError>
+) -> Result<(), ShowError>
     requires within { All (IsFpageOf database.old.limits.bits) fpages.now }
     requires count { length fpages.now ≡ length words.now }
     ensures left { OnOk result (database.new ≡ left_with database.old
         (answer database.old.limits database.old.holdings (Ok (unmap space control.flush (zip words.now fpages.now)))).left) }
 {
-    let outcome = database.unmap(alloc, space, control, fpages, workers);
+    let outcome = database.unmap(alloc, space, control, fpages, &Alone);
     check_answered(&outcome)?;
     Ok(())
 }
 
 /// Whether an unmap was answered: it was done, or refused for what it asks.
-fn check_answered(outcome: &Result<Vec<Rights>, DbError>) -> Result<(), RunError>
+fn check_answered(outcome: &Result<Vec<Rights>, DbError>) -> Result<(), ShowError>
     ensures { OnOk result (IfErr outcome.now (λ e. e ≡ NoSuchSpace)) }
 {
     match outcome {
@@ -188,9 +180,9 @@ fn check_answered(outcome: &Result<Vec<Rights>, DbError>) -> Result<(), RunError
 }
 
 /// Why a call has no answer that was not refused for what it asks.
-fn unanswered(error: DbError) -> RunError {
+fn unanswered(error: DbError) -> ShowError {
     match error {
-        DbError::NoWorker => RunError::NoWorker(0),
-        _ => RunError::NoMemory(0),
+        DbError::NoMemory => ShowError::NoMemory,
+        _ => ShowError::Ended,
     }
 }

@@ -8,13 +8,10 @@ ghost use Rattle.std.specs.List.{All};
 ghost use Rattle.moments.specs.History.{held_of};
 
 use crate::answering::{answer_records, start};
-use crew::Alone;
+use crate::error::ShowError;
 use mapdb::{Database, Limits, Mapping};
-use replay::RunError;
 use space::Place;
 use std::alloc::{AllocError, Global};
-use std::sync::Wait;
-use std::thread::Threads;
 use trace::TraceReader;
 
 /// What a record changed of a page, but for its status.
@@ -52,12 +49,12 @@ pub fn is_within(limits: &Limits, place: Place) -> bool
 }
 
 /// What a page holds.
-fn mapping_of(database: &Database, place: Place) -> Result<Option<Mapping>, RunError>
+fn mapping_of(database: &Database, place: Place) -> Result<Option<Mapping>, ShowError>
     requires { IsWithin database.now.limits place }
     ensures { IfOk result (λ held. option_map held_of held ≡ at database.now.holdings place) }
 {
     let (Ok(entry), Ok(origin)) = (database.entry(place), database.origin(place)) else {
-        return Err(RunError::NoMemory(0));
+        return Err(ShowError::NoMemory);
     };
     let Some(entry) = entry else {
         return Ok(None);
@@ -76,52 +73,47 @@ fn mappings_of(
     alloc: Global,
     database: &Database,
     places: &[Place],
-) -> Result<Vec<Option<Mapping>>, RunError>
+) -> Result<Vec<Option<Mapping>>, ShowError>
     requires { All (IsWithin database.now.limits) places.now }
     ensures { IfOk result (λ held. map (option_map held_of) held.items ≡ map (at database.now.holdings) places.now) }
 {
     let mut held = Vec::new(alloc);
     for place in places {
         let mapping = mapping_of(database, *place)?;
-        if held.push(mapping).is_err() {
-            return Err(RunError::NoMemory(0));
-        }
+        held.push(mapping)?;
     }
     Ok(held)
 }
 
 /// What the first so many records of a trace changed of some pages, record by record.
-pub fn changes<T: AllocGlobal + Threads + Wait + Sync>(
-    rt: &T,
+pub fn changes(
+    alloc: Global,
     bytes: &[u8],
     records: u64,
     places: &[Place],
-) -> Result<Vec<Change>, RunError> {
-    let alloc = rt.alloc();
+) -> Result<Vec<Change>, ShowError> {
     let mut reader = TraceReader::new(alloc, bytes)?;
     let mut database = start(alloc, &reader.limits())?;
     let places = places_within(alloc, &reader.limits(), places)?;
     let mut held = mappings_of(alloc, &database, &places)?;
     let mut changes = Vec::new(alloc);
     for i in 0..records {
-        answer_records(alloc, &mut database, &mut reader, 1, &Alone)?;
+        answer_records(alloc, &mut database, &mut reader, 1)?;
         let after = mappings_of(alloc, &database, &places)?;
-        if push_changes(&mut changes, i + 1, &places, &held, &after).is_err() {
-            return Err(RunError::NoMemory(0));
-        }
+        push_changes(&mut changes, i + 1, &places, &held, &after)?;
         held = after;
     }
     Ok(changes)
 }
 
 /// Those of some pages that there are.
-fn places_within(alloc: Global, limits: &Limits, places: &[Place]) -> Result<Vec<Place>, RunError>
+fn places_within(alloc: Global, limits: &Limits, places: &[Place]) -> Result<Vec<Place>, AllocError>
     ensures { IfOk result (λ within. All (IsWithin (limits_of limits.now)) within.items) }
 {
     let mut within = Vec::new(alloc);
     for place in places {
-        if is_within(limits, *place) && within.push(*place).is_err() {
-            return Err(RunError::NoMemory(0));
+        if is_within(limits, *place) {
+            within.push(*place)?;
         }
     }
     Ok(within)

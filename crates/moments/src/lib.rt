@@ -2,10 +2,12 @@
 #![tactic(auto)]
 
 mod answering;
+mod error;
 mod history;
 mod moment;
 mod show;
 mod why;
 
-pub use show::{ShowError, push_view};
-pub use why::{Question, push_why};
+pub use error::ShowError;
+pub use show::{push_changed_trees, push_view};
+pub use why::push_why;

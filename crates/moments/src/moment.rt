@@ -5,17 +5,14 @@ ghost use Rattle.holdings.specs.Mappings.{mapped_of};
 ghost use Rattle.moments.specs.Moment.{IsMoment, IsRecordCount};
 
 use crate::answering::{answer_records, start};
-use crew::Alone;
+use crate::error::ShowError;
 use drawings::Moment;
 use mapdb::{Database, Mapping};
-use replay::RunError;
 use std::alloc::Global;
-use std::sync::Wait;
-use std::thread::Threads;
 use trace::TraceReader;
 
 /// How many records a trace has behind its header.
-fn record_count(alloc: Global, bytes: &[u8]) -> Result<u64, RunError>
+fn record_count(alloc: Global, bytes: &[u8]) -> Result<u64, ShowError>
     ensures { IfOk result (IsRecordCount bytes.now) }
 {
     let mut reader = TraceReader::new(alloc, bytes)?;
@@ -23,40 +20,35 @@ fn record_count(alloc: Global, bytes: &[u8]) -> Result<u64, RunError>
     while !reader.is_at_end() {
         match reader.next_record() {
             Ok(Some(_)) if count < u64::MAX => count += 1,
-            _ => return Err(RunError::NoMemory(0)),
+            _ => return Err(ShowError::NoMemory),
         }
     }
     Ok(count)
 }
 
 /// Every mapping of a database, by rising place.
-fn held(alloc: Global, database: &Database) -> Result<Vec<Mapping>, RunError>
+fn held(alloc: Global, database: &Database) -> Result<Vec<Mapping>, ShowError>
     ensures { IfOk result (λ held. map mapped_of held.items ≡ database.now.holdings) }
 {
     match database.mappings(alloc) {
         Ok(mappings) => Ok(mappings),
-        Err(_) => Err(RunError::NoMemory(0)),
+        Err(_) => Err(ShowError::NoMemory),
     }
 }
 
 /// What is held before and after the record with this number, or the last where there are fewer.
-pub fn moment_at<T: AllocGlobal + Threads + Wait + Sync>(
-    rt: &T,
-    bytes: &[u8],
-    at: u64,
-) -> Result<Moment, RunError>
+pub fn moment_at(alloc: Global, bytes: &[u8], at: u64) -> Result<Moment, ShowError>
     ensures { IfOk result (IsMoment bytes.now at) }
 {
-    let alloc = rt.alloc();
     let count = record_count(alloc, bytes)?;
     let mut reader = TraceReader::new(alloc, bytes)?;
     let limits = reader.limits();
     let mut database = start(alloc, &limits)?;
     let records = at.min(count);
     let earlier = records.saturating_sub(1);
-    answer_records(alloc, &mut database, &mut reader, earlier, &Alone)?;
+    answer_records(alloc, &mut database, &mut reader, earlier)?;
     let before = held(alloc, &database)?;
-    answer_records(alloc, &mut database, &mut reader, records - earlier, &Alone)?;
+    answer_records(alloc, &mut database, &mut reader, records - earlier)?;
     let after = held(alloc, &database)?;
     Ok(Moment {
         limits,

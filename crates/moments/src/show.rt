@@ -1,60 +1,21 @@
 //! What is held after a record of a trace, as it is shown.
 
+use crate::error::ShowError;
 use crate::moment::moment_at;
-use drawings::{Moment, View, chosen, push_drawing, push_table};
-use replay::RunError;
-use space::NoMemory;
-use std::alloc::{AllocError, AllocFailed, Global};
+use drawings::{Form, Moment, View, chosen, push_drawing, push_table};
+use std::alloc::Global;
 use std::fmt::Write;
-use std::sync::Wait;
-use std::thread::Threads;
 use texts::RecordTexts;
 
-/// Why nothing is shown.
-#[derive(Clone, Copy, Debug, PartialEq, Eq)]
-pub enum ShowError {
-    /// The replay ended early.
-    Run(RunError),
-    /// Out of memory.
-    NoMemory,
-    /// There is no such space, or no such frame.
-    Unknown,
-}
-
-impl From<RunError> for ShowError {
-    fn from(error: RunError) -> Self {
-        ShowError::Run(error)
-    }
-}
-
-impl From<AllocError> for ShowError {
-    fn from(_: AllocError) -> Self {
-        ShowError::NoMemory
-    }
-}
-
-impl<T: Drop> From<AllocFailed<T>> for ShowError {
-    fn from(_: AllocFailed<T>) -> Self {
-        ShowError::NoMemory
-    }
-}
-
-impl From<NoMemory> for ShowError {
-    fn from(_: NoMemory) -> Self {
-        ShowError::NoMemory
-    }
-}
-
 /// Appends what a trace with this name holds after a record.
-pub fn push_view<T: AllocGlobal + Threads + Wait + Sync>(
-    rt: &T,
+pub fn push_view(
+    alloc: Global,
     text: &mut String,
     name: &str,
     bytes: &[u8],
     view: &View,
 ) -> Result<(), ShowError> {
-    let alloc = rt.alloc();
-    let moment = moment_at(rt, bytes, view.at)?;
+    let moment = moment_at(alloc, bytes, view.at)?;
     if is_unknown(&moment, view) {
         return Err(ShowError::Unknown);
     }
@@ -68,6 +29,32 @@ pub fn push_view<T: AllocGlobal + Threads + Wait + Sync>(
         return Ok(());
     }
     push_drawing(alloc, text, heading.as_str(), &moment, view)?;
+    Ok(())
+}
+
+/// Appends the trees that a record of a trace changed, before it on the left and after it on the right, at most so many lines.
+pub fn push_changed_trees(
+    alloc: Global,
+    text: &mut String,
+    bytes: &[u8],
+    record: u64,
+    most: u64,
+) -> Result<(), ShowError> {
+    let moment = moment_at(alloc, bytes, record)?;
+    let view = View {
+        at: record,
+        frame: None,
+        space: None,
+        form: Form::Diff,
+        most,
+    };
+    push_drawing(
+        alloc,
+        text,
+        "the trees before and after it:",
+        &moment,
+        &view,
+    )?;
     Ok(())
 }
 

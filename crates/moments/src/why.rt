@@ -1,15 +1,13 @@
 //! Where a page came from, and which records took rights from it.
 
+use crate::error::ShowError;
 use crate::history::{Change, changes, is_within};
 use crate::moment::moment_at;
-use crate::show::ShowError;
-use drawings::{Moment, mapping_at, push_mapping, push_place};
+use drawings::{Moment, Question, mapping_at, push_mapping, push_place};
 use mapdb::Mapping;
 use space::Place;
 use std::alloc::{AllocError, Global};
 use std::fmt::Write;
-use std::sync::Wait;
-use std::thread::Threads;
 use texts::{RecordTexts, push_rights};
 
 /// How many pages of a chain of origins are told.
@@ -17,13 +15,6 @@ const LEVELS: usize = 64;
 
 /// How many records that changed a page are told.
 const RECORDS: usize = 100;
-
-/// A page of which is asked, after a record; the last of the trace where it has fewer.
-#[derive(Clone, Copy, Debug)]
-pub struct Question {
-    pub place: Place,
-    pub at: u64,
-}
 
 /// A page, the page from which it came, and so on to the root, at most so many.
 fn chain_of(
@@ -65,22 +56,21 @@ fn places_of(
 }
 
 /// Appends where a page of a trace with this name came from, and which records changed its rights.
-pub fn push_why<T: AllocGlobal + Threads + Wait + Sync>(
-    rt: &T,
+pub fn push_why(
+    alloc: Global,
     text: &mut String,
     name: &str,
     bytes: &[u8],
     question: &Question,
 ) -> Result<(), ShowError> {
-    let alloc = rt.alloc();
     let Question { place, at } = *question;
-    let moment = moment_at(rt, bytes, at)?;
+    let moment = moment_at(alloc, bytes, at)?;
     if !is_within(&moment.limits, place) {
         return Err(ShowError::Unknown);
     }
     let chain = chain_of(alloc, &moment.after, place, LEVELS)?;
     let places = places_of(alloc, &moment.limits, &chain, place)?;
-    let changes = changes(rt, bytes, moment.records, &places)?;
+    let changes = changes(alloc, bytes, moment.records, &places)?;
     let mut numbers = Vec::new(alloc);
     numbers.push(moment.records)?;
     for change in &changes {

@@ -7,6 +7,7 @@ mod make;
 mod parts;
 mod places;
 mod record_text;
+mod scope;
 mod shown;
 
 pub use explain::{
@@ -16,4 +17,5 @@ pub use make::{Size, control_word, fpage_word, item_word};
 pub use parts::{rights_of, size_of};
 pub use places::{Places, Span};
 pub use record_text::RecordTexts;
+pub use scope::Scope;
 pub use shown::{push_quoted, push_shown};

@@ -5,7 +5,7 @@ use Rattle.moments.proofs.Moments.{left_step}
 use Rattle.moments.proofs.answering.answer_records.Goals as goal
 
 pub loop-i-preserved : goal.loop-i-preserved
-loop-i-preserved g c =
+loop-i-preserved c =
     let so_far = c.loop-i.invariant in
     let rows = c.args.reader.now.records in
     record {

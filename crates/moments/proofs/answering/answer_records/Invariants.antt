@@ -5,7 +5,7 @@ use Rattle.moments.specs.Moment.{left_by}
 use Rattle.moments.proofs.answering.answer_records.Given as goal
 
 abbrev pub invariant-loop-i : goal.invariant-loop-i
-invariant-loop-i g l = record {
+invariant-loop-i l = record {
   records : l.reader.records ≡ drop l.i l.fn.reader.records;
   left : l.database ≡ left_with l.fn.database (left_by l.fn.database.limits (take l.i l.fn.reader.records) l.fn.database.holdings);
 }

@@ -5,7 +5,7 @@ use Rattle.holdings.specs.Places.{IsWithin}
 use Rattle.moments.proofs.history.changes.Given as goal
 
 abbrev pub invariant-loop-i : goal.invariant-loop-i
-invariant-loop-i g l = record {
+invariant-loop-i l = record {
   running : l.database.is_halted ≡ false;
   within : All (IsWithin l.database.limits) l.places.items;
 }

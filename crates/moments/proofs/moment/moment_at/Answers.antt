@@ -6,7 +6,7 @@ use Rattle.moments.proofs.Moments.{moment_is}
 use Rattle.moments.proofs.moment.moment_at.Goals as goal
 
 pub returns : goal.returns
-returns g c =
+returns c =
     let limits = c.limits-limits.ensures in
     moment_is c.args.bytes.now c.args.at c.in_ok-count.count c.saturating_sub-earlier.result c.in_ok-reader.reader c.answer_records.new.reader
     c.in_ok-database.database c.answer_records.new.database c.answer_records-2.new.database _

@@ -2,14 +2,14 @@
 use Rattle.std.specs.Prelude.{⊤}
 use Rattle.fpage.specs.Fpage.{IsSpaceBits}
 use Rattle.random_traces.specs.Random.{IsPlan}
-use Rattle.l4trace.specs.declared.command_line.Task.{Task}
-use Rattle.l4trace.specs.declared.command_line.Task.TheVariants.{Explain, Tell, Compare, Show, Why, Random, Check}
+use Rattle.command_lines.specs.declared.task.Task.{Task}
+use Rattle.command_lines.specs.declared.task.Task.TheVariants.{Explain, Tell, Compare, Show, Why, Random, Check}
 
 -- words are explained for spaces that there are, and traces are made for limits that are served
 abbrev pub IsServed : Task → Type 0
 IsServed (Explain words bits) = IsSpaceBits bits
 IsServed (Tell text) = ⊤
-IsServed (Compare trace answers scope color) = ⊤
+IsServed (Compare trace answers scope most color) = ⊤
 IsServed (Show trace view color) = ⊤
 IsServed (Why trace question color) = ⊤
 IsServed (Random plan) = IsPlan plan

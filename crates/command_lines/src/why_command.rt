@@ -1,13 +1,16 @@
 //! The subcommand `why` of the command line.
 
 ghost use Rattle.std.specs.Prelude.{IfOk};
-ghost use Rattle.l4trace.specs.Task.{IsServed};
+ghost use Rattle.command_lines.specs.Task.{IsServed};
 
-use crate::command_line::{Task, TaskError, asked_color, color_option, refused_value};
-use clap::{Arg, ArgMatches, Command, value_parser};
-use moments::Question;
+use crate::argument::{Argument, OPTION};
+use crate::common::{AT, COLOR, TRACE, asked_color};
+use crate::subcommand::Subcommand;
+use crate::task::{Task, TaskError, refused_value};
+use clap::ArgMatches;
+use drawings::Question;
 use space::Place;
-use std::alloc::{AllocError, Global};
+use std::alloc::Global;
 use texts::field;
 
 const ABOUT: &str =
@@ -27,29 +30,28 @@ const EXAMPLE: &str = "Example:
     record 5, examples/first-six-records.csv:6: unmap,0,0,c1
       took --x: r-x became r--";
 
+static WHY: Subcommand = Subcommand {
+    name: "why",
+    about: ABOUT,
+    example: EXAMPLE,
+    arguments: &[
+        TRACE,
+        Argument {
+            name: "page",
+            value: Some("S:P"),
+            is_required: true,
+            help: "Page P of space S, both decimal",
+            ..OPTION
+        },
+        AT,
+        COLOR,
+    ],
+};
+
 /// The subcommand `why`.
-pub fn why_command<'a>(alloc: Global) -> Result<Command<'a>, AllocError> {
-    let trace = Arg::new(alloc, "trace")
-        .value_name("TRACE")
-        .required(true)
-        .help("The trace, a file, or - for standard input");
-    let page = Arg::new(alloc, "page")
-        .long("page")
-        .value_name("S:P")
-        .required(true)
-        .help("Page P of space S, both decimal");
-    let at = Arg::new(alloc, "at")
-        .long("at")
-        .value_name("N")
-        .value_parser(value_parser!(u64))
-        .help("After this record; the last one if it is not given");
-    Command::new(alloc, "why")
-        .about(ABOUT)
-        .after_help(EXAMPLE)
-        .arg(trace)?
-        .arg(page)?
-        .arg(at)?
-        .arg(color_option(alloc))
+// (A function of its own, since the table is large in the proof of whatever names it.)
+pub fn why() -> &'static Subcommand {
+    &WHY
 }
 
 /// The task of the subcommand `why`.

@@ -1,0 +1,142 @@
+//! The subcommand `random` of the command line.
+
+ghost use Rattle.std.specs.Prelude.{IfOk};
+ghost use Rattle.command_lines.specs.Task.{IsServed};
+
+use crate::argument::{Argument, Kind, OPTION};
+use crate::subcommand::Subcommand;
+use crate::task::{Task, TaskError, refused, refused_value};
+use clap::ArgMatches;
+use random_traces::{Plan, Shape};
+use std::alloc::Global;
+
+const ABOUT: &str =
+    "Writes a trace made at random, to test a kernel with: the same bytes for the same arguments.";
+
+const EXAMPLE: &str =
+    "Shapes: chain, from each space to the next; tree, to any with a higher number; pagers, from space 0 to pagers and from these to clients; conflicts, many items to few pages; fpages, fpages and windows of any size.
+
+Example: a thousand records, of which some fifty are refused.
+
+  l4trace random --seed 7 --records 1000 --shape pagers --refused 5 > trace.csv
+  ./run.sh trace.csv > answers.txt";
+
+static RANDOM: Subcommand = Subcommand {
+    name: "random",
+    about: ABOUT,
+    example: EXAMPLE,
+    arguments: &[
+        Argument {
+            name: "seed",
+            kind: Kind::Count,
+            value: Some("N"),
+            is_required: true,
+            help: "Where the random numbers start",
+            ..OPTION
+        },
+        Argument {
+            name: "records",
+            kind: Kind::Count,
+            value: Some("N"),
+            is_required: true,
+            help: "How many records there are",
+            ..OPTION
+        },
+        Argument {
+            name: "spaces",
+            kind: Kind::Number {
+                least: 0,
+                most: u32::MAX,
+            },
+            value: Some("N"),
+            default: Some("4"),
+            help: "How many spaces there are, 2 to 512",
+            ..OPTION
+        },
+        Argument {
+            name: "bits",
+            kind: Kind::Number {
+                least: 0,
+                most: u32::MAX,
+            },
+            value: Some("N"),
+            default: Some("18"),
+            help: "Spaces have 2^N bytes, 18 to 24",
+            ..OPTION
+        },
+        Argument {
+            name: "frames",
+            kind: Kind::Number {
+                least: 0,
+                most: u32::MAX,
+            },
+            value: Some("N"),
+            default: Some("16"),
+            help: "How many frames there are, 1 to 64",
+            ..OPTION
+        },
+        Argument {
+            name: "refused",
+            kind: Kind::Number {
+                least: 0,
+                most: u32::MAX,
+            },
+            value: Some("N"),
+            default: Some("5"),
+            help: "How many of 100 records are refused, in the long run",
+            ..OPTION
+        },
+        Argument {
+            name: "shape",
+            value: Some("SHAPE"),
+            default: Some("tree"),
+            help: "chain, tree, pagers, conflicts or fpages",
+            ..OPTION
+        },
+    ],
+};
+
+/// The subcommand `random`.
+// (A function of its own, since the table is large in the proof of whatever names it.)
+pub fn random() -> &'static Subcommand {
+    &RANDOM
+}
+
+/// The task of the subcommand `random`.
+pub fn random_task(alloc: Global, asked: &ArgMatches) -> Result<Task, TaskError>
+    ensures { IfOk result IsServed }
+{
+    let name = asked.get_str("shape").unwrap_or("");
+    let Some(shape) = Shape::of_name(name) else {
+        return Err(refused_value(
+            alloc,
+            name,
+            "a shape: chain, tree, pagers, conflicts or fpages",
+        ));
+    };
+    let spaces = asked.get_one::<u32>("spaces").unwrap_or(4);
+    let bits = asked.get_one::<u32>("bits").unwrap_or(18);
+    let frames = asked.get_one::<u32>("frames").unwrap_or(16);
+    let percent = asked.get_one::<u32>("refused").unwrap_or(5);
+    if spaces < 2 || spaces > 512 {
+        return Err(refused(alloc, "there are 2 to 512 spaces"));
+    }
+    if bits < 18 || bits > 24 {
+        return Err(refused(alloc, "bits are 18 to 24"));
+    }
+    if frames < 1 || frames > 64 {
+        return Err(refused(alloc, "there are 1 to 64 frames"));
+    }
+    if percent > 100 {
+        return Err(refused(alloc, "at most 100 of 100 records are refused"));
+    }
+    Ok(Task::Random(Plan {
+        seed: asked.get_one::<u64>("seed").unwrap_or(0),
+        records: asked.get_one::<u64>("records").unwrap_or(0),
+        spaces,
+        bits,
+        frames,
+        refused: percent,
+        shape,
+    }))
+}

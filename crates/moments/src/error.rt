@@ -1,0 +1,48 @@
+//! Why nothing is shown.
+
+use space::NoMemory;
+use std::alloc::{AllocError, AllocFailed};
+use trace::TraceError;
+
+/// Why nothing is shown.
+#[derive(Clone, Copy, Debug, PartialEq, Eq)]
+pub enum ShowError {
+    /// There is no first record, or it does not have a header's form.
+    BadHeader,
+    /// The header names limits that are not served.
+    BadLimits,
+    /// Out of memory.
+    NoMemory,
+    /// There is no such space, or no such frame.
+    Unknown,
+    /// A record had no answer, for a cause other than memory.
+    Ended,
+}
+
+impl From<TraceError> for ShowError {
+    fn from(error: TraceError) -> Self {
+        match error {
+            TraceError::Unreadable => ShowError::Ended,
+            TraceError::BadHeader => ShowError::BadHeader,
+            TraceError::NoMemory => ShowError::NoMemory,
+        }
+    }
+}
+
+impl From<AllocError> for ShowError {
+    fn from(_: AllocError) -> Self {
+        ShowError::NoMemory
+    }
+}
+
+impl<T: Drop> From<AllocFailed<T>> for ShowError {
+    fn from(_: AllocFailed<T>) -> Self {
+        ShowError::NoMemory
+    }
+}
+
+impl From<NoMemory> for ShowError {
+    fn from(_: NoMemory) -> Self {
+        ShowError::NoMemory
+    }
+}
