@@ -1,60 +1,71 @@
 //! Accesses in pieces, with answers that are worked out by hand.
 
-ghost use Rattle.std.specs.Prelude.{◌≡◌};
-
-use super::{expect_page, held, place, rights};
+use super::calls::{ALL, At, Case, Held, NONE, READ_EXECUTE, READ_WRITE, Step, work_case};
 use crew::{Crew, NoGate, Workers};
 use fpage::Access;
-use mapdb::Database;
+use mapdb::{DbError, Limits};
 use std::alloc::Global;
 use std::process::Abort;
 use std::test::Fail;
 
-/// Six accesses, worked by these workers, and what they leave; and none.
-fn access_six<T: Workers>(rt: &impl Abort, alloc: Global, workers: &T) -> Result<(), Fail> {
-    let mut database = Database::new(alloc, 2, 18, 4)?;
-    let answers = database.access_all(
-        alloc,
-        &[
-            (place(0, 0), Access::Read),
-            (place(0, 4), Access::Read),
-            (place(0, 1), Access::Write),
-            (place(1, 0), Access::Execute),
-            (place(0, 2), Access::Execute),
-            (place(0, 0), Access::Execute),
-        ],
-        workers,
-    )?;
-    assert_eq!(rt;
-        answers.as_slice(),
-        [true, false, true, false, true, true].as_slice()
-    );
-    let read_execute = held(0, rights(true, false, true));
-    expect_page(rt, &database, 0, 0, read_execute, None)?;
-    let read_write = held(1, rights(true, true, false));
-    expect_page(rt, &database, 0, 1, read_write, None)?;
-    let executed = held(2, rights(true, false, true));
-    expect_page(rt, &database, 0, 2, executed, None)?;
-    let unseen = held(3, rights(false, false, false));
-    expect_page(rt, &database, 0, 3, unseen, None)?;
-    expect_page(rt, &database, 0, 4, None, None)?;
-    expect_page(rt, &database, 1, 0, None, None)?;
-    let none = database.access_all(alloc, &[], workers)?;
-    assert_eq!(rt; none.len(), 0);
-    assert!(rt; !database.is_halted());
+/// Accesses by one call.
+const SIX: [(At, Access, bool); 6] = [
+    ((0, 0), Access::Read, true),
+    ((0, 4), Access::Read, false),
+    ((0, 1), Access::Write, true),
+    ((1, 0), Access::Execute, false),
+    ((0, 2), Access::Execute, true),
+    ((0, 0), Access::Execute, true),
+];
+
+/// The six accesses and what they leave, also after a call of no access.
+const CASES: [Case; 2] = [
+    Case {
+        name: "six accesses",
+        steps: &[Step::AccessAll(&SIX)],
+        left: &LEFT,
+    },
+    Case {
+        name: "six accesses, and none",
+        steps: &[Step::AccessAll(&SIX), Step::AccessAll(&[])],
+        left: &LEFT,
+    },
+];
+
+const LEFT: [(At, Option<Held>); 6] = [
+    ((0, 0), Some((0, ALL, READ_EXECUTE, None))),
+    ((0, 1), Some((1, ALL, READ_WRITE, None))),
+    ((0, 2), Some((2, ALL, READ_EXECUTE, None))),
+    ((0, 3), Some((3, ALL, NONE, None))),
+    ((0, 4), None),
+    ((1, 0), None),
+];
+
+/// Six accesses in two spaces of four frames, worked by these workers, and what they leave; and none.
+fn access_six<T: Workers>(rt: &impl Abort, alloc: Global, workers: &T) -> Result<(), DbError> {
+    let limits = Limits {
+        spaces: 2,
+        bits: 18,
+        frames: 4,
+    };
+    for case in &CASES {
+        work_case(rt, alloc, workers, limits, &[], case, false)?;
+    }
     Ok(())
 }
 
 #[test]
 fn marks_the_status_of_accesses_in_turn(rt: HostRuntime) -> Result<(), Fail> {
-    access_six(&rt, rt.alloc(), &Crew::new(&rt, 1, 1, &NoGate))?;
-    access_six(&rt, rt.alloc(), &Crew::new(&rt, 1, 4, &NoGate))?;
-    access_six(&rt, rt.alloc(), &Crew::new(&rt, 1, 256, &NoGate))
+    for length in [1, 4, 256] {
+        access_six(&rt, rt.alloc(), &Crew::new(&rt, 1, length, &NoGate))?;
+    }
+    Ok(())
 }
 
 #[test]
 fn marks_the_same_with_a_crew(rt: HostRuntime) -> Result<(), Fail> {
-    access_six(&rt, rt.alloc(), &Crew::new(&rt, 1, 1, &NoGate))?;
-    access_six(&rt, rt.alloc(), &Crew::new(&rt, 4, 1, &NoGate))?;
-    access_six(&rt, rt.alloc(), &Crew::new(&rt, 64, 4, &NoGate))
+    for (workers, length) in [(1, 1), (4, 1), (64, 4)] {
+        access_six(&rt, rt.alloc(), &Crew::new(&rt, workers, length, &NoGate))?;
+    }
+    Ok(())
 }

@@ -1,13 +1,8 @@
 //! A chain of ten thousand mappings, each below the one before, revoked by recursion.
 
-ghost use Rattle.std.specs.Prelude.{◌≡◌, ◌<◌, ◌≤◌, OnOk};
-ghost use Rattle.space.specs.Directory.{pages_of};
-
-use super::send_page;
-use crew::{Crew, NoGate};
-use fpage::{Control, Fpage, Rights};
-use mapdb::Database;
-use space::{Entry, Place};
+use super::calls::{ALL, At, Case, NONE, READ_EXECUTE, Step, work, work_in};
+use crew::{Crew, NoGate, Workers};
+use mapdb::{Database, DbError};
 use std::alloc::Global;
 use std::process::Abort;
 use std::sync::Wait;
@@ -17,106 +12,76 @@ use std::thread::Threads;
 /// How many mappings stand below the root.
 const LENGTH: u32 = 10_000;
 
-/// No write.
-const READ_EXECUTE: Rights = Rights {
-    read: true,
-    write: false,
-    execute: true,
-};
+/// The root, page 0 of space 0, has write and then all rights taken from what derives from it. No page has seen an access, so
+/// no status comes back.
+static CASES: [Case; 3] = [
+    Case {
+        name: "a chain",
+        steps: &[],
+        left: &[((0, 2500), Some((0, ALL, NONE, Some((3, 2499)))))],
+    },
+    Case {
+        name: "a chain without write",
+        steps: &[Step::Unmap(0, 0, 0xc2, 0xc0)],
+        left: &[
+            ((0, 0), Some((0, ALL, NONE, None))),
+            ((0, 2500), Some((0, READ_EXECUTE, NONE, Some((3, 2499))))),
+        ],
+    },
+    Case {
+        name: "a chain that is revoked",
+        steps: &[Step::Unmap(0, 0, 0xc7, 0xc0)],
+        left: &[
+            ((0, 0), Some((0, ALL, NONE, None))),
+            ((1, 0), None),
+            ((0, 1250), None),
+            ((0, 2500), None),
+        ],
+    },
+];
 
-/// The page that so many mappings lead to from the root, page 0 of space 0: the four spaces take turns.
-fn place(below: u32) -> Place
-    requires { below ≤ 10000 }
-    ensures space { result.space < 4 }
-    ensures page { result.page < pages_of 24 }
-{
-    let space = (below % 4) as u16;
-    let page = below / 4;
-    Place { space, page }
+/// The page that so many mappings lead to from the root: the four spaces take turns.
+fn at(below: u32) -> At {
+    ((below % 4) as u16, below / 4)
 }
 
-/// Maps the last page of a chain of so many mappings on, to a page that holds nothing.
-fn extend(
-    rt: &(impl Abort + Threads + Wait + Sync),
+/// Maps the last page of the chain on, to a page that holds nothing, until the chain has its length.
+fn extend<T: Workers>(
+    rt: &impl Abort,
     database: &mut Database,
     alloc: Global,
-    below: u32,
-) -> Result<(), Fail>
-    requires limits { database.old.limits ≡ record { spaces = 4; bits = 24; frames = 1 } }
-    requires below { below < 10000 }
-    ensures { OnOk result (database.new.limits ≡ record { spaces = 4; bits = 24; frames = 1 }) }
-{
-    let source = place(below);
-    let target = place(below + 1);
-    let reply = send_page(
-        rt,
-        database,
-        alloc,
-        &Crew::new(rt, 1, 256, &NoGate),
-        24,
-        source,
-        target,
-        Rights::all(),
-    )?;
-    assert_eq!(rt; reply.linked, 1, "{target}");
+    workers: &T,
+) -> Result<(), DbError> {
+    for below in 0..LENGTH {
+        let step = Step::Map(at(below), at(below + 1));
+        work(rt, database, alloc, workers, &step, true)?;
+    }
     Ok(())
 }
 
-/// Takes rights from all that derives from the root, by the recursion. No page has seen an access, so no status comes back.
-fn revoke(rt: &impl Abort, database: &mut Database, alloc: Global, word: u32) -> Result<(), Fail>
-    requires { database.old.limits ≡ record { spaces = 4; bits = 24; frames = 1 } }
-    ensures { OnOk result (database.new.limits ≡ record { spaces = 4; bits = 24; frames = 1 }) }
-{
-    let Ok(fpage) = Fpage::read(word, 24) else {
-        panic!(rt; "the word {word} is refused");
-    };
-    let Ok(control) = Control::read(0, 1) else {
-        panic!(rt; "the control word 0 is refused");
-    };
-    let status = database.unmap_plain(alloc, 0, control, &[fpage])?;
-    assert_eq!(rt; status.as_slice(), [Rights::none()].as_slice());
-    Ok(())
-}
-
-/// Looks at the rights of a page of the chain: none where it holds nothing.
-fn expect(
+/// Makes the chain, and works the cases one after another, by the recursion.
+fn extend_and_revoke<T: Workers>(
     rt: &impl Abort,
-    database: &Database,
-    below: u32,
-    rights: Option<Rights>,
-) -> Result<(), Fail>
-    requires limits { database.now.limits ≡ record { spaces = 4; bits = 24; frames = 1 } }
-    requires below { below ≤ 10000 }
-{
-    let at = place(below);
-    let entry = rights.map(|rights| Entry {
-        frame: 0,
-        rights,
-        status: Rights::none(),
-    });
-    assert_eq!(rt; database.entry(at)?, entry, "{at}");
+    database: &mut Database,
+    alloc: Global,
+    workers: &T,
+) -> Result<(), DbError> {
+    extend(rt, database, alloc, workers)?;
+    for case in &CASES {
+        work_in(rt, database, alloc, workers, case, true)?;
+    }
     Ok(())
+}
+
+/// The same in a database of its own.
+fn work_chain(rt: &(impl Abort + Threads + Wait + Sync), alloc: Global) -> Result<(), DbError> {
+    let mut database = Database::new(alloc, 4, 24, 1)?;
+    let crew = Crew::new(rt, 1, 256, &NoGate);
+    extend_and_revoke(rt, &mut database, alloc, &crew)
 }
 
 #[test]
 fn revokes_a_long_chain(rt: HostRuntime) -> Result<(), Fail> {
-    let mut database = Database::new(rt.alloc(), 4, 24, 1)?;
-    for below in 0..LENGTH {
-        extend(&rt, &mut database, rt.alloc(), below)?;
-    }
-    expect(&rt, &database, LENGTH, Some(Rights::all()))?;
-
-    // Page 0 of space 0, and write.
-    revoke(&rt, &mut database, rt.alloc(), 0xc2)?;
-    expect(&rt, &database, 0, Some(Rights::all()))?;
-    expect(&rt, &database, LENGTH, Some(READ_EXECUTE))?;
-
-    // Page 0 of space 0, and all rights.
-    revoke(&rt, &mut database, rt.alloc(), 0xc7)?;
-    expect(&rt, &database, 0, Some(Rights::all()))?;
-    expect(&rt, &database, 1, None)?;
-    expect(&rt, &database, LENGTH / 2, None)?;
-    expect(&rt, &database, LENGTH, None)?;
-    assert!(rt; !database.is_halted());
+    work_chain(&rt, rt.alloc())?;
     Ok(())
 }

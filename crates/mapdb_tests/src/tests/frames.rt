@@ -1,16 +1,9 @@
 //! Items with many pages of one frame, with answers that are worked out by hand.
 
-ghost use Rattle.std.specs.Prelude.{◌≡◌, ◌<◌, OnOk};
-
-use super::{NONE, expect_page, held, place, rights, send_page};
+use super::calls::{ALL, Case, GRANT, MAP, NO_PAIRS, NONE, Step, work_case};
 use crew::{Crew, NoGate};
-use fpage::{Fpage, Item, Rights};
-use mapdb::{Database, SendReply};
-use std::alloc::Global;
-use std::process::Abort;
-use std::sync::Wait;
+use mapdb::{Limits, SendReply};
 use std::test::Fail;
-use std::thread::Threads;
 
 /// The word of pages 0 and 1, with all rights.
 const TWO: u32 = 0xd7;
@@ -21,76 +14,31 @@ const SIXTEEN: u32 = 0x107;
 /// The word of pages 16 to 31, with all rights.
 const NEXT_SIXTEEN: u32 = 0x1_0107;
 
-/// The first word of a MapItem.
-const MAP: u32 = 8;
-
-/// The first word of a GrantItem.
-const GRANT: u32 = 10;
-
-/// Sends pages, and looks at the reply.
-fn send(
-    rt: &(impl Abort + Threads + Wait + Sync),
-    database: &mut Database,
-    alloc: Global,
-    from: u16,
-    to: u16,
-    window: u32,
-    item: (u32, u32),
-    reply: SendReply,
-) -> Result<(), Fail>
-    requires { database.old.limits ≡ record { spaces = 2; bits = 18; frames = 1 } }
-    ensures { OnOk result (database.new.limits ≡ record { spaces = 2; bits = 18; frames = 1 }) }
-{
-    let (kind, pages) = item;
-    let (Ok(window), Ok(item)) = (Fpage::read(window, 18), Item::read(kind, pages, 18)) else {
-        panic!(rt; "a word is refused");
-    };
-    let answer = database.send(
-        alloc,
-        from,
-        to,
-        &window,
-        &[item],
-        &Crew::new(rt, 1, 2, &NoGate),
-    )?;
-    assert_eq!(rt; answer, reply, "{kind} {pages} from {from}");
-    Ok(())
-}
-
 /// The root's page, passed on to pages 0 to 15 of the other space, one after another.
-fn passed_on(
-    rt: &(impl Abort + Threads + Wait + Sync),
-    database: &mut Database,
-    alloc: Global,
-) -> Result<(), Fail>
-    requires { database.old.limits ≡ record { spaces = 2; bits = 18; frames = 1 } }
-    ensures { OnOk result (database.new.limits ≡ record { spaces = 2; bits = 18; frames = 1 }) }
-{
-    let all = rights(true, true, true);
-    for page in 0..16 {
-        let reply = send_page(
-            rt,
-            database,
-            alloc,
-            &Crew::new(rt, 1, 2, &NoGate),
-            18,
-            place(0, 0),
-            place(1, page),
-            all,
-        )?;
-        assert_eq!(rt; reply, SendReply { linked: 1, ..NONE }, "{page}");
-    }
-    Ok(())
-}
+static PASSED_ON: [Step; 16] = [
+    Step::Map((0, 0), (1, 0)),
+    Step::Map((0, 0), (1, 1)),
+    Step::Map((0, 0), (1, 2)),
+    Step::Map((0, 0), (1, 3)),
+    Step::Map((0, 0), (1, 4)),
+    Step::Map((0, 0), (1, 5)),
+    Step::Map((0, 0), (1, 6)),
+    Step::Map((0, 0), (1, 7)),
+    Step::Map((0, 0), (1, 8)),
+    Step::Map((0, 0), (1, 9)),
+    Step::Map((0, 0), (1, 10)),
+    Step::Map((0, 0), (1, 11)),
+    Step::Map((0, 0), (1, 12)),
+    Step::Map((0, 0), (1, 13)),
+    Step::Map((0, 0), (1, 14)),
+    Step::Map((0, 0), (1, 15)),
+];
 
-#[test]
-fn works_many_pages_of_one_frame(rt: HostRuntime) -> Result<(), Fail> {
-    let mut database = Database::new(rt.alloc(), 2, 18, 1)?;
-    passed_on(&rt, &mut database, rt.alloc())?;
-    let none = NONE;
-    let steps = [
+static SENT: Case = Case {
+    name: "many pages of one frame",
+    steps: &[
         // The root is an origin of 1:0; 0:1 holds nothing.
-        (
+        Step::Send(
             1,
             0,
             TWO,
@@ -98,10 +46,10 @@ fn works_many_pages_of_one_frame(rt: HostRuntime) -> Result<(), Fail> {
             SendReply {
                 origin: 1,
                 linked: 1,
-                ..none
+                ..NO_PAIRS
             },
         ),
-        (
+        Step::Send(
             1,
             0,
             TWO,
@@ -109,10 +57,10 @@ fn works_many_pages_of_one_frame(rt: HostRuntime) -> Result<(), Fail> {
             SendReply {
                 origin: 1,
                 extended: 1,
-                ..none
+                ..NO_PAIRS
             },
         ),
-        (
+        Step::Send(
             1,
             0,
             SIXTEEN,
@@ -121,10 +69,10 @@ fn works_many_pages_of_one_frame(rt: HostRuntime) -> Result<(), Fail> {
                 origin: 1,
                 extended: 1,
                 linked: 14,
-                ..none
+                ..NO_PAIRS
             },
         ),
-        (
+        Step::Send(
             1,
             0,
             SIXTEEN,
@@ -132,11 +80,11 @@ fn works_many_pages_of_one_frame(rt: HostRuntime) -> Result<(), Fail> {
             SendReply {
                 origin: 1,
                 extended: 15,
-                ..none
+                ..NO_PAIRS
             },
         ),
         // 1:0 has the root's page from the root, and each other source has its page from its target.
-        (
+        Step::Send(
             0,
             1,
             SIXTEEN,
@@ -144,11 +92,11 @@ fn works_many_pages_of_one_frame(rt: HostRuntime) -> Result<(), Fail> {
             SendReply {
                 origin: 15,
                 extended: 1,
-                ..none
+                ..NO_PAIRS
             },
         ),
         // What the targets hold derives from the sources, and a grant replaces it.
-        (
+        Step::Send(
             1,
             0,
             SIXTEEN,
@@ -156,10 +104,10 @@ fn works_many_pages_of_one_frame(rt: HostRuntime) -> Result<(), Fail> {
             SendReply {
                 origin: 1,
                 linked: 15,
-                ..none
+                ..NO_PAIRS
             },
         ),
-        (
+        Step::Send(
             0,
             1,
             SIXTEEN,
@@ -167,39 +115,38 @@ fn works_many_pages_of_one_frame(rt: HostRuntime) -> Result<(), Fail> {
             SendReply {
                 extended: 1,
                 linked: 15,
-                ..none
+                ..NO_PAIRS
             },
         ),
-        (
+        Step::Send(
             0,
             1,
             NEXT_SIXTEEN,
             (MAP, SIXTEEN),
-            SendReply { linked: 16, ..none },
+            SendReply {
+                linked: 16,
+                ..NO_PAIRS
+            },
         ),
-    ];
-    for (from, to, window, item, reply) in steps {
-        send(
-            &rt,
-            &mut database,
-            rt.alloc(),
-            from,
-            to,
-            window,
-            item,
-            reply,
-        )?;
-    }
-    let unseen = rights(false, false, false);
-    for (space, page, origin) in [
-        (0, 3, place(0, 0)),
-        (1, 0, place(0, 0)),
-        (1, 3, place(0, 3)),
-        (1, 16, place(0, 0)),
-        (1, 19, place(0, 3)),
-        (1, 31, place(0, 15)),
-    ] {
-        expect_page(&rt, &database, space, page, held(0, unseen), Some(origin))?;
-    }
+    ],
+    left: &[
+        ((0, 3), Some((0, ALL, NONE, Some((0, 0))))),
+        ((1, 0), Some((0, ALL, NONE, Some((0, 0))))),
+        ((1, 3), Some((0, ALL, NONE, Some((0, 3))))),
+        ((1, 16), Some((0, ALL, NONE, Some((0, 0))))),
+        ((1, 19), Some((0, ALL, NONE, Some((0, 3))))),
+        ((1, 31), Some((0, ALL, NONE, Some((0, 15))))),
+    ],
+};
+
+#[test]
+fn works_many_pages_of_one_frame(rt: HostRuntime) -> Result<(), Fail> {
+    let crew = Crew::new(&rt, 1, 2, &NoGate);
+    let limits = Limits {
+        spaces: 2,
+        bits: 18,
+        frames: 1,
+    };
+    work_case(&rt, rt.alloc(), &crew, limits, &PASSED_ON, &SENT, false)?;
     Ok(())
 }

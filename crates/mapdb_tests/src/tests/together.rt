@@ -1,10 +1,13 @@
 //! Workers run at once, and each piece of a call is a turn that one of them works to its end: heard through a gate.
 
-use super::unmaps::{CHAIN, Step, work};
+use super::assertions::assert_equal;
+use super::calls::{Step, work, work_all};
+use super::unmaps::CHAIN;
 use crew::{Crew, CrewError, Gate, NoGate, Workers};
-use mapdb::Database;
+use mapdb::{Database, DbError};
 use pieces::{Done, Piece};
 use std::alloc::Global;
+use std::process::Abort;
 use std::sync::Wait;
 use std::sync::atomic::{AtomicU64, Ordering};
 use std::test::Fail;
@@ -84,23 +87,58 @@ impl<'a, R: Threads + Wait> Workers for Held<'a, R> {
     }
 }
 
+/// Reads the status of all pages, in a database in which frame 5 was mapped on, by a crew that this gate hears of.
+fn read_status(
+    rt: &(impl Abort + Threads + Wait + Sync),
+    database: &mut Database,
+    alloc: Global,
+    gate: &Meeting,
+) -> Result<(), DbError> {
+    work_all(
+        rt,
+        database,
+        alloc,
+        &Crew::new(rt, 4, 1, &NoGate),
+        &CHAIN,
+        false,
+    )?;
+    let workers = Held {
+        crew: Crew::new(rt, 4, 1, gate),
+    };
+    work(
+        rt,
+        database,
+        alloc,
+        &workers,
+        &Step::Unmap(0, 0, 0x10, 0x10),
+        false,
+    )
+}
+
+/// The same in a database of its own.
+fn read_all_status(
+    rt: &(impl Abort + Threads + Wait + Sync),
+    alloc: Global,
+    gate: &Meeting,
+) -> Result<(), DbError> {
+    let mut database = Database::new(alloc, 3, 18, 16)?;
+    read_status(rt, &mut database, alloc, gate)
+}
+
+/// What a gate has heard: whether the first piece met another, how many pieces began and ended, and which had one step.
+fn heard(gate: &Meeting) -> [u64; 4] {
+    [
+        gate.met.load(Ordering::SeqCst),
+        gate.begun.load(Ordering::SeqCst),
+        gate.ended.load(Ordering::SeqCst),
+        gate.pieces.load(Ordering::SeqCst),
+    ]
+}
+
 #[test]
 fn two_pieces_of_eighteen_are_worked_at_once(rt: HostRuntime) -> Result<(), Fail> {
-    let alloc = rt.alloc();
-    let mut database = Database::new(alloc, 3, 18, 16)?;
-    for step in CHAIN {
-        let workers = Crew::new(&rt, 4, 1, &NoGate);
-        work(&rt, &mut database, alloc, &workers, step, false)?;
-    }
     let gate = Meeting::new();
-    let workers = Held {
-        crew: Crew::new(&rt, 4, 1, &gate),
-    };
-    let status = Step::Unmap(0, 0, 0x10, 0x10);
-    work(&rt, &mut database, alloc, &workers, status, false)?;
-    assert_eq!(rt; gate.met.load(Ordering::SeqCst), 1);
-    assert_eq!(rt; gate.begun.load(Ordering::SeqCst), 18);
-    assert_eq!(rt; gate.ended.load(Ordering::SeqCst), 18);
-    assert_eq!(rt; gate.pieces.load(Ordering::SeqCst), (1 << 18) - 1);
+    read_all_status(&rt, rt.alloc(), &gate)?;
+    assert_equal(&rt, heard(&gate), [1, 18, 18, (1 << 18) - 1], "the gate");
     Ok(())
 }
