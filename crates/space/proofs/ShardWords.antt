@@ -1,16 +1,20 @@
 -- The words of shards, by place.
-use Rattle.std.proofs.Common.{◌≡◌, refl, sym, ◌∙◌, ap, arith, ℕ, ◌<◌, List, [], length, Option, Some, IsTrue, true, Vec, Global, slice_index, slice_set}
+use Rattle.std.proofs.Common.{◌≡◌, refl, sym, ◌∙◌, ap, arith, subst, nat_lt, ℕ, ◌+◌, ◌-◌, ◌<◌, ◌≤◌, Bool, ◌⊎◌, inl, inr, List, [], length, Option, Some, None, IsTrue, true, false, Vec, Global, slice_index, slice_set, vec_capacity}
 use Rattle.std.specs.Option.{option_map_or}
 use Rattle.std.specs.Prelude.{replicate}
-use Rattle.std.proofs.lemmas.List.{length-set, length-replicate, get_or-set_same, get_or-set_other}
-use Rattle.std.proofs.lemmas.List.Elements.{All-set, All-replicate}
+use Rattle.std.specs.List.{AllPass}
+use Rattle.std.specs.Vec.{with_item}
+use Rattle.std.proofs.lemmas.Option.{same_Some}
+use Rattle.std.proofs.lemmas.Bool.{ltb-true, ltb-false}
+use Rattle.std.proofs.lemmas.List.{length-append, length-replicate, length-set, get_or-set_same, get_or-set_other, get_or_past, get_or-replicate, get_or_append_left, get_or-append_right}
+use Rattle.std.proofs.lemmas.List.Elements.{All-append, All-replicate, All-set}
 use Rattle.space.specs.declared.place.Place.{Place}
 use Rattle.space.specs.declared.place.Entry.{Entry}
 use Rattle.space.specs.declared.shards.Shards.{Shards}
 use Rattle.space.specs.Word.{word_of, entry_of, is_pack, FrameFits}
-use Rattle.space.specs.Directory.{AreWords, words_in}
-use Rattle.space.specs.Shards.{IsPlace, index_of, entry_at}
-use Rattle.space.specs.ShardLaws.{PlacesHaveWords, WordsAreTheirOwn, EntriesFit}
+use Rattle.space.specs.Directory.{words_in, filled, AreWords}
+use Rattle.space.specs.Shards.{IsPlace, index_of, word_count, entry_at}
+use Rattle.space.specs.ShardLaws.{PlacesHaveWords, WordsAreTheirOwn, EntriesFit, AreAllWords, IsWithWords, ShardsHaveWords, WordsHaveShards}
 use Rattle.space.proofs.Words.{pack_gives_back, unpack_gives_back, unpacked_fits}
 use Rattle.space.proofs.Directories.{index_within, index_distinct}
 
@@ -24,39 +28,125 @@ words_are_their_own s p q p_place q_place same =
 pub entries_fit : EntriesFit
 entries_fit s p = unpacked_fits _
 
--- words stay words where one becomes another pack
-pub words_set : (directory : List (Option ℕ)) (words : List ℕ) (i w : ℕ) → AreWords directory words → IsTrue (is_pack w) → AreWords directory (slice_set words i w)
-words_set directory words i w are pack = record {
-  count = length-set words i w ∙ are.count;
-  packs = All-set (λ x. is_pack x ≡ true) words i w pack are.packs;
+-- ---- words with zeros behind them
+
+pub length_filled : (words : List ℕ) (up_to : ℕ) → length (filled words up_to) ≡ length words + (up_to - length words)
+length_filled words up_to = length-append words (replicate (up_to - length words) 0) ∙ ap (λ n. length words + n) (length-replicate (up_to - length words) 0)
+
+pub packs_filled : (words : List ℕ) (up_to : ℕ) → AllPass is_pack words → AllPass is_pack (filled words up_to)
+packs_filled words up_to packs = All-append (λ x. is_pack x ≡ true) words (replicate (up_to - length words) 0) packs (All-replicate (λ x. is_pack x ≡ true) (up_to - length words) 0 refl)
+
+within_or_past : (i n : ℕ) → (i < n) ⊎ (n ≤ i)
+within_or_past i n = by (nat_lt i n) refl
+  where
+    by : (b : Bool) → nat_lt i n ≡ b → (i < n) ⊎ (n ≤ i)
+    by true is = inl (ltb-true i n is)
+    by false is = inr (ltb-false i n is)
+
+read_zeros : (n i : ℕ) → slice_index (replicate n 0) i ≡ 0
+read_zeros n i = elim (within_or_past i n) as (λ _. slice_index (replicate n 0) i ≡ 0) [
+  | inl within ↦ get_or-replicate n i 0 0 within
+  | inr past ↦ get_or_past (replicate n 0) i 0 (omega (arith, length-replicate {A = ℕ} n 0))
+]
+
+-- each word is what it was, since one behind the end reads as 0
+pub read_filled : (words : List ℕ) (up_to i : ℕ) → slice_index (filled words up_to) i ≡ slice_index words i
+read_filled words up_to i = elim (within_or_past i (length words)) as (λ _. slice_index (filled words up_to) i ≡ slice_index words i) [
+  | inl within ↦ get_or_append_left words (replicate (up_to - length words) 0) 0 i within
+  | inr past ↦ get_or-append_right words (replicate (up_to - length words) 0) (length words) i 0 refl past ∙ read_zeros (up_to - length words) (i - length words) ∙ sym (get_or_past words i 0 past)
+]
+
+-- each word is a pack, since one behind the end reads as 0
+read_pack : (words : List ℕ) (i : ℕ) → AllPass is_pack words → IsTrue (is_pack (slice_index words i))
+read_pack words i packs = elim (within_or_past i (length words)) as (λ _. IsTrue (is_pack (slice_index words i))) [
+  | inl within ↦ packs i 0 within
+  | inr past ↦ ap is_pack (get_or_past words i 0 past)
+]
+
+-- a vector with no words yet, which has room for all
+pub words_none : (directory : List (Option ℕ)) (words : Vec ℕ Global) → words.items ≡ [] → words_in directory ≤ vec_capacity words → AreWords directory words
+words_none directory words none room = record {
+  count = omega (arith, ap length none);
+  room = room;
+  packs = subst (AllPass is_pack) (sym none) (λ i d within. absurd (omega (arith, within)));
 }
 
--- as many zeros as the directory finds are words
-pub words_absent : (directory : List (Option ℕ)) (n : ℕ) → n ≡ words_in directory → AreWords directory (replicate n 0)
-words_absent directory n count = record {
-  count = length-replicate n 0 ∙ count;
-  packs = All-replicate (λ x. is_pack x ≡ true) n 0 refl;
+-- words stay words where they are filled, and one becomes another pack
+pub words_set : (directory : List (Option ℕ)) (words after : Vec ℕ Global) (up_to i w : ℕ) → AreWords directory words → up_to ≤ words_in directory
+    → after.items ≡ filled words.items up_to → vec_capacity words ≤ vec_capacity after → IsTrue (is_pack w) → AreWords directory (with_item after i w)
+words_set directory words after up_to i w are few is room pack = record {
+  count = omega (arith, length-set after.items i w, ap length is, length_filled words.items up_to, are.count, few);
+  room = omega (arith, are.room, room);
+  packs = All-set (λ x. is_pack x ≡ true) after.items i w pack (subst (AllPass is_pack) (sym is) (packs_filled words.items up_to are.packs));
 }
+
+-- ---- the words of shards
 
 module _ (s : Shards) (words : Vec ℕ Global) (held : s.words ≡ Some words) where
   entry_read : (p : Place) → entry_at s p ≡ entry_of (slice_index words.items (index_of s p))
   entry_read p = ap (λ (o : Option (Vec ℕ Global)). entry_of (slice_index (option_map_or (λ w. w.items) o []) (index_of s p))) held
 
   -- the word of a place packs what stands there
-  pub word_read : (p : Place) → IsPlace s p → slice_index words.items (index_of s p) ≡ word_of (entry_at s p)
-  word_read p place =
-      let are : AreWords s.directory.items words.items = s.packed words held in
-      let within : index_of s p < length words.items = omega (arith, places_have_words s p place, are.count) in
-      sym (ap word_of (entry_read p) ∙ (pack_gives_back _ (are.packs (index_of s p) 0 within)).1)
+  pub word_read : (p : Place) → slice_index words.items (index_of s p) ≡ word_of (entry_at s p)
+  word_read p =
+      let packs : AllPass is_pack words.items = (s.packed words held).packs in
+      sym (ap word_of (entry_read p) ∙ (pack_gives_back _ (read_pack words.items (index_of s p) packs)).1)
 
-  -- to write the word of a place changes what stands there alone
-  module _ (p : Place) (place : IsPlace s p) (entry : Option Entry) (fits : FrameFits entry) where
-    pub set_there : entry_of (slice_index (slice_set words.items (index_of s p) (word_of entry)) (index_of s p)) ≡ entry
-    set_there =
-        let within : index_of s p < length words.items = omega (arith, places_have_words s p place, (s.packed words held).count) in
-        ap entry_of (get_or-set_same words.items (index_of s p) (word_of entry) 0 within) ∙ (unpack_gives_back entry fits).1
+  -- to write the word of a place, after the words were filled to reach it, changes what stands there alone
+  module _ (p : Place) (place : IsPlace s p) (entry : Option Entry) (fits : FrameFits entry) (after : List ℕ) (up_to : ℕ) (is : after ≡ filled words.items up_to) where
+    pub set_there : index_of s p < up_to → entry_of (slice_index (slice_set after (index_of s p) (word_of entry)) (index_of s p)) ≡ entry
+    set_there reached =
+        let within : index_of s p < length after = omega (arith, reached, ap length is, length_filled words.items up_to) in
+        ap entry_of (get_or-set_same after (index_of s p) (word_of entry) 0 within) ∙ (unpack_gives_back entry fits).1
 
-    pub set_elsewhere : (q : Place) → IsPlace s q → (q ≡ p → ⊥) → entry_of (slice_index (slice_set words.items (index_of s p) (word_of entry)) (index_of s q)) ≡ entry_at s q
+    pub set_elsewhere : (q : Place) → IsPlace s q → (q ≡ p → ⊥) → entry_of (slice_index (slice_set after (index_of s p) (word_of entry)) (index_of s q)) ≡ entry_at s q
     set_elsewhere q q_place apart =
-        ap entry_of (get_or-set_other words.items (index_of s p) (index_of s q) (word_of entry) 0 (λ same. apart (words_are_their_own s q p q_place place same)))
-        ∙ sym (entry_read q)
+        ap entry_of (get_or-set_other after (index_of s p) (index_of s q) (word_of entry) 0 (λ same. apart (words_are_their_own s q p q_place place same)))
+        ∙ ap (λ xs. entry_of (slice_index xs (index_of s q))) is
+        ∙ ap entry_of (read_filled words.items up_to (index_of s q)) ∙ sym (entry_read q)
+
+pub shards_have_words : ShardsHaveWords
+shards_have_words s present = by s.words refl
+  where
+    by : (o : Option (Vec ℕ Global)) → s.words ≡ o → (words : List ℕ) × AreAllWords s words
+    by None is = absurd (cc (present, is))
+    by (Some v) is =
+        let are : AreWords s.directory.items v = s.packed v is in (
+          filled v.items (word_count s),
+          record {
+            count = omega (arith, length_filled v.items (word_count s), are.count);
+            packs = packs_filled v.items (word_count s) are.packs;
+            entries = λ p place. ap entry_of (read_filled v.items (word_count s) (index_of s p)) ∙ sym (entry_read s v is p);
+          },
+        )
+
+-- a vector with other words, for which it has room
+abbrev with_items : (v : Vec ℕ Global) (words : List ℕ) → length words ≤ vec_capacity v → Vec ℕ Global
+with_items v words room = record { ptr = v.ptr; len = length words; cap = v.cap; alloc = v.alloc; items = words; ok = (refl, room); small = v.small }
+
+pub words_have_shards : WordsHaveShards
+words_have_shards s present words count packs = by s.words refl
+  where
+    by : (o : Option (Vec ℕ Global)) → s.words ≡ o → (new : Shards) × IsWithWords s new words
+    by None is = absurd (cc (present, is))
+    by (Some v) is =
+        let room : word_count s ≤ vec_capacity v = (s.packed v is).room in
+        let fits : length words ≤ vec_capacity v = omega (arith, room, count) in
+        let u = with_items v words fits in
+        let are : AreWords s.directory.items u = record { count = omega (arith, count); room = room; packs = packs } in
+        let new : Shards = record {
+          spaces = s.spaces;
+          bits = s.bits;
+          directory = s.directory;
+          words = Some u;
+          limits = s.limits;
+          found = s.found;
+          packed = λ x x_is. subst (AreWords s.directory.items) (same_Some u x x_is) are;
+        } in (
+          new,
+          record {
+            are = record { count = count; packs = packs; entries = λ p place. refl };
+            present = refl;
+            layout = record { spaces = refl; bits = refl; count = refl; index = λ p. refl };
+          },
+        )

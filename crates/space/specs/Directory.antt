@@ -1,6 +1,9 @@
 -- Where the word of a place stands: words lie in shards of 64 pages of one space, found through a directory (profile).
-use Rattle.std.specs.Prelude.{◌≡◌, ℕ, ◌+◌, ◌-◌, ◌*◌, ◌/◌, ◌%◌, ◌^◌, ◌<◌, ◌≤◌, nat_lt, if◌then◌else◌, IsTrue, List, length, Option, None, unwrap_or, is_some}
+use Rattle.std.specs.Prelude.{◌≡◌, ℕ, ◌+◌, ◌-◌, ◌*◌, ◌/◌, ◌%◌, ◌^◌, ◌<◌, ◌≤◌, nat_lt, if◌then◌else◌, IsTrue, List, ◌++◌, length, replicate, Option, None, unwrap_or, is_some}
 use Rattle.std.specs.List.{slice_index_or, AllPass}
+use Rattle.std.specs.Vec.{vec_capacity}
+use Rattle.std.specs.declared.alloc.Global.{Global}
+use Rattle.std.specs.declared.vec.Vec.{Vec}
 use Rattle.space.specs.declared.place.Place.{Place}
 use Rattle.space.specs.Word.{is_pack}
 
@@ -37,6 +40,10 @@ wrapped each at = if nat_lt at each then at else at - each
 abbrev pub turned : ℕ → ℕ → ℕ
 turned each shard = shard / each * each + wrapped each (shard % each + shard / each % each)
 
+-- words with zeros behind them, up to so many
+abbrev pub filled : List ℕ → ℕ → List ℕ
+filled words up_to = words ++ replicate (up_to - length words) 0
+
 -- 2 to 512 spaces of 2^18 to 2^24 bytes (profile)
 pub record AreLimits (spaces bits : ℕ) : Type 0 where
   pub some : 2 ≤ spaces
@@ -51,7 +58,8 @@ pub record IsDirectory (spaces bits : ℕ) (directory : List (Option ℕ)) : Typ
   pub in_range : (k : ℕ) → k < length directory → position_of directory k < length directory
   pub distinct : (j k : ℕ) → j < length directory → k < length directory → position_of directory j ≡ position_of directory k → j ≡ k
 
--- as many words as the directory finds, all packs
-pub record AreWords (directory : List (Option ℕ)) (words : List ℕ) : Type 0 where
-  pub count : length words ≡ words_in directory
-  pub packs : AllPass is_pack words
+-- packs, at most as many as the directory finds, with room for as many
+pub record AreWords (directory : List (Option ℕ)) (words : Vec ℕ Global) : Type 0 where
+  pub count : length words.items ≤ words_in directory
+  pub room : words_in directory ≤ vec_capacity words
+  pub packs : AllPass is_pack words.items

@@ -1,7 +1,7 @@
-ghost use Rattle.std.specs.Prelude.{◌≡◌, ◌<◌, ◌≤◌, IfOk, Some, map};
+ghost use Rattle.std.specs.Prelude.{◌≡◌, ◌<◌, ◌≤◌, IfOk, Some, map, vec_capacity};
 ghost use Rattle.std.specs.List.{range_with_len};
 ghost use Rattle.std.specs.Option.{ForSome};
-ghost use Rattle.space.specs.Directory.{AreLimits, IsDirectory, AreWords, turned};
+ghost use Rattle.space.specs.Directory.{AreLimits, IsDirectory, AreWords, filled, turned};
 
 use crate::error::NoMemory;
 use crate::place::{Entry, Place};
@@ -19,6 +19,9 @@ const SHARD_PAGES: usize = 64;
 ///
 /// The words lie one after another in shards of 64 pages of one space. A directory has for each shard of each space
 /// where its words stand.
+///
+/// Words behind the end of the list stand for absent pages, so that pages behind the last one used cost nothing. The memory of
+/// all words is asked for at the start, so that no later call takes any.
 #[derive(Drop)]
 pub struct Shards {
     spaces: u32,
@@ -28,7 +31,7 @@ pub struct Shards {
     words: Option<Vec<u64>>,
     ghost limits: { AreLimits spaces bits },
     ghost found: { IsDirectory spaces bits directory.items },
-    ghost packed: { ForSome words (λ v. AreWords directory.items v.items) },
+    ghost packed: { ForSome words (AreWords directory.items) },
 }
 
 impl Shards {
@@ -53,7 +56,7 @@ impl Shards {
     {
         let shards = spaces << (bits - SHARD_BITS);
         let directory = in_turn(alloc, shards, 1 << (bits - SHARD_BITS))?;
-        let words = vec![in alloc; 0; shards as usize * SHARD_PAGES]?;
+        let words = Vec::with_capacity(alloc, shards as usize * SHARD_PAGES)?;
         Ok(Shards {
             spaces,
             bits,
@@ -104,7 +107,8 @@ impl Shards {
         ensures { result ≡ entry_at self.now place }
     {
         let index = self.index(place);
-        unpack(self.words.as_ref().unwrap()[index])
+        let word = self.words.as_ref().unwrap().get(index)?;
+        unpack(*word)
     }
 
     /// Puts an entry at a place, or takes away what stands there.
@@ -118,6 +122,8 @@ impl Shards {
     {
         let index = self.index(place);
         let words = self.words.as_mut().unwrap();
+        // To the end of the shard, so that its other pages find their words there.
+        fill(words, (index / SHARD_PAGES + 1) * SHARD_PAGES);
         words[index] = pack(entry);
     }
 
@@ -166,7 +172,7 @@ impl Shards {
         self.set(place, Some(entry.extended(rights)));
     }
 
-    /// Gives the words away, that of each place at its index.
+    /// Gives the words of all pages away, that of each place at its index.
     pub fn take_words(&mut self) -> Vec<u64>
         requires { IsFalse (is_taken self.old) }
         ensures words { (p : Place) → IsPlace self.old p → slice_index result.items (index_of self.old p) ≡ word_of (entry_at self.old p) }
@@ -175,7 +181,9 @@ impl Shards {
         ensures taken { IsTrue (is_taken self.new) }
         ensures layout { IsLaidOutAs self.old self.new }
     {
-        self.words.take().unwrap()
+        let mut words = self.words.take().unwrap();
+        fill(&mut words, self.directory.len() * SHARD_PAGES);
+        words
     }
 
     /// Takes words in the place of those that were taken.
@@ -188,6 +196,18 @@ impl Shards {
         ensures layout { IsLaidOutAs self.old self.new }
     {
         self.words = Some(words);
+    }
+}
+
+/// Adds words of absent pages up to this length, if there are fewer. There is room for them, so that this takes no memory.
+fn fill(words: &mut Vec<u64>, up_to: usize)
+    requires { up_to ≤ vec_capacity words.old }
+    ensures items { words.new.items ≡ filled words.old.items up_to }
+    ensures capacity { vec_capacity words.old ≤ vec_capacity words.new }
+{
+    if words.len() < up_to {
+        let filled = words.resize(up_to, 0);
+        prove!(filled.is_ok());
     }
 }
 

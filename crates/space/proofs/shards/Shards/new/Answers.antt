@@ -1,10 +1,10 @@
--- The directory takes the shards in turn, and each word is 0.
-use Rattle.std.proofs.Common.{◌≡◌, ◌∙◌, sym, ap, subst, arith, ℕ, ◌*◌, ◌-◌, ◌^◌, ◌%◌, ◌<◌, ◌≤◌, [], length, map, Some, Option, Vec, Global}
-use Rattle.std.specs.Option.{option_map_or}
+-- The directory takes the shards in turn, and there is room for the words of all.
+use Rattle.std.proofs.Common.{◌≡◌, ◌∙◌, sym, ap, subst, arith, ℕ, ◌*◌, ◌-◌, ◌^◌, ◌%◌, ◌<◌, ◌≤◌, length, map, Some, vec_capacity}
 use Rattle.std.specs.List.{range_with_len}
-use Rattle.space.specs.Directory.{AreWords, shards_of, turned}
+use Rattle.std.proofs.lemmas.Option.{same_Some}
+use Rattle.space.specs.Directory.{AreWords, words_in, shards_of, turned}
 use Rattle.space.proofs.Directories.{in_turn_found, turns_length, shifted, all_few, shards_few, shards_some}
-use Rattle.space.proofs.ShardWords.{words_absent}
+use Rattle.space.proofs.ShardWords.{words_none}
 use Rattle.space.proofs.shards.Shards.new.Goals as goal
 
 each_is : (bits : ℕ) → bits ≤ 24 → 1 * 2 ^ (bits - 18) % 2 ^ 32 ≡ shards_of bits
@@ -35,7 +35,7 @@ pub invariant_of-result-clause-packed : goal.invariant_of-result-clause-packed
 invariant_of-result-clause-packed c words is =
     let shards = c.args.spaces * 2 ^ (c.args.bits - 18) % 2 ^ 32 in
     let directory = c.in_ok-directory.directory.items in
+    let made = c.in_ok-words.words in
     let count : length directory ≡ shards = ap length c.in_ok-directory.ensures ∙ turns_length (1 * 2 ^ (c.args.bits - 18) % 2 ^ 32) shards in
-    let zeros = c.in_ok-words.ensures.items_if_clones_equal (λ y same. same) in
-    let items = ap (λ (o : Option (Vec ℕ Global)). option_map_or (λ v. v.items) o []) is in
-    subst (AreWords directory) (sym zeros ∙ items) (words_absent directory (shards * 64) (ap (λ n. n * 64) (sym count)))
+    let room : words_in directory ≤ vec_capacity made = omega (arith, count, c.in_ok-words.ensures.capacity) in
+    subst (AreWords directory) (same_Some made words is) (words_none directory made c.in_ok-words.ensures.items room)
