@@ -287,6 +287,16 @@ impl NodeList {
         ensures err { OnErr result (self.new ≡ self.old) }
     {
         let Cutting { gaps, parts, .. } = Cutting::of(alloc, self, ranges, most)?;
+        self.remove_all(ranges);
+        Ok((gaps, parts))
+    }
+
+    /// Takes ranges out for good. This takes no memory.
+    pub fn remove_all(&mut self, ranges: &[Range<usize>])
+        requires { AreRising 0 ranges.now (length self.old.nodes) }
+        ensures nodes { self.new.nodes ≡ outside 0 ranges.now self.old.nodes }
+        ensures room { self.new.room ≡ self.old.room }
+    {
         match &mut self.form {
             Form::Few(nodes) => {
                 let left = close_gaps(nodes, ranges);
@@ -294,7 +304,6 @@ impl NodeList {
             }
             Form::Many(blocks) => blocks.remove_all(ranges),
         }
-        Ok((gaps, parts))
     }
 
     /// Puts parts into their gaps.

@@ -251,6 +251,16 @@ impl Tree {
         Ok(())
     }
 
+    /// Takes runs out of the tree for good. This takes no memory.
+    pub fn remove(&mut self, ranges: &[Range<usize>])
+        requires rising { AreRising 0 ranges.now (length self.old.links) }
+        requires runs { All (IsRun self.old.links) ranges.now }
+        ensures links { self.new.links ≡ outside 0 ranges.now self.old.links }
+        ensures room { self.new.room ≡ self.old.room }
+    {
+        self.nodes.remove_all(ranges);
+    }
+
     /// Another place for a node; its depth and what derives from it stay.
     pub fn rename(&mut self, i: usize, place: Place)
         requires within { i < length self.old.links }

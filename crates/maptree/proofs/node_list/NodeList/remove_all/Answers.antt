@@ -1,7 +1,7 @@
 -- There is room for as many as before.
 use Rattle.std.proofs.Common.{rules, arith}
-use Rattle.maptree.proofs.node_list.NodeList.cut.Goals as goal
-use Rattle.maptree.proofs.node_list.NodeList.cut.Goals.{in-Few, in-Many}
+use Rattle.maptree.proofs.node_list.NodeList.remove_all.Goals as goal
+use Rattle.maptree.proofs.node_list.NodeList.remove_all.Goals.{in-Few, in-Many}
 
 pub invariant_of-self : goal.invariant_of-self
 invariant_of-self c = elim c.match-self.branch [ in-Few w ↦ search (rules, arith, w) | in-Many w ↦ search (rules, arith, w) ]
