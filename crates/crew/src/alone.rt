@@ -175,6 +175,10 @@ impl Workers for Alone {
         LENGTH_ALONE
     }
 
+    fn works_alone(&self, _pieces: usize) -> bool {
+        true
+    }
+
     fn work(
         &self,
         alloc: Global,

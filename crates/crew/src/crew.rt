@@ -93,6 +93,10 @@ impl<'a, R: Threads + Wait> Workers for Crew<'a, R, NoGate> {
         self.piece_length
     }
 
+    fn works_alone(&self, pieces: usize) -> bool {
+        workers_for(self.workers, pieces) == 1
+    }
+
     fn work(
         &self,
         alloc: Global,

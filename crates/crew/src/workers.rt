@@ -14,6 +14,12 @@ pub trait Workers {
     fn piece_length(&self) -> usize
         ensures { 1 ≤ result };
 
+    /// Whether the calling thread would work so many pieces alone, with nobody told. A caller may then do without pieces what
+    /// they would do.
+    fn works_alone(&self, _pieces: usize) -> bool {
+        false
+    }
+
     /// Works all pieces of a phase, and returns the words as they leave them and what each piece found out. The pieces are
     /// numbered from 0, in the order in which they are given.
     ///

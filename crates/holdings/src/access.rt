@@ -1,7 +1,7 @@
 //! Accesses of pages, one phase for all of them.
 
 use crate::holdings::Holdings;
-use crate::phase::work_phase;
+use crate::phase::{is_worked_alone, work_phase};
 use crew::{CrewError, Workers};
 use fpage::Access;
 use pieces::{WordAccess, touches};
@@ -9,7 +9,7 @@ use space::{Place, Shards};
 use std::alloc::{AllocError, Global};
 
 impl Holdings {
-    ghost use Rattle.std.specs.Prelude.{◌∷◌, [], IfOk};
+    ghost use Rattle.std.specs.Prelude.{IfOk};
     ghost use Rattle.std.specs.List.{All};
     ghost use Rattle.holdings.specs.Contents.{AreAccessed};
     ghost use Rattle.holdings.specs.Places.{IsWithin};
@@ -27,8 +27,8 @@ impl Holdings {
         ensures { IfOk result (AreAccessed self accesses.now) }
     {
         // Of one access a list of pieces would cost more than the access.
-        if let [(place, access)] = accesses {
-            let made = self.access_page(alloc, *place, *access)?;
+        if accesses.len() == 1 || is_worked_alone(accesses.len(), workers) {
+            let made = self.access_alone(alloc, accesses)?;
             return Ok(made);
         }
         let Holdings { mut shards, trees } = self;
@@ -41,19 +41,20 @@ impl Holdings {
         Ok((Holdings { shards, trees }, found.answers))
     }
 
-    /// Makes one access, and says whether it was made.
-    fn access_page(
+    /// The same, without pieces.
+    fn access_alone(
         self,
         alloc: Global,
-        place: Place,
-        access: Access,
+        accesses: &[(Place, Access)],
     ) -> Result<(Self, Vec<bool>), AllocError>
-        requires { IsWithin self.limits place }
-        ensures { IfOk result (AreAccessed self ((place, access) ∷ [])) }
+        requires within { All (λ access. IsWithin self.limits access.0) accesses.now }
+        ensures { IfOk result (AreAccessed self accesses.now) }
     {
         let mut held = self;
-        let mut answers = Vec::with_capacity(alloc, 1)?;
-        answers.push(held.touch(place, access))?;
+        let mut answers = Vec::with_capacity(alloc, accesses.len())?;
+        for (place, access) in accesses {
+            answers.push(held.touch(*place, *access))?;
+        }
         Ok((held, answers))
     }
 }

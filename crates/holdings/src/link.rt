@@ -29,7 +29,7 @@ pub fn new_links(
     requires places { All (λ t. IsPlace shards.now t.source) transfers.now }
     ensures { IfOk result (λ links. links.items ≡ links_of shards.now transfers.now) }
 {
-    let mut links = Vec::new(alloc);
+    let mut links = Vec::with_capacity(alloc, transfers.len())?;
     for transfer in transfers {
         if transfer.extends {
             continue;

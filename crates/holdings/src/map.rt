@@ -2,6 +2,7 @@
 
 use crate::holdings::Holdings;
 use crate::link::{insert_links, new_links};
+use crate::phase::is_worked_alone;
 use crate::transfer::Transfer;
 use crate::transfer_counts::TransferCounts;
 use crate::writes::write_phase;
@@ -32,6 +33,10 @@ impl Holdings {
         requires ready { AreReady self.holdings rights transfers.now }
         ensures { IfOk result (AreMapped self transfers.now rights) }
     {
+        if is_worked_alone(transfers.len(), workers) {
+            let mapped = self.map_alone(alloc, transfers, rights)?;
+            return Ok(mapped);
+        }
         let Holdings {
             mut shards,
             mut trees,

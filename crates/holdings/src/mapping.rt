@@ -48,12 +48,21 @@ fn all_links(alloc: Global, trees: &[Tree]) -> Result<Vec<(Place, Option<Place>)
     ensures links { IfOk result (λ links. links.items ≡ flat_map (λ t. t.links) trees.now) }
     ensures once { OnOk result (All (λ t. are_once t.links ≡ true) trees.now) }
 {
-    let mut all = Vec::new(alloc);
+    let mut all = Vec::with_capacity(alloc, places_in(trees))?;
     for tree in trees {
         let links = tree.links(alloc)?;
         all.extend_from_slice(&links)?;
     }
     Ok(all)
+}
+
+/// How many places the trees have, for which room is made.
+fn places_in(trees: &[Tree]) -> usize {
+    let mut places: usize = 0;
+    for tree in trees {
+        places = places.saturating_add(tree.len());
+    }
+    places
 }
 
 ghost use Rattle.std.specs.Prelude.{IsFalse};

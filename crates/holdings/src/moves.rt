@@ -2,6 +2,7 @@
 
 use crate::holdings::Holdings;
 use crate::link::new_links;
+use crate::phase::is_worked_alone;
 use crate::renaming::rename_links;
 use crate::transfer::Transfer;
 use crate::transfer_counts::TransferCounts;
@@ -32,6 +33,10 @@ impl Holdings {
         requires free { AreFree self.holdings transfers.now }
         ensures { IfOk result (AreMoved self transfers.now) }
     {
+        if is_worked_alone(transfers.len(), workers) {
+            let moved = self.rename_alone(alloc, transfers)?;
+            return Ok(moved);
+        }
         let Holdings {
             mut shards,
             mut trees,

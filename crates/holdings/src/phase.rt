@@ -10,6 +10,11 @@ use pieces::{Done, Gathered, Piece, gather};
 use space::Shards;
 use std::alloc::Global;
 
+/// Whether the calling thread would work so many nodes, stores or pairs alone.
+pub fn is_worked_alone<W: Workers>(count: usize, workers: &W) -> bool {
+    workers.works_alone(count.div_ceil(workers.piece_length()))
+}
+
 /// Works the pieces of a phase on the words of the shards. Without memory or a worker the words are gone.
 pub fn work_phase<W: Workers>(
     alloc: Global,

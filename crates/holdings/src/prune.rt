@@ -1,6 +1,6 @@
 //! A tree loses the places that hold nothing any more.
 
-ghost use Rattle.std.specs.Prelude.{◌≡◌, ◌≤◌, true, length, filter, IfOk, OnOk, IsFalse};
+ghost use Rattle.std.specs.Prelude.{◌≡◌, ◌≤◌, true, not, length, filter, IfOk, OnOk, IsFalse};
 ghost use Rattle.std.specs.List.{All, list_all, slice_range};
 ghost use Rattle.space.specs.Shards.{IsPlace, is_taken};
 ghost use Rattle.maptree.specs.Origins.{IsRun, AreRising};
@@ -32,8 +32,12 @@ pub fn prune(
     requires origins { OriginsHaveEntries shards.now tree.old.links }
     ensures { OnOk result (tree.new.links ≡ pruned shards.now tree.old.links) }
 {
-    // Most calls take no page away, and a cut and a splice copy the whole list of the tree.
+    // Most calls take no page away, or all: a cut and a splice copy what is kept, and may copy the whole list of the tree.
     if are_held(shards, tree, runs) {
+        return Ok(());
+    }
+    if are_gone(shards, tree, runs) {
+        tree.remove(runs);
         return Ok(());
     }
     let parts = tree.cut(alloc, runs, usize::MAX)?;
@@ -164,6 +168,36 @@ fn is_held(shards: &Shards, tree: &Tree, run: &Range<usize>) -> bool
 {
     for i in run.start..run.end {
         if shards.get(tree.node(i).place).is_none() {
+            return false;
+        }
+    }
+    true
+}
+
+/// Whether no place of these runs has an entry.
+fn are_gone(shards: &Shards, tree: &Tree, runs: &[Range<usize>]) -> bool
+    requires present { IsFalse (is_taken shards.now) }
+    requires places { All (λ o. IsPlace shards.now o.0) tree.now.links }
+    requires within { All (λ run. run.end ≤ length tree.now.links) runs.now }
+    ensures { result ≡ list_all (λ run. list_all (λ o. not (has_entry shards.now o.0)) (slice_range tree.now.links run.start run.end)) runs.now }
+{
+    for run in runs {
+        if !is_gone(shards, tree, run) {
+            return false;
+        }
+    }
+    true
+}
+
+/// Whether no place of a run has an entry.
+fn is_gone(shards: &Shards, tree: &Tree, run: &Range<usize>) -> bool
+    requires present { IsFalse (is_taken shards.now) }
+    requires places { All (λ o. IsPlace shards.now o.0) tree.now.links }
+    requires within { run.now.end ≤ length tree.now.links }
+    ensures { result ≡ list_all (λ o. not (has_entry shards.now o.0)) (slice_range tree.now.links run.now.start run.now.end) }
+{
+    for i in run.start..run.end {
+        if shards.get(tree.node(i).place).is_some() {
             return false;
         }
     }

@@ -1,7 +1,7 @@
 //! Unmap as a recursion, page by page.
 
 use crate::holdings::Holdings;
-use crate::prune::prune;
+use crate::one_by_one::Order;
 use fpage::Rights;
 use maptree::{Node, Tree};
 use space::{NoMemory, Place, Shards};
@@ -28,33 +28,11 @@ impl Holdings {
         requires { All (IsWithin self.limits) places.now }
         ensures { IfOk result (IsStripped self (any_of places.now) revoked flush) }
     {
-        let Holdings {
-            mut shards,
-            mut trees,
-        } = self;
-        let mut status = Rights::none();
-        for place in places {
-            let Some(entry) = shards.get(*place) else {
-                continue;
-            };
-            let frame = entry.frame as usize;
-            let gained = visit_place(
-                alloc,
-                &mut shards,
-                &mut trees,
-                frame,
-                *place,
-                revoked,
-                flush,
-            )?;
-            status = status.join(gained);
-        }
-        Ok((Holdings { shards, trees }, status))
+        self.strip_one_by_one(alloc, places, revoked, flush, Order::Recursion)
     }
 }
 
-ghost use Rattle.std.specs.Prelude.{◌≡◌, ◌<◌, ◌≤◌, true, ◌||◌, not, [], ◌∷◌, ◌++◌, length, IfOk, OnOk, IfSome, IfNone, IsFalse};
-ghost use Rattle.std.specs.List.{All};
+ghost use Rattle.std.specs.Prelude.{◌≡◌, ◌<◌, ◌≤◌, ◌||◌, not, [], ◌∷◌, ◌++◌, length, IfOk, OnOk, IfSome, IfNone, IsFalse};
 ghost use Rattle.std.specs.Option.{option_and_then};
 ghost use Rattle.space.specs.declared.place.Place.{Place};
 ghost use Rattle.space.specs.Place.{same_place};
@@ -62,42 +40,15 @@ ghost use Rattle.space.specs.Shards.{IsPlace, IsSetAt, IsLaidOutAs, entry_at, is
 ghost use Rattle.maptree.specs.Origins.{place_at, IsRun};
 ghost use Rattle.model.specs.Holdings.{only};
 ghost use Rattle.model.specs.Strip.{strip, strip_word};
-ghost use Rattle.holdings.specs.Places.{IsWithin, any_of};
-ghost use Rattle.holdings.specs.Inner.Held.{is_listed, links_in, limits_in, holdings_in};
+ghost use Rattle.holdings.specs.Inner.Held.{links_in, holdings_in};
 ghost use Rattle.space.specs.Entries.{narrowed, status_of};
-ghost use Rattle.holdings.specs.Inner.Sound.{AreSound, AreLoose};
-
-/// Visits a place, takes out of its tree what is gone then, and gives back the status that was gathered.
-fn visit_place(
-    alloc: Global,
-    shards: &mut Shards,
-    trees: &mut [Tree],
-    frame: usize,
-    place: Place,
-    revoked: Rights,
-    flush: bool,
-) -> Result<Rights, NoMemory>
-    requires sound { AreSound shards.old trees.old }
-    requires frame { frame < length trees.old }
-    requires listed { is_listed trees.old frame place ≡ true }
-    ensures status { IfOk result (λ status. status ≡ strip_word (holdings_in shards.old trees.old) (only place)) }
-    ensures left { OnOk result (holdings_in shards.new trees.new ≡ strip (holdings_in shards.old trees.old) (only place) revoked flush) }
-    ensures sound { OnOk result (AreSound shards.new trees.new) }
-    ensures limits { OnOk result (limits_in shards.new trees.new ≡ limits_in shards.old trees.old) }
-{
-    let tree = &trees[frame];
-    let i = tree.find(place).unwrap();
-    let run = tree.run_of(i);
-    let status = visit(alloc, shards, trees, frame, &run, revoked, flush)?;
-    prune(alloc, shards, &mut trees[frame], &[run])?;
-    Ok(status)
-}
+ghost use Rattle.holdings.specs.Inner.Sound.{AreLoose};
 
 /// Visits the first place of a run: first what derives from it directly, each in the same way, and then the place itself
 /// loses the rights, if it is to, and its status is taken. What the visit took is added to the status of the origin.
 ///
 /// The tree stays: it may then list places that hold nothing.
-fn visit(
+pub fn visit(
     alloc: Global,
     shards: &mut Shards,
     trees: &[Tree],
@@ -152,7 +103,7 @@ fn pop_from(begun: &mut Vec<Node>, depth: usize) -> Option<Node>
 
 /// Ends the visit of a place: what it holds loses the rights, unless it is the first place of the recursion and is to keep
 /// them, and its status is cleared and given back.
-fn take(shards: &mut Shards, place: Place, first: Place, revoked: Rights, flush: bool) -> Rights
+pub fn take(shards: &mut Shards, place: Place, first: Place, revoked: Rights, flush: bool) -> Rights
     requires place { IsPlace shards.old place }
     requires present { IsFalse (is_taken shards.old) }
     ensures status { result ≡ status_of (entry_at shards.old place) }

@@ -1,6 +1,7 @@
 //! Rights revoked from pages and from all that derives from them.
 
 use crate::holdings::Holdings;
+use crate::one_by_one::Order;
 use crate::phase::work_phase;
 use crate::planning::{StripPlan, plan_strip};
 use crate::prune::prune_gone;
@@ -19,7 +20,8 @@ impl Holdings {
     /// them is cleared and returned, and what it was is added to that of the page from which they come. A page that has no
     /// rights left is no longer held (L4 X.2, Unmap).
     ///
-    /// Each tree is passed over by the outermost runs of the pages that it has, once each.
+    /// Each tree is passed over by the outermost runs of the pages that it has, once each. Where the calling thread would work
+    /// alone, pages of different frames are stripped one after another, without pieces.
     ///
     /// Refused, where memory or a worker is: `NoMemory`, `NoWorker`.
     pub fn strip<W: Workers>(
@@ -33,6 +35,10 @@ impl Holdings {
         requires within { All (IsWithin self.limits) places.now }
         ensures { IfOk result (IsStripped self (any_of places.now) revoked flush) }
     {
+        if self.are_stripped_alone(places, workers) {
+            let stripped = self.strip_one_by_one(alloc, places, revoked, flush, Order::List)?;
+            return Ok(stripped);
+        }
         let Holdings {
             mut shards,
             mut trees,

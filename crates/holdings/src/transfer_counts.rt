@@ -29,10 +29,34 @@ const NONE: TransferCounts = TransferCounts {
 
 impl TransferCounts {
     /// No transfers.
-    fn none() -> Self
+    pub(crate) fn none() -> Self
         ensures { counts_of result ≡ no_counts }
     {
         NONE
+    }
+
+    /// One transfer, whose source is not held.
+    pub(crate) fn one_lost() -> Self
+        ensures { counts_of result ≡ record no_counts { lost = 1 } }
+    {
+        TransferCounts { lost: 1, ..NONE }
+    }
+
+    /// One transfer, which gave rights to a mapping.
+    pub(crate) fn one_extended() -> Self
+        ensures { counts_of result ≡ record no_counts { extended = 1 } }
+    {
+        TransferCounts {
+            extended: 1,
+            ..NONE
+        }
+    }
+
+    /// One transfer, which made a new mapping.
+    pub(crate) fn one_linked() -> Self
+        ensures { counts_of result ≡ record no_counts { linked = 1 } }
+    {
+        TransferCounts { linked: 1, ..NONE }
     }
 
     /// What becomes of transfers, as the words stand.
@@ -57,19 +81,16 @@ impl TransferCounts {
         ensures one { total (counts_of result) ≡ 1 }
     {
         if shards.get(transfer.source).is_none() {
-            TransferCounts { lost: 1, ..NONE }
+            TransferCounts::one_lost()
         } else if transfer.extends {
-            TransferCounts {
-                extended: 1,
-                ..NONE
-            }
+            TransferCounts::one_extended()
         } else {
-            TransferCounts { linked: 1, ..NONE }
+            TransferCounts::one_linked()
         }
     }
 
     /// The transfers of both.
-    fn plus(self, more: TransferCounts) -> Self
+    pub(crate) fn plus(self, more: TransferCounts) -> Self
         requires { total (counts_of self) + total (counts_of more) < 2 ^ 64 }
         ensures { counts_of result ≡ add_counts (counts_of self) (counts_of more) }
     {

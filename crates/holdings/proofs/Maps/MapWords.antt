@@ -22,6 +22,7 @@ use Rattle.model.specs.Calls.{Limits}
 use Rattle.model.specs.Lawful.{is_lawful}
 use Rattle.model.specs.Items.{Counts, no_counts, add_counts, counts_of, extends, goes}
 use Rattle.model.specs.Map.{map_pair}
+use Rattle.model.specs.SendLaws.{total}
 use Rattle.holdings.specs.declared.link.Link.{Link}
 use Rattle.holdings.specs.declared.transfer.Transfer.{Transfer}
 use Rattle.holdings.specs.Inner.Derivation.{stands_in, IsDerived}
@@ -30,7 +31,7 @@ use Rattle.holdings.specs.Inner.Held.{links_in, is_listed, held_of, held_at, lim
 use Rattle.space.specs.Entries as word
 use Rattle.holdings.specs.Contents.{entry_of}
 use Rattle.holdings.specs.Inner.Sound.{AreSound, IsSound}
-use Rattle.holdings.specs.Sending.{IsTransferWithin, ArePaired, ArePlanned, IsReady, fate_in, pair_of, count_after_flush, map_transfers}
+use Rattle.holdings.specs.Sending.{IsTransferWithin, ArePaired, ArePlanned, IsReady, fate_in, pair_of, count_after_flush, counts_after_flush, map_transfers}
 use Rattle.holdings.specs.Inner.Links.{IsTreeSet, link_of, links_of, is_new_of, AreLinked, AreLinkable, IsPageLost, IsPageMapped}
 use Rattle.holdings.proofs.Contents.Listing.{listing_same}
 use Rattle.holdings.proofs.Trees.Positions.{derived_below}
@@ -254,6 +255,18 @@ module _ (first : Shards) (first_trees : List Shape) (rights : Rights) (ts : Lis
       by None is = page_lost new one is (lost is)
       by (Some e) is = page_mapped new one e is (mapped e is)
 
+  -- it counts one
+  pub one_counts : (new : Shards) (one : Counts) → (entry_at shards t.source ≡ None → IsPageLost shards new one) → ((e : Entry) → entry_at shards t.source ≡ Some e → IsPageMapped shards new rights t e one) → total one ≡ 1
+  one_counts new one lost mapped = by (entry_at shards t.source) refl
+    where
+      either : (b : Bool) → total (counts_of (if b then extends else goes) true) ≡ 1
+      either true = refl
+      either false = refl
+
+      by : (o : Option Entry) → entry_at shards t.source ≡ o → total one ≡ 1
+      by None is = ap total (lost is).counted
+      by (Some e) is = ap total (mapped e is).counted ∙ either t.extends
+
 -- ---- the new mappings can be put into the trees
 
 module _ (shards : Shards) where
@@ -353,6 +366,9 @@ module _ (shards : Shards) (trees : List Shape) (sound : AreSound shards trees) 
 module _ (first : Shards) (limits : Limits) (h : Holdings) (rights : Rights) (ts : List Transfer) (i : ℕ) (shards : Shards) (ahead : List Shape) (counts : Counts) (past : length ts ≤ i) (so_far : AreAhead first limits h rights ts i shards ahead counts) where
   at_end : AreLinked [] so_far.trees ahead
   at_end = subst (λ xs. AreLinked (links_of first xs) so_far.trees ahead) (drop_all i ts past) so_far.linked
+
+  pub all_counted : counts ≡ counts_after_flush h ts
+  all_counted = (all_mapped limits h rights so_far.from so_far.to so_far.differ ts i shards so_far.trees counts past so_far.are).0
 
   pub all_left : holdings_in shards ahead ≡ map_transfers h (record { kind = Map; rights = rights; pairs = [] }) ts h
   all_left = ahead_holdings shards so_far.trees ahead at_end ∙ (all_mapped limits h rights so_far.from so_far.to so_far.differ ts i shards so_far.trees counts past so_far.are).1

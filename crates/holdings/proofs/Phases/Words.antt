@@ -1,13 +1,11 @@
 -- Shards with other words in the place of their own.
-use Rattle.std.proofs.Common.{◌≡◌, ℕ, List, [], length, Option, Some, None, Vec, Global, slice_index, refl, sym, ap, ◌∙◌, subst}
-use Rattle.std.specs.Prelude.{IsFalse, is_none}
+use Rattle.std.proofs.Common.{◌≡◌, ℕ, List, length, sym, ap, ◌∙◌}
+use Rattle.std.specs.Prelude.{IsFalse}
 use Rattle.std.specs.List.{AllPass}
-use Rattle.std.specs.Option.{option_map, option_map_or}
-use Rattle.std.proofs.lemmas.Option.{same_Some}
+use Rattle.std.specs.Option.{option_map}
 use Rattle.space.specs.declared.place.Place.{Place}
 use Rattle.space.specs.declared.shards.Shards.{Shards}
-use Rattle.space.specs.Word.{is_pack, entry_of}
-use Rattle.space.specs.Directory.{AreWords}
+use Rattle.space.specs.Word.{is_pack}
 use Rattle.maptree.specs.Origins.{Shape}
 use Rattle.model.specs.Calls.{Limits}
 use Rattle.model.specs.Lawful.{is_lawful}
@@ -16,52 +14,22 @@ use Rattle.holdings.specs.Inner.Held.{held_of, held_at, has_frame, holdings_of}
 use Rattle.holdings.specs.Inner.Sound.{IsFitting, IsSound}
 use Rattle.holdings.proofs.Contents.Listing.{listing_same, within_from_place}
 use Rattle.holdings.proofs.Contents.Holders.{place_within}
-use Rattle.space.specs.Shards.{IsPlace, index_of, word_count, entry_at, is_taken, IsLaidOutAs}
+use Rattle.space.specs.Shards.{IsPlace, word_count, entry_at, is_taken, IsLaidOutAs}
 use Rattle.holdings.specs.Inner.Words.{AreWordsOf, IsWith}
-
-abbrev with_items : (v : Vec ℕ Global) (w : List ℕ) → length w ≡ length v.items → Vec ℕ Global
-with_items v w same = record { ptr = v.ptr; len = v.len; cap = v.cap; alloc = v.alloc; items = w; ok = (v.ok.0 ∙ sym same, v.ok.1); small = v.small }
+use Rattle.space.proofs.ShardWords.{shards_have_words, words_have_shards}
 
 -- there are such shards
 pub with_words : (s : Shards) → IsFalse (is_taken s) → (w : List ℕ) → length w ≡ word_count s → AllPass is_pack w → (n : Shards) × IsWith s w n
-with_words s present w count packs = by s.words refl
-  where
-    by : (o : Option (Vec ℕ Global)) → s.words ≡ o → (n : Shards) × IsWith s w n
-    by None is = absurd (cc (present, ap is_none is))
-    by (Some v) is =
-        let same : length w ≡ length v.items = count ∙ sym (s.packed v is).count in
-        let u = with_items v w same in
-        let n : Shards = record {
-          spaces = s.spaces;
-          bits = s.bits;
-          directory = s.directory;
-          words = Some u;
-          limits = s.limits;
-          found = s.found;
-          packed = λ x x_is. subst (λ (y : Vec ℕ Global). AreWords s.directory.items y.items) (same_Some u x x_is) (record { count = count; packs = packs });
-        } in (
-          n,
-          record {
-            words = record { count = count; packs = packs; entries = λ p place. refl };
-            present = refl;
-            layout = record { spaces = refl; bits = refl; count = refl; index = λ p. refl };
-          },
-        )
+with_words s present w count packs =
+    let found = words_have_shards s present w count packs in
+    let are = found.1.are in
+    (found.0, record { words = record { count = are.count; packs = are.packs; entries = are.entries }; present = found.1.present; layout = found.1.layout })
 
 -- shards that have words have some of their own
 pub own_words : (s : Shards) → IsFalse (is_taken s) → (w : List ℕ) × AreWordsOf s w
-own_words s present = by s.words refl
-  where
-    by : (o : Option (Vec ℕ Global)) → s.words ≡ o → (w : List ℕ) × AreWordsOf s w
-    by None is = absurd (cc (present, ap is_none is))
-    by (Some v) is = (
-      v.items,
-      record {
-        count = (s.packed v is).count;
-        packs = (s.packed v is).packs;
-        entries = λ p place. ap (λ o. entry_of (slice_index (option_map_or (λ (u : Vec ℕ Global). u.items) o []) (index_of s p))) (sym is);
-      },
-    )
+own_words s present =
+    let found = shards_have_words s present in
+    (found.0, record { count = found.1.count; packs = found.1.packs; entries = found.1.entries })
 
 -- ---- the same entries
 

@@ -1,5 +1,5 @@
 -- The words of pages that move, one after another.
-use Rattle.std.proofs.Common.{◌≡◌, ℕ, zero, suc, ◌+◌, ◌<◌, ◌≤◌, true, false, Bool, ◌||◌, List, [], ◌∷◌, ◌++◌, length, take, drop, get_or, Option, Some, None, unwrap_or, refl, sym, ap, ◌∙◌, subst, arith, ◌⊎◌, inl, inr, if◌then◌else◌}
+use Rattle.std.proofs.Common.{◌≡◌, ℕ, zero, suc, ◌+◌, ◌^◌, ◌<◌, ◌≤◌, true, false, Bool, ◌||◌, List, [], ◌∷◌, ◌++◌, length, take, drop, get_or, Option, Some, None, unwrap_or, refl, sym, ap, ◌∙◌, subst, arith, ◌⊎◌, inl, inr, if◌then◌else◌}
 use Rattle.std.specs.List.{All}
 use Rattle.std.specs.Option.{is_some}
 use Rattle.std.proofs.lemmas.Bool.{false_from_ne_true}
@@ -7,6 +7,7 @@ use Rattle.std.proofs.lemmas.List.{take_more, take_all, drop_more, drop_all}
 use Rattle.std.proofs.lemmas.List.Folds.{list_any-append}
 use Rattle.std.proofs.lemmas.List.Elements.{All-nil, All-cons, All-head, All-tail, All-get_or, All-take}
 use Rattle.std.proofs.lemmas.Option.{same_Some}
+use Rattle.fpage.specs.declared.rights.Rights.{Rights}
 use Rattle.fpage.specs.Rights.{no_rights}
 use Rattle.space.specs.declared.place.Place.{Place}
 use Rattle.space.specs.declared.place.Entry.{Entry}
@@ -32,7 +33,8 @@ use Rattle.holdings.specs.Inner.Sound.{IsSound}
 use Rattle.holdings.specs.Sending.{IsTransferWithin, IsApartFrom, ArePaired, ArePlanned, AllGo, pair_of, count_after_flush, counts_after_flush, moving_of}
 use Rattle.holdings.specs.Inner.Links.{IsPageLost}
 use Rattle.holdings.specs.Inner.Renamings.{IsPageMoved}
-use Rattle.holdings.proofs.Contents.Holders.{place_within, present_within, absent_within}
+use Rattle.holdings.proofs.Contents.Holders.{place_within, entry_elsewhere, present_within, absent_within}
+use Rattle.holdings.proofs.Contents.WordChanges.{IsWordSet, place_kept}
 use Rattle.holdings.proofs.CountSums.{add_assoc, add_none, none_add, total_sum}
 use Rattle.holdings.proofs.Renamings.MovedPages.{entry_moved, CameFrom, AreWordsMoved}
 
@@ -106,6 +108,27 @@ spaces_at : (from to i : ℕ) (ts : List Transfer) (d : Transfer) → ArePaired 
 spaces_at from to i [] d paired within = absurd (omega (arith, within))
 spaces_at from to zero (t ∷ ts) d paired within = (paired.0, paired.1)
 spaces_at from to (suc i) (t ∷ ts) d paired within = spaces_at from to i ts d paired.3 (omega (arith, within))
+
+-- ---- one word
+
+-- the word of the source is taken, and then put at the target
+pub page_moved : (old middle new : Shards) (source target : Place) (e : Entry) (status : Rights) (one : Counts) → IsPlace old source → IsPlace old target → same_place source target ≡ false
+    → IsWordSet old middle source None → IsWordSet middle new target (Some (record { frame = e.frame; rights = e.rights; status = status })) → status ≡ no_rights → one ≡ counts_of goes true → IsPageMoved old new source target e one
+page_moved old middle new source target e status one source_in target_in apart taken put none counted = record {
+  gone = entry_elsewhere middle new [] target (Some (record { frame = e.frame; rights = e.rights; status = status })) put.set source (place_kept old middle taken.layout source source_in) apart ∙ taken.set.there;
+  there = put.set.there ∙ ap (λ r. Some (record { frame = e.frame; rights = e.rights; status = r })) none;
+  elsewhere = λ p place not_source not_target.
+      entry_elsewhere middle new [] target (Some (record { frame = e.frame; rights = e.rights; status = status })) put.set p (place_kept old middle taken.layout p place) not_target
+      ∙ entry_elsewhere old middle [] source None taken.set p place not_source;
+  present = put.present;
+  layout = record {
+    spaces = put.layout.spaces ∙ taken.layout.spaces;
+    bits = put.layout.bits ∙ taken.layout.bits;
+    count = put.layout.count ∙ taken.layout.count;
+    index = λ p. put.layout.index p ∙ taken.layout.index p;
+  };
+  counted = counted;
+}
 
 -- ---- the pages so far
 
@@ -231,6 +254,13 @@ module _ (limits : Limits) (old : Shards) (trees : List Shape) (sound : IsSound 
     few_more : (one all : Counts) → all ≡ add_counts counts one → total one ≡ 1 → total all ≤ i + 1
     few_more one all all_is is = let few = so_far.few in subst (λ c. total c ≤ i + 1) (sym all_is) (subst (λ k. k ≤ i + 1) (sym (total_sum counts one)) (omega (arith, few, is)))
 
+    -- a count more fits
+    pub count_fits : (one : Counts) → total one ≡ 1 → total counts + total one < 2 ^ 64
+    count_fits one is = by (total counts) (total one) (length ts) so_far.few is within planned.few
+      where
+        by : (a b n : ℕ) → a ≤ i → b ≡ 1 → i < n → n ≤ 2 ^ 32 → a + b < 2 ^ 64
+        by a b n few is within most = omega arith
+
     -- ---- one page is lost
 
     pub step_lost : entry_at now t.source ≡ None → (next : Shards) (one all : Counts) → IsPageLost now next one → all ≡ add_counts counts one → AreMoving limits h old ts (i + 1) next all
@@ -326,6 +356,13 @@ module _ (limits : Limits) (old : Shards) (trees : List Shape) (sound : IsSound 
     -- ---- one page more, lost or moved
 
     module _ (next : Shards) (one : Counts) (lost : entry_at now t.source ≡ None → IsPageLost now next one) (moved : (e : Entry) → entry_at now t.source ≡ Some e → IsPageMoved now next t.source t.target e one) where
+      pub one_counts : total counts + total one < 2 ^ 64
+      one_counts = count_fits one (by (entry_at now t.source) refl)
+        where
+          by : (o : Option Entry) → entry_at now t.source ≡ o → total one ≡ 1
+          by None is = ap total (lost is).counted
+          by (Some e) is = ap total (moved e is).counted
+
       pub step : (all : Counts) → all ≡ add_counts counts one → AreMoving limits h old ts (i + 1) next all
       step all all_is = by (entry_at now t.source) refl
         where

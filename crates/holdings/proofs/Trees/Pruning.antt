@@ -1,11 +1,11 @@
 -- A tree without the places that have no entry.
-use Rattle.std.proofs.Common.{◌≡◌, ℕ, zero, suc, ◌+◌, ◌-◌, ◌<◌, ◌≤◌, true, false, Bool, Option, None, List, [], ◌∷◌, ◌++◌, length, drop, take, get_or, map, filter, refl, sym, ap, ◌∙◌, arith, if◌then◌else◌}
+use Rattle.std.proofs.Common.{◌≡◌, ℕ, zero, suc, ◌+◌, ◌-◌, ◌<◌, ◌≤◌, true, false, Bool, not, Option, None, List, [], ◌∷◌, ◌++◌, length, drop, take, get_or, map, filter, refl, sym, ap, ◌∙◌, arith, if◌then◌else◌}
 use Rattle.std.specs.Prelude.{Result, Ok, Err, OnOk}
 use Rattle.std.specs.List.{All, list_all, slice_range}
 use Rattle.std.proofs.lemmas.List.{take_more, map-append, get_or-drop, get_or-take, length-drop, length-take}
 use Rattle.std.proofs.lemmas.List.Elements.{filter-append, All-nil, All-cons, All-append}
 use Rattle.std.proofs.lemmas.List.Folds.{list_all-append, list_all_at, list_all_more, drop_split}
-use Rattle.std.proofs.lemmas.Bool.{and_from, and_parts}
+use Rattle.std.proofs.lemmas.Bool.{and_from, and_parts, not-true}
 use Rattle.std.specs.declared.ops.Range.{Range}
 use Rattle.space.specs.declared.place.Place.{Place}
 use Rattle.space.specs.declared.shards.Shards.{Shards}
@@ -137,3 +137,23 @@ module _ (test : Place → Bool) (os : Origins) where
 pub all_pass : {A : Type 0} (test : A → Bool) (xs : List A) → list_all test xs ≡ true → filter test xs ≡ xs
 all_pass test [] all = refl
 all_pass test (x ∷ xs) all = let parts = and_parts (test x) (list_all test xs) all in rw parts.0 (ap (λ ys. x ∷ ys) (all_pass test xs parts.1))
+
+-- a filter that none passes keeps nothing
+none_pass : {A : Type 0} (test : A → Bool) (xs : List A) → list_all (λ x. not (test x)) xs ≡ true → filter test xs ≡ []
+none_pass test [] none = refl
+none_pass test (x ∷ xs) none = let parts = and_parts (not (test x)) (list_all (λ y. not (test y)) xs) none in rw (not-true _ parts.0) (none_pass test xs parts.1)
+
+-- where no place in runs passes, and those outside of them do, these are left
+pub all_gone : (test : Place → Bool) (os : Origins) (from : ℕ) (runs : List (Range ℕ)) → AreRising from runs (length os) → list_all (λ r. list_all (λ o. not (test o.0)) (slice_range os r.start r.end)) runs ≡ true
+    → list_all (λ o. test o.0) (outside from runs os) ≡ true → filter (λ o. test o.0) (drop from os) ≡ outside from runs os
+all_gone test os from [] rise inside out = all_pass (λ o. test o.0) (drop from os) out
+all_gone test os from (r ∷ rs) rise inside out =
+    let within = and_parts _ _ inside in
+    let before = and_parts _ _ (sym (list_all-append (λ o. test o.0) (slice_range os from r.start) (outside r.end rs os)) ∙ out) in
+    ap (filter (λ o. test o.0)) (drop_split os from r.start rise.0)
+    ∙ filter-append (λ o. test o.0) (slice_range os from r.start) (drop r.start os)
+    ∙ ap (λ xs. xs ++ filter (λ o. test o.0) (drop r.start os)) (all_pass (λ o. test o.0) (slice_range os from r.start) before.0)
+    ∙ ap (λ xs. slice_range os from r.start ++ xs) (ap (filter (λ o. test o.0)) (drop_split os r.start r.end (omega (arith, rise.1)))
+    ∙ filter-append (λ o. test o.0) (slice_range os r.start r.end) (drop r.end os)
+    ∙ ap (λ xs. xs ++ filter (λ o. test o.0) (drop r.end os)) (none_pass (λ o. test o.0) (slice_range os r.start r.end) within.0)
+    ∙ all_gone test os r.end rs rise.2 within.1 before.1)

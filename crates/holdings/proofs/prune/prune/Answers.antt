@@ -4,7 +4,7 @@ use Rattle.std.specs.List.{All}
 use Rattle.space.specs.Shards.{IsPlace}
 use Rattle.maptree.specs.Cuts.{nodes_of, kept_of}
 use Rattle.holdings.specs.Inner.Held.{has_entry}
-use Rattle.holdings.proofs.Trees.Pruning.{all_pieces_of, all_parts, all_firsts, kept_parts, on_ok, none_gone, all_pass}
+use Rattle.holdings.proofs.Trees.Pruning.{all_pieces_of, all_parts, all_firsts, kept_parts, on_ok, none_gone, all_pass, all_gone}
 use Rattle.holdings.proofs.Stripping.Sequences.{rising_at}
 use Rattle.holdings.proofs.prune.prune.Goals as goal
 
@@ -15,6 +15,14 @@ pub returns-then-are_held : goal.returns-then-are_held
 returns-then-are_held c =
     let inside = sym c.are_held.ensures ∙ c.if-are_held.true in
     sym (all_pass (λ o. has_entry c.args.shards.now o.0) c.args.tree.now.links (none_gone (has_entry c.args.shards.now) c.args.tree.now.links 0 c.args.runs.now c.requires.rising inside c.requires.outside))
+
+pub are_gone-requires-clause-within : goal.are_gone-requires-clause-within
+are_gone-requires-clause-within c = λ k d less. (rising_at 0 c.args.runs.now (length c.args.tree.now.links) k d c.requires.rising less).1
+
+pub returns-then-are_gone : goal.returns-then-are_gone
+returns-then-are_gone c =
+    let inside = sym c.are_gone.ensures ∙ c.if-are_gone.true in
+    c.remove.ensures.links ∙ sym (all_gone (has_entry c.args.shards.now) c.args.tree.now.links 0 c.args.runs.now c.requires.rising inside c.requires.outside)
 
 pub held_parts-requires-clause-places : goal.held_parts-requires-clause-places
 held_parts-requires-clause-places c =

@@ -12,7 +12,7 @@ use Rattle.holdings.specs.Inner.Held.{contents_of, is_listed, limits_in, holding
 use Rattle.holdings.specs.Places.{IsWithin, any_of}
 use Rattle.holdings.specs.Inner.Sound.{AreSound}
 use Rattle.holdings.proofs.Recursions.PlaceByPlace.{AreVisitedUpTo, none_visited, one_visited, none_there, all_visited}
-use Rattle.holdings.proofs.holdings.Holdings.strip_by_recursion.Goals as goal
+use Rattle.holdings.proofs.holdings.Holdings.strip_one_by_one.Goals as goal
 
 -- the place that is visited next
 abbrev here : List Place → ℕ → Place
@@ -39,18 +39,18 @@ loop-place-preserved-in_default c =
     none_there c.self.inside.shards c.self.inside.trees.items c.self.invariant c.args.places.now c.args.revoked c.args.flush c.loop-place.place-index (record { space = 0; page = 0 }) c.loop-place-test.true
     c.loop-place.shards c.loop-place.trees.items c.loop-place.status c.loop-place.invariant within (sym c.get.ensures ∙ c.in_default.is)
 
-pub visit_place-requires-clause-sound : goal.visit_place-requires-clause-sound
-visit_place-requires-clause-sound c = subst (AreSound c.loop-place.shards) (sym c.deref_mut.ensures.value) c.loop-place.invariant.sound
+pub strip_place-requires-clause-sound : goal.strip_place-requires-clause-sound
+strip_place-requires-clause-sound c = subst (AreSound c.loop-place.shards) (sym c.deref_mut.ensures.value) c.loop-place.invariant.sound
 
-pub visit_place-requires-clause-frame : goal.visit_place-requires-clause-frame
-visit_place-requires-clause-frame c =
+pub strip_place-requires-clause-frame : goal.strip_place-requires-clause-frame
+strip_place-requires-clause-frame c =
     let named = subst (λ (h : Contents). All (IsWithin h.limits) c.args.places.now) (sym c.self.view_is) c.requires in
     let within = subst (λ (l : Limits). IsWithin l (here c.args.places.now c.loop-place.place-index)) (sym c.loop-place.invariant.limits) (named c.loop-place.place-index (record { space = 0; page = 0 }) c.loop-place-test.true) in
     subst (λ (ts : List Shape). c.in-Some.entry.frame < length ts) (sym c.deref_mut.ensures.value)
     (c.loop-place.invariant.sound.kept.fits.frame (here c.args.places.now c.loop-place.place-index) c.in-Some.entry within (sym c.get.ensures ∙ c.in-Some.is))
 
-pub visit_place-requires-clause-listed : goal.visit_place-requires-clause-listed
-visit_place-requires-clause-listed c =
+pub strip_place-requires-clause-listed : goal.strip_place-requires-clause-listed
+strip_place-requires-clause-listed c =
     let named = subst (λ (h : Contents). All (IsWithin h.limits) c.args.places.now) (sym c.self.view_is) c.requires in
     let within = subst (λ (l : Limits). IsWithin l (here c.args.places.now c.loop-place.place-index)) (sym c.loop-place.invariant.limits) (named c.loop-place.place-index (record { space = 0; page = 0 }) c.loop-place-test.true) in
     subst (λ (ts : List Shape). is_listed ts c.in-Some.entry.frame (here c.args.places.now c.loop-place.place-index) ≡ true) (sym c.deref_mut.ensures.value)
@@ -62,13 +62,13 @@ loop-place-preserved c =
     let t = c.self.inside.trees.items in
     let p = here c.args.places.now c.loop-place.place-index in
     let was = ap (holdings_in c.loop-place.shards) c.deref_mut.ensures.value in
-    let count : length c.visit_place.new.trees ≡ c.loop-place.trees.len = omega (arith, c.visit_place.auto.trees, ap length c.deref_mut.ensures.value, c.loop-place.trees.ok.0) in
+    let count : length c.strip_place.new.trees ≡ c.loop-place.trees.len = omega (arith, c.strip_place.auto.trees, ap length c.deref_mut.ensures.value, c.loop-place.trees.ok.0) in
     let next = one_visited s t c.self.invariant c.args.places.now c.args.revoked c.args.flush c.loop-place.place-index (record { space = 0; page = 0 }) c.loop-place-test.true
-    c.loop-place.shards c.loop-place.trees.items c.loop-place.status c.loop-place.invariant c.visit_place.new.shards c.visit_place.new.trees c.in_ok-gained.gained
+    c.loop-place.shards c.loop-place.trees.items c.loop-place.status c.loop-place.invariant c.strip_place.new.shards c.strip_place.new.trees c.in_ok-gained.gained
     (c.in_ok-gained.ensures.status ∙ ap (λ h. strip_word h (only p)) was) (c.in_ok-gained.ensures.left ∙ ap (λ h. strip h (only p) c.args.revoked c.args.flush) was)
     c.in_ok-gained.ensures.sound (c.in_ok-gained.ensures.limits ∙ ap (limits_in c.loop-place.shards) c.deref_mut.ensures.value) in
-    subst (λ ts. AreVisitedUpTo s t c.args.places.now (c.loop-place.place-index + 1) c.args.revoked c.args.flush c.visit_place.new.shards ts c.join-status.result) (sym (with_items_is c.loop-place.trees c.visit_place.new.trees count))
-    (subst (AreVisitedUpTo s t c.args.places.now (c.loop-place.place-index + 1) c.args.revoked c.args.flush c.visit_place.new.shards c.visit_place.new.trees) (sym c.join-status.ensures) next)
+    subst (λ ts. AreVisitedUpTo s t c.args.places.now (c.loop-place.place-index + 1) c.args.revoked c.args.flush c.strip_place.new.shards ts c.join-status.result) (sym (with_items_is c.loop-place.trees c.strip_place.new.trees count))
+    (subst (AreVisitedUpTo s t c.args.places.now (c.loop-place.place-index + 1) c.args.revoked c.args.flush c.strip_place.new.shards c.strip_place.new.trees) (sym c.join-status.ensures) next)
 
 pub invariant_of-result : goal.invariant_of-result
 invariant_of-result c = c.loop-place.invariant.sound

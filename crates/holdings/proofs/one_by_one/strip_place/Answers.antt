@@ -18,7 +18,7 @@ use Rattle.holdings.proofs.Stripping.Sequences.{AreStripped}
 use Rattle.holdings.proofs.Stripping.Frames.{loose_from, tree_places, outside_held, origins_stay, frame_left, frame_status, frame_sound}
 use Rattle.maptree.proofs.OneRun.{IsRunOf, run_found, one_run}
 use Rattle.holdings.proofs.Recursions.OnePlace.{one_of_frame, one_word, one_strip, one_first}
-use Rattle.holdings.proofs.recursion.visit_place.Goals as goal
+use Rattle.holdings.proofs.one_by_one.strip_place.Goals as goal
 
 -- the tree as it is read
 read : (c : goal.After-find) → links_in c.args.trees.now c.args.frame ≡ (get_or c.args.trees.now c.args.frame c.index-trees-frame.result).links
@@ -36,14 +36,14 @@ run_begun c =
     subst (λ os. IsRunOf os c.args.place c.run_of-run.result) (sym read)
     (run_found (get_or c.args.trees.now c.args.frame c.index-trees-frame.result).links c.args.place c.unwrap-i.result c.run_of-run.result (sym c.find.ensures ∙ c.unwrap-i.ensures) c.run_of-run.ensures.start c.run_of-run.ensures.end c.run_of-run.ensures.run)
 
-pub visit-requires-clause-run : goal.visit-requires-clause-run
-visit-requires-clause-run c = (run_begun c).whole
+pub strip_run-requires-clause-run : goal.strip_run-requires-clause-run
+strip_run-requires-clause-run c = (run_begun c).whole
 
-pub visit-requires-clause-some : goal.visit-requires-clause-some
-visit-requires-clause-some c = (run_begun c).some
+pub strip_run-requires-clause-some : goal.strip_run-requires-clause-some
+strip_run-requires-clause-some c = (run_begun c).some
 
-pub visit-requires-clause-within : goal.visit-requires-clause-within
-visit-requires-clause-within c = (run_begun c).within
+pub strip_run-requires-clause-within : goal.strip_run-requires-clause-within
+strip_run-requires-clause-within c = (run_begun c).within
 
 -- what was visited, before the tree is pruned
 outer : (c : goal.After-prune-arg-1) → AreOuterRuns (links_in c.args.trees.now c.args.frame) (c.args.place ∷ []) (c.run_of-run.result ∷ [])
@@ -52,9 +52,9 @@ outer c =
     one_run (links_in c.args.trees.now c.args.frame) c.args.place c.run_of-run.result (subst (λ os. IsRunOf os c.args.place c.run_of-run.result) (sym read)
     (run_found (get_or c.args.trees.now c.args.frame c.index-trees-frame.result).links c.args.place c.unwrap-i.result c.run_of-run.result (sym c.find.ensures ∙ c.unwrap-i.ensures) c.run_of-run.ensures.start c.run_of-run.ensures.end c.run_of-run.ensures.run))
 
-done : (c : goal.After-prune-arg-1) → AreStripped c.args.shards.now c.args.trees.now (firsts (links_in c.args.trees.now c.args.frame) (c.run_of-run.result ∷ [])) c.args.revoked c.args.flush c.visit.new.shards c.in_ok-status.status
+done : (c : goal.After-prune-arg-1) → AreStripped c.args.shards.now c.args.trees.now (firsts (links_in c.args.trees.now c.args.frame) (c.run_of-run.result ∷ [])) c.args.revoked c.args.flush c.strip_run.new.shards c.in_ok-status.status
 done c =
-    one_first c.args.shards.now c.args.trees.now (loose_from c.args.shards.now c.args.trees.now c.requires.sound) (links_in c.args.trees.now c.args.frame) c.run_of-run.result c.args.revoked c.args.flush c.visit.new.shards c.in_ok-status.status
+    one_first c.args.shards.now c.args.trees.now (loose_from c.args.shards.now c.args.trees.now c.requires.sound) (links_in c.args.trees.now c.args.frame) c.run_of-run.result c.args.revoked c.args.flush c.strip_run.new.shards c.in_ok-status.status
     (c.in_ok-status.ensures.status (record { space = 0; page = 0 })) (c.in_ok-status.ensures.left (record { space = 0; page = 0 })) c.in_ok-status.ensures.loose c.in_ok-status.ensures.layout
 
 tree_is : (c : goal.After-prune-arg-1) → links_in c.args.trees.now c.args.frame ≡ (get_or c.args.trees.now c.args.frame c.index-trees-frame-2.result).links
@@ -65,8 +65,8 @@ of_frame c = one_of_frame c.args.shards.now c.args.trees.now c.requires.sound c.
 
 pub prune-requires-clause-places : goal.prune-requires-clause-places
 prune-requires-clause-places c =
-    subst (All (λ o. IsPlace c.visit.new.shards o.0)) (tree_is c)
-    (tree_places c.args.shards.now c.args.trees.now c.requires.sound c.args.frame (c.args.place ∷ []) (of_frame c) (c.run_of-run.result ∷ []) (outer c) c.args.revoked c.args.flush c.visit.new.shards c.in_ok-status.status (done c))
+    subst (All (λ o. IsPlace c.strip_run.new.shards o.0)) (tree_is c)
+    (tree_places c.args.shards.now c.args.trees.now c.requires.sound c.args.frame (c.args.place ∷ []) (of_frame c) (c.run_of-run.result ∷ []) (outer c) c.args.revoked c.args.flush c.strip_run.new.shards c.in_ok-status.status (done c))
 
 pub prune-requires-clause-rising : goal.prune-requires-clause-rising
 prune-requires-clause-rising c = subst (λ os. AreRising 0 (c.run_of-run.result ∷ []) (length os)) (tree_is c) (outer c).rising
@@ -76,13 +76,13 @@ prune-requires-clause-runs c = subst (λ os. All (IsRun os) (c.run_of-run.result
 
 pub prune-requires-clause-outside : goal.prune-requires-clause-outside
 prune-requires-clause-outside c =
-    subst (λ os. list_all (λ o. has_entry c.visit.new.shards o.0) (outside 0 (c.run_of-run.result ∷ []) os) ≡ true) (tree_is c)
-    (outside_held c.args.shards.now c.args.trees.now c.requires.sound c.args.frame (c.args.place ∷ []) (of_frame c) (c.run_of-run.result ∷ []) (outer c) c.args.revoked c.args.flush c.visit.new.shards c.in_ok-status.status (done c))
+    subst (λ os. list_all (λ o. has_entry c.strip_run.new.shards o.0) (outside 0 (c.run_of-run.result ∷ []) os) ≡ true) (tree_is c)
+    (outside_held c.args.shards.now c.args.trees.now c.requires.sound c.args.frame (c.args.place ∷ []) (of_frame c) (c.run_of-run.result ∷ []) (outer c) c.args.revoked c.args.flush c.strip_run.new.shards c.in_ok-status.status (done c))
 
 pub prune-requires-clause-origins : goal.prune-requires-clause-origins
 prune-requires-clause-origins c =
-    subst (OriginsHaveEntries c.visit.new.shards) (tree_is c)
-    (origins_stay c.args.shards.now c.args.trees.now c.requires.sound c.args.frame (c.args.place ∷ []) (of_frame c) (c.run_of-run.result ∷ []) (outer c) c.args.revoked c.args.flush c.visit.new.shards c.in_ok-status.status (done c))
+    subst (OriginsHaveEntries c.strip_run.new.shards) (tree_is c)
+    (origins_stay c.args.shards.now c.args.trees.now c.requires.sound c.args.frame (c.args.place ∷ []) (of_frame c) (c.run_of-run.result ∷ []) (outer c) c.args.revoked c.args.flush c.strip_run.new.shards c.in_ok-status.status (done c))
 
 -- and then
 outer_last : (c : goal.In_ok-prune) → AreOuterRuns (links_in c.args.trees.now c.args.frame) (c.args.place ∷ []) (c.run_of-run.result ∷ [])
@@ -91,16 +91,16 @@ outer_last c =
     one_run (links_in c.args.trees.now c.args.frame) c.args.place c.run_of-run.result (subst (λ os. IsRunOf os c.args.place c.run_of-run.result) (sym read)
     (run_found (get_or c.args.trees.now c.args.frame c.index-trees-frame.result).links c.args.place c.unwrap-i.result c.run_of-run.result (sym c.find.ensures ∙ c.unwrap-i.ensures) c.run_of-run.ensures.start c.run_of-run.ensures.end c.run_of-run.ensures.run))
 
-done_last : (c : goal.In_ok-prune) → AreStripped c.args.shards.now c.args.trees.now (firsts (links_in c.args.trees.now c.args.frame) (c.run_of-run.result ∷ [])) c.args.revoked c.args.flush c.visit.new.shards c.in_ok-status.status
+done_last : (c : goal.In_ok-prune) → AreStripped c.args.shards.now c.args.trees.now (firsts (links_in c.args.trees.now c.args.frame) (c.run_of-run.result ∷ [])) c.args.revoked c.args.flush c.strip_run.new.shards c.in_ok-status.status
 done_last c =
-    one_first c.args.shards.now c.args.trees.now (loose_from c.args.shards.now c.args.trees.now c.requires.sound) (links_in c.args.trees.now c.args.frame) c.run_of-run.result c.args.revoked c.args.flush c.visit.new.shards c.in_ok-status.status
+    one_first c.args.shards.now c.args.trees.now (loose_from c.args.shards.now c.args.trees.now c.requires.sound) (links_in c.args.trees.now c.args.frame) c.run_of-run.result c.args.revoked c.args.flush c.strip_run.new.shards c.in_ok-status.status
     (c.in_ok-status.ensures.status (record { space = 0; page = 0 })) (c.in_ok-status.ensures.left (record { space = 0; page = 0 })) c.in_ok-status.ensures.loose c.in_ok-status.ensures.layout
 
-pruned_last : (c : goal.In_ok-prune) → IsTreeSet c.args.trees.now (slice_set c.args.trees.now c.args.frame c.prune.new.tree) c.args.frame (pruned c.visit.new.shards (links_in c.args.trees.now c.args.frame))
+pruned_last : (c : goal.In_ok-prune) → IsTreeSet c.args.trees.now (slice_set c.args.trees.now c.args.frame c.prune.new.tree) c.args.frame (pruned c.strip_run.new.shards (links_in c.args.trees.now c.args.frame))
 pruned_last c =
     let is : links_in c.args.trees.now c.args.frame ≡ (get_or c.args.trees.now c.args.frame c.index-trees-frame-2.result).links =
     links_read c.args.trees.now c.args.frame c.index-trees-frame-2.result c.requires.frame c.index-trees-frame-2.is ∙ ap (λ (t : Shape). t.links) c.index-trees-frame-2.is in
-    subst (IsTreeSet c.args.trees.now (slice_set c.args.trees.now c.args.frame c.prune.new.tree) c.args.frame) (c.in_ok-prune.ensures ∙ ap (pruned c.visit.new.shards) (sym is))
+    subst (IsTreeSet c.args.trees.now (slice_set c.args.trees.now c.args.frame c.prune.new.tree) c.args.frame) (c.in_ok-prune.ensures ∙ ap (pruned c.strip_run.new.shards) (sym is))
     (tree_set c.args.trees.now c.args.frame c.prune.new.tree c.requires.frame)
 
 framed : (c : goal.In_ok-prune) → AreOfFrame c.args.shards.now c.args.trees.now c.args.frame (c.args.place ∷ [])
@@ -108,17 +108,17 @@ framed c = one_of_frame c.args.shards.now c.args.trees.now c.requires.sound c.ar
 
 pub returns-clause-status : goal.returns-clause-status
 returns-clause-status c =
-    frame_status c.args.shards.now c.args.trees.now c.requires.sound c.args.frame (c.args.place ∷ []) (framed c) (c.run_of-run.result ∷ []) (outer_last c) c.args.revoked c.args.flush c.visit.new.shards c.in_ok-status.status (done_last c)
+    frame_status c.args.shards.now c.args.trees.now c.requires.sound c.args.frame (c.args.place ∷ []) (framed c) (c.run_of-run.result ∷ []) (outer_last c) c.args.revoked c.args.flush c.strip_run.new.shards c.in_ok-status.status (done_last c)
     (slice_set c.args.trees.now c.args.frame c.prune.new.tree) (pruned_last c)
     ∙ one_word (holdings_in c.args.shards.now c.args.trees.now) (lawful_parts (holdings_in c.args.shards.now c.args.trees.now) c.requires.sound.kept.lawful) c.args.place
 
 pub returns-clause-left : goal.returns-clause-left
 returns-clause-left c =
-    frame_left c.args.shards.now c.args.trees.now c.requires.sound c.args.frame (c.args.place ∷ []) (framed c) (c.run_of-run.result ∷ []) (outer_last c) c.args.revoked c.args.flush c.visit.new.shards c.in_ok-status.status (done_last c)
+    frame_left c.args.shards.now c.args.trees.now c.requires.sound c.args.frame (c.args.place ∷ []) (framed c) (c.run_of-run.result ∷ []) (outer_last c) c.args.revoked c.args.flush c.strip_run.new.shards c.in_ok-status.status (done_last c)
     (slice_set c.args.trees.now c.args.frame c.prune.new.tree) (pruned_last c)
     ∙ one_strip (holdings_in c.args.shards.now c.args.trees.now) (lawful_parts (holdings_in c.args.shards.now c.args.trees.now) c.requires.sound.kept.lawful) c.args.place c.args.revoked c.args.flush
 
 pub returns-clause-sound : goal.returns-clause-sound
 returns-clause-sound c =
-    frame_sound c.args.shards.now c.args.trees.now c.requires.sound c.args.frame (c.args.place ∷ []) (framed c) (c.run_of-run.result ∷ []) (outer_last c) c.args.revoked c.args.flush c.visit.new.shards c.in_ok-status.status (done_last c)
+    frame_sound c.args.shards.now c.args.trees.now c.requires.sound c.args.frame (c.args.place ∷ []) (framed c) (c.run_of-run.result ∷ []) (outer_last c) c.args.revoked c.args.flush c.strip_run.new.shards c.in_ok-status.status (done_last c)
     (slice_set c.args.trees.now c.args.frame c.prune.new.tree) (pruned_last c)

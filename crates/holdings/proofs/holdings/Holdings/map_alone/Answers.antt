@@ -1,0 +1,71 @@
+-- The trees first, and then word by word.
+use Rattle.std.proofs.Common.{◌≡◌, ◌+◌, List, length, sym, ap, ◌∙◌, subst, arith}
+use Rattle.std.specs.Vec.{with_items}
+use Rattle.std.proofs.lemmas.List.{with_items_is}
+use Rattle.maptree.specs.Origins.{Shape}
+use Rattle.model.specs.SendLaws.{total}
+use Rattle.holdings.specs.Contents.{Contents}
+use Rattle.holdings.specs.Meaning.{counts_of}
+use Rattle.holdings.specs.Inner.Links.{AreLinkable, AreLinked}
+use Rattle.holdings.specs.Sending.{ArePlanned, AreReady}
+use Rattle.holdings.specs.Inner.Held.{limits_in, holdings_in}
+use Rattle.holdings.proofs.Maps.MapWords.{AreAhead, linkable, none_ahead, one_page, one_counts, all_counted, all_left, all_sound, all_limits}
+use Rattle.holdings.proofs.holdings.Holdings.map_alone.Goals as goal
+
+pub insert_links-requires : goal.insert_links-requires
+insert_links-requires c =
+    let s = c.self.inside.shards in
+    let t = c.self.inside.trees.items in
+    let planned = subst (λ (h : Contents). ArePlanned h.limits c.args.transfers.now) (sym c.self.view_is) c.requires.planned in
+    let ready = subst (λ (h : Contents). AreReady h.holdings c.args.rights c.args.transfers.now) (sym c.self.view_is) c.requires.ready in
+    subst (λ (ts : List Shape). AreLinkable ts c.deref.result.now) (sym c.deref_mut.ensures.value)
+    (subst (AreLinkable t) (sym (c.deref.ensures.value ∙ c.in_ok-links.ensures)) (linkable s t c.self.invariant c.args.rights c.args.transfers.now planned ready))
+
+pub loop-transfer-init : goal.loop-transfer-init
+loop-transfer-init c =
+    let s = c.self.inside.shards in
+    let t = c.self.inside.trees.items in
+    let planned = subst (λ (h : Contents). ArePlanned h.limits c.args.transfers.now) (sym c.self.view_is) c.requires.planned in
+    let ready = subst (λ (h : Contents). AreReady h.holdings c.args.rights c.args.transfers.now) (sym c.self.view_is) c.requires.ready in
+    let linked : AreLinked _ t c.insert_links.new.trees = subst (λ ls. AreLinked ls t c.insert_links.new.trees) (c.deref.ensures.value ∙ c.in_ok-links.ensures)
+    (subst (λ (ts : List Shape). AreLinked c.deref.result.now ts c.insert_links.new.trees) c.deref_mut.ensures.value c.in_ok-insert_links.ensures) in
+    let count : length c.insert_links.new.trees ≡ c.self.inside.trees.len = omega (arith, c.insert_links.auto.trees, ap length c.deref_mut.ensures.value, c.self.inside.trees.ok.0) in
+    subst (λ (h : Contents). AreAhead s h.limits h.holdings c.args.rights c.args.transfers.now 0 s (with_items c.self.inside.trees c.insert_links.new.trees).items (counts_of c.none-worked.result)) c.self.view_is
+    (subst (λ ts. AreAhead s (limits_in s t) (holdings_in s t) c.args.rights c.args.transfers.now 0 s ts (counts_of c.none-worked.result)) (sym (with_items_is c.self.inside.trees c.insert_links.new.trees count))
+    (subst (AreAhead s (limits_in s t) (holdings_in s t) c.args.rights c.args.transfers.now 0 s c.insert_links.new.trees) (sym c.none-worked.ensures)
+    (none_ahead s t c.self.invariant c.args.rights c.args.transfers.now planned ready c.insert_links.new.trees linked)))
+
+pub plus-worked-requires : goal.plus-worked-requires
+plus-worked-requires c =
+    let s = c.self.inside.shards in
+    let t = c.self.inside.trees.items in
+    let planned = subst (λ (h : Contents). ArePlanned h.limits c.args.transfers.now) (sym c.self.view_is) c.requires.planned in
+    let ready = subst (λ (h : Contents). AreReady h.holdings c.args.rights c.args.transfers.now) (sym c.self.view_is) c.requires.ready in
+    let after = (with_items c.self.inside.trees c.insert_links.new.trees).items in
+    let so_far = subst (λ (h : Contents). AreAhead s h.limits h.holdings c.args.rights c.args.transfers.now c.loop-transfer.transfer-index c.loop-transfer.shards after (counts_of c.loop-transfer.worked)) (sym c.self.view_is) c.loop-transfer.invariant in
+    let one : total (counts_of c.map_page-one.result) ≡ 1 =
+    one_counts s t c.args.rights c.args.transfers.now c.loop-transfer.transfer-index c.loop-transfer-test.true c.loop-transfer.shards after (counts_of c.loop-transfer.worked)
+    planned ready so_far c.map_page-one.new.shards (counts_of c.map_page-one.result) c.map_page-one.ensures.lost c.map_page-one.ensures.mapped in
+    omega (arith, one, so_far.are.few, c.loop-transfer-test.true, planned.few)
+
+pub loop-transfer-preserved : goal.loop-transfer-preserved
+loop-transfer-preserved c =
+    let s = c.self.inside.shards in
+    let t = c.self.inside.trees.items in
+    let planned = subst (λ (h : Contents). ArePlanned h.limits c.args.transfers.now) (sym c.self.view_is) c.requires.planned in
+    let ready = subst (λ (h : Contents). AreReady h.holdings c.args.rights c.args.transfers.now) (sym c.self.view_is) c.requires.ready in
+    let after = (with_items c.self.inside.trees c.insert_links.new.trees).items in
+    let so_far = subst (λ (h : Contents). AreAhead s h.limits h.holdings c.args.rights c.args.transfers.now c.loop-transfer.transfer-index c.loop-transfer.shards after (counts_of c.loop-transfer.worked)) (sym c.self.view_is) c.loop-transfer.invariant in
+    subst (λ (h : Contents). AreAhead s h.limits h.holdings c.args.rights c.args.transfers.now (c.loop-transfer.transfer-index + 1) c.map_page-one.new.shards after (counts_of c.plus-worked.result)) c.self.view_is
+    (subst (AreAhead s (limits_in s t) (holdings_in s t) c.args.rights c.args.transfers.now (c.loop-transfer.transfer-index + 1) c.map_page-one.new.shards after) (sym c.plus-worked.ensures)
+    (one_page s t c.args.rights c.args.transfers.now c.loop-transfer.transfer-index c.loop-transfer-test.true c.loop-transfer.shards after (counts_of c.loop-transfer.worked)
+    planned ready so_far c.map_page-one.new.shards (counts_of c.map_page-one.result) c.map_page-one.ensures.lost c.map_page-one.ensures.mapped))
+
+pub invariant_of-result : goal.invariant_of-result
+invariant_of-result c = all_sound _ _ _ _ _ _ _ _ _ c.loop-transfer-test.false c.loop-transfer.invariant
+
+pub returns : goal.returns
+returns c =
+    let left = all_left _ _ _ _ _ _ _ _ _ c.loop-transfer-test.false c.loop-transfer.invariant in
+    let limits = all_limits _ _ _ _ _ _ _ _ _ c.loop-transfer-test.false c.loop-transfer.invariant in
+    record { left = λ i. record { limits = limits i; holdings = left i }; counted = all_counted _ _ _ _ _ _ _ _ _ c.loop-transfer-test.false c.loop-transfer.invariant }

@@ -1,0 +1,200 @@
+//! Pages that are stripped one after another, each with all that derives from it, on the words and trees themselves.
+
+use crate::holdings::Holdings;
+use crate::prune::prune;
+use crate::recursion::{take, visit};
+use crew::Workers;
+use fpage::Rights;
+use maptree::Tree;
+use space::{NoMemory, Place, Shards};
+use std::alloc::{AllocError, Global};
+use std::ops::Range;
+
+/// The order in which a page and all that derives from it lose their rights.
+#[derive(Clone, Copy, Debug, PartialEq, Eq)]
+pub enum Order {
+    /// That of the recursion: first what derives from a page, and then the page.
+    Recursion,
+    /// That of the tree's list.
+    List,
+}
+
+impl Holdings {
+    ghost use Rattle.std.specs.Prelude.{IfOk};
+    ghost use Rattle.std.specs.List.{All};
+    ghost use Rattle.holdings.specs.Contents.{IsStripped};
+    ghost use Rattle.holdings.specs.Places.{IsWithin, any_of};
+
+    /// The same as `strip`, page by page of those that are still held.
+    ///
+    /// Refused, where memory is: `NoMemory`.
+    pub(crate) fn strip_one_by_one(
+        self,
+        alloc: Global,
+        places: &[Place],
+        revoked: Rights,
+        flush: bool,
+        order: Order,
+    ) -> Result<(Self, Rights), NoMemory>
+        requires { All (IsWithin self.limits) places.now }
+        ensures { IfOk result (IsStripped self (any_of places.now) revoked flush) }
+    {
+        let Holdings {
+            mut shards,
+            mut trees,
+        } = self;
+        let mut status = Rights::none();
+        for place in places {
+            let Some(entry) = shards.get(*place) else {
+                continue;
+            };
+            let frame = entry.frame as usize;
+            let gained = strip_place(
+                alloc,
+                &mut shards,
+                &mut trees,
+                frame,
+                *place,
+                revoked,
+                flush,
+                order,
+            )?;
+            status = status.join(gained);
+        }
+        Ok((Holdings { shards, trees }, status))
+    }
+
+    /// Whether the calling thread would strip these pages alone, and one after another is the short way: each page has a greater
+    /// frame than the one before it, so that none derives from another, and none is passed over twice.
+    pub(crate) fn are_stripped_alone<W: Workers>(&self, places: &[Place], workers: &W) -> bool
+        requires { All (IsWithin self.now.limits) places.now }
+    {
+        let always = workers.works_alone(usize::MAX);
+        let mut last = None;
+        let mut pieces: usize = 0;
+        for place in places {
+            let Some(entry) = self.shards.get(*place) else {
+                continue;
+            };
+            if last >= Some(entry.frame) {
+                return false;
+            }
+            last = Some(entry.frame);
+            if !always {
+                let tree = &self.trees[entry.frame as usize];
+                pieces = pieces.saturating_add(pieces_of(tree, *place, workers.piece_length()));
+                if !workers.works_alone(pieces) {
+                    return false;
+                }
+            }
+        }
+        true
+    }
+}
+
+/// In how many pieces of at most so many nodes a page is stripped with all that derives from it.
+fn pieces_of(tree: &Tree, place: Place, most: usize) -> usize
+    requires { 1 ≤ most }
+{
+    let Some(i) = tree.find(place) else {
+        return 0;
+    };
+    let run = tree.run_of(i);
+    run.end.saturating_sub(run.start).div_ceil(most)
+}
+
+ghost use Rattle.std.specs.Prelude.{◌≡◌, ◌<◌, ◌≤◌, true, length, IfOk, OnOk};
+ghost use Rattle.space.specs.declared.place.Place.{Place};
+ghost use Rattle.space.specs.Shards.{IsPlace, IsLaidOutAs};
+ghost use Rattle.maptree.specs.Origins.{place_at, IsRun};
+ghost use Rattle.model.specs.Holdings.{only};
+ghost use Rattle.model.specs.Strip.{strip, strip_word};
+ghost use Rattle.holdings.specs.Inner.Held.{is_listed, links_in, limits_in, holdings_in};
+ghost use Rattle.holdings.specs.Inner.Sound.{AreSound, AreLoose};
+
+/// Strips a place, takes out of its tree what is gone then, and gives back the status that was gathered.
+fn strip_place(
+    alloc: Global,
+    shards: &mut Shards,
+    trees: &mut [Tree],
+    frame: usize,
+    place: Place,
+    revoked: Rights,
+    flush: bool,
+    order: Order,
+) -> Result<Rights, NoMemory>
+    requires sound { AreSound shards.old trees.old }
+    requires frame { frame < length trees.old }
+    requires listed { is_listed trees.old frame place ≡ true }
+    ensures status { IfOk result (λ status. status ≡ strip_word (holdings_in shards.old trees.old) (only place)) }
+    ensures left { OnOk result (holdings_in shards.new trees.new ≡ strip (holdings_in shards.old trees.old) (only place) revoked flush) }
+    ensures sound { OnOk result (AreSound shards.new trees.new) }
+    ensures limits { OnOk result (limits_in shards.new trees.new ≡ limits_in shards.old trees.old) }
+{
+    let tree = &trees[frame];
+    let i = tree.find(place).unwrap();
+    let run = tree.run_of(i);
+    let status = strip_run(alloc, shards, trees, frame, &run, revoked, flush, order)?;
+    prune(alloc, shards, &mut trees[frame], &[run])?;
+    Ok(status)
+}
+
+/// Strips the first place of a run in one order or the other. The tree stays: it may then list places that hold nothing.
+fn strip_run(
+    alloc: Global,
+    shards: &mut Shards,
+    trees: &[Tree],
+    frame: usize,
+    run: &Range<usize>,
+    revoked: Rights,
+    flush: bool,
+    order: Order,
+) -> Result<Rights, AllocError>
+    requires loose { AreLoose shards.old trees.now }
+    requires frame { frame < length trees.now }
+    requires run { IsRun (links_in trees.now frame) run.now }
+    requires some { run.now.start < run.now.end }
+    requires within { run.now.end ≤ length (links_in trees.now frame) }
+    ensures status { IfOk result (λ status. (d : Place) → status ≡ strip_word (holdings_in shards.old trees.now) (only (place_at (links_in trees.now frame) run.now.start d))) }
+    ensures left { OnOk result ((d : Place) → holdings_in shards.new trees.now ≡ strip (holdings_in shards.old trees.now) (only (place_at (links_in trees.now frame) run.now.start d)) revoked flush) }
+    ensures loose { OnOk result (AreLoose shards.new trees.now) }
+    ensures layout { OnOk result (IsLaidOutAs shards.old shards.new) }
+{
+    match order {
+        Order::Recursion => visit(alloc, shards, trees, frame, run, revoked, flush),
+        Order::List => Ok(walk(shards, trees, frame, run, revoked, flush)),
+    }
+}
+
+/// Passes over a run: each of its places loses the rights, the first one if it is to, and its status is taken. What was taken is
+/// added to the status of the origin of the run.
+fn walk(
+    shards: &mut Shards,
+    trees: &[Tree],
+    frame: usize,
+    run: &Range<usize>,
+    revoked: Rights,
+    flush: bool,
+) -> Rights
+    requires loose { AreLoose shards.old trees.now }
+    requires frame { frame < length trees.now }
+    requires run { IsRun (links_in trees.now frame) run.now }
+    requires some { run.now.start < run.now.end }
+    requires within { run.now.end ≤ length (links_in trees.now frame) }
+    ensures status { (d : Place) → result ≡ strip_word (holdings_in shards.old trees.now) (only (place_at (links_in trees.now frame) run.now.start d)) }
+    ensures left { (d : Place) → holdings_in shards.new trees.now ≡ strip (holdings_in shards.old trees.now) (only (place_at (links_in trees.now frame) run.now.start d)) revoked flush }
+    ensures loose { AreLoose shards.new trees.now }
+    ensures layout { IsLaidOutAs shards.old shards.new }
+{
+    let tree = &trees[frame];
+    let first = tree.node(run.start).place;
+    let mut status = Rights::none();
+    for i in run.start..run.end {
+        let node = tree.node(i);
+        status = status.join(take(shards, node.place, first, revoked, flush));
+    }
+    if let Some(origin) = tree.origin_of(run.start) {
+        shards.add_status(tree.node(origin).place, status);
+    }
+    status
+}
