@@ -151,7 +151,7 @@ fn whole_text(alloc: Global, texts: &[Result<String, AllocError>]) -> Result<Vec
     ensures whole { IfOk result (λ whole. whole.items ≡ flat_map bytes_in texts.now) }
     ensures all { OnOk result (All IsOk texts.now) }
 {
-    let mut whole = Vec::new(alloc);
+    let mut whole = Vec::with_capacity(alloc, bytes_of(texts))?;
     for text in texts {
         match text {
             Ok(text) => whole.extend_from_slice(text.as_bytes())?,
@@ -159,4 +159,15 @@ fn whole_text(alloc: Global, texts: &[Result<String, AllocError>]) -> Result<Vec
         }
     }
     Ok(whole)
+}
+
+/// How many bytes the texts have, for which room is made.
+fn bytes_of(texts: &[Result<String, AllocError>]) -> usize {
+    let mut bytes: usize = 0;
+    for text in texts {
+        if let Ok(text) = text {
+            bytes = bytes.saturating_add(text.len());
+        }
+    }
+    bytes
 }
