@@ -1,13 +1,14 @@
 #!/usr/bin/env python3
-"""The library for programs in C and in Rust: what its archive asks for, what its functions answer, and that its header, its
-Rust package, its examples and library.sh are right.
+"""The library for programs in C and in Rust: what its archive asks for and has, what its functions answer, and that its header,
+its Rust package, its examples and library.sh are right.
 
     tests/c_library.py [PROGRAM [ARCHIVE ARCHIVE_BY_RATTLE]]
 
 The archive is built by both of the kit's compilers, and all is tried over both; the one by LLVM is left in crates/capi/out. The
-programs of c/ are compared with the texts beside them, which were worked out by hand. Traces are replayed by c/replay.c: those
-of replays/ and of examples/ as the answers beside them say, and random ones, made from a table of seeds, as the program
-l4map replays them. Where there is no valgrind, C++ compiler, make or cargo, a line says what was not tried.
+programs of c/ are compared with the texts beside them, which were worked out by hand; c/readme.c runs the function that README.md
+has for kernels. Traces are replayed by c/replay.c: those of replays/ and of examples/ as the answers beside them say, and random
+ones, made from a table of seeds, as the program l4map replays them; some of both also under valgrind. Where there is no valgrind,
+C++ compiler, make or cargo, a line says what was not tried.
 """
 
 import glob
@@ -24,9 +25,11 @@ from support.program import TOP, Cases, Ended, difference, program_path, run
 
 INCLUDE = os.path.join(CAPI, "include")
 SOURCES = os.path.join(TOP, "tests", "c")
+EXAMPLE = os.path.join(TOP, "examples", "c")
 ANSWER = os.path.join(TOP, "examples", "first-six-records.txt")
 
-STRICT = ["-O1", "-g", "-Wall", "-Wextra", "-Werror", "-pedantic", "-I", INCLUDE, "-I", SOURCES]
+# Older valgrinds do not read the DWARF that newer compilers write by themselves.
+STRICT = ["-O1", "-gdwarf-4", "-Wall", "-Wextra", "-Werror", "-pedantic", "-I", INCLUDE, "-I", SOURCES]
 C11 = [os.environ.get("CC", "cc"), "-std=c11", *STRICT]
 CPP17 = [os.environ.get("CXX", "c++"), "-std=c++17", *STRICT]
 FREESTANDING = ["-ffreestanding", "-nostdlib", "-static", "-fno-stack-protector"]
@@ -39,7 +42,11 @@ LARGE_ARENA = "-DARENA_BYTES=((size_t)1<<28)"
 HEAP = {"rattle_alloc", "rattle_realloc", "rattle_dealloc"}
 COPIES = {"memset", "memmove", "memcpy"}
 
+# How nm marks a symbol that is asked for; w and v are weak ones.
+ASKED_KINDS = "Uwv"
+
 SEEDS = range(1, 301)
+WATCHED_SEEDS = SEEDS[:10]
 RECORDS = 40
 REFUSALS = ["BadRecord", "BadSize", "Misaligned", "OutOfSpace", "NotAnItem", "BadControl", "NoSuchSpace", "SameSpace", "NoWindow"]
 
@@ -75,12 +82,20 @@ def fault_in_symbols(archive):
     listed = run(["nm", "-g", archive.path])
     if listed.status != 0:
         return f"nm does not read it: {listed.stderr[:200]!r}"
-    symbols = re.findall(r"^(?:[0-9a-f]+)? +([A-Z]) (\S+)$", listed.stdout.decode(), re.M)
-    defined = {name for kind, name in symbols if kind != "U"}
-    asked = {name for kind, name in symbols if kind == "U"} - defined
+    symbols = re.findall(r"^(?:[0-9a-f]+)? +([A-Za-z]) (\S+)$", listed.stdout.decode(), re.M)
+    defined = {name for kind, name in symbols if kind not in ASKED_KINDS}
+    asked = {name for kind, name in symbols if kind in ASKED_KINDS} - defined
     declared = set(re.findall(r"^\w+ (l4map_\w+)\(", read(INCLUDE, "l4map.h").decode(), re.M))
     exported = {name for name in defined if name.startswith("l4map_")}
     return " ".join(sorted(asked - archive.may_want) + sorted(exported ^ declared))
+
+
+def fault_in_variables(archive):
+    """What size says of an archive that has variables, of the program or of a thread; or an empty text."""
+    told = run(["size", "-t", archive.path])
+    found = re.search(rb"^ *\d+\s+(\d+)\s+(\d+)\s.*\(TOTALS\)$", told.stdout, re.M)
+    has_none = told.status == 0 and found and int(found[1]) == int(found[2]) == 0
+    return "" if has_none else f"size ends with {told}"
 
 
 # Programs in C.
@@ -97,7 +112,8 @@ def compiled(cases, name, words, path):
 def check_program(cases, room, archive, name):
     """A program over the arena, which writes the text beside its source; under valgrind too."""
     program = os.path.join(room, name)
-    if not compiled(cases, f"{name}, {archive.backend}", [*C11, source(name + ".c"), source("arena.c"), archive.path], program):
+    words = [*C11, "-I", room, source(name + ".c"), source("arena.c"), archive.path]
+    if not compiled(cases, f"{name}, {archive.backend}", words, program):
         return
     wanted = Ended(0, read(SOURCES, name + ".txt"), b"")
     cases.compare(f"{name}, {archive.backend}", wanted, run([program]))
@@ -114,13 +130,29 @@ def check_bare(cases, room, archive):
 
 
 def check_cpp(cases, room, archive):
-    """The header in a program in C++."""
-    arena, program = os.path.join(room, "arena.o"), os.path.join(room, "header")
+    """The header in a program in C++, and the example in C as one in C++."""
     if not shutil.which(CPP17[0]):
         return
-    if compiled(cases, "the arena", [*C11, "-c", source("arena.c")], arena):
-        if compiled(cases, f"header.cpp, {archive.backend}", [*CPP17, source("header.cpp"), arena, archive.path], program):
-            cases.compare(f"header.cpp, {archive.backend}", Ended(0, b"", b""), run([program]))
+    pager, heap = os.path.join(EXAMPLE, "pager.c"), os.path.join(EXAMPLE, "heap.c")
+    check_in_cpp(cases, room, archive, source("header.cpp"), source("arena.c"), b"")
+    check_in_cpp(cases, room, archive, pager, heap, read(ANSWER))
+
+
+def check_in_cpp(cases, room, archive, path, heap, wanted):
+    """A program compiled as C++, over a heap in C."""
+    compiled_heap, program, name = os.path.join(room, "heap.o"), os.path.join(room, "in_cpp"), os.path.basename(path)
+    words = [*CPP17, "-x", "c++", path, "-x", "none", compiled_heap, archive.path]
+    if compiled(cases, f"the heap of {name} in C++", [*C11, "-c", heap], compiled_heap):
+        if compiled(cases, f"{name} in C++, {archive.backend}", words, program):
+            cases.compare(f"{name} in C++, {archive.backend}", Ended(0, wanted, b""), run([program]))
+
+
+def write_function_of_readme(room):
+    """The block in C of README.md's section for kernels, as live.h, which c/readme.c includes."""
+    section = r"^## In your kernel\n(?:(?!## ).*\n)*?```c\n((?:.*\n)*?)```$"
+    found = re.search(section, read("README.md").decode(), re.M)
+    with open(os.path.join(room, "live.h"), "w", encoding="utf-8") as file:
+        file.write(found[1] if found else "")
 
 
 def numbers(text):
@@ -198,13 +230,18 @@ def random_trace(seed):
     return "".join(record + "\n" for record in records).encode()
 
 
+def stored(folder):
+    """The names of the traces of a folder, and for each the trace and how its replay ends, by the answer beside it."""
+    found = sorted(path.removesuffix(".csv") for path in glob.glob(f"{folder}/*.csv", root_dir=TOP))
+    return {name: (read(name + ".csv"), Ended(0, read(name + ".txt"), b"")) for name in found}
+
+
 def check_stored(cases, replay, backend):
     """The traces of examples/ and of replays/, with the answers beside them."""
-    found = [path for folder in ("examples", "tests/replays/*") for path in glob.glob(f"{folder}/*.csv", root_dir=TOP)]
-    cases.check("there are traces", "" if found else "none was found")
-    for path in sorted(found):
-        name = path.removesuffix(".csv")
-        cases.compare(f"{name}, {backend}", Ended(0, read(name + ".txt"), b""), run([replay], read(path)))
+    traces = {**stored("examples"), **stored("tests/replays/*")}
+    cases.check("there are traces", "" if traces else "none was found")
+    for name, (trace, wanted) in traces.items():
+        cases.compare(f"{name}, {backend}", wanted, run([replay], trace))
 
 
 def check_random(cases, replay, backend, replayed):
@@ -224,17 +261,25 @@ def replay_random(cases, program):
     return replayed
 
 
+def check_watched(cases, replay, backend, replayed):
+    """Some traces, one behind another, under valgrind: it knows each block of this heap, and none of an arena."""
+    if not shutil.which("valgrind"):
+        return
+    traces = [*stored("examples").values(), *((random_trace(seed), replayed[seed]) for seed in WATCHED_SEEDS)]
+    wanted = Ended(0, b"".join(ended.stdout for _, ended in traces), b"")
+    got = run([*VALGRIND, replay], b"".join(trace for trace, _ in traces))
+    cases.compare(f"replay under valgrind, {backend}", wanted, got)
+
+
 def check_replays(cases, room, archive, replayed):
     """The program that replays traces, over the heap of the examples."""
     replay = os.path.join(room, "replay")
-    heap = os.path.join(TOP, "examples", "c", "heap.c")
-    if not compiled(cases, f"replay, {archive.backend}", [*C11, source("replay.c"), heap, archive.path], replay):
+    words = [*C11, source("replay.c"), os.path.join(EXAMPLE, "heap.c"), archive.path]
+    if not compiled(cases, f"replay, {archive.backend}", words, replay):
         return
     check_stored(cases, replay, archive.backend)
     check_random(cases, replay, archive.backend, replayed)
-    if shutil.which("valgrind"):
-        got = run([*VALGRIND, replay], random_trace(SEEDS[0]))
-        cases.compare(f"replay under valgrind, {archive.backend}", replayed[SEEDS[0]], got)
+    check_watched(cases, replay, archive.backend, replayed)
 
 
 # Examples, the Rust package and library.sh, in a copy of what they need.
@@ -249,46 +294,62 @@ def copy_tree(room):
     return tree
 
 
+def put_in_place(tree, archive):
+    """Leaves the archive in the copy where library.sh would, and so where both examples look for it."""
+    folder = os.path.join(tree, "crates", "capi", "out")
+    os.makedirs(folder, exist_ok=True)
+    shutil.copy(archive.path, os.path.join(folder, "libcapi.a"))
+
+
+def environment(**settings):
+    """The environment of a run that is told of no archive but by these settings."""
+    told = {name: value for name, value in os.environ.items() if name not in ("ARCHIVE", "L4MAP_ARCHIVE")}
+    return {**told, **settings}
+
+
 def check_c_example(cases, tree, archive):
-    """The example in C, compiled anew and run as its README says."""
+    """The example in C, compiled anew each time: by the command of the READMEs, and over an archive that is named."""
     if not shutil.which("make"):
         return
-    folder = os.path.join(tree, "examples", "c")
-    shutil.rmtree(os.path.join(folder, "out"), ignore_errors=True)
-    got = run(["make", "--silent", "--no-print-directory", "-C", folder, "run", f"ARCHIVE={archive.path}"])
-    cases.compare(f"examples/c, {archive.backend}", Ended(0, read(ANSWER), b""), got)
+    for how, words in (("as it stands", []), ("over a named archive", [f"ARCHIVE={archive.path}"])):
+        shutil.rmtree(os.path.join(tree, "examples", "c", "out"), ignore_errors=True)
+        got = run(["make", "-C", "examples/c", "run", *words], cwd=tree, env=environment())
+        # What make says itself, and the command by which it compiles.
+        said = re.sub(rb"^(?:make\b|.* -o out/pager ).*\n", b"", got.stdout, flags=re.M)
+        cases.compare(f"examples/c {how}, {archive.backend}", Ended(0, read(ANSWER), b""), got._replace(stdout=said))
 
 
-def cargo(tree, folder, archive, *words):
+def cargo(tree, folder, *words, **settings):
     """One run of cargo in a folder of the copy, which leaves what it makes there too."""
-    env = {**os.environ, "L4MAP_ARCHIVE": archive.path, "CARGO_TARGET_DIR": os.path.join(tree, "target")}
+    env = environment(CARGO_TARGET_DIR=os.path.join(tree, "target"), **settings)
     return run(["cargo", *words, "--offline", "--quiet"], cwd=os.path.join(tree, folder), env=env)
 
 
 def check_rust(cases, tree, archive):
-    """The tests of the Rust package, of its units, its heap and its documentation, and the example over it."""
-    package, name = "bindings/rust", f"bindings/rust, {archive.backend}"
+    """The tests of the Rust package, of its units, its heap and its documentation, and the example over it, which looks for the
+    archive where library.sh leaves it."""
+    package, name, named = "bindings/rust", f"bindings/rust, {archive.backend}", {"L4MAP_ARCHIVE": archive.path}
     if not shutil.which("cargo"):
         return
-    tested = cargo(tree, package, archive, "test")
+    tested = cargo(tree, package, "test", **named)
     counts = [int(count) for count in re.findall(rb"^test result: ok\. (\d+) passed; 0 failed;", tested.stdout, re.M)]
     right = tested.status == 0 and len(counts) == 3 and all(counts)
     cases.check(f"{name}: its tests", "" if right else f"it ended with {tested}")
-    got = cargo(tree, package, archive, "build", "--no-default-features")
+    got = cargo(tree, package, "build", "--no-default-features", **named)
     cases.compare(f"{name}: without its heap", Ended(0, b"", b""), got)
-    got = cargo(tree, "examples/rust", archive, "run")
+    got = cargo(tree, ".", "run", "--manifest-path", "examples/rust/Cargo.toml")
     cases.compare(f"examples/rust, {archive.backend}", Ended(0, read(ANSWER), b""), got)
 
 
 def check_missing_archive(cases, tree):
     """Where there is no archive one line says so."""
-    nowhere = Archive("", "/nowhere/libcapi.a", set())
+    nowhere = "/nowhere/libcapi.a"
     if shutil.which("make"):
-        got = run(["make", "-C", os.path.join(tree, "examples", "c"), "ARCHIVE=" + nowhere.path])
+        got = run(["make", "-C", os.path.join(tree, "examples", "c"), "ARCHIVE=" + nowhere])
         line = b"there is no archive /nowhere/libcapi.a: ./library.sh at the top of the repository builds it\n"
         cases.check("examples/c without the archive", "" if got.status and line in got.stderr else f"it ended with {got}")
     if shutil.which("cargo"):
-        got = cargo(tree, "bindings/rust", nowhere, "build")
+        got = cargo(tree, "bindings/rust", "build", L4MAP_ARCHIVE=nowhere)
         line = b": there is no archive /nowhere/libcapi.a: ./library.sh builds one, and L4MAP_ARCHIVE may name another\n"
         cases.check("bindings/rust without the archive", "" if got.status and line in got.stderr else f"it ended with {got}")
 
@@ -363,9 +424,12 @@ def main():
     with tempfile.TemporaryDirectory() as room:
         check_script(cases, room)
         replayed, tree = replay_random(cases, program), copy_tree(room)
+        write_function_of_readme(room)
         for archive in archives(room):
+            put_in_place(tree, archive)
             cases.check(f"what the archive asks for, {archive.backend}", fault_in_symbols(archive))
-            for name in ("look", "calls", "refused"):
+            cases.check(f"the archive has no variables, {archive.backend}", fault_in_variables(archive))
+            for name in ("look", "calls", "refused", "readme"):
                 check_program(cases, room, archive, name)
             check_bare(cases, room, archive)
             check_cpp(cases, room, archive)

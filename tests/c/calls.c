@@ -2,7 +2,8 @@
  * after it. Every line is compared by c_library.py with one that was worked out by hand.
  *
  * A line is a call, its code, what stands in the caller's reply afterwards, in which there were nines before, and
- * whether what is held is the same as before. */
+ * whether what is held is the same as before. The last line says how many blocks were asked for by calls that only look.
+ */
 
 #include "arena.h"
 #include "l4map.h"
@@ -22,9 +23,14 @@ struct held {
     struct l4map_mapping mappings[PLACES];
 };
 
+/* How many blocks were asked for by entries, origins and mappings. */
+static uint32_t asked_by_looks;
+
 static void look(struct l4map *db, struct held *held) {
+    uint32_t asked = arena_asked;
     memset(held, 0, sizeof *held);
     held->code = l4map_mappings(db, 0, 0, held->mappings, PLACES, &held->count);
+    asked_by_looks += arena_asked - asked;
 }
 
 /* Ends the line of a call: what is held against what was held before it. */
@@ -82,7 +88,9 @@ static void access(struct l4map *db, uint16_t space, uint32_t address, uint32_t 
 static void page(struct l4map *db, uint16_t space, uint32_t page) {
     struct l4map_entry_reply e = {9, 9, 9, 9};
     struct l4map_origin_reply o = {9, 9, 9};
+    uint32_t asked = arena_asked;
     uint32_t code = l4map_entry(db, space, page, &e), origin_code = l4map_origin(db, space, page, &o);
+    asked_by_looks += arena_asked - asked;
     printf("page %u:%u = %u %u | %u %u %u %u | %u %u %u\n", space, page, code, origin_code, e.held, e.frame, e.rights,
            e.status, o.known, o.space, o.page);
 }
@@ -90,10 +98,11 @@ static void page(struct l4map *db, uint16_t space, uint32_t page) {
 static void mappings(struct l4map *db, uint16_t space, uint32_t page, size_t n) {
     struct l4map_mapping some[4], nines[4];
     size_t count = 9, i;
-    uint32_t code;
+    uint32_t code, asked = arena_asked;
     memset(some, 9, sizeof some);
     memset(nines, 9, sizeof nines);
     code = l4map_mappings(db, space, page, some, n, &count);
+    asked_by_looks += arena_asked - asked;
     printf("mappings %u:%x %zu = %u | %zu", space, page, n, code, count);
     for (i = 0; code == L4MAP_DONE && i < count && i < 4; i++) {
         const struct l4map_mapping *m = &some[i];
@@ -274,5 +283,6 @@ int main(void) {
     refuse_unmaps(&db);
     refuse_accesses(&db);
     call_two(&db);
+    printf("asked by looks %u\n", asked_by_looks);
     return 0;
 }

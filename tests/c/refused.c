@@ -115,21 +115,45 @@ static bool is_untouched(const struct call *c, const struct lent *lent) {
 }
 
 /* A database that is halted answers each call so, whatever is wrong with it, and writes nothing. */
-static bool stays_halted(struct l4map *db) {
+static bool halts_bad_calls(struct l4map *db) {
     struct lent lent, nines;
     struct l4map_entry_reply entry = {9, 9, 9, 9};
     struct l4map_origin_reply origin = {9, 9, 9};
-    struct l4map_mapping mapping = {.frame = 9};
-    size_t count = 9;
     memset(&lent, 9, sizeof lent);
     memset(&nines, 9, sizeof nines);
     return l4map_send(db, 9, 9, 0xb7, lent.words, 1, &lent.reply) == L4MAP_HALTED &&
            l4map_unmap(db, 9, 0x80, lent.words, 1) == L4MAP_HALTED &&
            l4map_access(db, 9, 0x40000, 3, &lent.made) == L4MAP_HALTED &&
            l4map_entry(db, 9, 64, &entry) == L4MAP_HALTED && l4map_origin(db, 9, 64, &origin) == L4MAP_HALTED &&
-           l4map_mappings(db, 0, 0, &mapping, 1, &count) == L4MAP_HALTED &&
            l4map_new(db, 3, 18, 16) == L4MAP_HOLDS_ONE && !memcmp(&lent, &nines, sizeof lent) && entry.held == 9 &&
-           origin.known == 9 && mapping.frame == 9 && count == 9;
+           origin.known == 9;
+}
+
+/* The same where nothing is wrong with a call: page 0 of space 0 is sent, unmapped and accessed. */
+static bool halts_good_calls(struct l4map *db) {
+    struct lent lent, nines;
+    uint32_t item[2] = {8, 0xc7}, word = 0xc7;
+    memset(&lent, 9, sizeof lent);
+    memset(&nines, 9, sizeof nines);
+    return l4map_send(db, 0, 1, 0x10, item, 2, &lent.reply) == L4MAP_HALTED &&
+           l4map_unmap(db, 0, 0, &word, 1) == L4MAP_HALTED && l4map_access(db, 0, 0, 4, &lent.made) == L4MAP_HALTED &&
+           !memcmp(&lent, &nines, sizeof lent) && word == 0xc7;
+}
+
+/* The same where it is looked at, for which no memory is asked for. */
+static bool halts_looks(struct l4map *db) {
+    struct l4map_entry_reply entry = {9, 9, 9, 9};
+    struct l4map_origin_reply origin = {9, 9, 9};
+    struct l4map_mapping mapping = {.frame = 9};
+    uint32_t asked = arena_asked;
+    size_t count = 9;
+    return l4map_entry(db, 0, 0, &entry) == L4MAP_HALTED && l4map_origin(db, 0, 0, &origin) == L4MAP_HALTED &&
+           l4map_mappings(db, 0, 0, &mapping, 1, &count) == L4MAP_HALTED && entry.held == 9 && origin.known == 9 &&
+           mapping.frame == 9 && count == 9 && arena_asked == asked;
+}
+
+static bool stays_halted(struct l4map *db) {
+    return halts_bad_calls(db) && halts_good_calls(db) && halts_looks(db);
 }
 
 /* Makes a call; l4map_new() once more where it was refused memory. Whether the database is not halted. */
@@ -192,8 +216,8 @@ static void run_all(const char *how) {
     while (run()) {
         refusing++;
     }
-    printf("%s: told by %s new, %s sends, %s unmaps; wrong %u\n", how, told[NEW] ? "some" : "no",
-           told[SEND] ? "some" : "no", told[UNMAP] ? "some" : "no", wrong);
+    printf("%s: told by %s new, %s sends, %s unmaps, %s accesses; wrong %u\n", how, told[NEW] ? "some" : "no",
+           told[SEND] ? "some" : "no", told[UNMAP] ? "some" : "no", told[ACCESS] ? "some" : "no", wrong);
 }
 
 int main(void) {

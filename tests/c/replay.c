@@ -1,8 +1,9 @@
-/* Replays a trace through the library: reads it from standard input, and writes what l4map writes (docs/FORMATS.md).
+/* Replays traces through the library: reads one, or several one behind another, from standard input, and writes for each
+ * what l4map writes (docs/FORMATS.md).
  *
- * The trace has no quotes, and each of its fields has the right form, but that there may be any number of words and any
- * kind of access: what the library answers with L4MAP_BAD_CALL is l4map's BadRecord. It ends with status 2 at a header
- * or a line that it does not take, and with 3 where memory is refused. */
+ * A trace has no quotes, and no header but its first line. Each of its fields has the right form, but that there may be
+ * any number of words and any kind of access: what the library answers with L4MAP_BAD_CALL is l4map's BadRecord. It ends
+ * with status 2 at a header or a line that it does not take, and with 3 where memory is refused. */
 
 #include "l4map.h"
 
@@ -145,19 +146,30 @@ static void audit(struct l4map *db) {
     } while (count);
 }
 
-int main(void) {
+/* Replays the trace whose header was read last. Whether another header comes behind it. */
+static int replay(struct record *r) {
     struct l4map db = L4MAP_NOTHING;
-    struct record r;
     unsigned records = 0, refused = 0;
-    if (!read_record(&r) || l4map_new(&db, number(&r, 2, 10), number(&r, 3, 10), number(&r, 4, 10)) != L4MAP_DONE) {
+    int goes_on;
+    if (l4map_new(&db, number(r, 2, 10), number(r, 3, 10), number(r, 4, 10)) != L4MAP_DONE) {
         leave(2, "the header is bad");
     }
-    while (read_record(&r)) {
+    while ((goes_on = read_record(r)) && strcmp(r->fields[0], "l4map")) {
         printf("%u", ++records);
-        refused += (unsigned)reply(&db, &r);
+        refused += (unsigned)reply(&db, r);
     }
     audit(&db);
     printf("end %u %u\n", records, refused);
     l4map_free(&db);
+    return goes_on;
+}
+
+int main(void) {
+    struct record r;
+    if (!read_record(&r)) {
+        leave(2, "there is no header");
+    }
+    while (replay(&r)) {
+    }
     return 0;
 }

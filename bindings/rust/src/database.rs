@@ -40,6 +40,26 @@ impl Access {
 }
 
 /// How many pages of a send had which outcome.
+///
+/// ```
+/// use l4map::{Counts, Database, Fpage, Item, Limits, Rights, Space};
+///
+/// # fn main() -> Result<(), l4map::Error> {
+/// let mut database = Database::new(Limits { spaces: 2, bits: 18, frames: 3 })?;
+/// let window = Fpage::complete(Rights::NONE);
+///
+/// // Of the first four pages space 0 holds three.
+/// let read = Item::map(Fpage::pages(0, 4, Rights::READ).unwrap(), 0);
+/// let counts = database.send(Space(0), Space(1), window, &[read])?;
+/// assert_eq!(counts, Counts { absent: 1, linked: 3, ..Counts::default() });
+///
+/// // Space 1 has page 0 already, and gets the right to write it too.
+/// let write = Item::map(Fpage::page(0, Rights::WRITE), 0);
+/// let counts = database.send(Space(0), Space(1), window, &[write])?;
+/// assert_eq!(counts, Counts { extended: 1, ..Counts::default() });
+/// # Ok(())
+/// # }
+/// ```
 #[derive(Clone, Copy, Debug, Default, PartialEq, Eq)]
 pub struct Counts {
     /// The sender does not hold the page.
@@ -70,10 +90,46 @@ pub struct Entry {
 /// A mapping database.
 ///
 /// At the start space 0 holds page `i` as frame `i` with all rights, for each `i` below the number of frames, and nothing
-/// else is held. A database stays on the thread that made it.
+/// else is held.
+///
+/// A database may go to another thread, but two may not use it at once, not even to look at it: it is `Send` and not `Sync`.
+/// Threads or processors share it under a lock:
+///
+/// ```
+/// use l4map::{Database, Fpage, Item, Limits, Rights, Space};
+/// use std::sync::Mutex;
+/// use std::thread;
+///
+/// # fn main() -> Result<(), l4map::Error> {
+/// let database = Mutex::new(Database::new(Limits { spaces: 3, bits: 18, frames: 1 })?);
+/// let window = Fpage::complete(Rights::NONE);
+/// let item = Item::map(Fpage::page(0, Rights::READ), 7);
+/// thread::scope(|threads| {
+///     for space in [Space(1), Space(2)] {
+///         let database = &database;
+///         threads.spawn(move || database.lock().unwrap().send(Space(0), space, window, &[item]));
+///     }
+/// });
+/// assert_eq!(database.into_inner().unwrap().mappings()?.count(), 3);
+/// # Ok(())
+/// # }
+/// ```
+///
+/// Without a lock that is not compiled:
+///
+/// ```compile_fail,E0277
+/// fn may_be_shared<T: Sync>() {}
+/// may_be_shared::<l4map::Database>();
+/// ```
 pub struct Database {
     handle: UnsafeCell<raw::Handle>,
 }
+
+// SAFETY: nothing in the archive is bound to a thread: it has no variables, neither of a thread nor of the program, and takes
+// no lock. What a database has are blocks of the program's heap, to which its handle alone leads, and the heap functions may
+// be called on any thread. The handle is not copied out of its database, and that is not `Sync`: so one thread at a time makes
+// calls. All this is trusted; that there are no variables is tested.
+unsafe impl Send for Database {}
 
 impl Database {
     /// Makes a database.
@@ -222,12 +278,28 @@ impl Database {
 
     /// What a page holds, if it holds something.
     ///
+    /// ```
+    /// use l4map::{Access, Database, Entry, Limits, Place, Rights, Space};
+    ///
+    /// # fn main() -> Result<(), l4map::Error> {
+    /// let mut database = Database::new(Limits { spaces: 2, bits: 18, frames: 3 })?;
+    /// database.access(Space(0), 0x2abc, Access::Read)?;
+    ///
+    /// let page_2 = Place { space: Space(0), page: 2 };
+    /// let read = Entry { frame: 2, rights: Rights::ALL, status: Rights::READ };
+    /// assert_eq!(database.entry(page_2)?, Some(read));
+    /// assert_eq!(database.entry(Place { page: 3, ..page_2 })?, None);
+    /// # Ok(())
+    /// # }
+    /// ```
+    ///
     /// # Errors
     ///
     /// The first that fits: [`Error::Halted`]; [`Error::NoSuchSpace`]; [`Error::OutOfSpace`].
     pub fn entry(&self, place: Place) -> Result<Option<Entry>, Error> {
         let mut reply = raw::EntryReply::default();
-        // SAFETY: the reply is lent for the call, and no other call runs, since a database stays on its thread.
+        // SAFETY: the reply is lent for the call, and no other call runs: this thread makes one at a time, and no other
+        // has the database too, since it is not `Sync`.
         Error::check(unsafe {
             raw::l4map_entry(
                 self.handle.get(),
@@ -244,6 +316,21 @@ impl Database {
     }
 
     /// From which page a page came, if it is held and came from another.
+    ///
+    /// ```
+    /// use l4map::{Database, Fpage, Item, Limits, Place, Rights, Space};
+    ///
+    /// # fn main() -> Result<(), l4map::Error> {
+    /// let mut database = Database::new(Limits { spaces: 2, bits: 18, frames: 1 })?;
+    /// let item = Item::map(Fpage::page(0, Rights::ALL), 9);
+    /// database.send(Space(0), Space(1), Fpage::complete(Rights::NONE), &[item])?;
+    ///
+    /// let root = Place { space: Space(0), page: 0 };
+    /// assert_eq!(database.origin(Place { space: Space(1), page: 9 })?, Some(root));
+    /// assert_eq!(database.origin(root)?, None);
+    /// # Ok(())
+    /// # }
+    /// ```
     ///
     /// # Errors
     ///
@@ -331,7 +418,7 @@ pub(crate) fn place_of(space: u32, page: u32) -> Place {
 mod tests {
     use super::{Access, Counts, Database, Entry, Limits};
     use crate::{Error, Fpage, Item, Place, Rights, Space};
-    use std::vec;
+    use std::{thread, vec};
 
     const WINDOW: Fpage = Fpage::complete(Rights::NONE);
 
@@ -541,6 +628,24 @@ mod tests {
             Err(Error::OutOfSpace)
         );
         assert_eq!(database.access(Space(0), 0x1ffff, Access::Write), Ok(true));
+    }
+
+    #[test]
+    fn a_database_goes_to_another_thread_and_back() {
+        let (mut database, page) = (small(), Fpage::page(4, Rights::READ));
+        let item = Item::map(page, 6);
+        database.send(Space(0), Space(1), WINDOW, &[item]).unwrap();
+        let there = thread::spawn(move || {
+            assert_eq!(database.access(Space(1), 0x6000, Access::Read), Ok(true));
+            let item = Item::map(Fpage::page(6, Rights::READ), 8);
+            database.send(Space(1), Space(2), WINDOW, &[item]).unwrap();
+            database
+        });
+        let mut database = there.join().unwrap();
+        assert_eq!(database.origin(place(2, 8)), Ok(Some(place(1, 6))));
+        assert_eq!(database.unmap_page(Space(0), page), Ok(Rights::READ));
+        assert_eq!(database.mappings().unwrap().count(), 32);
+        thread::spawn(move || drop(database)).join().unwrap();
     }
 
     #[test]

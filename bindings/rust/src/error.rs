@@ -1,6 +1,20 @@
 use core::fmt;
 
 /// Why a call was refused. A refused call changes nothing, but the one that answers [`Error::Halted`] first.
+///
+/// ```
+/// use l4map::{Database, Error, Fpage, Item, Limits, Rights, Space};
+///
+/// # fn main() -> Result<(), l4map::Error> {
+/// let mut database = Database::new(Limits { spaces: 2, bits: 18, frames: 1 })?;
+/// let (window, item) = (Fpage::complete(Rights::NONE), Item::map(Fpage::page(0, Rights::ALL), 0));
+///
+/// let refused = database.send(Space(0), Space(2), window, &[item]).unwrap_err();
+/// assert_eq!(refused, Error::NoSuchSpace);
+/// assert_eq!(format!("{refused:?}: {refused}"), "NoSuchSpace: no such space");
+/// # Ok(())
+/// # }
+/// ```
 #[derive(Clone, Copy, Debug, PartialEq, Eq, Hash)]
 #[non_exhaustive]
 pub enum Error {

@@ -6,6 +6,18 @@
  * Spaces are numbered from 0, and so are the pages of a space, of 4096 bytes each, and the frames. Rights and status
  * are numbers: 4 for read, 2 for write and 1 for execute, added up.
  *
+ * Words have 32 bits and follow the L4 X.2 manual; docs/FORMATS.md has every case, and says what is this project's own.
+ *
+ * - An fpage word is base + 16 s + rights: the 2^s bytes from the address `base` on, a multiple of 2^s, where s is 12 for
+ *   one page and one more for each doubling. So 0x5000 + 0xc0 + 6 = 0x50c6 is page 5, to read and write, and 0x40e7 is
+ *   pages 4 to 7 with all rights. 16 + rights is the complete space, and 0 is nil: no page at all.
+ * - An item is two words. The first is send base + 8 for a MapItem, or send base + 10 for a GrantItem, which gives the
+ *   sender's pages away; a send base is an address, such as 4096 i for page i. The second is an fpage word: the sender's
+ *   pages, and the rights that the receiver may get. Of this fpage and the window the smaller one decides how many pages
+ *   go, and the send base says where in the larger one they lie. So 0x9008 and 0x50c6 map page 5 to page 9 of a window
+ *   that is the complete space, to read and write.
+ * - A control word is k, 0 to 63, where k + 1 fpage words come with it, and 64 more to flush: 0x41 is a flush with two.
+ *
  * What a pointer points to is lent for the call alone, and is never kept. No pointer is null, not even one to a buffer
  * without elements, and no two of one call overlap. */
 
@@ -166,6 +178,9 @@ uint32_t l4map_mappings(struct l4map *db, uint16_t space, uint32_t page, struct 
  * rattle_alloc() gives a block of so many bytes, aligned to 16 bytes, which is as much as is asked for. rattle_realloc()
  * gives one in place of the block at `at`, which may move; its first `kept` bytes are as they were. Where there is no memory
  * `ok` is false, `at` is any pointer but null, and a block that was to be replaced stays. rattle_dealloc() takes a block
- * back. */
+ * back.
+ *
+ * Written in C++, they must be declared extern "C": without it the link fails. The archive that LLVM builds also wants
+ * memset, memmove and memcpy, as in C; the one by `rt lib --backend rattle` does not. */
 
 #endif
