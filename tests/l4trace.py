@@ -125,6 +125,7 @@ RECORDS = [
     ('"send,0,1,10,8,c7"', " BadRecord: the name is 'send,0,1,10,8,c7', not send, access or unmap; a quote joins fields: leave out the quotes"),
     ("l4map,1,3,18,16", "1 BadRecord: the name is 'l4map', not send, access or unmap; a header stands only at the start"),
     ("map,0,1", "1 BadRecord: the name is 'map', not send, access or unmap"),
+    ("\ufeffsend,0,1,10,8,c7", "1 BadRecord: the name is '\\xef\\xbb\\xbfsend', not send, access or unmap; a byte order mark stands before it: leave it out"),
     ("send,0,1,a7,8,c7", "10 BadSize: the window is a7: s is 10; that of one page is 12"),
     ("send,0,1,10,8,10d7", "15 Misaligned: the send fpage of item 1 is 10d7: base 1000 is no multiple of the size, 8K; the next good base is 2000: 20d7"),
     ("send,0,1,10,8,400c7", "15 OutOfSpace: the send fpage of item 1 is 400c7: it ends at 41000, and a space of 18 bits at 40000"),
@@ -149,6 +150,7 @@ HEADERS = [
     (b"\n\n", "3: header: BadHeader: there is no record"),
     (b"\n\nl4map,2,3,18,16\n", "3:7: header: BadHeader: the version is '2', not 1"),
     (b"\xef\xbb\xbfL4MAP,1,3,18,16\n", "1:1: header: BadHeader: the first field is 'L4MAP', not l4map; names are in lower case"),
+    (b"\xef\xbb\xbf\xef\xbb\xbfl4map,1,3,18,16\n", "1:1: header: BadHeader: the first field is '\\xef\\xbb\\xbfl4map', not l4map; a byte order mark stands before it: leave it out"),
     (b"l4map;1;3;18;16\n", "1:1: header: BadHeader: the first field is 'l4map;1;3;18;16', not l4map; fields are separated by commas, not by semicolons"),
     (b"l4map,1,3,18\n", "1:11: header: BadHeader: a header has 5 fields: l4map, 1, spaces, bits, frames; here are 4"),
     (b"l4map,1,3,18,16,,\n", "1:17: header: BadHeader: the last 2 fields are empty; " + PADDING),
@@ -212,6 +214,9 @@ def check_records(cases, program):
         compare_count(cases, f"check {record}", given, got)
     for header, told in HEADERS:
         cases.compare(f"check {header!r}", ended(1, f"-:{told}"), run([program, "check", "-"], header))
+        wanted = Ended(2, b"", f"-:{told}\n".encode())
+        for command in ("show -", "why - --page 0:0", "compare - /dev/null"):
+            cases.compare(f"{command} of {header!r}", wanted, run([program, *command.split()], header))
     for name, given, places in PLACES:
         got = run([program, "check", "-"], given)
         lines = got.stdout.decode().splitlines()[:-1]
@@ -232,8 +237,10 @@ def check_program(cases, program):
         lines = [lines[0], ".. and 2 more; --max tells more of them", "4 records, 3 refused"]
         cases.compare("check with --max 1", ended(1, *lines), run([program, "check", "--max", "1", path]))
         missing = os.path.join(room, "missing")
-        cases.compare("check of no file", Ended(4, b"", b"l4trace: Unreadable\n"), run([program, "check", missing]))
-        cases.compare("check of a folder", Ended(4, b"", b"l4trace: Unreadable\n"), run([program, "check", room]))
+        for command in ("check", "show", "why --page 0:0", "compare -"):
+            for kind, name in (("no file", missing), ("a folder", room)):
+                wanted = Ended(4, b"", f"l4trace: {name}: Unreadable\n".encode())
+                cases.compare(f"{command} of {kind}", wanted, run([program, *command.split(), name]))
     for arguments, example in (("--help", "Exit status"), ("word --help", "9008,50c6"), ("check --help", "leave out the 0x"), ("compare --help", "first difference"), ("show --help", "2:4 r-x"), ("why --help", "took --x"), ("random --help", "conflicts")):
         got = run([program, *arguments.split()])
         good = got.status == 0 and example in got.stdout.decode() and not got.stderr
@@ -312,9 +319,10 @@ def compare_answers(cases, program):
         ):
             got = compared(text_of(changed(number, other)))
             cases.compare(f"compare with another line {number}", differs(path, number, ANSWERS[number - 1], other), got)
-        cut = differs(path, 3, ANSWERS[2], "3 unmap 000000c6").stdout.replace(CHANGES[3][3][1].encode(), b".. and 1 more; --max draws more of them")
+        whole, cut = text_of(CHANGES[3][3]), text_of(["  0:0 rwx --- |   0:0 rwx ---", ".. and 1 more row; --max draws more of them"])
+        wanted = differs(path, 3, ANSWERS[2], "3 unmap 000000c6").stdout.replace(whole, cut)
         got = compared(text_of(changed(3, "3 unmap 000000c6")), "--max", "1")
-        cases.compare("compare with --max 1", Ended(1, cut, b""), got)
+        cases.compare("compare with --max 1", Ended(1, wanted, b""), got)
         cases.compare("compare with no reply to record 2", differs(path, 2, ANSWERS[1], ANSWERS[2]), compared(text_of(changed(2, None))))
         cases.compare("compare with no audit", differs(path, 4, ANSWERS[3], "(the end)"), compared(text_of(ANSWERS[:3])))
         cases.compare("compare with a line too many", differs(path, 7, "(the end)", "more"), compared(text_of([*ANSWERS, "more"])))
@@ -344,10 +352,12 @@ def compare_answers(cases, program):
         cases.compare("--part with a mapping too many", wanted, compared(text_of([ANSWERS[4], "1,4,0,rw-,---,0:0"]), "--part"))
         wanted = ended(1, "first difference: line 2", "  l4map:   (the end)", f"  answers: {ANSWERS[1]}")
         cases.compare("--part with a reply twice", wanted, compared(text_of([ANSWERS[1], ANSWERS[1]]), "--part"))
-        wanted = Ended(4, b"", b"l4trace: Unreadable\n")
-        cases.compare("compare with no file", wanted, run([program, "compare", path, os.path.join(room, "missing")]))
-    wanted = Ended(2, b"", b"l4trace: BadHeader\n")
-    cases.compare("compare of no trace", wanted, run([program, "compare", "-", "/dev/null"], b"l4map,2\n"))
+        missing = os.path.join(room, "missing")
+        wanted = Ended(4, b"", f"l4trace: {missing}: Unreadable\n".encode())
+        cases.compare("compare with no file", wanted, run([program, "compare", path, missing]))
+        bad = written(room, "bad.csv", ["l4map,2"])
+        wanted = Ended(2, b"", f"{bad}:1:7: header: BadHeader: the version is '2', not 1\n".encode())
+        cases.compare("compare of no trace", wanted, run([program, "compare", bad, "-"]))
 
 
 # Four spaces. Page 0:0 goes to 1:0 and 2:0, and from 1:0 to 3:0 and 3:4; 0:1 to 2:5; then 0:1 to 1:0, which takes all back that 1:0 passed on.
@@ -395,12 +405,79 @@ DIFF_5 = [
     "                 |   └─ 2:5 rwx ---",
 ]
 TABLE_HEAD = "    page      base  frame  rights  status  origin"
+# Four spaces and three frames. Page 0:0 goes to 1:0, and from there to 2:0 and 2:5; 0:1 goes to 2:9, and 0:0 to 3:0; then 2:0 and 2:5 are taken
+# back, while pages on either side of them stay.
+GONE = [
+    "l4map,1,4,18,3",
+    "send,0,1,10,8,c7",
+    "send,1,2,10,8,c7,5008,c5",
+    "send,0,2,10,9008,10c7",
+    "send,0,3,10,8,c7",
+    "unmap,1,0,c7",
+]
+GONE_TREES = [
+    "frame 0",
+    "  0:0 rwx ---",
+    "  ├─ 1:0 rwx ---",
+    "  └─ 3:0 rwx ---",
+    "frame 1",
+    "  0:1 rwx ---",
+    "  └─ 2:9 rwx ---",
+    "frame 2",
+    "  0:2 rwx ---",
+]
+GONE_PAGES = ["- 2:0 rwx --- of frame 0", "- 2:5 r-x --- of frame 0"]
+GONE_DIFF = [
+    "frame 0",
+    "  0:0 rwx ---       |   0:0 rwx ---",
+    "  ├─ 1:0 rwx ---    |   ├─ 1:0 rwx ---",
+    "- │  ├─ 2:0 rwx --- |   └─ 3:0 rwx ---",
+    "- │  └─ 2:5 r-x --- |",
+    "  └─ 3:0 rwx ---    |",
+]
+GONE_TABLE = ["space 2: 1 of 64 pages held", TABLE_HEAD, "       9      9000      1  rwx     ---     0:1"]
+
+
+def more(count, noun):
+    return f".. and {count} more {noun}; --max draws more of them"
+
+
+# Arguments, and what is shown of that trace after its last record: the lines that are left out are counted.
+CUT = [
+    ("", [*GONE_TREES, "no longer held", *GONE_PAGES]),
+    ("--max 6", [*GONE_TREES, "no longer held", *GONE_PAGES]),
+    ("--max 5", [*GONE_TREES[:7], more(1, "mapping"), "no longer held", *GONE_PAGES]),
+    ("--max 2", [*GONE_TREES[:3], more(4, "mappings"), "no longer held", *GONE_PAGES]),
+    ("--max 1", [*GONE_TREES[:2], more(5, "mappings"), "no longer held", GONE_PAGES[0], more(1, "mapping")]),
+    ("--max 0", [more(6, "mappings"), "no longer held", more(2, "mappings")]),
+    ("--frame 0 --max 1", [*GONE_TREES[:2], more(2, "mappings"), "no longer held", GONE_PAGES[0], more(1, "mapping")]),
+    ("--frame 1 --max 1", ["frame 1", "  0:1 rwx ---", more(1, "mapping")]),
+    ("--space 2", [*GONE_TABLE, *GONE_PAGES]),
+    ("--space 2 --max 3", [*GONE_TABLE, *GONE_PAGES]),
+    ("--space 2 --max 2", [*GONE_TABLE, GONE_PAGES[0], more(1, "mapping")]),
+    ("--space 2 --max 1", [*GONE_TABLE, more(2, "mappings")]),
+    ("--space 2 --max 0", [*GONE_TABLE[:2], more(3, "mappings")]),
+    ("--diff", GONE_DIFF),
+    ("--diff --max 5", GONE_DIFF),
+    ("--diff --max 4", [*GONE_DIFF[:5], more(1, "row")]),
+    ("--diff --max 2", ["frame 0", "  0:0 rwx ---    |   0:0 rwx ---", "  ├─ 1:0 rwx --- |   ├─ 1:0 rwx ---", more(3, "rows")]),
+    ("--diff --max 0", [more(5, "rows")]),
+]
+
+# The same of TREES after its last record, whose two trees changed, and of a third frame, which did not.
+CUT_DIFFS = [
+    ("--max 8", DIFF_5),
+    ("--max 7", [*DIFF_5[:9], more(1, "row")]),
+    ("--max 5", [*DIFF_5[:6], more(3, "rows")]),
+    ("--max 3", [*DIFF_5[:4], more(5, "rows")]),
+]
+
 # Arguments behind the name of the trace, and what is shown under the heading of a record.
 SHOWN = [
     ("--at 0", 0, ["frame 0", "  0:0 rwx ---", "frame 1", "  0:1 rwx ---"]),
     ("--at 4", 4, AFTER_4),
     ("--at 4 --frame 1", 4, AFTER_4[6:]),
-    ("--at 4 --max 3", 4, [*AFTER_4[:4], ".. and 4 more; --max draws more of them"]),
+    ("--at 4 --max 3", 4, [*AFTER_4[:4], more(4, "mappings")]),
     ("", 5, AFTER_5),
     ("--at 99", 5, AFTER_5),
     ("--at 5 --diff", 5, DIFF_5),
@@ -474,9 +551,17 @@ def show_traces(cases, program):
         check_picture(cases, "show --svg with a name", run([program, "show", odd, "--at", "4", "--svg"]), "after " + record_at(odd, TREES, 4))
         got = run([program, "show", path, "--at", "4", "--svg", "--max", "2"]).stdout.decode()
         cases.check("show --svg --max", "" if ">.. and 5 more<" in got and got.count('class="page') == 2 else got)
+        unknown = Ended(2, b"", f"l4trace: {path}: there is no such space or frame\n".encode())
         for arguments in ("--space 4", "--frame 2"):
-            wanted = Ended(2, b"", b"l4trace: there is no such space or frame\n")
-            cases.compare(f"show {arguments}", wanted, run([program, "show", path, *arguments.split()]))
+            cases.compare(f"show {arguments}", unknown, run([program, "show", path, *arguments.split()]))
+        path = written(room, "gone.csv", GONE)
+        for arguments, lines in CUT:
+            wanted = ended(0, "after " + record_at(path, GONE, 5), *lines)
+            cases.compare(f"show {arguments} of pages that are gone", wanted, run([program, "show", path, *arguments.split()]))
+        path = written(room, "three-frames.csv", ["l4map,1,4,18,3", *TREES[1:]])
+        for arguments, lines in CUT_DIFFS:
+            wanted = ended(0, "after " + record_at(path, TREES, 5), *lines)
+            cases.compare(f"show --diff {arguments} of three frames", wanted, run([program, "show", path, "--diff", *arguments.split()]))
         # An access that is seen, and an unmap that reads and clears what was seen.
         path = written(room, "seen.csv", TRACE.decode().replace("\n\n", "\n").splitlines())
         lines = ["frame 0", "  0:0 rwx ---", "* └─ 1:3 r-- ---, was rw- R--"]
@@ -484,8 +569,9 @@ def show_traces(cases, program):
         chain = ["l4map,1,500,18,1", *(f"send,{n},{n + 1},10,8,c7" for n in range(40))]
         got = run([program, "show", written(room, "chain.csv", chain)]).stdout.decode().splitlines()
         cases.check("show a long chain", "" if got[-1] == "+ (level 40) 40:0 rwx ---" and len(got) == 43 else f"{got[-3:]}")
-    cases.compare("show of no trace", Ended(2, b"", b"l4trace: BadHeader\n"), run([program, "show", "-"], b"x\n"))
-    cases.compare("show of bad limits", Ended(2, b"", b"l4trace: BadLimits\n"), run([program, "show", "-"], b"l4map,1,1,18,1\n"))
+        bad = written(room, "bad.csv", ["", "l4map,1,1,18,1"])
+        wanted = Ended(2, b"", f"{bad}:2:9: header: BadLimits: 1 spaces; there are 2 to 512\n".encode())
+        cases.compare("show of bad limits", wanted, run([program, "show", bad]))
 
 
 # A page comes, is narrowed, gains a right again, and goes; then it is granted.
@@ -516,8 +602,9 @@ def why_pages(cases, program):
         lines = ["it came from", "  0:0 rwx ---, a root, since the start", "no record changed its rights"]
         cases.compare("why at the start", ended(0, "0:0 holds frame 0 with rwx, at the start", *lines), asked("0:0", "--at", "0"))
         cases.compare("why of a page never held", ended(0, f"3:63 holds nothing, after {at(5)}", "no record changed its rights"), asked("3:63"))
+        unknown = Ended(2, b"", f"l4trace: {path}: there is no such space or frame\n".encode())
         for page in ("4:0", "0:64"):
-            cases.compare(f"why {page}", Ended(2, b"", b"l4trace: there is no such space or frame\n"), asked(page))
+            cases.compare(f"why {page}", unknown, asked(page))
         wanted = Ended(2, b"", b"error: '3' is not a page: a space, a colon and a page, as 2:4\n")
         cases.compare("why 3", wanted, asked("3"))
         path = written(room, "life.csv", LIFE)
@@ -666,16 +753,34 @@ def compare_random(cases, program, shape, trace):
         cases.check(f"random {shape}: a wrong answer", "" if got.startswith("first difference: line 1000\n") else got[:200])
 
 
+MANY = 1_000_000
+MANY_SECONDS = 60
+
+
 def check_many(cases, program):
-    """Half a million records, of which one is refused."""
-    many = (HEADER + "access,0,0,r\n" * 500_000 + "access,0,0,q\n").encode()
-    cause = "BadRecord: the kind of access is 'q', not r, w or x"
-    wanted = ended(1, f"-:500002:12: record 500001: {cause}", "500001 records, 1 refused")
-    cases.compare("check of half a million records", wanted, run([program, "check", "-"], many))
-    got = run([program, "show", "-"], many).stdout.decode()
-    cases.check("show after half a million records", "" if got.startswith("after record 500001, -:500002: access,0,0,q\n") else got[:200])
-    got = run([program, "why", "-", "--page", "0:0"], many).stdout.decode()
-    cases.check("why after half a million records", "" if got.startswith("0:0 holds frame 0 with rwx, after record 500001,") else got[:200])
+    """A million records, of which the last is refused; each run has a minute."""
+    with tempfile.TemporaryDirectory() as room:
+        path = written(room, "many.csv", [HEADER.strip(), *["access,0,0,r"] * (MANY - 1), "access,0,0,q"])
+
+        def asked(*arguments, given=b""):
+            return run([program, *arguments], given, MANY_SECONDS)
+
+        cause = "BadRecord: the kind of access is 'q', not r, w or x"
+        wanted = ended(1, f"{path}:{MANY + 1}:12: record {MANY}: {cause}", f"{MANY} records, 1 refused")
+        cases.compare("check of a million records", wanted, asked("check", path))
+        got = asked("show", path).stdout.decode()
+        cases.check("show after a million records", "" if got.startswith(f"after record {MANY}, {path}:{MANY + 1}: access,0,0,q\n") else got[:200])
+        got = asked("why", path, "--page", "0:0").stdout.decode()
+        cases.check("why after a million records", "" if got.startswith(f"0:0 holds frame 0 with rwx, after record {MANY},") else got[:200])
+        audit = ["0,0,0,rwx,R--,-", *(f"0,{page},{page},rwx,---,-" for page in range(1, 16))]
+        answers = [*(f"{number} access ok" for number in range(1, MANY)), f"{MANY} refused BadRecord", *audit, f"end {MANY} 1"]
+        got = asked("compare", path, "-", given=text_of(answers))
+        cases.compare("compare of a million records", ended(0, "no difference"), got)
+        answers[MANY - 2] = f"{MANY - 1} access fault"
+        lines = [f"first difference: line {MANY - 1}", f"  l4map:   {MANY - 1} access ok", f"  answers: {MANY - 1} access fault"]
+        lines += [f"  record {MANY - 1}, {path}:{MANY}: access,0,0,r", "  it changes no mapping"]
+        got = asked("compare", path, "-", given=text_of(answers))
+        cases.compare("compare of a million records with a wrong answer", ended(1, *lines), got)
 
 
 def check_script(cases, program):

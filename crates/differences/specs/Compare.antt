@@ -1,7 +1,14 @@
 -- What answers are compared with.
-use Rattle.std.specs.Prelude.{◌≡◌, ℕ, List, Ok}
+use Rattle.std.specs.Prelude.{◌≡◌, ℕ, List, Ok, Bool, true, false}
 use Rattle.model.specs.Text.{output_of}
+use Rattle.differences.specs.declared.comparison.Compared.{Compared}
+use Rattle.differences.specs.declared.comparison.Compared.TheVariants.{Same, Differs}
 
 -- the text is what is written for the trace that the bytes are
 abbrev pub IsReplayOf : List ℕ → List ℕ → Type 0
 IsReplayOf bytes text = output_of bytes ≡ Ok text
+
+-- whether a comparison found no line that differs
+abbrev pub is_same : Compared → Bool
+is_same Same = true
+is_same (Differs changed) = false

@@ -1,7 +1,7 @@
 //! The answers of another implementation to a trace, compared with those of l4map.
 
-ghost use Rattle.std.specs.Prelude.{◌≡◌, ◌↔◌, ◌≤◌, take, length, IsNone, IfSome, IfOk};
-ghost use Rattle.differences.specs.Compare.{IsReplayOf};
+ghost use Rattle.std.specs.Prelude.{◌≡◌, ◌↔◌, ◌≤◌, take, length, IsNone, IfSome, IfOk, IsTrue};
+ghost use Rattle.differences.specs.Compare.{IsReplayOf, is_same};
 
 use crate::answers::{Key, audit_of, key_of, named_lines, place_of, split_line};
 use crew::Alone;
@@ -193,7 +193,10 @@ pub fn compare<T: AllocGlobal + Threads + Sync, W: Sink>(
     rt: &T,
     comparison: &Comparison<'_>,
     writer: &mut W,
-) -> Result<Compared, CompareError> {
+) -> Result<Compared, CompareError>
+    ensures { comparison.now.scope ≡ Scope.Whole → IfOk result (λ found.
+        IsTrue (is_same found) ↔ IsReplayOf comparison.now.trace.now comparison.now.answers.now) }
+{
     let alloc = rt.alloc();
     let text = replayed(rt, comparison.trace)?;
     let answers = comparison.answers;
@@ -218,7 +221,9 @@ fn tell<T: AllocGlobal + Threads + Sync, W: Sink>(
     comparison: &Comparison<'_>,
     difference: Option<Difference<'_>>,
     writer: &mut W,
-) -> Result<Compared, CompareError> {
+) -> Result<Compared, CompareError>
+    ensures { IfOk result (λ found. IsTrue (is_same found) ↔ IsNone difference.entry) }
+{
     let Some(difference) = difference else {
         writer.write_all(b"no difference\n")?;
         return Ok(Compared::Same);

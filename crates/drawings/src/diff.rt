@@ -12,8 +12,8 @@ use std::fmt::Write;
 /// How many characters the left column has at most.
 const WIDTH: usize = 60;
 
-/// Appends the trees that a record changed, before it on the left and after it on the right. With a frame, its tree whether
-/// or not it changed.
+/// Appends the trees that a record changed, before it on the left and after it on the right, a row of each on a line: at most
+/// so many lines, and how many more there are. With a frame, its tree whether or not it changed.
 pub fn push_diff(
     alloc: Global,
     text: &mut String,
@@ -23,7 +23,8 @@ pub fn push_diff(
     view: &View,
 ) -> Result<(), AllocError> {
     let (mut left, mut right) = (old, new);
-    let mut drawn = 0u64;
+    let most = view.most as usize;
+    let mut count = 0usize;
     for _ in 0..old.len().saturating_add(new.len()) {
         let Some(frame) = first_frame(left, right) else {
             break;
@@ -31,20 +32,28 @@ pub fn push_diff(
         let (before, left_rest) = left.split_at(rows_of_frame(left, frame));
         let (after, right_rest) = right.split_at(rows_of_frame(right, frame));
         if view.frame.is_some() || differ(before, after, moment) {
-            if drawn >= view.most {
-                return push_more(text, left.len().saturating_add(right.len()));
+            if count < most {
+                let room = most - count;
+                write!(text, "frame {frame}\n")?;
+                push_frame(alloc, text, moment, front(before, room), front(after, room))?;
             }
-            let room = view.most - drawn;
-            write!(text, "frame {frame}\n")?;
-            drawn = drawn.saturating_add(push_frame(alloc, text, moment, before, after, room)?);
+            count = count.saturating_add(before.len().max(after.len()));
         }
         left = left_rest;
         right = right_rest;
     }
-    if drawn == 0 {
-        text.push_str("no mapping changed\n")?;
+    if count == 0 {
+        return text.push_str("no mapping changed\n");
+    }
+    if count > most {
+        push_more(text, count - most, "row")?;
     }
     Ok(())
+}
+
+/// At most so many rows from the front on.
+fn front(rows: &[Row], most: usize) -> &[Row] {
+    rows.get(..most).unwrap_or(rows)
 }
 
 /// The lower frame of the first rows, if there is a row.
@@ -67,15 +76,14 @@ fn has_change(rows: &[Row], others: &[Mapping]) -> bool {
         .any(|row| mark_of(&row.mapping, others) != Mark::Same)
 }
 
-/// Appends the trees of a frame before and after, at most so many lines, and returns how many lines these are.
+/// Appends the trees of a frame before and after.
 fn push_frame(
     alloc: Global,
     text: &mut String,
     moment: &Moment,
     before: &[Row],
     after: &[Row],
-    most: u64,
-) -> Result<u64, AllocError> {
+) -> Result<(), AllocError> {
     let left = lines_of(
         alloc,
         before,
@@ -94,28 +102,18 @@ fn push_frame(
             tells: false,
         },
     )?;
-    push_columns(text, &left, &right, most)
+    push_columns(text, &left, &right)
 }
 
-/// Appends lines side by side, at most so many, and returns how many they are.
-fn push_columns(
-    text: &mut String,
-    left: &[String],
-    right: &[String],
-    most: u64,
-) -> Result<u64, AllocError> {
+/// Appends lines side by side.
+fn push_columns(text: &mut String, left: &[String], right: &[String]) -> Result<(), AllocError> {
     let width = left
         .iter()
         .map(|line| width_of(line))
         .max()
         .unwrap_or(0)
         .min(WIDTH);
-    let count = left.len().max(right.len());
-    for i in 0..count {
-        if i as u64 >= most {
-            push_more(text, count - i)?;
-            return Ok(most);
-        }
+    for i in 0..left.len().max(right.len()) {
         let before = left.get(i).map_or("", |line| line.as_str());
         let after = right.get(i).map_or("", |line| line.as_str());
         text.push_str(before)?;
@@ -126,7 +124,7 @@ fn push_columns(
         text.push_str(after)?;
         text.push_str("\n")?;
     }
-    Ok(count as u64)
+    Ok(())
 }
 
 /// How many characters a line has.

@@ -5,8 +5,8 @@ ghost use Rattle.drawings.specs.Show.{is_chosen};
 
 use crate::diff::push_diff;
 use crate::dot::push_dot;
+use crate::gone::{gone_count, push_gone};
 use crate::lines::{Branches, Others, push_more, push_row};
-use crate::mark::{mapping_at, push_mapping};
 use crate::moment::Moment;
 use crate::svg::push_svg;
 use crate::tree::{Row, tree_rows};
@@ -68,6 +68,9 @@ pub fn push_drawing(
         Form::Text => {
             write!(text, "{heading}\n")?;
             push_trees(alloc, text, &rows, &moment.before, view.most)?;
+            if gone_count(&before, &moment.after) > 0 {
+                text.push_str("no longer held\n")?;
+            }
             push_gone(text, &before, &moment.after, view.most)
         }
     }
@@ -90,7 +93,7 @@ fn push_trees(
     let mut last = None;
     for (i, row) in rows.iter().enumerate() {
         if i as u64 >= most {
-            return push_more(text, rows.len() - i);
+            return push_more(text, rows.len() - i, "mapping");
         }
         if last != Some(row.mapping.frame) {
             last = Some(row.mapping.frame);
@@ -98,32 +101,6 @@ fn push_trees(
         }
         push_row(text, &mut branches, row, &others)?;
         text.push_str("\n")?;
-    }
-    Ok(())
-}
-
-/// Appends the mappings whose places hold nothing any more.
-fn push_gone(
-    text: &mut String,
-    before: &[Mapping],
-    after: &[Mapping],
-    most: u64,
-) -> Result<(), AllocError> {
-    let mut count = 0u64;
-    for (i, mapping) in before.iter().enumerate() {
-        if mapping_at(after, mapping.place).is_some() {
-            continue;
-        }
-        if count == 0 {
-            text.push_str("no longer held\n")?;
-        }
-        if count >= most {
-            return push_more(text, before.len() - i);
-        }
-        count = count.saturating_add(1);
-        text.push_str("- ")?;
-        push_mapping(text, mapping)?;
-        write!(text, " of frame {}\n", mapping.frame)?;
     }
     Ok(())
 }

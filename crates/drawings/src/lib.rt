@@ -4,6 +4,7 @@
 mod diff;
 mod dot;
 mod drawing;
+mod gone;
 mod lines;
 mod mark;
 mod moment;

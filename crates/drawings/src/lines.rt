@@ -98,7 +98,11 @@ pub fn lines_of(
     Ok(lines)
 }
 
-/// Appends that more mappings are not drawn.
-pub fn push_more(text: &mut String, count: usize) -> Result<(), AllocError> {
-    write!(text, ".. and {count} more; --max draws more of them\n")
+/// Appends how many more of what a noun names are not drawn.
+pub fn push_more(text: &mut String, count: usize, noun: &str) -> Result<(), AllocError> {
+    let ending = if count == 1 { "" } else { "s" };
+    write!(
+        text,
+        ".. and {count} more {noun}{ending}; --max draws more of them\n"
+    )
 }

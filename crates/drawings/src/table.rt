@@ -1,7 +1,8 @@
 //! The pages of a space, as a table.
 
+use crate::gone::{gone_count, push_gone};
 use crate::lines::push_more;
-use crate::mark::{Mark, mapping_at, mark_of, push_mapping, push_origin, push_status, push_was};
+use crate::mark::{Mark, mark_of, push_origin, push_status, push_was};
 use crate::moment::Moment;
 use crate::view::View;
 use mapdb::Mapping;
@@ -9,7 +10,8 @@ use std::alloc::AllocError;
 use std::fmt::Write;
 use texts::push_rights;
 
-/// Appends the pages that a space holds, one a line, of these mappings of it before and after. Pages that differ are marked.
+/// Appends the pages that a space holds, one a line, of these mappings of it before and after, and then those that it holds
+/// no longer. Pages that differ are marked.
 pub fn push_table(
     text: &mut String,
     moment: &Moment,
@@ -22,23 +24,15 @@ pub fn push_table(
     let held = after.len();
     write!(text, "space {space}: {held} of {pages} pages held\n")?;
     text.push_str("    page      base  frame  rights  status  origin\n")?;
-    let mut count = 0u64;
     for (i, mapping) in after.iter().enumerate() {
-        if count >= view.most {
-            return push_more(text, after.len() - i);
+        if i as u64 >= view.most {
+            let gone = gone_count(before, &moment.after);
+            return push_more(text, (held - i).saturating_add(gone), "mapping");
         }
-        count = count.saturating_add(1);
         push_page(text, mapping, mark_of(mapping, &moment.before))?;
     }
-    for mapping in before {
-        if mapping_at(&moment.after, mapping.place).is_none() && count < view.most {
-            count = count.saturating_add(1);
-            text.push_str("- ")?;
-            push_mapping(text, mapping)?;
-            write!(text, " of frame {}\n", mapping.frame)?;
-        }
-    }
-    Ok(())
+    let room = view.most.saturating_sub(held as u64);
+    push_gone(text, before, &moment.after, room)
 }
 
 /// Appends the line of a page.

@@ -6,16 +6,17 @@ ghost use Rattle.fpage.specs.Fpage.{IsSpaceBits};
 ghost use Rattle.random_traces.specs.Random.{IsPlan};
 ghost use Rattle.command_lines.specs.Task.{IsServed};
 
+mod error;
 mod paint;
 
-use checks::{CheckError, Found, Subject, check_trace};
+use checks::{Found, Subject, check_trace};
 use command_lines::{Task, TaskError, parse};
-use differences::{CompareError, Compared, Comparison, compare};
+use differences::{Compared, Comparison, compare};
 use drawings::{Form, Question, View};
-use moments::{ShowError, push_changed_trees, push_view, push_why};
+use error::{ToolError, compare_error, read_error, show_error, told};
+use moments::{push_changed_trees, push_view, push_why};
 use paint::painted;
-use random_traces::{Plan, RandomError, write_random};
-use replay::RunError;
+use random_traces::{Plan, write_random};
 use std::alloc::{AllocError, Global};
 use std::env::Env;
 use std::io::{BufWriter, ErrorKind, IsTerminal};
@@ -49,47 +50,6 @@ fn read_command_line(rt: &(impl AllocGlobal + Env)) -> Result<Task, TaskError>
     parse(alloc, &texts)
 }
 
-/// Why the program ends early.
-#[derive(Clone, Copy, Debug, PartialEq, Eq)]
-pub enum ToolError {
-    /// Out of memory.
-    NoMemory,
-    /// A trace cannot be opened or read.
-    Unreadable,
-    /// A write failed.
-    WriteFailed,
-    /// A replay ended early.
-    Run(RunError),
-    /// There is no such space or frame.
-    Unknown,
-    /// A record had no answer, for a cause other than memory.
-    Ended,
-}
-
-impl From<ReadError> for ToolError {
-    fn from(error: ReadError) -> Self {
-        match error {
-            ReadError::Failed => ToolError::Unreadable,
-            ReadError::NoMemory => ToolError::NoMemory,
-        }
-    }
-}
-
-impl From<CheckError> for ToolError {
-    fn from(error: CheckError) -> Self {
-        match error {
-            CheckError::NoMemory => ToolError::NoMemory,
-            CheckError::WriteFailed => ToolError::WriteFailed,
-        }
-    }
-}
-
-impl From<AllocError> for ToolError {
-    fn from(_: AllocError) -> Self {
-        ToolError::NoMemory
-    }
-}
-
 /// Writes a text to standard output.
 fn print(rt: &impl Print, text: &str) -> Result<(), ToolError> {
     Std::new(io::writer(rt))
@@ -97,47 +57,21 @@ fn print(rt: &impl Print, text: &str) -> Result<(), ToolError> {
         .map_err(|_| ToolError::WriteFailed)
 }
 
-impl From<CompareError> for ToolError {
-    fn from(error: CompareError) -> Self {
-        match error {
-            CompareError::Run(error) => ToolError::Run(error),
-            CompareError::NoMemory => ToolError::NoMemory,
-            CompareError::WriteFailed => ToolError::WriteFailed,
-        }
-    }
-}
-
-impl From<RandomError> for ToolError {
-    fn from(error: RandomError) -> Self {
-        match error {
-            RandomError::NoMemory => ToolError::NoMemory,
-            RandomError::WriteFailed => ToolError::WriteFailed,
-        }
-    }
-}
-
-impl From<ShowError> for ToolError {
-    fn from(error: ShowError) -> Self {
-        match error {
-            ShowError::BadHeader => ToolError::Run(RunError::BadHeader),
-            ShowError::BadLimits => ToolError::Run(RunError::BadLimits),
-            ShowError::NoMemory => ToolError::NoMemory,
-            ShowError::Unknown => ToolError::Unknown,
-            ShowError::Ended => ToolError::Ended,
-        }
-    }
-}
-
 /// Reads a file, or standard input where its name is `-`.
 fn read_trace(rt: &(impl AllocGlobal + Input + Files), name: &str) -> Result<Vec<u8>, ToolError> {
     let alloc = rt.alloc();
-    if name == "-" {
-        return Ok(read_to_end(alloc, &mut Std::new(rt.reader()))?);
-    }
-    let Ok(file) = fs::open(rt, name) else {
-        return Err(ToolError::Unreadable);
+    let read = if name == "-" {
+        read_to_end(alloc, &mut Std::new(rt.reader()))
+    } else {
+        match fs::open(rt, name) {
+            Ok(file) => read_to_end(alloc, &mut Std::new(file)),
+            Err(_) => Err(ReadError::Failed),
+        }
     };
-    Ok(read_to_end(alloc, &mut Std::new(file))?)
+    match read {
+        Ok(bytes) => Ok(bytes),
+        Err(error) => Err(read_error(alloc, name, error)?),
+    }
 }
 
 /// Checks a trace, and returns whether its header or a record is refused.
@@ -185,16 +119,19 @@ fn print_painted(
 fn push_trees(
     alloc: Global,
     text: &mut Vec<u8>,
-    trace: &[u8],
+    comparison: &Comparison<'_>,
     found: Compared,
     most: u64,
 ) -> Result<(), ToolError> {
     let Compared::Differs(Some(record)) = found else {
         return Ok(());
     };
+    let Comparison { name, trace, .. } = *comparison;
     let mut trees = String::new(alloc);
-    push_changed_trees(alloc, &mut trees, trace, u64::from(record), most)?;
-    Ok(text.extend_from_slice(trees.as_bytes())?)
+    match push_changed_trees(alloc, &mut trees, trace, u64::from(record), most) {
+        Ok(()) => Ok(text.extend_from_slice(trees.as_bytes())?),
+        Err(error) => Err(show_error(alloc, name, trace, error)?),
+    }
 }
 
 /// What is told of a comparison, and what it found.
@@ -203,10 +140,15 @@ fn comparison_text(
     comparison: &Comparison<'_>,
     most: u64,
 ) -> Result<(Vec<u8>, Compared), ToolError> {
-    let mut writer = Std::new(Vec::new(rt.alloc()));
-    let found = compare(rt, comparison, &mut writer)?;
+    let alloc = rt.alloc();
+    let Comparison { name, trace, .. } = *comparison;
+    let mut writer = Std::new(Vec::new(alloc));
+    let found = match compare(rt, comparison, &mut writer) {
+        Ok(found) => found,
+        Err(error) => return Err(compare_error(alloc, name, trace, error)?),
+    };
     let mut text = writer.into_inner();
-    push_trees(rt.alloc(), &mut text, comparison.trace, found, most)?;
+    push_trees(alloc, &mut text, comparison, found, most)?;
     Ok((text, found))
 }
 
@@ -241,7 +183,9 @@ fn show_named(
 ) -> Result<(), ToolError> {
     let bytes = read_trace(rt, name)?;
     let mut text = String::new(rt.alloc());
-    push_view(rt.alloc(), &mut text, name, &bytes, view)?;
+    if let Err(error) = push_view(rt.alloc(), &mut text, name, &bytes, view) {
+        return Err(show_error(rt.alloc(), name, &bytes, error)?);
+    }
     let is_text = matches!(view.form, Form::Text | Form::Diff);
     print_painted(rt, text.as_bytes(), colored && is_text)
 }
@@ -255,7 +199,9 @@ fn why_named(
 ) -> Result<(), ToolError> {
     let bytes = read_trace(rt, name)?;
     let mut text = String::new(rt.alloc());
-    push_why(rt.alloc(), &mut text, name, &bytes, question)?;
+    if let Err(error) = push_why(rt.alloc(), &mut text, name, &bytes, question) {
+        return Err(show_error(rt.alloc(), name, &bytes, error)?);
+    }
     print_painted(rt, text.as_bytes(), colored)
 }
 
@@ -320,19 +266,6 @@ fn perform(
     Ok(false)
 }
 
-/// The line and the exit status of an error.
-fn told(error: ToolError) -> (&'static str, u8) {
-    match error {
-        ToolError::Run(RunError::BadHeader) => ("l4trace: BadHeader\n", 2),
-        ToolError::Run(RunError::BadLimits) => ("l4trace: BadLimits\n", 2),
-        ToolError::Unknown => ("l4trace: there is no such space or frame\n", 2),
-        ToolError::Run(_) | ToolError::Ended => ("l4trace: the replay ended early\n", 3),
-        ToolError::NoMemory => ("l4trace: NoMemory\n", 3),
-        ToolError::Unreadable => ("l4trace: Unreadable\n", 4),
-        ToolError::WriteFailed => ("l4trace: WriteFailed\n", 4),
-    }
-}
-
 fn main(rt: HostRuntime) -> ExitCode {
     let is_terminal = rt.stdout().is_terminal();
     let outcome = match read_command_line(&rt) {
@@ -348,8 +281,8 @@ fn main(rt: HostRuntime) -> ExitCode {
     match outcome {
         Ok(found) => ExitCode::from(u8::from(found)),
         Err(error) => {
-            let (line, status) = told(error);
-            let _ = Std::new(rt.stderr()).write_all(line.as_bytes());
+            let (line, status) = told(&error);
+            let _ = Std::new(rt.stderr()).write_all(line);
             ExitCode::from(status)
         }
     }
