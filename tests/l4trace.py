@@ -279,6 +279,14 @@ CHANGES = {
 }
 
 
+# What it holds at the end: the tree of frame 0, in which the last record changed a page.
+AT_END = ["frame 0", "  0:0 rwx ---", "* └─ 1:3 r-- ---, was rw- R--"]
+
+
+def at_end(path):
+    return [f"after record 3, {path}:5: unmap,0,0,c2", *AT_END]
+
+
 def changed(number, line):
     """The answers with another line in place of the one with this number, or without it."""
     return [*ANSWERS[: number - 1], *([line] if line else []), *ANSWERS[number:]]
@@ -291,6 +299,8 @@ def differs(path, number, ours, theirs):
         record, line, changes, trees = CHANGES[number]
         lines += [f"  record {number}, {path}:{line}: {record}", "  it changes these mappings:", *changes]
         lines += ["the trees before and after it:", "frame 0", *trees]
+    if number in (4, 5):
+        lines += at_end(path)
     return ended(1, *lines)
 
 
@@ -333,7 +343,7 @@ def compare_answers(cases, program):
         cases.compare("--audit with the whole", same, compared(text_of(ANSWERS), "--audit"))
         cases.compare("--audit with other replies", same, compared(text_of(changed(3, "3 unmap 000000c6")), "--audit"))
         cases.compare("--audit with the audit alone", same, compared(text_of(audit), "--audit"))
-        wanted = ended(1, "first difference: line 2", f"  l4map:   {audit[1]}", "  answers: 1,3,0,rw-,---,0:0")
+        wanted = ended(1, "first difference: line 2", f"  l4map:   {audit[1]}", "  answers: 1,3,0,rw-,---,0:0", *at_end(path))
         cases.compare("--audit with another audit", wanted, compared(text_of([audit[0], "1,3,0,rw-,---,0:0"]), "--audit"))
         for name, lines in (
             ("the replies alone", ANSWERS[:3]),
@@ -346,10 +356,14 @@ def compare_answers(cases, program):
             cases.compare(f"--part with {name}", same, compared(text_of(lines), "--part"))
         wanted = differs(path, 3, ANSWERS[2], "3 unmap 000000c6").stdout.replace(b"first difference: line 3", b"first difference: line 1")
         cases.compare("--part with another reply", Ended(1, wanted, b""), compared(b"3 unmap 000000c6\n", "--part"))
-        wanted = ended(1, "first difference: line 2", f"  l4map:   {ANSWERS[4]}", "  answers: 1,3,0,rw-,---,0:0")
+        wanted = ended(1, "first difference: line 2", f"  l4map:   {ANSWERS[4]}", "  answers: 1,3,0,rw-,---,0:0", *at_end(path))
         cases.compare("--part with another mapping", wanted, compared(text_of([ANSWERS[0], "1,3,0,rw-,---,0:0"]), "--part"))
-        wanted = ended(1, "first difference: line 2", "  l4map:   (the end)", "  answers: 1,4,0,rw-,---,0:0")
+        wanted = ended(1, "first difference: line 2", "  l4map:   (the end)", "  answers: 1,4,0,rw-,---,0:0", *at_end(path))
         cases.compare("--part with a mapping too many", wanted, compared(text_of([ANSWERS[4], "1,4,0,rw-,---,0:0"]), "--part"))
+        wanted = ended(1, "first difference: line 2", "  l4map:   (the end)", "  answers: 1,4,7,rw-,---,0:0")
+        cases.compare("--part with a mapping of no frame", wanted, compared(text_of([ANSWERS[4], "1,4,7,rw-,---,0:0"]), "--part"))
+        wanted = ended(1, "first difference: line 6", f"  l4map:   {ANSWERS[5]}", "  answers: 1,4,0,rw-,---,0:0", *at_end(path))
+        cases.compare("compare with a mapping too many", wanted, compared(text_of([*ANSWERS[:5], "1,4,0,rw-,---,0:0", ANSWERS[5]])))
         wanted = ended(1, "first difference: line 2", "  l4map:   (the end)", f"  answers: {ANSWERS[1]}")
         cases.compare("--part with a reply twice", wanted, compared(text_of([ANSWERS[1], ANSWERS[1]]), "--part"))
         missing = os.path.join(room, "missing")
@@ -358,6 +372,22 @@ def compare_answers(cases, program):
         bad = written(room, "bad.csv", ["l4map,2"])
         wanted = Ended(2, b"", f"{bad}:1:7: header: BadHeader: the version is '2', not 1\n".encode())
         cases.compare("compare of no trace", wanted, run([program, "compare", bad, "-"]))
+
+
+def compare_unchanged(cases, program):
+    """Of an access that changes no mapping, the tree of its page is drawn, if the page is held."""
+    with tempfile.TemporaryDirectory() as room:
+        path = written(room, "seen.csv", ["l4map,1,2,18,1", "send,0,1,10,3008,c6", "access,1,3abc,r", "access,1,3abc,r", "access,1,0,r"])
+        tree = [f"after record 3, {path}:4: access,1,3abc,r", "frame 0", "  0:0 rwx ---", "  └─ 1:3 rw- R--"]
+        for number, record, ours, theirs, drawn in ((3, "access,1,3abc,r", "ok", "fault", tree), (4, "access,1,0,r", "fault", "ok", [])):
+            lines = ["first difference: line 1", f"  l4map:   {number} access {ours}", f"  answers: {number} access {theirs}"]
+            lines += [f"  record {number}, {path}:{number + 1}: {record}", "  it changes no mapping", *drawn]
+            got = run([program, "compare", path, "-", "--part"], f"{number} access {theirs}\n".encode())
+            cases.compare(f"compare of record {number}, which changes no mapping", ended(1, *lines), got)
+        path = written(room, "roots.csv", ["l4map,1,2,18,2"])
+        lines = ["first difference: line 1", "  l4map:   0,0,0,rwx,---,-", "  answers: 0,1,1,rwx,---,-", "at the start", "frame 0", "  0:0 rwx ---"]
+        got = run([program, "compare", path, "-"], text_of(["0,1,1,rwx,---,-", "end 0 0"]))
+        cases.compare("compare with a root missing", ended(1, *lines), got)
 
 
 # Four spaces. Page 0:0 goes to 1:0 and 2:0, and from 1:0 to 3:0 and 3:4; 0:1 to 2:5; then 0:1 to 1:0, which takes all back that 1:0 passed on.
@@ -779,6 +809,7 @@ def check_many(cases, program):
         answers[MANY - 2] = f"{MANY - 1} access fault"
         lines = [f"first difference: line {MANY - 1}", f"  l4map:   {MANY - 1} access ok", f"  answers: {MANY - 1} access fault"]
         lines += [f"  record {MANY - 1}, {path}:{MANY}: access,0,0,r", "  it changes no mapping"]
+        lines += [f"after record {MANY - 1}, {path}:{MANY}: access,0,0,r", "frame 0", "  0:0 rwx R--"]
         got = asked("compare", path, "-", given=text_of(answers))
         cases.compare("compare of a million records with a wrong answer", ended(1, *lines), got)
 
@@ -818,6 +849,7 @@ def main():
     check_records(cases, program)
     check_program(cases, program)
     compare_answers(cases, program)
+    compare_unchanged(cases, program)
     show_traces(cases, program)
     why_pages(cases, program)
     check_colors(cases, program)

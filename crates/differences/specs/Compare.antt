@@ -11,4 +11,4 @@ IsReplayOf bytes text = output_of bytes ≡ Ok text
 -- whether a comparison found no line that differs
 abbrev pub is_same : Compared → Bool
 is_same Same = true
-is_same (Differs changed) = false
+is_same (Differs trees) = false

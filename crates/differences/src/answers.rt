@@ -94,6 +94,30 @@ pub fn place_of(line: &[u8]) -> (u32, u32) {
     }
 }
 
+/// The frame of an audit line, if it has one.
+pub fn frame_of(line: &[u8]) -> Option<u32> {
+    let (_, rest) = split_cell(line);
+    let (_, rest) = split_cell(rest);
+    let (frame, _) = split_cell(rest);
+    field::number(frame, 10, 7)
+}
+
+/// The line of an audit that tells of a space and a page.
+pub fn line_of_page(audit: &[u8], place: (u32, u32)) -> Option<&[u8]> {
+    let mut rest = audit;
+    for _ in 0..audit.len() {
+        let (line, behind) = split_line(rest);
+        if line.is_empty() {
+            break;
+        }
+        if place_of(line) == place {
+            return Some(line);
+        }
+        rest = behind;
+    }
+    None
+}
+
 /// What stands before the first comma, and what behind it.
 fn split_cell(line: &[u8]) -> (&[u8], &[u8]) {
     let length = line.iter().take_while(|byte| **byte != b',').count();

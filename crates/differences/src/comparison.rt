@@ -3,14 +3,16 @@
 ghost use Rattle.std.specs.Prelude.{◌≡◌, ◌↔◌, ◌≤◌, take, length, IsNone, IfSome, IfOk, IsTrue};
 ghost use Rattle.differences.specs.Compare.{IsReplayOf, is_same};
 
-use crate::answers::{Key, audit_of, key_of, named_lines, place_of, split_line};
+use crate::answers::{
+    Key, audit_of, frame_of, key_of, line_of_page, named_lines, place_of, split_line,
+};
 use crew::Alone;
 use replay::{NoWatch, RunError, run_by};
 use space::NoMemory;
 use std::alloc::{AllocError, Global};
 use std::fmt::Write;
 use std::thread::Threads;
-use texts::{Places, Scope, push_shown};
+use texts::{Places, Scope, field, push_shown};
 use trace::{Failed, Sink, Std};
 
 /// How many bytes of a line are shown.
@@ -184,8 +186,17 @@ pub struct Comparison<'a> {
 pub enum Compared {
     /// No line differs.
     Same,
-    /// A line differs. Where the first is a reply to a record that changed a mapping, the number of this record.
-    Differs(Option<u32>),
+    /// A line differs. Trees tell more of the first, where it is of a record or of a page.
+    Differs(Option<Trees>),
+}
+
+/// Trees that tell more of a line.
+#[derive(Clone, Copy, Debug, PartialEq, Eq)]
+pub enum Trees {
+    /// Those that the record of this number changed.
+    ChangedBy(u64),
+    /// That of a frame, after the record of this number, or the last where there are fewer.
+    OfFrame { frame: u32, at: u64 },
 }
 
 /// Compares answers with those of l4map, and writes where they differ first.
@@ -236,13 +247,26 @@ fn tell<T: AllocGlobal + Threads + Sync, W: Sink>(
     if difference.ours == difference.theirs {
         text.push_str("  the line feed is missing in one of them\n")?;
     }
-    let mut changed_by = None;
-    if let Some(Key::Reply(record)) = difference.ours.map(key_of) {
-        let has_changed = push_record(rt, comparison, record, &mut text)?;
-        changed_by = has_changed.then_some(record);
-    }
+    let trees = match difference.ours.map(key_of) {
+        Some(Key::Reply(record)) => push_record(rt, comparison, record, &mut text)?,
+        _ => tree_at_end(&difference),
+    };
     writer.write_all(text.as_bytes())?;
-    Ok(Compared::Differs(changed_by))
+    Ok(Compared::Differs(trees))
+}
+
+/// The tree of the frame that is told in the line of the lower page.
+fn tree_at_end(difference: &Difference<'_>) -> Option<Trees> {
+    let line = match (difference.ours, difference.theirs) {
+        (Some(ours), Some(theirs)) if key_of(theirs) < key_of(ours) => theirs,
+        (Some(line), _) | (None, Some(line)) => line,
+        (None, None) => return None,
+    };
+    let frame = frame_of(line)?;
+    Some(Trees::OfFrame {
+        frame,
+        at: u64::MAX,
+    })
 }
 
 /// Appends one text's line of a difference.
@@ -256,13 +280,13 @@ fn push_side(text: &mut String, name: &str, line: Option<&[u8]>) -> Result<(), A
     text.push_str("\n")
 }
 
-/// Appends a record as it stands in the trace, and the mappings that it changed, and returns whether it changed any.
+/// Appends a record as it stands in the trace, and the mappings that it changed, and returns the trees that tell more of it.
 fn push_record<T: AllocGlobal + Threads + Sync>(
     rt: &T,
     comparison: &Comparison<'_>,
     number: u32,
     text: &mut String,
-) -> Result<bool, CompareError> {
+) -> Result<Option<Trees>, CompareError> {
     let alloc = rt.alloc();
     let trace = comparison.trace;
     let mut places = Places::new(alloc, trace)?;
@@ -281,9 +305,24 @@ fn push_record<T: AllocGlobal + Threads + Sync>(
     let (old, new) = (audit_of(alloc, &old)?, audit_of(alloc, &new)?);
     if old.as_slice() == new.as_slice() {
         text.push_str("\n  it changes no mapping\n")?;
-        return Ok(false);
+        let fields = places.fields(alloc)?;
+        return Ok(accessed_tree(&fields, &new, u64::from(number)));
     }
     text.push_str("\n  it changes these mappings:\n")?;
     push_changes(text, &old, &new)?;
-    Ok(true)
+    Ok(Some(Trees::ChangedBy(u64::from(number))))
+}
+
+/// The tree of the page that a record with this number accesses, if an audit has the page.
+fn accessed_tree(fields: &[&[u8]], audit: &[u8], number: u64) -> Option<Trees> {
+    let [name, space, address, _] = fields else {
+        return None;
+    };
+    if *name != b"access".as_slice() {
+        return None;
+    }
+    let space = field::number(space, 10, 5)?;
+    let page = field::word(address)? / 4096;
+    let frame = frame_of(line_of_page(audit, (space, page))?)?;
+    Some(Trees::OfFrame { frame, at: number })
 }

@@ -5,5 +5,5 @@ mod answers;
 mod comparison;
 
 pub use comparison::{
-    CompareError, Compared, Comparison, Difference, compare, first_difference, replayed,
+    CompareError, Compared, Comparison, Difference, Trees, compare, first_difference, replayed,
 };

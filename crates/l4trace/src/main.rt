@@ -11,10 +11,10 @@ mod paint;
 
 use checks::{Found, Subject, check_trace};
 use command_lines::{Task, TaskError, parse};
-use differences::{Compared, Comparison, compare};
+use differences::{Compared, Comparison, Trees, compare};
 use drawings::{Form, Question, View};
 use error::{ToolError, compare_error, read_error, show_error, told};
-use moments::{push_changed_trees, push_view, push_why};
+use moments::{ShowError, push_changed_trees, push_view, push_why};
 use paint::painted;
 use random_traces::{Plan, write_random};
 use std::alloc::{AllocError, Global};
@@ -115,7 +115,7 @@ fn print_painted(
     writer.write_all(text).map_err(|_| ToolError::WriteFailed)
 }
 
-/// Appends the trees that the record changed whose reply is the first difference, at most so many mappings of them.
+/// Appends the trees that tell more of the first difference, at most so many mappings of them.
 fn push_trees(
     alloc: Global,
     text: &mut Vec<u8>,
@@ -123,13 +123,28 @@ fn push_trees(
     found: Compared,
     most: u64,
 ) -> Result<(), ToolError> {
-    let Compared::Differs(Some(record)) = found else {
+    let Compared::Differs(Some(trees)) = found else {
         return Ok(());
     };
     let Comparison { name, trace, .. } = *comparison;
-    let mut trees = String::new(alloc);
-    match push_changed_trees(alloc, &mut trees, trace, u64::from(record), most) {
-        Ok(()) => Ok(text.extend_from_slice(trees.as_bytes())?),
+    let mut drawn = String::new(alloc);
+    let outcome = match trees {
+        Trees::ChangedBy(record) => push_changed_trees(alloc, &mut drawn, trace, record, most),
+        Trees::OfFrame { frame, at } => {
+            let view = View {
+                at,
+                frame: Some(frame),
+                space: None,
+                form: Form::Text,
+                most,
+            };
+            push_view(alloc, &mut drawn, name, trace, &view)
+        }
+    };
+    match outcome {
+        Ok(()) => Ok(text.extend_from_slice(drawn.as_bytes())?),
+        // The answers that differ may tell of a frame that there is not.
+        Err(ShowError::Unknown) => Ok(()),
         Err(error) => Err(show_error(alloc, name, trace, error)?),
     }
 }
