@@ -13,7 +13,7 @@ use Rattle.space.specs.declared.place.Entry.{Entry}
 use Rattle.space.specs.declared.shards.Shards.{Shards}
 use Rattle.space.specs.Word.{word_of, entry_of, is_pack, FrameFits}
 use Rattle.space.specs.Directory.{words_in, filled, AreWords}
-use Rattle.space.specs.Shards.{IsPlace, index_of, word_count, entry_at}
+use Rattle.space.specs.Shards.{IsPlace, index_of, word_count, words_of, entry_at}
 use Rattle.space.specs.ShardLaws.{PlacesHaveWords, WordsAreTheirOwn, EntriesFit, AreAllWords, IsWithWords, ShardsHaveWords, WordsHaveShards}
 use Rattle.space.proofs.Words.{pack_gives_back, unpack_gives_back, unpacked_fits}
 use Rattle.space.proofs.Directories.{index_within, index_distinct}
@@ -71,13 +71,12 @@ words_none directory words none room = record {
   packs = subst (AllPass is_pack) (sym none) (λ i d within. absurd (omega (arith, within)));
 }
 
--- words stay words where they are filled, and one becomes another pack
-pub words_set : (directory : List (Option ℕ)) (words after : Vec ℕ Global) (up_to i w : ℕ) → AreWords directory words → up_to ≤ words_in directory
-    → after.items ≡ filled words.items up_to → vec_capacity words ≤ vec_capacity after → IsTrue (is_pack w) → AreWords directory (with_item after i w)
-words_set directory words after up_to i w are few is room pack = record {
-  count = omega (arith, length-set after.items i w, ap length is, length_filled words.items up_to, are.count, few);
-  room = omega (arith, are.room, room);
-  packs = All-set (λ x. is_pack x ≡ true) after.items i w pack (subst (AllPass is_pack) (sym is) (packs_filled words.items up_to are.packs));
+-- words stay words where one becomes another pack
+pub words_set : (directory : List (Option ℕ)) (words : Vec ℕ Global) (i w : ℕ) → AreWords directory words → IsTrue (is_pack w) → AreWords directory (with_item words i w)
+words_set directory words i w are pack = record {
+  count = omega (arith, length-set words.items i w, are.count);
+  room = are.room;
+  packs = All-set (λ x. is_pack x ≡ true) words.items i w pack are.packs;
 }
 
 -- ---- the words of shards
@@ -86,24 +85,30 @@ module _ (s : Shards) (words : Vec ℕ Global) (held : s.words ≡ Some words) w
   entry_read : (p : Place) → entry_at s p ≡ entry_of (slice_index words.items (index_of s p))
   entry_read p = ap (λ (o : Option (Vec ℕ Global)). entry_of (slice_index (option_map_or (λ w. w.items) o []) (index_of s p))) held
 
+  -- the words are as many
+  pub words_reach : (i : ℕ) → i < length (words_of s) → i < length words.items
+  words_reach i within = subst (λ (o : Option (Vec ℕ Global)). i < length (option_map_or (λ w. w.items) o [])) held within
+
   -- the word of a place packs what stands there
   pub word_read : (p : Place) → slice_index words.items (index_of s p) ≡ word_of (entry_at s p)
   word_read p =
       let packs : AllPass is_pack words.items = (s.packed words held).packs in
       sym (ap word_of (entry_read p) ∙ (pack_gives_back _ (read_pack words.items (index_of s p) packs)).1)
 
-  -- to write the word of a place, after the words were filled to reach it, changes what stands there alone
-  module _ (p : Place) (place : IsPlace s p) (entry : Option Entry) (fits : FrameFits entry) (after : List ℕ) (up_to : ℕ) (is : after ≡ filled words.items up_to) where
-    pub set_there : index_of s p < up_to → entry_of (slice_index (slice_set after (index_of s p) (word_of entry)) (index_of s p)) ≡ entry
-    set_there reached =
-        let within : index_of s p < length after = omega (arith, reached, ap length is, length_filled words.items up_to) in
-        ap entry_of (get_or-set_same after (index_of s p) (word_of entry) 0 within) ∙ (unpack_gives_back entry fits).1
+  -- what stands at a place stays where the words are filled
+  pub stays_filled : (up_to : ℕ) (after : List ℕ) → after ≡ filled words.items up_to → (p : Place) → entry_of (slice_index after (index_of s p)) ≡ entry_at s p
+  stays_filled up_to after is p =
+      ap (λ xs. entry_of (slice_index xs (index_of s p))) is ∙ ap entry_of (read_filled words.items up_to (index_of s p)) ∙ sym (entry_read p)
 
-    pub set_elsewhere : (q : Place) → IsPlace s q → (q ≡ p → ⊥) → entry_of (slice_index (slice_set after (index_of s p) (word_of entry)) (index_of s q)) ≡ entry_at s q
+  -- to write the word of a place, which the words reach, changes what stands there alone
+  module _ (p : Place) (place : IsPlace s p) (entry : Option Entry) (fits : FrameFits entry) where
+    pub set_there : index_of s p < length words.items → entry_of (slice_index (slice_set words.items (index_of s p) (word_of entry)) (index_of s p)) ≡ entry
+    set_there within = ap entry_of (get_or-set_same words.items (index_of s p) (word_of entry) 0 within) ∙ (unpack_gives_back entry fits).1
+
+    pub set_elsewhere : (q : Place) → IsPlace s q → (q ≡ p → ⊥) → entry_of (slice_index (slice_set words.items (index_of s p) (word_of entry)) (index_of s q)) ≡ entry_at s q
     set_elsewhere q q_place apart =
-        ap entry_of (get_or-set_other after (index_of s p) (index_of s q) (word_of entry) 0 (λ same. apart (words_are_their_own s q p q_place place same)))
-        ∙ ap (λ xs. entry_of (slice_index xs (index_of s q))) is
-        ∙ ap entry_of (read_filled words.items up_to (index_of s q)) ∙ sym (entry_read q)
+        ap entry_of (get_or-set_other words.items (index_of s p) (index_of s q) (word_of entry) 0 (λ same. apart (words_are_their_own s q p q_place place same)))
+        ∙ sym (entry_read q)
 
 pub shards_have_words : ShardsHaveWords
 shards_have_words s present = by s.words refl

@@ -12,5 +12,5 @@ mod word;
 pub use error::NoMemory;
 pub use laws::{entry_words, shard_words};
 pub use place::{Entry, Place};
-pub use shards::Shards;
+pub use shards::{Narrowed, Shards};
 pub use word::{pack, unpack};

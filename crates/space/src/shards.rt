@@ -15,6 +15,15 @@ const SHARD_BITS: u32 = 18;
 /// How many pages, of one space, have their words in one shard.
 const SHARD_PAGES: usize = 64;
 
+/// What became of a page from which rights were withheld.
+#[derive(Clone, Copy, Debug, PartialEq, Eq)]
+pub struct Narrowed {
+    /// The status that it had.
+    pub status: Rights,
+    /// Whether it still holds anything.
+    pub held: bool,
+}
+
 /// A map from places to entries, kept as entry words (profile).
 ///
 /// The words lie one after another in shards of 64 pages of one space. A directory has for each shard of each space
@@ -35,14 +44,14 @@ pub struct Shards {
 }
 
 impl Shards {
-    ghost use Rattle.std.specs.Prelude.{◌≡◌, ◌<◌, IsTrue, IsFalse, IfOk, None, length, option_map, slice_index};
+    ghost use Rattle.std.specs.Prelude.{◌≡◌, ◌<◌, IsTrue, IsFalse, IfOk, IfSome, None, length, option_map, is_some, slice_index};
     ghost use Rattle.std.specs.List.{AllPass};
     ghost use Rattle.std.specs.Option.{option_and_then};
     ghost use Rattle.space.specs.declared.place.Place.{Place};
     ghost use Rattle.space.specs.Word.{word_of, entry_of, is_pack, FrameFits};
     ghost use Rattle.space.specs.Directory.{AreLimits, shard_of};
     ghost use Rattle.space.specs.Entries.{narrowed, status_of, with_status, extended};
-    ghost use Rattle.space.specs.Shards.{shard_count, spaces_of, bits_of, IsPlace, word_count, index_of, is_taken, entry_at, IsLaidOutAs, IsSetAt};
+    ghost use Rattle.space.specs.Shards.{shard_count, spaces_of, bits_of, IsPlace, word_count, index_of, is_taken, words_of, entry_at, IsLaidOutAs, IsSetAt};
 
     /// Spaces of `2^bits` bytes in which every page is absent.
     ///
@@ -106,7 +115,15 @@ impl Shards {
         requires present { IsFalse (is_taken self.now) }
         ensures { result ≡ entry_at self.now place }
     {
-        let index = self.index(place);
+        self.read(self.index(place))
+    }
+
+    /// What the word at an index says; it says nothing behind the end of the words.
+    fn read(&self, index: usize) -> Option<Entry>
+        requires { IsFalse (is_taken self.now) }
+        ensures entry { result ≡ entry_of (slice_index (words_of self.now) index) }
+        ensures within { IfSome result (λ _. index < length (words_of self.now)) }
+    {
         let word = self.words.as_ref().unwrap().get(index)?;
         unpack(*word)
     }
@@ -121,27 +138,50 @@ impl Shards {
         ensures layout { IsLaidOutAs self.old self.new }
     {
         let index = self.index(place);
-        let words = self.words.as_mut().unwrap();
         // To the end of the shard, so that its other pages find their words there.
-        fill(words, (index / SHARD_PAGES + 1) * SHARD_PAGES);
+        fill(
+            self.words.as_mut().unwrap(),
+            (index / SHARD_PAGES + 1) * SHARD_PAGES,
+        );
+        self.write(index, entry);
+    }
+
+    /// Writes the word at an index that the words reach.
+    fn write(&mut self, index: usize, entry: Option<Entry>)
+        requires present { IsFalse (is_taken self.old) }
+        requires within { index < length (words_of self.old) }
+        requires frame { FrameFits entry }
+        ensures set { (p : Place) → IsPlace self.old p → index_of self.old p ≡ index → IsSetAt self.old self.new p entry }
+        ensures present { IsFalse (is_taken self.new) }
+        ensures layout { IsLaidOutAs self.old self.new }
+    {
+        let words = self.words.as_mut().unwrap();
         words[index] = pack(entry);
     }
 
-    /// Withholds rights from what a page holds, if `flush` says so, and clears its status and returns it. With no right left
-    /// the page goes.
-    pub fn narrow(&mut self, place: Place, revoked: Rights, flush: bool) -> Rights
+    /// Withholds rights from what a page holds, if `flush` says so, and clears its status. With no right left the page goes.
+    pub fn narrow(&mut self, place: Place, revoked: Rights, flush: bool) -> Narrowed
         requires place { IsPlace self.old place }
         requires present { IsFalse (is_taken self.old) }
-        ensures status { result ≡ status_of (entry_at self.old place) }
+        ensures status { result.status ≡ status_of (entry_at self.old place) }
+        ensures held { result.held ≡ is_some (entry_at self.new place) }
         ensures set { IsSetAt self.old self.new place (option_and_then (narrowed flush revoked) (entry_at self.old place)) }
         ensures present { IsFalse (is_taken self.new) }
         ensures layout { IsLaidOutAs self.old self.new }
     {
-        let Some(entry) = self.get(place) else {
-            return Rights::none();
+        let index = self.index(place);
+        let Some(entry) = self.read(index) else {
+            return Narrowed {
+                status: Rights::none(),
+                held: false,
+            };
         };
-        self.set(place, entry.narrowed(revoked, flush));
-        entry.status
+        let left = entry.narrowed(revoked, flush);
+        self.write(index, left);
+        Narrowed {
+            status: entry.status,
+            held: left.is_some(),
+        }
     }
 
     /// Adds status to what a page holds.
@@ -152,10 +192,11 @@ impl Shards {
         ensures present { IsFalse (is_taken self.new) }
         ensures layout { IsLaidOutAs self.old self.new }
     {
-        let Some(entry) = self.get(place) else {
+        let index = self.index(place);
+        let Some(entry) = self.read(index) else {
             return;
         };
-        self.set(place, Some(entry.with_status(status)));
+        self.write(index, Some(entry.with_status(status)));
     }
 
     /// Adds rights to what a page holds.
@@ -166,10 +207,11 @@ impl Shards {
         ensures present { IsFalse (is_taken self.new) }
         ensures layout { IsLaidOutAs self.old self.new }
     {
-        let Some(entry) = self.get(place) else {
+        let index = self.index(place);
+        let Some(entry) = self.read(index) else {
             return;
         };
-        self.set(place, Some(entry.extended(rights)));
+        self.write(index, Some(entry.extended(rights)));
     }
 
     /// Gives the words of all pages away, that of each place at its index.
