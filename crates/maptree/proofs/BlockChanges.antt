@@ -101,8 +101,8 @@ module _ (bs : List (List Node)) (k : ℕ) where
       length-insert (set bs k (take at (get_or bs k []))) (k + 1) (drop at (get_or bs k [])) (omega (arith, size, within)) ∙ omega (arith, size)
 
   -- a seat in the first half
-  pub first_half : (at i off : ℕ) → 0 < at → at < 256 → IsSeat bs i (record { block = k; offset = off }) → length (get_or bs k []) ≡ 256 → off ≤ at
-      → IsSeat (split_block at bs k) i (record { block = k; offset = off }) × (length (get_or (split_block at bs k) k []) < 256)
+  pub first_half : (at i off : ℕ) → 0 < at → at < 128 → IsSeat bs i (record { block = k; offset = off }) → length (get_or bs k []) ≡ 128 → off ≤ at
+      → IsSeat (split_block at bs k) i (record { block = k; offset = off }) × (length (get_or (split_block at bs k) k []) < 128)
   first_half at i off some less is full low =
       let within = is.within in
       let b = get_or bs k [] in
@@ -117,8 +117,8 @@ module _ (bs : List (List Node)) (k : ℕ) where
       (record { within = omega (arith, within, more); upto = omega (arith, count, half, low); before = omega (arith, same, before) }, omega (arith, count, half, less))
 
   -- a seat in the second half
-  pub second_half : (at i off : ℕ) → 0 < at → at < 256 → IsSeat bs i (record { block = k; offset = off }) → length (get_or bs k []) ≡ 256 → at < off
-      → IsSeat (split_block at bs k) i (record { block = k + 1; offset = off - at }) × (length (get_or (split_block at bs k) (k + 1) []) < 256)
+  pub second_half : (at i off : ℕ) → 0 < at → at < 128 → IsSeat bs i (record { block = k; offset = off }) → length (get_or bs k []) ≡ 128 → at < off
+      → IsSeat (split_block at bs k) i (record { block = k + 1; offset = off - at }) × (length (get_or (split_block at bs k) (k + 1) []) < 128)
   second_half at i off some less is full high =
       let within = is.within in
       let upto = is.upto in

@@ -29,3 +29,4 @@ pub mod OneReplaced
 pub mod OneRun
 pub mod Named
 pub mod Listed
+pub mod Near

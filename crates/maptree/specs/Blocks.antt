@@ -6,7 +6,7 @@ use Rattle.maptree.specs.declared.blocks.Seat.{Seat}
 
 -- how many nodes a block has at most
 abbrev pub block_size : ℕ
-block_size = 256
+block_size = 128
 
 -- no node is less deep than this
 abbrev pub is_least : ℕ → List Node → Bool

@@ -13,9 +13,9 @@ use std::alloc::{AllocError, Global};
 use std::marker::Model;
 
 /// How many nodes a block has at most.
-pub const BLOCK_SIZE: usize = 256;
+pub const BLOCK_SIZE: usize = 128;
 
-/// Some nodes of a list, one after another; up to 256 find room without more memory.
+/// Some nodes of a list, one after another; up to 128 find room without more memory.
 #[derive(Drop)]
 pub struct Block {
     nodes: Vec<Node>,

@@ -18,16 +18,16 @@ use std::marker::Model;
 use std::ops::Range;
 
 /// How many nodes a block is given where many are made at once.
-const FILLED: usize = 192;
+const FILLED: usize = 96;
 
 /// A block of fewer nodes is joined to one beside it, if that has room for them.
-const SPARSE: usize = 64;
+const SPARSE: usize = 32;
 
 /// How many nodes stay in a block that is split in the middle.
-const HALF: usize = 128;
+const HALF: usize = 64;
 
 /// How many nodes from either end of a block on are its end.
-const END: usize = 16;
+const END: usize = 8;
 
 /// A seat in a list of blocks: a block, and how many of its nodes stand before the seat.
 #[derive(Clone, Copy)]
@@ -127,6 +127,17 @@ impl Blocks {
     {
         let seat = self.seat_of(i);
         self.blocks[seat.block].get(seat.offset)
+    }
+
+    /// The nodes of the block that has a position, and the position of the first of them.
+    pub fn near(&self, i: usize) -> (usize, &[Node])
+        requires { i < length (nodes_in self.now.blocks) }
+        ensures before { result.0 ≤ i }
+        ensures behind { i < result.0 + length result.1.now }
+        ensures nodes { result.1.now ≡ take (length result.1.now) (drop result.0 (nodes_in self.now.blocks)) }
+    {
+        let seat = self.seat_of(i);
+        (i - seat.offset, self.blocks[seat.block].nodes())
     }
 
     /// The position of a place.
@@ -521,7 +532,7 @@ fn list_leasts(leasts: &mut Leasts, blocks: &[Block])
 /// block most of them stay together, so that nodes that are put in one behind another, or one before another, leave full blocks.
 fn front_of_split(offset: usize) -> usize
     ensures some { 0 < result }
-    ensures less { result < 256 }
+    ensures less { result < 128 }
 {
     if offset <= END {
         offset.max(1)

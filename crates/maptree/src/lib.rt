@@ -10,6 +10,7 @@ mod hints;
 mod links;
 mod node;
 mod node_list;
+mod nodes;
 mod origins;
 mod place_map;
 mod replacing;
@@ -20,6 +21,7 @@ mod slice;
 mod tree;
 
 pub use node::Node;
+pub use nodes::Nodes;
 pub use origins::NodeOrigins;
 pub use place_map::PlaceMap;
 pub use slice::Slice;

@@ -9,7 +9,7 @@ use crate::links::linked;
 use crate::node::Node;
 use crate::place_map::PlaceMap;
 use crate::replacing::replace_places;
-use crate::scans::{deeper, last_above, outermost, placed};
+use crate::scans::{deeper, find_near, last_above, outermost};
 use crate::shifts::{close_gaps, shift_in};
 use crate::slice::Slice;
 use smallvec::SmallVec;
@@ -31,6 +31,8 @@ pub struct NodeList {
     form: Form,
     /// How many insertions were promised to take no memory.
     room: usize,
+    /// Where the last node was put in. Its place is often the next to be asked for; no clause rests on it.
+    last: usize,
 }
 
 #[derive(Drop)]
@@ -70,6 +72,7 @@ impl NodeList {
         NodeList {
             form: Form::Few(SmallVec::from_buf(alloc, [node])),
             room: 0,
+            last: 0,
         }
     }
 
@@ -95,13 +98,26 @@ impl NodeList {
         }
     }
 
+    /// The node at a position with those that stand in one piece of memory with it, and the position of the first of these.
+    pub fn near(&self, i: usize) -> (usize, &[Node])
+        requires { i < length self.now.nodes }
+        ensures before { result.0 ≤ i }
+        ensures behind { i < result.0 + length result.1.now }
+        ensures nodes { result.1.now ≡ take (length result.1.now) (drop result.0 self.now.nodes) }
+    {
+        match &self.form {
+            Form::Few(nodes) => (0, nodes),
+            Form::Many(blocks) => blocks.near(i),
+        }
+    }
+
     /// The position of a place.
     pub fn find(&self, place: Place) -> Option<usize>
         requires { are_distinct self.now.nodes ≡ true }
         ensures { result ≡ position (λ n. same_place place n.place) self.now.nodes }
     {
         match &self.form {
-            Form::Few(nodes) => placed(nodes, place),
+            Form::Few(nodes) => find_near(nodes, place, self.last),
             Form::Many(blocks) => blocks.find(place),
         }
     }
@@ -151,6 +167,7 @@ impl NodeList {
         ensures room { self.new.room + 1 ≡ self.old.room }
     {
         self.room -= 1;
+        self.last = i;
         match &mut self.form {
             Form::Few(nodes) => {
                 nodes.push_reserved(node);
@@ -240,7 +257,11 @@ impl NodeList {
         } else {
             Form::Many(Box::new(alloc, Blocks::of(alloc, &nodes)?)?)
         };
-        let mut list = NodeList { form, room: 0 };
+        let mut list = NodeList {
+            form,
+            room: 0,
+            last: 0,
+        };
         list.reserve(room)?;
         Ok(list)
     }

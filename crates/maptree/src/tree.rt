@@ -9,6 +9,7 @@ ghost use Rattle.maptree.specs.Renamings.{nodes_renamed};
 
 use crate::node::Node;
 use crate::node_list::NodeList;
+use crate::nodes::Nodes;
 use crate::place_map::PlaceMap;
 use crate::searching::runs_of;
 use crate::slice::Slice;
@@ -101,6 +102,13 @@ impl Tree {
         ensures depth { HasDepth self.now.links result.place result.depth }
     {
         self.nodes.get(i)
+    }
+
+    /// The nodes, to be read one after another.
+    pub fn nodes(&self) -> Nodes<'_>
+        ensures { result ≡ self.now.links }
+    {
+        Nodes::of(&self.nodes)
     }
 
     /// The positions of a node and of all that derives from it.

@@ -11,8 +11,8 @@ invariant_of-self c =
     let low : least ≤ c.self.inside.least = search (rules, arith) in
     let new : least ≤ c.least_of.result = search (rules, arith) in
     let items : c.extend_from_slice-extended.new.self.items ≡ nodes ++ c.args.nodes.now = search (rules) in
-    let size : length c.extend_from_slice-extended.new.self.items ≤ 256 = search (rules, arith) in
-    let room : 256 ≤ c.extend_from_slice-extended.new.self.cap = search (rules, arith) in (
+    let size : length c.extend_from_slice-extended.new.self.items ≤ 128 = search (rules, arith) in
+    let room : 128 ≤ c.extend_from_slice-extended.new.self.cap = search (rules, arith) in (
       size,
       room,
       ap (is_least least) items ∙ least_append least nodes c.args.nodes.now (least_less least c.self.inside.least nodes low c.self.invariant.2)

@@ -26,6 +26,6 @@ invariant_of-self c =
     let one = length-insert nodes c.args.i c.args.node (search (rules, arith)) in
     let same : length new ≡ c.push-pushed.new.self.len = search (rules, arith, longer, one) in
     let now = with_items_is c.push-pushed.new.self new same in
-    let size : length new ≤ 256 = search (rules, arith, longer, one) in
-    let room : 256 ≤ c.push-pushed.new.self.cap = search (rules, arith) in
+    let size : length new ≤ 128 = search (rules, arith, longer, one) in
+    let room : 128 ≤ c.push-pushed.new.self.cap = search (rules, arith) in
     (search (rules, arith, now, size), room, ap (is_least least) (now ∙ is) ∙ least_insert least c.args.i c.args.node nodes here (least_less least c.self.inside.least nodes low c.self.invariant.2))

@@ -23,9 +23,9 @@ invariant_of-self c =
     let both = length-append (take c.args.from nodes) (drop c.args.to nodes) in
     let front = length-take-le c.args.from nodes (omega (arith, within c, c.requires.rising)) in
     let back = length-drop c.args.to nodes in
-    let few : length nodes ≤ 256 = c.self.invariant.0 in
+    let few : length nodes ≤ 128 = c.self.invariant.0 in
     let same = ap length is in
-    let size : length c.truncate.new.self.items ≤ 256 = omega (arith, both, front, back, few, same, within c, c.requires.rising) in (
+    let size : length c.truncate.new.self.items ≤ 128 = omega (arith, both, front, back, few, same, within c, c.requires.rising) in (
       size,
       search (rules, arith),
       ap (is_least least) is ∙ least_append least (take c.args.from nodes) (drop c.args.to nodes) (least_take least c.args.from nodes c.self.invariant.2)

@@ -24,5 +24,5 @@ invariant_of-self c =
     let same : length c.replace_places.new.nodes ≡ c.self.inside.nodes.len = length_renamed c new nodes refl is in
     let items = with_items_is c.self.inside.nodes c.replace_places.new.nodes same in
     let size = ap length items in
-    let few : length nodes ≤ 256 = c.self.invariant.0 in
+    let few : length nodes ≤ 128 = c.self.invariant.0 in
     (search (rules, arith, size, same, few), c.self.invariant.1, ap (is_least c.self.inside.least) (items ∙ is) ∙ least_renamed new c.self.inside.least nodes ∙ c.self.invariant.2)

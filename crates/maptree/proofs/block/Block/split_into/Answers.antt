@@ -4,6 +4,6 @@ use Rattle.maptree.proofs.block.Block.split_into.Goals as goal
 
 pub invariant_of-self : goal.invariant_of-self
 invariant_of-self c =
-    let size : length c.truncate.new.self.items ≤ 256 = search (rules, arith) in
-    let room : 256 ≤ c.truncate.new.self.cap = search (rules, arith) in
+    let size : length c.truncate.new.self.items ≤ 128 = search (rules, arith) in
+    let room : 128 ≤ c.truncate.new.self.cap = search (rules, arith) in
     (size, room, search rules)

@@ -7,7 +7,7 @@ use Rattle.maptree.proofs.BlockChanges.{split_nodes, first_half, second_half}
 use Rattle.maptree.proofs.blocks.Blocks.seat_with_room.Goals as goal
 
 -- the block of the seat is full
-full : (bs items : List (List Node)) (k : ℕ) (b : List Node) (len : ℕ) → items ≡ bs → k < length bs → b ≡ get_or items k b → len ≡ length b → len ≤ 256 → 256 ≤ len → length (get_or bs k []) ≡ 256
+full : (bs items : List (List Node)) (k : ℕ) (b : List Node) (len : ℕ) → items ≡ bs → k < length bs → b ≡ get_or items k b → len ≡ length b → len ≤ 128 → 128 ≤ len → length (get_or bs k []) ≡ 128
 full bs items k b len same within is size low high = let read = ap length (as_read bs k b within (read_of items bs k b same is)) in omega (arith, read, size, low, high)
 
 pub split-requires-clause-at : goal.split-requires-clause-at
@@ -44,7 +44,7 @@ returns-then-seat-front-clause-seat c =
 
 pub returns-then-seat-front-clause-few : goal.returns-then-seat-front-clause-few
 returns-then-seat-front-clause-few c =
-    subst (λ bs. length (get_or bs c.seat-seat.result.block []) < 256) (sym c.split.ensures.blocks)
+    subst (λ bs. length (get_or bs c.seat-seat.result.block []) < 128) (sym c.split.ensures.blocks)
     (first_half c.args.self.now.blocks c.seat-seat.result.block c.front_of_split-front.result c.args.i c.seat-seat.result.offset c.front_of_split-front.ensures.some c.front_of_split-front.ensures.less c.seat-seat.ensures.seat (full c.args.self.now.blocks c.self.inside.blocks.items c.seat-seat.result.block c.index.result.now c.len.result (ap (λ v. v.blocks) c.self.view_is) c.seat-seat.ensures.seat.within c.index.ensures c.len.ensures.len c.len.ensures.most c.if-len-lt-BLOCK_SIZE.false) c.if-seat-front.true).1
 
 pub returns-clause-nodes : goal.returns-clause-nodes
@@ -58,7 +58,7 @@ returns-clause-seat c =
 
 pub returns-clause-few : goal.returns-clause-few
 returns-clause-few c =
-    subst (λ bs. length (get_or bs (c.seat-seat.result.block + 1) []) < 256) (sym c.split.ensures.blocks)
+    subst (λ bs. length (get_or bs (c.seat-seat.result.block + 1) []) < 128) (sym c.split.ensures.blocks)
     (second_half c.args.self.now.blocks c.seat-seat.result.block c.front_of_split-front.result c.args.i c.seat-seat.result.offset c.front_of_split-front.ensures.some c.front_of_split-front.ensures.less c.seat-seat.ensures.seat (full c.args.self.now.blocks c.self.inside.blocks.items c.seat-seat.result.block c.index.result.now c.len.result (ap (λ v. v.blocks) c.self.view_is) c.seat-seat.ensures.seat.within c.index.ensures c.len.ensures.len c.len.ensures.most c.if-len-lt-BLOCK_SIZE.false) c.if-seat-front.false).1
 
 pub returns-then-seat-front-clause-fits : goal.returns-then-seat-front-clause-fits

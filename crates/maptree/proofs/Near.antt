@@ -1,0 +1,36 @@
+-- A node read from some of the nodes of a list.
+use Rattle.std.proofs.Common.{◌≡◌, ℕ, ◌+◌, ◌-◌, ◌<◌, ◌≤◌, true, List, [], length, take, drop, get_or, subst, sym, ap, ◌∙◌, arith}
+use Rattle.std.proofs.lemmas.List.{get_or-take, get_or-drop}
+use Rattle.space.specs.declared.place.Place.{Place}
+use Rattle.maptree.specs.declared.node.Node.{Node}
+use Rattle.maptree.specs.Origins.{Origins, place_at, HasDepth}
+use Rattle.maptree.specs.Nodes.{is_forest, origins_of}
+use Rattle.maptree.proofs.Positions.{read_any, node_place, node_depth, node_only, length-links}
+
+-- the node at a position of a tree
+pub record IsNodeAt (os : Origins) (i : ℕ) (n : Node) : Type 0 where
+  pub place : (d : Place) → n.place ≡ place_at os i d
+  pub only : (j : ℕ) (d : Place) → j < length os → place_at os j d ≡ n.place → j ≡ i
+  pub depth : HasDepth os n.place n.depth
+
+-- some nodes of a list have the node of a position that is among them
+pub near_node : (ns near : List Node) (first i : ℕ) (d : Node) → near ≡ take (length near) (drop first ns) → first ≤ i → i - first < length near → i < length ns
+    → get_or near (i - first) d ≡ get_or ns i (get_or near (i - first) d)
+near_node ns near first i d some least inside within =
+    let whole : first + (i - first) ≡ i = omega (arith, least) in
+    ap (λ l. get_or l (i - first) d) some ∙ get_or-take (length near) (drop first ns) (i - first) d inside ∙ get_or-drop first ns (i - first) d
+    ∙ ap (λ k. get_or ns k d) whole ∙ read_any ns i d (get_or near (i - first) d) within
+
+-- and that is the node of the tree
+pub near_is : (ns near : List Node) (first i : ℕ) (d n : Node) (os : Origins) → origins_of ns ≡ os → is_forest ns ≡ true → near ≡ take (length near) (drop first ns) → first ≤ i → i - first < length near → i < length os
+    → n ≡ get_or near (i - first) d → IsNodeAt os i n
+near_is ns near first i d n os is forest some least inside within read =
+    let size = ap length is in
+    let count = length-links [] ns in
+    let inner : i < length ns = omega (arith, size, count, within) in
+    let same : n ≡ get_or ns i n = subst (λ m. m ≡ get_or ns i m) (sym read) (near_node ns near first i d some least inside inner) in
+    subst (λ os. IsNodeAt os i n) is (record {
+      place = node_place ns i n inner same;
+      only = node_only ns i n forest inner same;
+      depth = node_depth ns i n forest inner same;
+    })

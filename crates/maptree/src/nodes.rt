@@ -1,0 +1,69 @@
+//! The nodes of a tree, read one after another.
+
+ghost use Rattle.std.specs.Prelude.{◌≡◌, ◌<◌, ℕ, length};
+ghost use Rattle.space.specs.declared.place.Place.{Place};
+ghost use Rattle.maptree.specs.Nodes.{is_forest, origins_of};
+ghost use Rattle.maptree.specs.Origins.{place_at, HasDepth};
+
+use crate::node::Node;
+use crate::node_list::NodeList;
+use std::marker::Model;
+
+/// Reads nodes of a tree. One that stands near the one that was read before is read without a search for its block. A contract
+/// sees the places of the tree with their origins.
+#[derive(Drop)]
+pub struct Nodes<'a> {
+    list: &'a NodeList,
+    /// Some of the nodes, one after another.
+    near: &'a [Node],
+    /// The position of the first of these.
+    first: usize,
+}
+
+impl<'a> Model for Nodes<'a> {
+    ghost use Rattle.std.specs.Prelude.{◌≡◌, true, length, take, drop};
+    ghost use Rattle.maptree.specs.Nodes.{is_forest, origins_of};
+    ghost use Rattle.maptree.specs.Origins.{Origins};
+
+    ghost Value = { Origins };
+
+    ghost view = { λ n. origins_of n.list.now.nodes };
+
+    ghost invariant = { λ n. (is_forest n.list.now.nodes ≡ true) × (n.near.now ≡ take (length n.near.now) (drop n.first n.list.now.nodes)) };
+}
+
+impl<'a> Nodes<'a> {
+    ghost use Rattle.std.specs.Prelude.{true};
+
+    /// The nodes of a list.
+    pub fn of(list: &'a NodeList) -> Nodes<'a>
+        requires { is_forest list.now.nodes ≡ true }
+        ensures { result ≡ origins_of list.now.nodes }
+    {
+        Nodes {
+            list,
+            near: &[],
+            first: 0,
+        }
+    }
+
+    /// The node at a position. No other position has its place.
+    pub fn at(&mut self, i: usize) -> Node
+        requires { i < length self.old }
+        ensures place { (d : Place) → result.place ≡ place_at self.old i d }
+        ensures only { (j : ℕ) (d : Place) → j < length self.old → place_at self.old j d ≡ result.place → j ≡ i }
+        ensures depth { HasDepth self.old result.place result.depth }
+        ensures same { self.new ≡ self.old }
+    {
+        if self.first <= i {
+            if let Some(node) = self.near.get(i - self.first) {
+                return *node;
+            }
+        }
+        let (first, near) = self.list.near(i);
+        let node = near[i - first];
+        self.first = first;
+        self.near = near;
+        node
+    }
+}
