@@ -4,3 +4,4 @@ pub mod Sequences
 pub mod Outer
 pub mod Frames
 pub mod HeldPages
+pub mod LeftOfRuns

@@ -1,7 +1,7 @@
 //! Pages that are stripped one after another, each with all that derives from it, on the words and trees themselves.
 
 use crate::holdings::Holdings;
-use crate::prune::prune;
+use crate::prune::{Left, prune_run};
 use crate::recursion::{take, visit};
 use crew::Workers;
 use fpage::Rights;
@@ -111,6 +111,7 @@ ghost use Rattle.model.specs.Holdings.{only};
 ghost use Rattle.model.specs.Strip.{strip, strip_word};
 ghost use Rattle.holdings.specs.Inner.Held.{is_listed, links_in, limits_in, holdings_in};
 ghost use Rattle.holdings.specs.Inner.Sound.{AreSound, AreLoose};
+ghost use Rattle.holdings.specs.Inner.Stripping.{IsLeft};
 
 /// Strips a place, takes out of its tree what is gone then, and gives back the status that was gathered.
 fn strip_place(
@@ -134,9 +135,17 @@ fn strip_place(
     let tree = &trees[frame];
     let i = tree.find(place).unwrap();
     let run = tree.run_of(i);
-    let status = strip_run(alloc, shards, trees, frame, &run, revoked, flush, order)?;
-    prune(alloc, shards, &mut trees[frame], &[run])?;
-    Ok(status)
+    let stripped = strip_run(alloc, shards, trees, frame, &run, revoked, flush, order)?;
+    prune_run(alloc, shards, &mut trees[frame], run, stripped.left)?;
+    Ok(stripped.status)
+}
+
+/// What a strip of the first place of a run gathered and left.
+#[derive(Clone, Copy)]
+struct Stripped {
+    status: Rights,
+    /// What is known to be left of the places of the run.
+    left: Left,
 }
 
 /// Strips the first place of a run in one order or the other. The tree stays: it may then list places that hold nothing.
@@ -149,25 +158,34 @@ fn strip_run(
     revoked: Rights,
     flush: bool,
     order: Order,
-) -> Result<Rights, AllocError>
+) -> Result<Stripped, AllocError>
     requires loose { AreLoose shards.old trees.now }
     requires frame { frame < length trees.now }
     requires run { IsRun (links_in trees.now frame) run.now }
     requires some { run.now.start < run.now.end }
     requires within { run.now.end ≤ length (links_in trees.now frame) }
-    ensures status { IfOk result (λ status. (d : Place) → status ≡ strip_word (holdings_in shards.old trees.now) (only (place_at (links_in trees.now frame) run.now.start d))) }
+    ensures status { IfOk result (λ stripped. (d : Place) → stripped.status ≡ strip_word (holdings_in shards.old trees.now) (only (place_at (links_in trees.now frame) run.now.start d))) }
     ensures left { OnOk result ((d : Place) → holdings_in shards.new trees.now ≡ strip (holdings_in shards.old trees.now) (only (place_at (links_in trees.now frame) run.now.start d)) revoked flush) }
     ensures loose { OnOk result (AreLoose shards.new trees.now) }
     ensures layout { OnOk result (IsLaidOutAs shards.old shards.new) }
+    ensures run_left { IfOk result (λ stripped. IsLeft shards.new (links_in trees.now frame) run.now stripped.left) }
 {
     match order {
-        Order::Recursion => visit(alloc, shards, trees, frame, run, revoked, flush),
+        Order::Recursion => {
+            let status = visit(alloc, shards, trees, frame, run, revoked, flush)?;
+            // The recursion keeps no account of what it leaves.
+            let left = Left {
+                all_held: false,
+                all_gone: false,
+            };
+            Ok(Stripped { status, left })
+        }
         Order::List => Ok(walk(shards, trees, frame, run, revoked, flush)),
     }
 }
 
-/// Passes over a run: each of its places loses the rights, the first one if it is to, and its status is taken. What was taken is
-/// added to the status of the origin of the run.
+/// Passes over a run: each of its places loses the rights, the first one if it is to, and its status is taken. What was
+/// taken is added to the status of the origin of the run. Gives back what was taken, and what is left of the places.
 fn walk(
     shards: &mut Shards,
     trees: &[Tree],
@@ -175,26 +193,34 @@ fn walk(
     run: &Range<usize>,
     revoked: Rights,
     flush: bool,
-) -> Rights
+) -> Stripped
     requires loose { AreLoose shards.old trees.now }
     requires frame { frame < length trees.now }
     requires run { IsRun (links_in trees.now frame) run.now }
     requires some { run.now.start < run.now.end }
     requires within { run.now.end ≤ length (links_in trees.now frame) }
-    ensures status { (d : Place) → result ≡ strip_word (holdings_in shards.old trees.now) (only (place_at (links_in trees.now frame) run.now.start d)) }
+    ensures status { (d : Place) → result.status ≡ strip_word (holdings_in shards.old trees.now) (only (place_at (links_in trees.now frame) run.now.start d)) }
     ensures left { (d : Place) → holdings_in shards.new trees.now ≡ strip (holdings_in shards.old trees.now) (only (place_at (links_in trees.now frame) run.now.start d)) revoked flush }
     ensures loose { AreLoose shards.new trees.now }
     ensures layout { IsLaidOutAs shards.old shards.new }
+    ensures run_left { IsLeft shards.new (links_in trees.now frame) run.now result.left }
 {
     let tree = &trees[frame];
     let first = tree.node(run.start).place;
     let mut status = Rights::none();
+    let mut all_held = true;
+    let mut all_gone = true;
+    let mut nodes = tree.nodes();
     for i in run.start..run.end {
-        let node = tree.node(i);
-        status = status.join(take(shards, node.place, first, revoked, flush));
+        let node = nodes.at(i);
+        let narrowed = take(shards, node.place, first, revoked, flush);
+        status = status.join(narrowed.status);
+        all_held &= narrowed.held;
+        all_gone &= !narrowed.held;
     }
     if let Some(origin) = tree.origin_of(run.start) {
         shards.add_status(tree.node(origin).place, status);
     }
-    status
+    let left = Left { all_held, all_gone };
+    Stripped { status, left }
 }

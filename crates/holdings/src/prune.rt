@@ -45,6 +45,48 @@ pub fn prune(
     tree.splice(kept)
 }
 
+ghost use Rattle.std.specs.Prelude.{[], ◌∷◌};
+ghost use Rattle.holdings.specs.Inner.Stripping.{IsLeft};
+
+/// What is known to be left of the places of a run.
+#[derive(Clone, Copy)]
+pub struct Left {
+    /// Each of them has an entry.
+    pub all_held: bool,
+    /// None of them has one.
+    pub all_gone: bool,
+}
+
+/// The same as `prune` for one run, of which so much is known: where each of its places has an entry, or none has, no entry is
+/// read.
+///
+/// Refused, where memory is: `NoMemory`.
+pub fn prune_run(
+    alloc: Global,
+    shards: &Shards,
+    tree: &mut Tree,
+    run: Range<usize>,
+    left: Left,
+) -> Result<(), NoMemory>
+    requires present { IsFalse (is_taken shards.now) }
+    requires places { All (λ o. IsPlace shards.now o.0) tree.old.links }
+    requires rising { AreRising 0 (run ∷ []) (length tree.old.links) }
+    requires runs { All (IsRun tree.old.links) (run ∷ []) }
+    requires outside { list_all (λ o. has_entry shards.now o.0) (outside 0 (run ∷ []) tree.old.links) ≡ true }
+    requires origins { OriginsHaveEntries shards.now tree.old.links }
+    requires left { IsLeft shards.now tree.old.links run left }
+    ensures { OnOk result (tree.new.links ≡ pruned shards.now tree.old.links) }
+{
+    if left.all_held {
+        return Ok(());
+    }
+    if left.all_gone {
+        tree.remove(&[run]);
+        return Ok(());
+    }
+    prune(alloc, shards, tree, &[run])
+}
+
 ghost use Rattle.holdings.specs.Inner.StripPlans.{AllCanBePruned, ArePruned};
 
 /// Takes the places without an entry out of the trees of these frames. They lie in the runs of these.
@@ -166,8 +208,9 @@ fn is_held(shards: &Shards, tree: &Tree, run: &Range<usize>) -> bool
     requires within { run.now.end ≤ length tree.now.links }
     ensures { result ≡ list_all (λ o. has_entry shards.now o.0) (slice_range tree.now.links run.now.start run.now.end) }
 {
+    let mut nodes = tree.nodes();
     for i in run.start..run.end {
-        if shards.get(tree.node(i).place).is_none() {
+        if shards.get(nodes.at(i).place).is_none() {
             return false;
         }
     }
@@ -196,8 +239,9 @@ fn is_gone(shards: &Shards, tree: &Tree, run: &Range<usize>) -> bool
     requires within { run.now.end ≤ length tree.now.links }
     ensures { result ≡ list_all (λ o. not (has_entry shards.now o.0)) (slice_range tree.now.links run.now.start run.now.end) }
 {
+    let mut nodes = tree.nodes();
     for i in run.start..run.end {
-        if shards.get(tree.node(i).place).is_some() {
+        if shards.get(nodes.at(i).place).is_some() {
             return false;
         }
     }

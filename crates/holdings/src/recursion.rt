@@ -4,7 +4,7 @@ use crate::holdings::Holdings;
 use crate::one_by_one::Order;
 use fpage::Rights;
 use maptree::{Node, Tree};
-use space::{NoMemory, Place, Shards};
+use space::{Narrowed, NoMemory, Place, Shards};
 use std::alloc::{AllocError, Global};
 use std::ops::Range;
 
@@ -40,7 +40,7 @@ ghost use Rattle.space.specs.Shards.{IsPlace, IsSetAt, IsLaidOutAs, entry_at, is
 ghost use Rattle.maptree.specs.Origins.{place_at, IsRun};
 ghost use Rattle.model.specs.Holdings.{only};
 ghost use Rattle.model.specs.Strip.{strip, strip_word};
-ghost use Rattle.holdings.specs.Inner.Held.{links_in, holdings_in};
+ghost use Rattle.holdings.specs.Inner.Held.{has_entry, links_in, holdings_in};
 ghost use Rattle.space.specs.Entries.{narrowed, status_of};
 ghost use Rattle.holdings.specs.Inner.Sound.{AreLoose};
 
@@ -76,12 +76,12 @@ pub fn visit(
         let node = tree.node(i);
         // This page derives from none that stands as deep, so their visits end.
         while let Some(page) = pop_from(&mut begun, node.depth) {
-            status = status.join(take(shards, page.place, first, revoked, flush));
+            status = status.join(take(shards, page.place, first, revoked, flush).status);
         }
         begun.push(node)?;
     }
     while let Some(page) = begun.pop() {
-        status = status.join(take(shards, page.place, first, revoked, flush));
+        status = status.join(take(shards, page.place, first, revoked, flush).status);
     }
     if let Some(origin) = tree.origin_of(run.start) {
         shards.add_status(tree.node(origin).place, status);
@@ -102,11 +102,18 @@ fn pop_from(begun: &mut Vec<Node>, depth: usize) -> Option<Node>
 }
 
 /// Ends the visit of a place: what it holds loses the rights, unless it is the first place of the recursion and is to keep
-/// them, and its status is cleared and given back.
-pub fn take(shards: &mut Shards, place: Place, first: Place, revoked: Rights, flush: bool) -> Rights
+/// them, and its status is cleared. Gives back that status, and whether the place still holds anything.
+pub fn take(
+    shards: &mut Shards,
+    place: Place,
+    first: Place,
+    revoked: Rights,
+    flush: bool,
+) -> Narrowed
     requires place { IsPlace shards.old place }
     requires present { IsFalse (is_taken shards.old) }
-    ensures status { result ≡ status_of (entry_at shards.old place) }
+    ensures status { result.status ≡ status_of (entry_at shards.old place) }
+    ensures held { result.held ≡ has_entry shards.new place }
     ensures set { IsSetAt shards.old shards.new place (option_and_then (narrowed (flush || not (same_place place first)) revoked) (entry_at shards.old place)) }
     ensures present { IsFalse (is_taken shards.new) }
     ensures layout { IsLaidOutAs shards.old shards.new }

@@ -63,7 +63,7 @@ in_range j (r ∷ rs) d (inr there) = let later = in_range j rs d there in (suc 
 
 -- what holds of each place outside of the ranges
 module _ (test : Place → Bool) (os : Origins) where
-  all_slice : (a m : ℕ) → ((j : ℕ) (d : Place) → a ≤ j → j < a + m → j < length os → test (place_at os j d) ≡ true) → list_all (λ o. test o.0) (take m (drop a os)) ≡ true
+  pub all_slice : (a m : ℕ) → ((j : ℕ) (d : Place) → a ≤ j → j < a + m → j < length os → test (place_at os j d) ≡ true) → list_all (λ o. test o.0) (take m (drop a os)) ≡ true
   all_slice a m each = front m (drop a os) (λ i d less within. rw (place_at_drop a os i d) (each (a + i) d (omega arith) (omega (arith, less)) (omega (arith, within, length-drop a os))))
     where
       front : (m : ℕ) (xs : Origins) → ((i : ℕ) (d : Place) → i < m → i < length xs → test (place_at xs i d) ≡ true) → list_all (λ o. test o.0) (take m xs) ≡ true

@@ -1,6 +1,6 @@
 -- The pages that are stripped, and a tree of which some are gone.
-use Rattle.std.specs.List.{list_any, All}
-use Rattle.std.specs.Prelude.{◌≡◌, ℕ, true, List, Some, ◌&&◌, map, filter}
+use Rattle.std.specs.List.{list_any, list_all, slice_range, All}
+use Rattle.std.specs.Prelude.{◌≡◌, ℕ, true, not, List, Some, ◌&&◌, map, filter}
 use Rattle.std.specs.declared.ops.Range.{Range}
 use Rattle.space.specs.Place.{same_place}
 use Rattle.space.specs.Shards.{entry_at}
@@ -12,6 +12,7 @@ use Rattle.model.specs.Holdings.{PlaceSet}
 use Rattle.holdings.specs.Inner.Held.{is_place, has_entry, has_frame, limits_in}
 use Rattle.holdings.specs.Places.{any_of}
 use Rattle.holdings.specs.declared.pages.HeldPage.{HeldPage}
+use Rattle.holdings.specs.declared.prune.Left.{Left}
 
 -- a place of these
 abbrev pub any_page : List HeldPage → PlaceSet
@@ -45,3 +46,8 @@ OriginsHaveEntries shards os = (p o : Place) → origin_in os p ≡ Some o → h
 -- a tree without the places that have no entry
 abbrev pub pruned : Shards → Origins → Origins
 pruned shards os = filter (λ o. has_entry shards o.0) os
+
+-- what is known to be left of the places in a run of a tree is so
+pub record IsLeft (shards : Shards) (os : Origins) (run : Range ℕ) (left : Left) : Type 0 where
+  pub held : left.all_held ≡ true → list_all (λ o. has_entry shards o.0) (slice_range os run.start run.end) ≡ true
+  pub gone : left.all_gone ≡ true → list_all (λ o. not (has_entry shards o.0)) (slice_range os run.start run.end) ≡ true

@@ -1,43 +1,60 @@
 -- Each page of the run is taken once, by its position, and the origin gains.
-use Rattle.std.proofs.Common.{◌≡◌, ◌<◌, ◌+◌, ◌||◌, not, length, Some, None, option_map, refl, sym, ap, ◌∙◌, subst, arith}
+use Rattle.std.proofs.Common.{◌≡◌, ℕ, ◌<◌, ◌+◌, ◌||◌, not, length, Some, None, option_map, refl, sym, ap, ◌∙◌, subst, arith}
 use Rattle.space.specs.declared.place.Place.{Place}
 use Rattle.space.specs.Place.{same_place}
 use Rattle.maptree.specs.Origins.{origin_in, place_at}
 use Rattle.holdings.specs.Inner.Held.{links_in}
 use Rattle.holdings.proofs.Contents.Holders.{links_read}
 use Rattle.holdings.proofs.Stripping.Walks.{IsWalked, IsStripped, walk_begins, walk_goes, place_any, listed_place, run_without_origin, run_with_origin}
+use Rattle.holdings.proofs.Stripping.LeftOfRuns.{IsSeen, places_now, seen_more, seen_kept, run_left}
 use Rattle.holdings.proofs.one_by_one.walk.Goals.{After-add_status, In_default}
 use Rattle.holdings.proofs.Contents.WordChanges.{place_kept}
 use Rattle.holdings.proofs.one_by_one.walk.Goals as goal
 
 pub loop-i-init : goal.loop-i-init
-loop-i-init c =
-    subst (λ r. IsWalked c.args.shards.now c.args.trees.now c.args.frame c.args.run.now.start c.node.result.place c.args.revoked c.args.flush c.args.run.now.start c.args.shards.now r) (sym c.none-status.ensures)
-    (walk_begins c.args.shards.now c.args.trees.now c.requires.loose c.args.frame c.args.run.now.start c.node.result.place c.args.revoked c.args.flush)
+loop-i-init c = record {
+  nodes = c.nodes-nodes.ensures ∙ sym (links_read c.args.trees.now c.args.frame c.index-trees-frame.result c.requires.frame c.index-trees-frame.is);
+  walked =
+      subst (λ r. IsWalked c.args.shards.now c.args.trees.now c.args.frame c.args.run.now.start c.node.result.place c.args.revoked c.args.flush c.args.run.now.start c.args.shards.now r) (sym c.none-status.ensures)
+      (walk_begins c.args.shards.now c.args.trees.now c.requires.loose c.args.frame c.args.run.now.start c.node.result.place c.args.revoked c.args.flush);
+  held = λ _ j less d least. absurd (omega (arith, less, least));
+  gone = λ _ j less d least. absurd (omega (arith, less, least));
+}
 
-pub node-node-requires : goal.node-node-requires
-node-node-requires c =
-    let links = links_read c.args.trees.now c.args.frame c.index-trees-frame.result c.requires.frame c.index-trees-frame.is in
+pub at-node-requires : goal.at-node-requires
+at-node-requires c =
+    let links = sym c.loop-i.invariant.nodes in
     let most : c.loop-i.i < length (links_in c.args.trees.now c.args.frame) = omega (arith, c.loop-i-test.true, c.requires.within) in
     subst (λ os. c.loop-i.i < length os) links most
 
-pub take-requires-clause-place : goal.take-requires-clause-place
-take-requires-clause-place c =
-    let links = links_read c.args.trees.now c.args.frame c.index-trees-frame.result c.requires.frame c.index-trees-frame.is in
+pub take-narrowed-requires-clause-place : goal.take-narrowed-requires-clause-place
+take-narrowed-requires-clause-place c =
+    let links = sym c.loop-i.invariant.nodes in
     let within : c.loop-i.i < length (links_in c.args.trees.now c.args.frame) = omega (arith, c.loop-i-test.true, c.requires.within) in
-    place_kept c.args.shards.now c.loop-i.shards c.loop-i.invariant.layout c.node-node.result.place
-    (listed_place c.args.shards.now c.args.trees.now c.args.frame c.requires.loose c.loop-i.i c.node-node.result.place within (λ d. ap (λ os. place_at os c.loop-i.i d) links ∙ sym (c.node-node.ensures.place d)))
+    place_kept c.args.shards.now c.loop-i.shards c.loop-i.invariant.walked.layout c.at-node.result.place
+    (listed_place c.args.shards.now c.args.trees.now c.args.frame c.requires.loose c.loop-i.i c.at-node.result.place within (λ d. ap (λ os. place_at os c.loop-i.i d) links ∙ sym (c.at-node.ensures.place d)))
 
 pub loop-i-preserved : goal.loop-i-preserved
 loop-i-preserved c =
-    let links = links_read c.args.trees.now c.args.frame c.index-trees-frame.result c.requires.frame c.index-trees-frame.is in
+    let links = sym c.loop-i.invariant.nodes in
     let within : c.loop-i.i < length (links_in c.args.trees.now c.args.frame) = omega (arith, c.loop-i-test.true, c.requires.within) in
-    subst (IsWalked c.args.shards.now c.args.trees.now c.args.frame c.args.run.now.start c.node.result.place c.args.revoked c.args.flush (c.loop-i.i + 1) c.take.new.shards) (sym c.join-status.ensures)
-    (walk_goes c.args.shards.now c.args.trees.now c.requires.loose c.args.frame c.args.run.now.start c.node.result.place c.args.revoked c.args.flush c.loop-i.i c.loop-i.shards c.take.new.shards
-    c.loop-i.status c.take.result c.node-node.result.place (c.args.flush || not (same_place c.node-node.result.place c.node.result.place)) c.loop-i.invariant
-    c.loop-i.auto.i within (λ d. ap (λ os. place_at os c.loop-i.i d) links ∙ sym (c.node-node.ensures.place d))
-    (λ j d within_j is. c.node-node.ensures.only j d (subst (λ os. j < length os) links within_j) (ap (λ os. place_at os j d) (sym links) ∙ is))
-    refl c.take.ensures.status c.take.ensures.set c.take.ensures.present c.take.ensures.layout)
+    let at : (d : Place) → place_at (links_in c.args.trees.now c.args.frame) c.loop-i.i d ≡ c.at-node.result.place = λ d. ap (λ os. place_at os c.loop-i.i d) links ∙ sym (c.at-node.ensures.place d) in
+    let only_there : (j : ℕ) (d : Place) → j < length (links_in c.args.trees.now c.args.frame) → place_at (links_in c.args.trees.now c.args.frame) j d ≡ c.at-node.result.place → j ≡ c.loop-i.i =
+    λ j d within_j is. c.at-node.ensures.only j d (subst (λ os. j < length os) links within_j) (ap (λ os. place_at os j d) (sym links) ∙ is) in
+    let places = places_now c.args.shards.now c.args.trees.now c.args.frame c.requires.loose c.loop-i.shards c.loop-i.invariant.walked.layout in
+    let narrowed = c.take-narrowed in
+    record {
+      nodes = c.at-node.ensures.same ∙ c.loop-i.invariant.nodes;
+      walked =
+          subst (IsWalked c.args.shards.now c.args.trees.now c.args.frame c.args.run.now.start c.node.result.place c.args.revoked c.args.flush (c.loop-i.i + 1) narrowed.new.shards) (sym c.join-status.ensures)
+          (walk_goes c.args.shards.now c.args.trees.now c.requires.loose c.args.frame c.args.run.now.start c.node.result.place c.args.revoked c.args.flush c.loop-i.i c.loop-i.shards narrowed.new.shards
+          c.loop-i.status narrowed.result.status c.at-node.result.place (c.args.flush || not (same_place c.at-node.result.place c.node.result.place)) c.loop-i.invariant.walked
+          c.loop-i.auto.i within at only_there refl narrowed.ensures.status narrowed.ensures.set narrowed.ensures.present narrowed.ensures.layout);
+      held = seen_more (λ b. b) (links_in c.args.trees.now c.args.frame) c.args.run.now.start c.loop-i.i c.loop-i.shards narrowed.new.shards c.at-node.result.place _ narrowed.ensures.set
+          places within at only_there c.loop-i.all_held narrowed.result.held narrowed.ensures.held c.loop-i.invariant.held;
+      gone = seen_more not (links_in c.args.trees.now c.args.frame) c.args.run.now.start c.loop-i.i c.loop-i.shards narrowed.new.shards c.at-node.result.place _ narrowed.ensures.set
+          places within at only_there c.loop-i.all_gone narrowed.result.held narrowed.ensures.held c.loop-i.invariant.gone;
+    }
 
 pub origin_of-requires : goal.origin_of-requires
 origin_of-requires c =
@@ -56,7 +73,7 @@ pub add_status-requires-clause-place : goal.add_status-requires-clause-place
 add_status-requires-clause-place c =
     let links = links_read c.args.trees.now c.args.frame c.index-trees-frame.result c.requires.frame c.index-trees-frame.is in
     let less = c.in-Some.ensures.before in
-    place_kept c.args.shards.now c.loop-i.shards c.loop-i.invariant.layout c.node-in-Some.result.place
+    place_kept c.args.shards.now c.loop-i.shards c.loop-i.invariant.walked.layout c.node-in-Some.result.place
     (listed_place c.args.shards.now c.args.trees.now c.args.frame c.requires.loose c.in-Some.origin c.node-in-Some.result.place (omega (arith, less, c.requires.some, c.requires.within))
     (λ e. ap (λ os. place_at os c.in-Some.origin e) links ∙ sym (c.node-in-Some.ensures.place e)))
 
@@ -67,7 +84,7 @@ walked_some c d =
     let here : c.node.result.place ≡ place_at (links_in c.args.trees.now c.args.frame) c.args.run.now.start d = c.node.ensures.place d ∙ ap (λ os. place_at os c.args.run.now.start d) (sym links) in
     let end : c.loop-i.i ≡ c.args.run.now.end = omega (arith, c.loop-i-test.false, c.loop-i.auto) in
     subst (λ i. IsWalked c.args.shards.now c.args.trees.now c.args.frame c.args.run.now.start (place_at (links_in c.args.trees.now c.args.frame) c.args.run.now.start d) c.args.revoked c.args.flush i c.loop-i.shards c.loop-i.status) end
-    (subst (λ q. IsWalked c.args.shards.now c.args.trees.now c.args.frame c.args.run.now.start q c.args.revoked c.args.flush c.loop-i.i c.loop-i.shards c.loop-i.status) here c.loop-i.invariant)
+    (subst (λ q. IsWalked c.args.shards.now c.args.trees.now c.args.frame c.args.run.now.start q c.args.revoked c.args.flush c.loop-i.i c.loop-i.shards c.loop-i.status) here c.loop-i.invariant.walked)
 
 -- the walk has come to the end of the run
 walked_none : (c : In_default) (d : Place) → IsWalked c.args.shards.now c.args.trees.now c.args.frame c.args.run.now.start (place_at (links_in c.args.trees.now c.args.frame) c.args.run.now.start d) c.args.revoked c.args.flush c.args.run.now.end c.loop-i.shards c.loop-i.status
@@ -76,7 +93,7 @@ walked_none c d =
     let here : c.node.result.place ≡ place_at (links_in c.args.trees.now c.args.frame) c.args.run.now.start d = c.node.ensures.place d ∙ ap (λ os. place_at os c.args.run.now.start d) (sym links) in
     let end : c.loop-i.i ≡ c.args.run.now.end = omega (arith, c.loop-i-test.false, c.loop-i.auto) in
     subst (λ i. IsWalked c.args.shards.now c.args.trees.now c.args.frame c.args.run.now.start (place_at (links_in c.args.trees.now c.args.frame) c.args.run.now.start d) c.args.revoked c.args.flush i c.loop-i.shards c.loop-i.status) end
-    (subst (λ q. IsWalked c.args.shards.now c.args.trees.now c.args.frame c.args.run.now.start q c.args.revoked c.args.flush c.loop-i.i c.loop-i.shards c.loop-i.status) here c.loop-i.invariant)
+    (subst (λ q. IsWalked c.args.shards.now c.args.trees.now c.args.frame c.args.run.now.start q c.args.revoked c.args.flush c.loop-i.i c.loop-i.shards c.loop-i.status) here c.loop-i.invariant.walked)
 
 with_origin : (c : After-add_status) (d : Place) → IsStripped c.args.shards.now c.args.trees.now (place_at (links_in c.args.trees.now c.args.frame) c.args.run.now.start d) c.args.revoked c.args.flush c.add_status.new.self c.loop-i.status
 with_origin c d =
@@ -88,7 +105,7 @@ with_origin c d =
     ap (λ os. origin_in os (place_at os c.args.run.now.start d)) links ∙ c.origin_of.ensures.origin d ∙ ap (option_map (λ r. place_at c.index-trees-frame.result.links r d)) c.in-Some.is
     ∙ ap Some (sym (c.node-in-Some.ensures.place d)) in
     let less = c.in-Some.ensures.before in
-    let place = place_kept c.args.shards.now c.loop-i.shards c.loop-i.invariant.layout c.node-in-Some.result.place
+    let place = place_kept c.args.shards.now c.loop-i.shards c.loop-i.invariant.walked.layout c.node-in-Some.result.place
     (listed_place c.args.shards.now c.args.trees.now c.args.frame c.requires.loose c.in-Some.origin c.node-in-Some.result.place (omega (arith, less, c.requires.some, c.requires.within))
     (λ e. ap (λ os. place_at os c.in-Some.origin e) links ∙ sym (c.node-in-Some.ensures.place e))) in
     run_with_origin c.args.shards.now c.args.trees.now c.requires.loose c.args.frame c.args.run.now c.requires.run c.requires.some c.requires.within p first c.args.revoked c.args.flush c.loop-i.shards c.loop-i.status (walked_some c d)
@@ -127,3 +144,21 @@ returns-in_default-clause-loose c = (without_origin c c.node.result.place).loose
 
 pub returns-in_default-clause-layout : goal.returns-in_default-clause-layout
 returns-in_default-clause-layout c = (without_origin c c.node.result.place).layout
+
+pub returns-in-Some-clause-run_left : goal.returns-in-Some-clause-run_left
+returns-in-Some-clause-run_left c =
+    let links = links_in c.args.trees.now c.args.frame in
+    let end : c.loop-i.i ≡ c.args.run.now.end = omega (arith, c.loop-i-test.false, c.loop-i.auto) in
+    let places = places_now c.args.shards.now c.args.trees.now c.args.frame c.requires.loose c.loop-i.shards c.loop-i.invariant.walked.layout in
+    let kept = seen_kept c.loop-i.shards c.add_status.new.self c.node-in-Some.result.place c.loop-i.status c.add_status.ensures.set in
+    run_left c.add_status.new.self links c.args.run.now (record { all_held = c.loop-i.all_held; all_gone = c.loop-i.all_gone })
+    (kept (λ b. b) c.loop-i.all_held links c.args.run.now.start c.args.run.now.end places c.requires.within (subst (IsSeen (λ b. b) c.loop-i.all_held c.loop-i.shards links c.args.run.now.start) end c.loop-i.invariant.held))
+    (kept not c.loop-i.all_gone links c.args.run.now.start c.args.run.now.end places c.requires.within (subst (IsSeen not c.loop-i.all_gone c.loop-i.shards links c.args.run.now.start) end c.loop-i.invariant.gone))
+
+pub returns-in_default-clause-run_left : goal.returns-in_default-clause-run_left
+returns-in_default-clause-run_left c =
+    let links = links_in c.args.trees.now c.args.frame in
+    let end : c.loop-i.i ≡ c.args.run.now.end = omega (arith, c.loop-i-test.false, c.loop-i.auto) in
+    run_left c.loop-i.shards links c.args.run.now (record { all_held = c.loop-i.all_held; all_gone = c.loop-i.all_gone })
+    (subst (IsSeen (λ b. b) c.loop-i.all_held c.loop-i.shards links c.args.run.now.start) end c.loop-i.invariant.held)
+    (subst (IsSeen not c.loop-i.all_gone c.loop-i.shards links c.args.run.now.start) end c.loop-i.invariant.gone)

@@ -39,7 +39,7 @@ loop-page-preserved c =
     let place = begun_place c.args.shards.now c.args.trees.now c.requires.loose c.args.frame c.args.run.now.start c.node.result.place c.args.revoked c.args.flush c.loop-i.i c.pop_from.new.begun.items c.in-Some.page c.loop-page.shards c.loop-page.status before in
     subst (IsVisiting c.args.shards.now c.args.trees.now c.args.frame c.args.run.now.start c.node.result.place c.args.revoked c.args.flush c.loop-i.i c.pop_from.new.begun.items c.take.new.shards) (sym c.join-status.ensures)
     (visit_pops c.args.shards.now c.args.trees.now c.requires.loose c.args.frame c.args.run.now.start c.node.result.place c.args.revoked c.args.flush c.loop-i.i c.pop_from.new.begun.items c.in-Some.page c.loop-page.shards c.take.new.shards
-    c.loop-page.status c.take.result (c.args.flush || not (same_place c.in-Some.page.place c.node.result.place)) before place refl c.take.ensures.status c.take.ensures.set c.take.ensures.present c.take.ensures.layout)
+    c.loop-page.status c.take.result.status (c.args.flush || not (same_place c.in-Some.page.place c.node.result.place)) before place refl c.take.ensures.status c.take.ensures.set c.take.ensures.present c.take.ensures.layout)
 
 pub loop-i-preserved : goal.loop-i-preserved
 loop-i-preserved c =
@@ -63,7 +63,7 @@ loop-page-2-preserved c =
     let place = begun_place c.args.shards.now c.args.trees.now c.requires.loose c.args.frame c.args.run.now.start c.node.result.place c.args.revoked c.args.flush c.args.run.now.end c.pop.new.self.items c.in-Some-pop.page c.loop-page-2.shards c.loop-page-2.status before in
     subst (IsVisiting c.args.shards.now c.args.trees.now c.args.frame c.args.run.now.start c.node.result.place c.args.revoked c.args.flush c.args.run.now.end c.pop.new.self.items c.take-in-Some-pop.new.shards) (sym c.join-status-in-Some-pop.ensures)
     (visit_pops c.args.shards.now c.args.trees.now c.requires.loose c.args.frame c.args.run.now.start c.node.result.place c.args.revoked c.args.flush c.args.run.now.end c.pop.new.self.items c.in-Some-pop.page c.loop-page-2.shards c.take-in-Some-pop.new.shards
-    c.loop-page-2.status c.take-in-Some-pop.result (c.args.flush || not (same_place c.in-Some-pop.page.place c.node.result.place)) before place refl c.take-in-Some-pop.ensures.status c.take-in-Some-pop.ensures.set c.take-in-Some-pop.ensures.present c.take-in-Some-pop.ensures.layout)
+    c.loop-page-2.status c.take-in-Some-pop.result.status (c.args.flush || not (same_place c.in-Some-pop.page.place c.node.result.place)) before place refl c.take-in-Some-pop.ensures.status c.take-in-Some-pop.ensures.set c.take-in-Some-pop.ensures.present c.take-in-Some-pop.ensures.layout)
 
 pub origin_of-requires : goal.origin_of-requires
 origin_of-requires c =
