@@ -5,7 +5,7 @@ ghost use Rattle.std.specs.Io.{ReadsAtMost};
 ghost use Rattle.std.specs.Io.KnownBytes.{ReadConsumes, Appends, Keeps};
 ghost use Rattle.trace.specs.Stream.{TellsFailure};
 
-use std::alloc::Global;
+use std::alloc::{AllocError, Global};
 use std::io::{ErrorKind, Read, Write};
 use thiserror::Error;
 
@@ -161,9 +161,22 @@ pub fn read_to_end<S: Source>(alloc: Global, source: &mut S) -> Result<Vec<u8>, 
         if count == 0 {
             return Ok(bytes);
         }
+        make_room(&mut bytes, count).map_err(|_| ReadError::NoMemory)?;
         bytes
             .extend_from_slice(&chunk[..count])
             .map_err(|_| ReadError::NoMemory)?;
     }
     Err(ReadError::NoMemory)
+}
+
+/// Room for so many more bytes. A vector that is full grows by half and not to twice its size, since the bytes may be there twice
+/// while they are moved.
+fn make_room(bytes: &mut Vec<u8>, count: usize) -> Result<(), AllocError>
+    ensures { bytes.new.items ≡ bytes.old.items }
+{
+    if bytes.capacity() - bytes.len() < count {
+        let more = count.max(bytes.len() / 2);
+        bytes.reserve_exact(more)?;
+    }
+    Ok(())
 }
