@@ -9,24 +9,24 @@ ghost use Rattle.replay.specs.Steps.{PassesOn};
 use space::NoMemory;
 use std::alloc::Global;
 use std::marker::Model;
-use trace::{Failed, Reply, Sink, push_reply};
+use trace::{Failed, Reply, Sink, push_access, push_reply};
 
 /// Reply lines that the sink was not given yet. A contract sees their bytes.
 #[derive(Drop)]
 pub struct Lines {
-    block: String,
+    block: Vec<u8>,
     /// How many bytes are passed on at once.
     least: usize,
-    /// A line before it is put behind the others.
+    /// A line before it is put behind the others. That of an access is put there at once.
     line: String,
 }
 
 impl Model for Lines {
-    ghost use Rattle.std.specs.Prelude.{ℕ, List, string_bytes};
+    ghost use Rattle.std.specs.Prelude.{ℕ, List};
 
     ghost Value = { List ℕ };
 
-    ghost view = { λ l. string_bytes l.block };
+    ghost view = { λ l. l.block.items };
 }
 
 impl Lines {
@@ -35,7 +35,7 @@ impl Lines {
         ensures { result ≡ [] }
     {
         Lines {
-            block: String::new(alloc),
+            block: Vec::new(alloc),
             least,
             line: String::new(alloc),
         }
@@ -46,9 +46,12 @@ impl Lines {
         ensures ok { OnOk result (self.new ≡ self.old ++ reply_line number (reply_of reply.now)) }
         ensures err { OnErr result (self.new ≡ self.old) }
     {
+        if let Reply::Accessed(made) = reply {
+            return push_access(&mut self.block, number, *made);
+        }
         self.line.clear();
         push_reply(&mut self.line, number, reply)?;
-        self.block.push_str(self.line.as_str())?;
+        self.block.extend_from_slice(self.line.as_bytes())?;
         Ok(())
     }
 
@@ -59,7 +62,7 @@ impl Lines {
         ensures ok { OnOk result (W.failed writer.new ≡ W.failed writer.old) }
         ensures err { OnErr result (W.failed writer.new ≡ true) }
     {
-        writer.write_all(self.block.as_bytes())?;
+        writer.write_all(&self.block)?;
         self.block.clear();
         Ok(())
     }

@@ -2,7 +2,9 @@ mod Counted
 mod ReadRows
 mod Taking
 mod Digits
+mod DigitTable
 mod Words
 mod Hex
+mod Lines
 mod Pages
 mod Readings

@@ -1,8 +1,6 @@
 -- A reader of `csv` over bytes in memory, and the records that it has yet to give.
-use Rattle.std.proofs.Common.{Bor, ◌≡◌, ◌∙◌, List, ℕ, suc, ◌+◌, [], ◌∷◌, length, take, drop, ◌++◌, Bool, true, false, not, ◌&&◌, ◌==◌, if◌then◌else◌, Option, Some, None, refl, sym, ap, inl, inr, arith, add-one, option_map}
-use Rattle.csv.specs.Machine.{next_record}
-use Rattle.csv.specs.Reading.{Reached, Ready, ReadRecord, buffered_of, default_config, has_failed, names_headers, reader_headers, reader_state, records_from, source_of, strip_bom, took_first}
-use Rattle.csv.specs.declared.parser.State.TheVariants as st
+use Rattle.std.proofs.Common.{Bor, ◌≡◌, ◌∙◌, List, ℕ, ◌+◌, [], ◌∷◌, length, take, drop, ◌++◌, Bool, true, false, not, ◌&&◌, ◌==◌, Some, refl, sym, ap, inl, inr, arith}
+use Rattle.csv.specs.Reading.{Reached, ReadRecord, default_config, has_failed, reader_state, records_from, source_of, strip_bom, took_first}
 use Rattle.csv.specs.declared.reader.Reader.{Reader}
 use Rattle.csv.proofs.ReadFacts.{rows-end, rows-more}
 use Rattle.model.specs.Records.{Fields, records_of}

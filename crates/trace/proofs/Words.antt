@@ -1,9 +1,8 @@
 -- Words from a list, the first ones taken already, and words that were read where they were put.
-use Rattle.std.proofs.Common.{◌≡◌, ℕ, List, ◌++◌, Option, Result, Ok, Err, take, length, ap, sym, ◌∙◌, refl}
+use Rattle.std.proofs.Common.{◌≡◌, ℕ, List, ◌++◌, Option, Result, Ok, Err}
 use Rattle.std.specs.Option.{option_map}
 use Rattle.std.specs.Result.{IsErrAnd}
 use Rattle.fpage.specs.declared.error.FpageError.{FpageError}
-use Rattle.words.specs.Words.{with_value}
 use Rattle.trace.specs.declared.call.CallError.{CallError}
 use Rattle.trace.specs.declared.call.CallError.TheVariants.{Refused, NoMemory}
 use Rattle.trace.specs.Parts.{Refuses, ReadsWords}

@@ -2,8 +2,10 @@
 use Rattle.std.specs.Prelude.{◌≡◌, ⊤, ℕ, List, [], ◌∷◌, Option, Some, None, Result, Ok, Err}
 use Rattle.std.specs.Borrow.{Bor}
 use Rattle.fpage.specs.declared.error.FpageError.{FpageError}
+use Rattle.fpage.specs.declared.rights.Access.{Access}
+use Rattle.space.specs.declared.place.Place.{Place}
 use Rattle.model.specs.Calls as calls
-use Rattle.model.specs.Calls.{Request}
+use Rattle.model.specs.Calls.{Request, access}
 use Rattle.model.specs.Records.{Fields, AccessFields, SendFields, UnmapFields}
 use Rattle.trace.specs.declared.call.Call.{Call}
 use Rattle.trace.specs.declared.call.CallError.{CallError}
@@ -18,6 +20,11 @@ use Rattle.trace.specs.Meaning.{refusal_of, call_of}
 -- the fields of an access record
 abbrev pub access_of : TheAccessFields → AccessFields
 access_of a = record { space = a.space; address = a.address; kind = a.kind }
+
+-- the request that an access or a refusal is
+abbrev pub asked_of : Result (Place × Access) Refusal → Request
+asked_of (Ok a) = Ok (access a.0 a.1)
+asked_of (Err e) = Err (refusal_of e)
 
 -- the fields of a send record, with its words
 abbrev pub send_of : List ℕ → TheSendFields → SendFields

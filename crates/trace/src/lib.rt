@@ -14,5 +14,5 @@ pub use call::{Call, Refusal};
 pub use read::{Trace, TraceError, read_all};
 pub use reader::TraceReader;
 pub use records::{Fields, Record};
-pub use reply::{Reply, push_reply, reply_text};
+pub use reply::{Reply, push_access, push_reply, reply_text};
 pub use stream::{Failed, ReadError, Sink, Source, Std, read_to_end};

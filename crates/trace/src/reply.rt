@@ -1,13 +1,14 @@
 //! Replies to records.
 
-ghost use Rattle.std.specs.Prelude.{◌≡◌, ◌<◌, ◌++◌, IfOk, OnOk, string_bytes};
+ghost use Rattle.std.specs.Prelude.{◌≡◌, ◌<◌, ◌≤◌, ◌++◌, drop, length, IfOk, OnErr, OnOk, string_bytes};
 ghost use Rattle.std.specs.Fmt.{decimal};
+ghost use Rattle.model.specs.Calls.{accessed};
 ghost use Rattle.model.specs.Text.{reply_line, reply_text, refusal_name, counts_text, words_text, hex_digits, hex_code};
 ghost use Rattle.mapdb.specs.Meaning.{counts_of};
 ghost use Rattle.trace.specs.Meaning.{reply_of, refusal_of};
 
 use crate::call::Refusal;
-use itoa::Buffer;
+use itoa::{Buffer, write_digits};
 use mapdb::SendReply;
 use space::NoMemory;
 use std::alloc::{AllocError, Global};
@@ -142,6 +143,37 @@ pub fn push_reply(text: &mut String, number: u64, reply: &Reply) -> Result<(), N
     push_answer(text, reply)?;
     text.push_str("\n")?;
     Ok(())
+}
+
+/// How many digits the number of a record has at most.
+const MOST_DIGITS: usize = 20;
+
+/// Appends a number, and behind it what stands behind the first 20 bytes of a line, whose place its digits take.
+fn push_numbered(text: &mut Vec<u8>, number: u64, line: &mut [u8]) -> Result<(), NoMemory>
+    requires { 20 ≤ length line.old }
+    ensures ok { OnOk result (text.new.items ≡ text.old.items ++ decimal number ++ drop 20 line.old) }
+    ensures err { OnErr result (text.new.items ≡ text.old.items) }
+{
+    let start = write_digits(number, line, MOST_DIGITS);
+    text.extend_from_slice(&line[start..])?;
+    Ok(())
+}
+
+/// Appends the line of the reply to an access, as `push_reply` does. If memory runs out, the text stays as it was.
+pub fn push_access(text: &mut Vec<u8>, number: u64, made: bool) -> Result<(), NoMemory>
+    ensures ok { OnOk result (text.new.items ≡ text.old.items ++ reply_line number (accessed made)) }
+    ensures err { OnErr result (text.new.items ≡ text.old.items) }
+{
+    match made {
+        true => {
+            let mut line = *b"00000000000000000000 access ok\n";
+            push_numbered(text, number, &mut line)
+        }
+        false => {
+            let mut line = *b"00000000000000000000 access fault\n";
+            push_numbered(text, number, &mut line)
+        }
+    }
 }
 
 /// Returns the line of a reply: the number of the record, a space, the reply, a line feed.

@@ -8,7 +8,7 @@ ghost use Rattle.model.specs.Records.{header_limits, access_fields, access_reque
 ghost use Rattle.model.specs.Records.{unmap_fields, read_words, unmap_request, request, are_limits};
 ghost use Rattle.holdings.specs.Meaning.{limits_of};
 ghost use Rattle.holdings.specs.Places.{IsWithin};
-ghost use Rattle.trace.specs.Parts.{access_of, send_of, unmap_of, ReadsFields, ReadsWords, Asks};
+ghost use Rattle.trace.specs.Parts.{access_of, asked_of, send_of, unmap_of, ReadsFields, ReadsWords, Asks};
 ghost use Rattle.trace.specs.Meaning.{request_of, IsWithinLimits};
 ghost use Rattle.trace.specs.Unread.{access_in};
 
@@ -121,10 +121,10 @@ fn access_words(fields: &mut Fields<'_>) -> Option<AccessFields>
 }
 
 /// Returns an access of a page, or the first refusal that fits: `BadRecord`, `NoSuchSpace`, `OutOfSpace`.
-fn access(limits: &Limits, fields: &mut Fields<'_>) -> Result<Call, Refusal>
+fn access(limits: &Limits, fields: &mut Fields<'_>) -> Result<(Place, Access), Refusal>
     requires { IsSpaceBits limits.now.bits }
-    ensures request { request_of result ≡ access_request (limits_of limits.now) (access_fields fields.old) }
-    ensures within { IfOk result (IsWithinLimits (limits_of limits.now)) }
+    ensures request { asked_of result ≡ access_request (limits_of limits.now) (access_fields fields.old) }
+    ensures within { IfOk result (λ access. IsWithin (limits_of limits.now) access.0) }
 {
     let AccessFields {
         space,
@@ -141,10 +141,7 @@ fn access(limits: &Limits, fields: &mut Fields<'_>) -> Result<Call, Refusal>
         space,
         page: address / 4096,
     };
-    Ok(Call::Access {
-        place,
-        access: kind,
-    })
+    Ok((place, kind))
 }
 
 /// Returns the access that fields mean, where they mean one.
@@ -156,10 +153,7 @@ pub fn access_only(limits: &Limits, fields: &mut Fields<'_>) -> Option<(Place, A
     if fields.take()? != b"access".as_slice() {
         return None;
     }
-    match access(limits, fields) {
-        Ok(Call::Access { place, access }) => Some((place, access)),
-        _ => None,
-    }
+    access(limits, fields).ok()
 }
 
 /// Puts the words of fields in place of those that were there; `BadRecord` if a field is no word.
@@ -299,7 +293,8 @@ pub fn request(
     if name == b"send".as_slice() {
         send(limits, fields, buffers)
     } else if name == b"access".as_slice() {
-        Ok(access(limits, fields)?)
+        let (place, access) = access(limits, fields)?;
+        Ok(Call::Access { place, access })
     } else if name == b"unmap".as_slice() {
         unmap(limits, fields, buffers)
     } else {
