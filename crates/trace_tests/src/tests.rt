@@ -709,3 +709,28 @@ fn a_reply_is_a_numbered_line(rt: HostRuntime) -> Result<(), NoMemory> {
     );
     Ok(())
 }
+
+/// Numbers of accesses, whether they were made, and their lines.
+static ACCESS_LINES: [(u64, bool, &str); 4] = [
+    (0, true, "0 access ok\n"),
+    (7, false, "7 access fault\n"),
+    (4294967296, true, "4294967296 access ok\n"),
+    (u64::MAX, false, "18446744073709551615 access fault\n"),
+];
+
+#[test]
+fn an_access_is_answered_by_a_line(rt: HostRuntime) -> Result<(), NoMemory> {
+    let mut written = Vec::new(rt.alloc());
+    let mut expected = String::new(rt.alloc());
+    for (number, made, line) in &ACCESS_LINES {
+        trace::push_access(&mut written, *number, *made)?;
+        expected.push_str(line)?;
+    }
+    assert_equal(
+        &rt,
+        written.as_slice(),
+        expected.as_bytes(),
+        "the lines of accesses",
+    );
+    Ok(())
+}
