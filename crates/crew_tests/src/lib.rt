@@ -5,3 +5,5 @@
 mod assertions;
 #[cfg(test)]
 mod tests;
+#[cfg(test)]
+mod times;

@@ -1,0 +1,69 @@
+#!/usr/bin/env python3
+"""What a phase costs that a crew works, from `open` to `close`, with 1, 2 and 4 workers.
+
+    bench/phases.py [NODES..]
+
+The test `works_a_thousand_nodes_or_as_many_as_are_asked_for` of crates/crew_tests/out/crew_tests_tests, which `rt ci` leaves, works
+strips of 1,048,576 nodes, or of as many as are asked for, in pieces of 256, 1,024 and 4,096, each crew five times in turn. It times only
+the call of `work` of `crew`, which shares the words, starts the workers, works all turns and takes the words back. It is run three times,
+and the medians and the least times are printed:
+
+    1 worker, 2 workers, 4 workers
+                  the pieces are turns, with a gate that counts their ends, so that one worker takes them from its deque too
+    in place      one worker, which nobody hears, works the same pieces one after another on the words themselves
+    1 to 2, 1 to 4
+                  how many times faster 2 and 4 workers are than one that takes turns
+
+Nothing here has a threshold.
+"""
+
+import collections
+import os
+import statistics
+import subprocess
+import sys
+
+HERE = os.path.dirname(os.path.abspath(__file__))
+TESTS = os.path.join(os.path.dirname(HERE), "crates", "crew_tests", "out", "crew_tests_tests")
+TEST = "times::works_a_thousand_nodes_or_as_many_as_are_asked_for"
+NODES = [1_048_576]
+RUNS = 3
+CREWS = ["1 worker", "2 workers", "4 workers", "in place"]
+
+
+def told(nodes):
+    """The milliseconds that one run tells, by the length of pieces and the crew."""
+    text = subprocess.run([TESTS, TEST, str(nodes)], check=True, stdout=subprocess.PIPE, text=True).stdout
+    for words in (line.split() for line in text.splitlines()):
+        match words:
+            case ["phase", "pieces-of", length, "workers", workers, "ns", nanos]:
+                yield (int(length), "1 worker" if workers == "1" else f"{workers} workers"), int(nanos) / 1e6
+            case ["phase", "pieces-of", length, "in-place", "ns", nanos]:
+                yield (int(length), "in place"), int(nanos) / 1e6
+
+
+def main():
+    if not os.access(TESTS, os.X_OK):
+        sys.exit(f"phases.py: there is no {TESTS}: `rt test` in crates/crew_tests proves it and builds it")
+    for nodes in [int(word) for word in sys.argv[1:]] or NODES:
+        tell(nodes)
+
+
+def tell(nodes):
+    """Prints the medians and the least times of some runs."""
+    times = collections.defaultdict(list)
+    for _ in range(RUNS):
+        for key, millis in told(nodes):
+            times[key].append(millis)
+    print(f"{nodes:,} nodes, ms")
+    print()
+    print(f"| Nodes a piece | Of {min(map(len, times.values()))} times | {' | '.join(CREWS)} | 1 to 2 | 1 to 4 |")
+    print("|---|---|" + "---|" * (len(CREWS) + 2))
+    for length in sorted({length for length, _ in times}):
+        for name, part in [("median", statistics.median), ("least", min)]:
+            row = [part(times[length, crew]) for crew in CREWS]
+            cells = [f"{millis:.1f}" for millis in row] + [f"{row[0] / row[1]:.2f}", f"{row[0] / row[2]:.2f}"]
+            print(f"| {length:,} | {name} | {' | '.join(cells)} |")
+
+
+main()

@@ -1,0 +1,267 @@
+//! What phases cost that a crew works. Where a number of nodes is asked for behind the test's name, it tells how many nanoseconds the
+//! work took, by so many workers and in place: bench/phases.py reads these lines.
+
+ghost use Rattle.std.specs.Prelude.{◌≡◌, ◌<◌, ◌≤◌, length, IfOk};
+ghost use Rattle.pieces.specs.Distinct.{is_none_of};
+ghost use Rattle.pieces.specs.Phases.{CanBeWorked};
+
+use crate::assertions::assert_equal;
+use crew::{Crew, Gate, NoGate, work};
+use fpage::Rights;
+use maptree::{Node, Slice};
+use pieces::{Piece, Strip, are_distinct, can_be_worked};
+use space::{NoMemory, Place};
+use std::alloc::{AllocError, Global};
+use std::process::Abort;
+use std::rt::Runtime;
+use std::sync::Wait;
+use std::sync::atomic::{AtomicU64, Ordering};
+use std::test::Fail;
+use std::thread::Threads;
+use std::time::Instant;
+use std::{env, io};
+use turns::{Open, Turn};
+
+/// The right to write, which all nodes lose.
+const W: Rights = Rights {
+    read: false,
+    write: true,
+    execute: false,
+};
+
+/// The word of the page that all nodes were mapped from, before it gains their status, and after that.
+const ORIGIN: u64 = 0x1_0000_0507;
+
+const GAINED: u64 = 0x1_0000_0517;
+
+/// The word of a page that is held with all rights and was written, before it loses one, and after that.
+const HELD: u64 = 0x1_0000_0517;
+
+const LEFT: u64 = 0x1_0000_0505;
+
+/// How often each crew is timed.
+const RUNS: u32 = 5;
+
+/// How many nodes a piece has.
+const LENGTHS: [usize; 3] = [256, 1_024, 4_096];
+
+/// Counts the pieces that end.
+#[derive(Drop)]
+struct Counter {
+    ended: AtomicU64,
+}
+
+impl Gate for Counter {
+    fn begin(&self, _worker: usize, _piece: usize) {}
+
+    fn end(&self, _worker: usize, _turn: &Turn, _shared: &Open) {
+        self.ended.fetch_add(1, Ordering::SeqCst);
+    }
+}
+
+/// How many nodes a phase has, and how many a piece of it at most.
+#[derive(Clone, Copy)]
+struct Size {
+    nodes: usize,
+    most: usize,
+}
+
+impl Size {
+    /// How many pieces these are.
+    fn pieces(self) -> usize {
+        self.nodes.div_ceil(self.most.max(1))
+    }
+}
+
+/// Whether an index is none of these.
+fn is_none_of(indexes: &[usize], index: usize) -> bool
+    ensures { result ≡ is_none_of indexes.now index }
+{
+    indexes.iter().all(|other| *other != index)
+}
+
+/// A strip of the nodes whose words stand at these indexes. Their status goes to the word of their origin.
+fn strip(alloc: Global, from: usize, to: usize, origin: usize) -> Result<Strip, NoMemory> {
+    let mut nodes = Vec::with_capacity(alloc, to.saturating_sub(from))?;
+    let mut indexes = Vec::with_capacity(alloc, to.saturating_sub(from))?;
+    for index in from..to {
+        let place = Place {
+            space: 1,
+            page: (index % 4096) as u32,
+        };
+        nodes
+            .push(Node { place, depth: 1 })
+            .map_err(AllocError::from)?;
+        indexes.push(index).map_err(AllocError::from)?;
+    }
+    if nodes.len() != indexes.len() || !is_none_of(&indexes, origin) {
+        return Err(NoMemory);
+    }
+    if !are_distinct(alloc, &indexes)? {
+        return Err(NoMemory);
+    }
+    Ok(Strip::of_part(Slice { nodes }, indexes, Some(origin), W, false))
+}
+
+/// The strips of all nodes, whose words stand before that of their origin.
+fn strips(alloc: Global, size: Size) -> Result<Vec<Piece>, NoMemory> {
+    let mut pieces = Vec::new(alloc);
+    let mut at = 0_usize;
+    for _ in 0..size.pieces() {
+        let end = size.nodes.min(at.saturating_add(size.most));
+        pieces
+            .push(Piece::Strip(strip(alloc, at, end, size.nodes)?))
+            .map_err(AllocError::from)?;
+        at = end;
+    }
+    Ok(pieces)
+}
+
+/// The words of the nodes, and then that of their origin.
+fn words(alloc: Global, nodes: usize) -> Result<Vec<u64>, NoMemory> {
+    let mut words = vec![in alloc; HELD; nodes]?;
+    words.push(ORIGIN).map_err(AllocError::from)?;
+    Ok(words)
+}
+
+/// The words and the pieces of a phase.
+fn phase(alloc: Global, size: Size) -> Result<(Vec<u64>, Vec<Piece>), NoMemory>
+    ensures { IfOk result (λ r. (0 < length r.1.items) × CanBeWorked r.0.items r.1.items) }
+{
+    let words = words(alloc, size.nodes)?;
+    let pieces = strips(alloc, size)?;
+    if pieces.is_empty() {
+        return Err(NoMemory);
+    }
+    match can_be_worked(alloc, &words, &pieces)? {
+        true => Ok((words, pieces)),
+        false => Err(NoMemory),
+    }
+}
+
+/// The nanoseconds since an instant.
+fn since(rt: &impl Runtime, start: Instant) -> io::Result<u128> {
+    Ok(start.elapsed(rt)?.as_nanos())
+}
+
+/// The words that a crew leaves of a phase, and the nanoseconds of its work.
+fn timed<R: Runtime + Threads + Wait, G: Gate>(
+    rt: &R,
+    alloc: Global,
+    crew: &Crew<'_, R, G>,
+    size: Size,
+) -> Result<(Vec<u64>, u128), Fail> {
+    let (words, pieces) = phase(alloc, size)?;
+    let start = Instant::now(rt)?;
+    let worked = work(crew, alloc, words, pieces)?;
+    let nanos = since(rt, start)?;
+    let (words, _) = worked;
+    Ok((words, nanos))
+}
+
+/// How many of some words are this one.
+fn count(words: &[u64], sought: u64) -> usize {
+    let mut count = 0_usize;
+    for word in words {
+        if *word == sought {
+            count = count.wrapping_add(1);
+        }
+    }
+    count
+}
+
+/// All nodes have lost the right, and their origin has gained their status.
+fn are_stripped(rt: &impl Abort, words: &[u64], size: Size) {
+    assert_equal(rt, count(words, LEFT), size.nodes, "nodes");
+    assert_equal(rt, words.get(size.nodes), Some(&GAINED), "the origin");
+}
+
+/// So many workers work a phase by turns, and each piece ends once: the nanoseconds of their work.
+fn times_turns<R: Runtime + Threads + Wait + Abort>(
+    rt: &R,
+    alloc: Global,
+    workers: usize,
+    size: Size,
+) -> Result<u128, Fail>
+    requires some { 1 ≤ workers }
+    requires most { workers ≤ 64 }
+{
+    let gate = Counter {
+        ended: AtomicU64::new(0),
+    };
+    let crew = Crew::new(rt, workers, size.most.max(1), &gate);
+    let (words, nanos) = timed(rt, alloc, &crew, size)?;
+    are_stripped(rt, &words, size);
+    let ended = gate.ended.load(Ordering::SeqCst);
+    assert_equal(rt, ended, size.pieces() as u64, "pieces");
+    Ok(nanos)
+}
+
+/// One worker works a phase in place: the nanoseconds of its work.
+fn times_in_place<R: Runtime + Threads + Wait + Abort>(
+    rt: &R,
+    alloc: Global,
+    size: Size,
+) -> Result<u128, Fail> {
+    let crew = Crew::new(rt, 1, size.most.max(1), &NoGate);
+    let (words, nanos) = timed(rt, alloc, &crew, size)?;
+    are_stripped(rt, &words, size);
+    Ok(nanos)
+}
+
+/// The nanoseconds that 1, 2 and 4 workers take by turns, and one in place, in this order.
+fn times_each<R: Runtime + Threads + Wait + Abort>(
+    rt: &R,
+    alloc: Global,
+    size: Size,
+) -> Result<[u128; 4], Fail> {
+    let one = times_turns(rt, alloc, 1, size)?;
+    let two = times_turns(rt, alloc, 2, size)?;
+    let four = times_turns(rt, alloc, 4, size)?;
+    let in_place = times_in_place(rt, alloc, size)?;
+    Ok([one, two, four, in_place])
+}
+
+/// Tells what a phase of this size costs.
+fn tells<R: Runtime + Threads + Wait + Abort>(
+    rt: &R,
+    alloc: Global,
+    size: Size,
+) -> Result<(), Fail> {
+    let [one, two, four, in_place] = times_each(rt, alloc, size)?;
+    let most = size.most;
+    for (workers, nanos) in [(1, one), (2, two), (4, four)] {
+        println!(rt; "phase pieces-of {most} workers {workers} ns {nanos}")?;
+    }
+    println!(rt; "phase pieces-of {most} in-place ns {in_place}")?;
+    Ok(())
+}
+
+/// Tells what phases of so many nodes cost, some times each.
+fn tells_all<R: Runtime + Threads + Wait + Abort>(
+    rt: &R,
+    alloc: Global,
+    nodes: usize,
+) -> Result<(), Fail> {
+    for _ in 0..RUNS {
+        for most in LENGTHS {
+            tells(rt, alloc, Size { nodes, most })?;
+        }
+    }
+    Ok(())
+}
+
+#[test]
+fn works_a_thousand_nodes_or_as_many_as_are_asked_for(rt: HostRuntime) -> Result<(), Fail> {
+    match env::args(&rt)?.nth(2) {
+        Some(nodes) => tells_all(&rt, rt.alloc(), nodes.parse()?),
+        None => {
+            let size = Size {
+                nodes: 1_000,
+                most: 16,
+            };
+            times_each(&rt, rt.alloc(), size)?;
+            Ok(())
+        }
+    }
+}
