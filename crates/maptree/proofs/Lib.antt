@@ -30,3 +30,4 @@ pub mod OneRun
 pub mod Named
 pub mod Listed
 pub mod Near
+pub mod Reversed

@@ -21,16 +21,23 @@ near_node ns near first i d some least inside within =
     ap (λ l. get_or l (i - first) d) some ∙ get_or-take (length near) (drop first ns) (i - first) d inside ∙ get_or-drop first ns (i - first) d
     ∙ ap (λ k. get_or ns k d) whole ∙ read_any ns i d (get_or near (i - first) d) within
 
--- and that is the node of the tree
+-- the node that is read at a position
+pub read_is : (ns : List Node) (i : ℕ) (n : Node) (os : Origins) → origins_of ns ≡ os → is_forest ns ≡ true → i < length os → n ≡ get_or ns i n → IsNodeAt os i n
+read_is ns i n os is forest within same =
+    let size = ap length is in
+    let count = length-links [] ns in
+    let inner : i < length ns = omega (arith, size, count, within) in
+    subst (λ os. IsNodeAt os i n) is (record {
+      place = node_place ns i n inner same;
+      only = node_only ns i n forest inner same;
+      depth = node_depth ns i n forest inner same;
+    })
+
+-- and one that is read among some of them
 pub near_is : (ns near : List Node) (first i : ℕ) (d n : Node) (os : Origins) → origins_of ns ≡ os → is_forest ns ≡ true → near ≡ take (length near) (drop first ns) → first ≤ i → i - first < length near → i < length os
     → n ≡ get_or near (i - first) d → IsNodeAt os i n
 near_is ns near first i d n os is forest some least inside within read =
     let size = ap length is in
     let count = length-links [] ns in
     let inner : i < length ns = omega (arith, size, count, within) in
-    let same : n ≡ get_or ns i n = subst (λ m. m ≡ get_or ns i m) (sym read) (near_node ns near first i d some least inside inner) in
-    subst (λ os. IsNodeAt os i n) is (record {
-      place = node_place ns i n inner same;
-      only = node_only ns i n forest inner same;
-      depth = node_depth ns i n forest inner same;
-    })
+    read_is ns i n os is forest within (subst (λ m. m ≡ get_or ns i m) (sym read) (near_node ns near first i d some least inside inner))

@@ -1,5 +1,5 @@
 -- What a list of nodes has, in either form.
-use Rattle.std.specs.Prelude.{ℕ, ◌≤◌, List}
+use Rattle.std.specs.Prelude.{ℕ, ◌≤◌, List, reverse}
 use Rattle.smallvec.specs.SmallVec.{HasRoomFor}
 use Rattle.maptree.specs.declared.node.Node.{Node}
 use Rattle.maptree.specs.declared.node_list.Form.{Form}
@@ -7,7 +7,7 @@ use Rattle.maptree.specs.declared.node_list.Form.TheVariants.{Few, Many}
 use Rattle.maptree.specs.Blocks.{nodes_in}
 
 abbrev pub nodes_of_form : Form → List Node
-nodes_of_form (Few nodes) = nodes.items
+nodes_of_form (Few nodes) = reverse nodes.items
 nodes_of_form (Many blocks) = nodes_in blocks.value.blocks
 
 -- so many insertions take no memory

@@ -1,6 +1,7 @@
 //! The derivation tree of a frame, as a list of nodes in preorder with their depths.
 #![tactic(auto)]
 
+mod backward;
 mod block;
 mod block_leasts;
 mod block_starts;

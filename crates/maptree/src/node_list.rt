@@ -3,14 +3,13 @@
 ghost use Rattle.std.specs.Prelude.{◌≡◌, ◌≤◌, IfSome};
 ghost use Rattle.maptree.specs.Cuts.{count_of, nodes_of};
 
+use crate::backward::{self, forward, node_at};
 use crate::blocks::Blocks;
 use crate::cutting::{Cutting, joined};
 use crate::links::linked;
 use crate::node::Node;
 use crate::place_map::PlaceMap;
-use crate::replacing::replace_places;
-use crate::scans::{deeper, find_near, last_above, outermost};
-use crate::shifts::{close_gaps, shift_in};
+use crate::scans::outermost;
 use crate::slice::Slice;
 use smallvec::SmallVec;
 use space::Place;
@@ -37,7 +36,7 @@ pub struct NodeList {
 
 #[derive(Drop)]
 enum Form {
-    /// One vector, which takes no memory for a root alone.
+    /// One vector, the last node first (`backward`). It takes no memory for a root alone.
     Few(SmallVec<Node, 1>),
     /// Blocks, in a box since most lists are short.
     Many(Box<Blocks>),
@@ -55,7 +54,7 @@ impl Model for NodeList {
 }
 
 impl NodeList {
-    ghost use Rattle.std.specs.Prelude.{◌≡◌, ◌+◌, ◌<◌, ◌≤◌, ◌^◌, true, [], ◌∷◌, length, take, drop, get_or, set, insert, position, IfOk, OnOk, OnErr};
+    ghost use Rattle.std.specs.Prelude.{◌≡◌, ◌+◌, ◌<◌, ◌≤◌, ◌^◌, true, [], ◌∷◌, length, take, drop, get_or, set, insert, position, IfOk, IfSome, OnOk, OnErr};
     ghost use Rattle.std.specs.List.{slice_range};
     ghost use Rattle.space.specs.Place.{same_place};
     ghost use Rattle.maptree.specs.declared.node.Node.{Node};
@@ -93,21 +92,21 @@ impl NodeList {
         ensures fits { length self.now.nodes < 2 ^ 64 }
     {
         match &self.form {
-            Form::Few(nodes) => nodes[i],
+            Form::Few(nodes) => node_at(nodes, i),
             Form::Many(blocks) => blocks.get(i),
         }
     }
 
-    /// The node at a position with those that stand in one piece of memory with it, and the position of the first of these.
-    pub fn near(&self, i: usize) -> (usize, &[Node])
+    /// In a list in blocks the nodes of the block that has a position, and the position of the first of them.
+    pub fn near(&self, i: usize) -> Option<(usize, &[Node])>
         requires { i < length self.now.nodes }
-        ensures before { result.0 ≤ i }
-        ensures behind { i < result.0 + length result.1.now }
-        ensures nodes { result.1.now ≡ take (length result.1.now) (drop result.0 self.now.nodes) }
+        ensures before { IfSome result (λ near. near.0 ≤ i) }
+        ensures behind { IfSome result (λ near. i < near.0 + length near.1.now) }
+        ensures nodes { IfSome result (λ near. near.1.now ≡ take (length near.1.now) (drop near.0 self.now.nodes)) }
     {
         match &self.form {
-            Form::Few(nodes) => (0, nodes),
-            Form::Many(blocks) => blocks.near(i),
+            Form::Few(_) => None,
+            Form::Many(blocks) => Some(blocks.near(i)),
         }
     }
 
@@ -117,7 +116,7 @@ impl NodeList {
         ensures { result ≡ position (λ n. same_place place n.place) self.now.nodes }
     {
         match &self.form {
-            Form::Few(nodes) => find_near(nodes, place, self.last),
+            Form::Few(nodes) => backward::find(nodes, place, self.last),
             Form::Many(blocks) => blocks.find(place),
         }
     }
@@ -128,7 +127,7 @@ impl NodeList {
         ensures { result ≡ run_len depth (drop (i + 1) self.now.nodes) }
     {
         match &self.form {
-            Form::Few(nodes) => deeper(&nodes[i + 1..], depth),
+            Form::Few(nodes) => backward::deeper(nodes, i, depth),
             Form::Many(blocks) => blocks.deeper(i, depth),
         }
     }
@@ -139,7 +138,7 @@ impl NodeList {
         ensures { result ≡ last_less depth (take i self.now.nodes) }
     {
         match &self.form {
-            Form::Few(nodes) => last_above(&nodes[..i], depth),
+            Form::Few(nodes) => backward::last_above(nodes, i, depth),
             Form::Many(blocks) => blocks.last_above(i, depth),
         }
     }
@@ -151,10 +150,7 @@ impl NodeList {
         ensures room { self.new.room ≡ self.old.room }
     {
         match &mut self.form {
-            Form::Few(nodes) => {
-                let node = &mut nodes[i];
-                node.place = place;
-            }
+            Form::Few(nodes) => backward::set_place(nodes, i, place),
             Form::Many(blocks) => blocks.set_place(i, place),
         }
     }
@@ -171,7 +167,7 @@ impl NodeList {
         match &mut self.form {
             Form::Few(nodes) => {
                 nodes.push_reserved(node);
-                shift_in(nodes, i, node);
+                backward::put_in(nodes, i, node);
             }
             Form::Many(blocks) => blocks.insert(i, node),
         }
@@ -183,7 +179,7 @@ impl NodeList {
         ensures room { self.new.room ≡ self.old.room }
     {
         match &mut self.form {
-            Form::Few(nodes) => replace_places(nodes, new),
+            Form::Few(nodes) => backward::rename_all(nodes, new),
             Form::Many(blocks) => blocks.rename_all(new),
         }
     }
@@ -195,7 +191,7 @@ impl NodeList {
         ensures { IfOk result (λ nodes. nodes.items ≡ slice_range self.now.nodes from to) }
     {
         match &self.form {
-            Form::Few(nodes) => Vec::from_slice(alloc, &nodes[from..to]),
+            Form::Few(nodes) => forward(alloc, nodes, from, to),
             Form::Many(blocks) => blocks.copy(alloc, from, to),
         }
     }
@@ -236,7 +232,7 @@ impl NodeList {
                     nodes.reserve(n)?;
                 } else {
                     let alloc = *nodes.allocator();
-                    let mut blocks = Blocks::of(alloc, nodes)?;
+                    let mut blocks = Blocks::of(alloc, &forward(alloc, nodes, 0, nodes.len())?)?;
                     blocks.reserve(n)?;
                     self.form = Form::Many(Box::new(alloc, blocks)?);
                 }
@@ -248,11 +244,12 @@ impl NodeList {
     }
 
     /// These nodes, with room for so many more.
-    fn of(alloc: Global, nodes: Vec<Node>, room: usize) -> Result<NodeList, AllocError>
+    fn of(alloc: Global, mut nodes: Vec<Node>, room: usize) -> Result<NodeList, AllocError>
         ensures nodes { IfOk result (λ l. l.nodes ≡ nodes.items) }
         ensures room { IfOk result (λ l. room ≤ l.room) }
     {
         let form = if nodes.len() < FEW {
+            nodes.reverse();
             Form::Few(SmallVec::from_vec(nodes))
         } else {
             Form::Many(Box::new(alloc, Blocks::of(alloc, &nodes)?)?)
@@ -271,7 +268,7 @@ impl NodeList {
         ensures { IfOk result (λ links. links.items ≡ origins_of self.now.nodes) }
     {
         match &self.form {
-            Form::Few(nodes) => linked(alloc, nodes),
+            Form::Few(nodes) => linked(alloc, &forward(alloc, nodes, 0, nodes.len())?),
             Form::Many(blocks) => linked(alloc, &blocks.flat(alloc, blocks.len())?),
         }
     }
@@ -286,7 +283,7 @@ impl NodeList {
         ensures { IfOk result (λ runs. AreOuterRuns (origins_of self.now.nodes) named.now.keys runs.items) }
     {
         match &self.form {
-            Form::Few(nodes) => outermost(nodes, alloc, named),
+            Form::Few(nodes) => outermost(&forward(alloc, nodes, 0, nodes.len())?, alloc, named),
             Form::Many(blocks) => outermost(&blocks.flat(alloc, blocks.len())?, alloc, named),
         }
     }
@@ -319,10 +316,7 @@ impl NodeList {
         ensures room { self.new.room ≡ self.old.room }
     {
         match &mut self.form {
-            Form::Few(nodes) => {
-                let left = close_gaps(nodes, ranges);
-                nodes.truncate(left);
-            }
+            Form::Few(nodes) => backward::take_out(nodes, ranges),
             Form::Many(blocks) => blocks.remove_all(ranges),
         }
     }
@@ -342,7 +336,10 @@ impl NodeList {
     {
         let room = self.room;
         let all = match &mut self.form {
-            Form::Few(nodes) => joined(alloc, nodes, nodes.capacity(), gaps, parts)?,
+            Form::Few(nodes) => {
+                let left = forward(alloc, nodes, 0, nodes.len())?;
+                joined(alloc, &left, nodes.capacity(), gaps, parts)?
+            }
             Form::Many(blocks) => {
                 if let Some(kept) = kept_up_to(parts, PUT_BACK_IN_PLACE) {
                     let room = blocks.room() + kept;

@@ -60,10 +60,11 @@ impl<'a> Nodes<'a> {
                 return *node;
             }
         }
-        let (first, near) = self.list.near(i);
-        let node = near[i - first];
+        let Some((first, near)) = self.list.near(i) else {
+            return self.list.get(i);
+        };
         self.first = first;
         self.near = near;
-        node
+        near[i - first]
     }
 }

@@ -2,7 +2,7 @@
 
 ghost use Rattle.std.specs.Prelude.{◌≡◌, true, position, IfOk};
 ghost use Rattle.space.specs.Place.{same_place};
-ghost use Rattle.maptree.specs.Nodes.{are_distinct, is_forest, origins_of, run_len, last_less};
+ghost use Rattle.maptree.specs.Nodes.{is_forest, origins_of, run_len, last_less};
 ghost use Rattle.maptree.specs.Origins.{AreOuterRuns};
 
 use crate::node::Node;
@@ -40,19 +40,6 @@ pub fn placed(nodes: &[Node], place: Place) -> Option<usize>
     ensures { result ≡ position (λ n. same_place place n.place) nodes.now }
 {
     nodes.iter().position(|node| place == node.place)
-}
-
-/// The same in a list in which no place stands twice. This position is tried first.
-pub fn find_near(nodes: &[Node], place: Place, near: usize) -> Option<usize>
-    requires { are_distinct nodes.now ≡ true }
-    ensures { result ≡ position (λ n. same_place place n.place) nodes.now }
-{
-    if let Some(node) = nodes.get(near) {
-        if place == node.place {
-            return Some(near);
-        }
-    }
-    placed(nodes, place)
 }
 
 /// The outermost runs of the nodes whose place is in the set.
