@@ -1,28 +1,17 @@
 -- Shards of 64 pages, the directory that finds them, and the index of each place's word.
-use Rattle.std.proofs.Common.{◌≡◌, ◌∙◌, refl, sym, ap, arith, pow_pos, nat_lt, Bool, true, false, if◌then◌else◌, ℕ, ◌+◌, ◌-◌, ◌*◌, ◌/◌, ◌%◌, ◌^◌, ◌<◌, ◌≤◌, List, length, get_or, map, Option, Some, None}
-use Rattle.std.specs.Option.{unwrap_or, is_some}
-use Rattle.std.specs.List.{range_with_len}
-use Rattle.std.proofs.Math.Nat.{mod-lt, div-add-mod, div-lt_iff_lt-mul}
-use Rattle.std.proofs.Math.Pow.{pow-add, pow_mono}
-use Rattle.std.proofs.lemmas.Bool.{ltb-true, ltb-false}
-use Rattle.std.proofs.lemmas.Nat.{mul-add-lt, mul-le, same_from_place, shl_whole}
-use Rattle.std.proofs.lemmas.List.FromFn.{get_or-map-range_with_len, length-map-range_with_len}
+use Rattle.std.proofs.Common.{◌≡◌, ◌∙◌, sym, ap, subst, arith, ℕ, zero, suc, ◌+◌, ◌-◌, ◌*◌, ◌/◌, ◌%◌, ◌^◌, ◌<◌, ◌≤◌, ◌⊎◌, inl, inr, Bool, true, false, refl, ◌==◌, List, [], ◌∷◌, ◌++◌, length, get_or}
+use Rattle.std.specs.List.{range_with_len, swap}
+use Rattle.std.proofs.Math.Pow.{pow-add}
+use Rattle.std.proofs.lemmas.Bool.{eq-eqb, eqb-true}
+use Rattle.std.proofs.lemmas.Nat.{mul-add-lt, same_from_place, shl_whole}
+use Rattle.std.proofs.lemmas.List.FromFn.{get_or-range_with_len, length-range_with_len}
+use Rattle.std.proofs.lemmas.List.Edits.{Swapped, swapped_from_swap, length-swap}
 use Rattle.space.specs.declared.place.Place.{Place}
-use Rattle.space.specs.Directory.{pages_of, shards_of, shard_of, position_of, place_index, words_in, wrapped, turned, AreLimits, IsDirectory}
+use Rattle.space.specs.Directory.{pages_of, shards_of, shard_of, position_of, owner_of, place_index, words_in, AreLimits, IsDirectory}
 
 -- 64 pages of 4096 bytes are 2^18 bytes
 pages_are : (bits : ℕ) → 18 ≤ bits → pages_of bits ≡ 64 * shards_of bits
 pages_are bits low = let split : bits - 12 ≡ 6 + (bits - 18) = omega arith in ap (λ n. 2 ^ n) split ∙ pow-add 2 6 (bits - 18)
-
-pub shards_few : (bits : ℕ) → bits ≤ 24 → shards_of bits ≤ 64
-shards_few bits high = let few : bits - 18 ≤ 6 = omega arith in pow_mono few
-
-pub shards_some : (bits : ℕ) → 0 < shards_of bits
-shards_some bits = pow_pos (bits - 18)
-
--- at most 2^15 shards
-pub all_few : (spaces bits : ℕ) → AreLimits spaces bits → spaces * shards_of bits ≤ 32768
-all_few spaces bits limits = mul-le spaces (shards_of bits) 512 64 limits.few (shards_few bits limits.high)
 
 module _ (bits : ℕ) (low : 18 ≤ bits) (p : Place) (page : p.page < pages_of bits) where
   -- the shard of a page is one of its space's
@@ -41,15 +30,23 @@ module _ (bits : ℕ) (low : 18 ≤ bits) (p q : Place) (p_page : p.page < pages
       let page : p.page ≡ q.page = omega arith in
       λ i. record { space = parts.0 i; page = page i }
 
-module _ (spaces bits : ℕ) (directory : List (Option ℕ)) (limits : AreLimits spaces bits) (found : IsDirectory spaces bits directory) where
+module _ (spaces bits : ℕ) (directory owners : List ℕ) (limits : AreLimits spaces bits) (found : IsDirectory spaces bits directory owners) where
   module _ (p : Place) (space : p.space < spaces) (page : p.page < pages_of bits) where
-    -- a place has a shard, which the directory finds
+    -- a place has a shard
+    shard_is : shard_of bits p < spaces * shards_of bits
+    shard_is = shard_found bits limits.low p page spaces space
+
+    -- which the directory finds
     pub shard_within : shard_of bits p < length directory
-    shard_within = rw found.shards (shard_found bits limits.low p page spaces space)
+    shard_within = rw found.shards shard_is
 
     -- a place has a word
     pub index_within : place_index bits directory p < words_in directory
-    index_within = omega (arith, found.in_range (shard_of bits p) shard_within)
+    index_within = omega (arith, found.in_range (shard_of bits p) shard_is, found.shards)
+
+  -- shards with one position are one
+  distinct : (j k : ℕ) → j < spaces * shards_of bits → k < spaces * shards_of bits → position_of directory j ≡ position_of directory k → j ≡ k
+  distinct j k j_within k_within same = sym (found.owner j j_within) ∙ ap (owner_of owners) same ∙ found.owner k k_within
 
   -- places with one word are one
   pub index_distinct : (p q : Place) → p.space < spaces → p.page < pages_of bits → q.space < spaces → q.page < pages_of bits
@@ -60,68 +57,96 @@ module _ (spaces bits : ℕ) (directory : List (Option ℕ)) (limits : AreLimits
       let position : position_of directory at_p ≡ position_of directory at_q = omega arith in
       let rest : p.page % 64 ≡ q.page % 64 = omega arith in
       same_shard bits limits.low p q p_page q_page
-      (found.distinct at_p at_q (shard_within p p_space p_page) (shard_within q q_space q_page) position) rest
+      (distinct at_p at_q (shard_is p p_space p_page) (shard_is q q_space q_page) position) rest
 
 -- ---- the directory of a new value
 
-module _ (each : ℕ) (some : 0 < each) where
-  wrapped_below : (at : ℕ) → at < each + each → wrapped each at < each
-  wrapped_below at below = by (nat_lt at each) refl
-    where
-      by : (b : Bool) → nat_lt at each ≡ b → (if b then at else at - each) < each
-      by true is = ltb-true at each is
-      by false is = omega (arith, below, ltb-false at each is)
+pub order_length : (n : ℕ) (order : List ℕ) → order ≡ range_with_len 0 n → length order ≡ n
+order_length n order is = ap length is ∙ length-range_with_len 0 n
 
-  -- of two numbers that are moved on alike and are wrapped to the same
-  wrapped_same : (r s t : ℕ) → r < each → s < each → t < each → wrapped each (r + t) ≡ wrapped each (s + t) → r ≡ s
-  wrapped_same r s t r_below s_below t_below = by (nat_lt (r + t) each) (nat_lt (s + t) each) refl refl
-    where
-      by : (a b : Bool) → nat_lt (r + t) each ≡ a → nat_lt (s + t) each ≡ b → (if a then (r + t) else ((r + t) - each)) ≡ (if b then (s + t) else ((s + t) - each)) → r ≡ s
-      by true true _ _ same = omega (arith, same)
-      by true false _ s_is same = omega (arith, same, ltb-false (s + t) each s_is, s_below, t_below, r_below)
-      by false true r_is _ same = omega (arith, same, ltb-false (r + t) each r_is, s_below, t_below, r_below)
-      by false false r_is s_is same = omega (arith, same, ltb-false (r + t) each r_is, ltb-false (s + t) each s_is)
+order_goes_on : (a n j : ℕ) → a + n ≡ j → range_with_len a (suc n) ≡ range_with_len a n ++ j ∷ []
+order_goes_on a zero j is = let same : a ≡ j = omega (arith, is) in ap (λ k. k ∷ []) same
+order_goes_on a (suc n) j is = ap (λ l. a ∷ l) (order_goes_on (a + 1) n j (omega (arith, is)))
 
-  rest_below : (k : ℕ) → k % each < each
-  rest_below k = mod-lt k some
+pub order_more : (n : ℕ) → range_with_len 0 n ++ n ∷ [] ≡ range_with_len 0 (n + 1)
+order_more n = let on : n + 1 ≡ suc n = omega arith in sym (ap (range_with_len 0) on ∙ order_goes_on 0 n n (omega arith))
 
-  at_below : (k : ℕ) → wrapped each (k % each + k / each % each) < each
-  at_below k = wrapped_below (k % each + k / each % each) (omega (arith, rest_below k, rest_below (k / each)))
-
-  -- it stays among the shards of its space
-  turned_below : (spaces k : ℕ) → k < spaces * each → turned each k < spaces * each
-  turned_below spaces k within =
-      let l = mul-add-lt (k / each) each (wrapped each (k % each + k / each % each)) spaces ((div-lt_iff_lt-mul {k = each} {x = k} {y = spaces} some).1 within) (at_below k) in
-      omega (arith, l)
-
-  -- no two shards meet
-  turned_apart : (j k : ℕ) → turned each j ≡ turned each k → j ≡ k
-  turned_apart j k same =
-      let parts = same_from_place (j / each) (wrapped each (j % each + j / each % each)) (k / each) (wrapped each (k % each + k / each % each)) each (at_below j) (at_below k) same in
-      let rests = wrapped_same (j % each) (k % each) (j / each % each) (rest_below j) (rest_below k) (rest_below (j / each)) (parts.1 ∙ ap (λ q. wrapped each (k % each + q % each)) (sym parts.0)) in
-      sym (div-add-mod j each) ∙ ap (λ q. each * q + j % each) parts.0 ∙ ap (λ r. each * (k / each) + r) rests ∙ div-add-mod k each
-
-module _ (each n : ℕ) where
-  at_turn : (k : ℕ) → k < n → get_or (map (λ k. Some (turned each k)) (range_with_len 0 n)) k None ≡ Some (turned each k)
-  at_turn k within = get_or-map-range_with_len (λ k. Some (turned each k)) 0 n k k None within (omega arith)
-
-  pub turns_length : length (map (λ k. Some (turned each k)) (range_with_len 0 n)) ≡ n
-  turns_length = length-map-range_with_len (λ k. Some (turned each k)) 0 n
-
-pub in_turn_found : (spaces bits n : ℕ) (directory : List (Option ℕ)) → 0 < shards_of bits → n ≡ spaces * shards_of bits → directory ≡ map (λ k. Some (turned (shards_of bits) k)) (range_with_len 0 n) → IsDirectory spaces bits directory
-in_turn_found spaces bits n directory some all is =
-    let each = shards_of bits in
-    let count : length directory ≡ n = ap length is ∙ turns_length each n in
-    let at : (k : ℕ) → k < length directory → get_or directory k None ≡ Some (turned each k) =
-    λ k within. ap (λ (xs : List (Option ℕ)). get_or xs k None) is ∙ at_turn each n k (omega (arith, within, count)) in
-    let position : (k : ℕ) → k < length directory → position_of directory k ≡ turned each k =
-    λ k within. ap (λ (o : Option ℕ). unwrap_or o 0) (at k within) in
+-- where each shard stands at its own number, the directory is its own other way round
+pub in_order_found : (spaces bits : ℕ) (directory owners : List ℕ)
+    → directory ≡ range_with_len 0 (spaces * shards_of bits) → owners ≡ range_with_len 0 (spaces * shards_of bits) → IsDirectory spaces bits directory owners
+in_order_found spaces bits directory owners directory_is owners_is =
+    let n = spaces * shards_of bits in
+    let at : (order : List ℕ) → order ≡ range_with_len 0 n → (k : ℕ) → k < n → get_or order k 0 ≡ k =
+    λ order is k within. let at_k : get_or (range_with_len 0 n) k 0 ≡ k = omega (arith, get_or-range_with_len 0 n k 0 within) in ap (λ (xs : List ℕ). get_or xs k 0) is ∙ at_k in
+    let position : (k : ℕ) → k < n → position_of directory k ≡ k = at directory directory_is in
+    let owner : (k : ℕ) → k < n → owner_of owners k ≡ k = at owners owners_is in
     record {
-      shards = count ∙ all;
-      present = λ k within. ap is_some (at k within);
-      in_range = λ k within. let low = turned_below each some spaces k (omega (arith, within, count, all)) in omega (arith, position k within, low, count, all);
-      distinct = λ j k j_within k_within same. turned_apart each some j k (sym (position j j_within) ∙ same ∙ position k k_within);
+      shards = order_length n directory directory_is;
+      positions = order_length n owners owners_is;
+      in_range = λ k within. rw (position k within) within;
+      owner = λ k within. ap (owner_of owners) (position k within) ∙ owner k within;
+      owner_in_range = λ p within. rw (owner p within) within;
+      position = λ p within. ap (position_of directory) (owner p within) ∙ position p within;
     }
+
+-- ---- two shards that change their positions
+
+pub same_or_not : (i j : ℕ) → (i ≡ j) ⊎ (i ≡ j → ⊥)
+same_or_not i j = by (i == j) refl
+  where
+    by : (b : Bool) → (i == j) ≡ b → (i ≡ j) ⊎ (i ≡ j → ⊥)
+    by true is = inl (eqb-true i j is)
+    by false is = inr (λ same. cc (is, eq-eqb i j same))
+
+-- two values of a function change places: those below a bound stay below it
+swapped_below : (f f' : ℕ → ℕ) (n a b : ℕ) → a < n → b < n → Swapped f f' a b → ((k : ℕ) → k < n → f k < n) → (k : ℕ) → k < n → f' k < n
+swapped_below f f' n a b a_within b_within swapped below k within = elim (same_or_not k a) as (λ _. f' k < n) [
+  | inl is_a ↦ rw (ap f' is_a ∙ swapped.0) (below b b_within)
+  | inr not_a ↦ elim (same_or_not k b) as (λ _. f' k < n) [
+    | inl is_b ↦ rw (ap f' is_b ∙ swapped.1) (below a a_within)
+    | inr not_b ↦ rw (swapped.2 k not_a not_b) (below k within)
+  ]
+]
+
+-- two values of a function change places, and in the function the other way round what stands at them does
+swapped_back : (f f' g g' : ℕ → ℕ) (n a b : ℕ) → a < n → b < n → Swapped f f' a b → Swapped g g' (f a) (f b) → ((k : ℕ) → k < n → g (f k) ≡ k) → (k : ℕ) → k < n → g' (f' k) ≡ k
+swapped_back f f' g g' n a b a_within b_within there back inverse k within = elim (same_or_not k a) as (λ _. g' (f' k) ≡ k) [
+  | inl is_a ↦ ap g' (ap f' is_a ∙ there.0) ∙ back.1 ∙ inverse a a_within ∙ sym is_a
+  | inr not_a ↦ elim (same_or_not k b) as (λ _. g' (f' k) ≡ k) [
+    | inl is_b ↦ ap g' (ap f' is_b ∙ there.1) ∙ back.0 ∙ inverse b b_within ∙ sym is_b
+    | inr not_b ↦
+        ap g' (there.2 k not_a not_b)
+        ∙ back.2 (f k) (λ same. not_a (sym (inverse k within) ∙ ap g same ∙ inverse a a_within)) (λ same. not_b (sym (inverse k within) ∙ ap g same ∙ inverse b b_within))
+        ∙ inverse k within
+  ]
+]
+
+module _ (spaces bits : ℕ) (directory owners after_directory after_owners : List ℕ) (found : IsDirectory spaces bits directory owners) (shard position : ℕ) (shard_low : shard < length directory) (position_low : position < length owners) where
+  -- a shard and the owner of a position change their positions
+  pub exchanged_found : after_directory ≡ swap directory shard (owner_of owners position) → after_owners ≡ swap owners (position_of directory shard) position
+      → IsDirectory spaces bits after_directory after_owners
+  exchanged_found directory_is owners_is =
+      let n = spaces * shards_of bits in
+      let from = position_of directory shard in
+      let other = owner_of owners position in
+      let shard_in : shard < n = rw (← found.shards) shard_low in
+      let position_in : position < n = rw (← found.positions) position_low in
+      let from_in : from < n = found.in_range shard shard_in in
+      let other_in : other < n = found.owner_in_range position position_in in
+      let there = swapped_from_swap directory after_directory shard other 0 shard_low (rw found.shards other_in) directory_is in
+      let back = swapped_from_swap owners after_owners from position 0 (rw found.positions from_in) position_low owners_is in
+      record {
+        shards = ap length directory_is ∙ length-swap directory shard other ∙ found.shards;
+        positions = ap length owners_is ∙ length-swap owners from position ∙ found.positions;
+        in_range = swapped_below (position_of directory) (position_of after_directory) n shard other shard_in other_in there found.in_range;
+        owner =
+            swapped_back (position_of directory) (position_of after_directory) (owner_of owners) (owner_of after_owners) n shard other shard_in other_in there
+            (subst (λ p. Swapped (owner_of owners) (owner_of after_owners) from p) (sym (found.position position position_in)) back) found.owner;
+        owner_in_range = swapped_below (owner_of owners) (owner_of after_owners) n from position from_in position_in back found.owner_in_range;
+        position =
+            swapped_back (owner_of owners) (owner_of after_owners) (position_of directory) (position_of after_directory) n from position from_in position_in back
+            (subst (λ k. Swapped (position_of directory) (position_of after_directory) k other) (sym (found.owner shard shard_in)) there) found.position;
+      }
 
 -- a shift of a small number is the product of the definition
 pub shifted : (a k w : ℕ) → k ≤ 6 → a < 2 ^ 16 → 22 ≤ w → a * 2 ^ k % 2 ^ w ≡ a * 2 ^ k

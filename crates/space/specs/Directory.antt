@@ -1,6 +1,6 @@
 -- Where the word of a place stands: words lie in shards of 64 pages of one space, found through a directory (profile).
-use Rattle.std.specs.Prelude.{◌≡◌, ℕ, ◌+◌, ◌-◌, ◌*◌, ◌/◌, ◌%◌, ◌^◌, ◌<◌, ◌≤◌, nat_lt, if◌then◌else◌, IsTrue, List, ◌++◌, length, replicate, Option, None, unwrap_or, is_some}
-use Rattle.std.specs.List.{slice_index_or, AllPass}
+use Rattle.std.specs.Prelude.{◌≡◌, ℕ, ◌+◌, ◌-◌, ◌*◌, ◌/◌, ◌%◌, ◌^◌, ◌<◌, ◌≤◌, List, ◌++◌, length, replicate, slice_index}
+use Rattle.std.specs.List.{AllPass}
 use Rattle.std.specs.Vec.{vec_capacity}
 use Rattle.std.specs.declared.alloc.Global.{Global}
 use Rattle.std.specs.declared.vec.Vec.{Vec}
@@ -19,26 +19,21 @@ shards_of bits = 2 ^ (bits - 18)
 abbrev pub shard_of : ℕ → Place → ℕ
 shard_of bits p = p.space * shards_of bits + p.page / 64
 
--- where the words of a shard stand, counted in shards; 0 where the directory does not say
-abbrev pub position_of : List (Option ℕ) → ℕ → ℕ
-position_of directory shard = unwrap_or (slice_index_or directory shard None) 0
+-- where the words of a shard stand, counted in shards
+abbrev pub position_of : List ℕ → ℕ → ℕ
+position_of directory shard = slice_index directory shard
+
+-- which shard has its words at a position
+abbrev pub owner_of : List ℕ → ℕ → ℕ
+owner_of owners position = slice_index owners position
 
 -- which word is a place's
-abbrev pub place_index : ℕ → List (Option ℕ) → Place → ℕ
+abbrev pub place_index : ℕ → List ℕ → Place → ℕ
 place_index bits directory p = position_of directory (shard_of bits p) * 64 + p.page % 64
 
 -- how many words a directory finds
-abbrev pub words_in : List (Option ℕ) → ℕ
+abbrev pub words_in : List ℕ → ℕ
 words_in directory = length directory * 64
-
--- a number below twice another, wrapped to be below that
-abbrev pub wrapped : ℕ → ℕ → ℕ
-wrapped each at = if nat_lt at each then at else at - each
-
--- the shards of a space stand together, each space's from another one on: where the words of a shard stand, counted in shards, if
--- each space has so many
-abbrev pub turned : ℕ → ℕ → ℕ
-turned each shard = shard / each * each + wrapped each (shard % each + shard / each % each)
 
 -- words with zeros behind them, up to so many
 abbrev pub filled : List ℕ → ℕ → List ℕ
@@ -51,15 +46,17 @@ pub record AreLimits (spaces bits : ℕ) : Type 0 where
   pub low : 18 ≤ bits
   pub high : bits ≤ 24
 
--- every shard of each space has words, no two have the same, and there are no others
-pub record IsDirectory (spaces bits : ℕ) (directory : List (Option ℕ)) : Type 0 where
+-- every shard of each space has a position of its own, there are no others, and each position's owner is the shard that stands there
+pub record IsDirectory (spaces bits : ℕ) (directory owners : List ℕ) : Type 0 where
   pub shards : length directory ≡ spaces * shards_of bits
-  pub present : (k : ℕ) → k < length directory → IsTrue (is_some (slice_index_or directory k None))
-  pub in_range : (k : ℕ) → k < length directory → position_of directory k < length directory
-  pub distinct : (j k : ℕ) → j < length directory → k < length directory → position_of directory j ≡ position_of directory k → j ≡ k
+  pub positions : length owners ≡ spaces * shards_of bits
+  pub in_range : (k : ℕ) → k < spaces * shards_of bits → position_of directory k < spaces * shards_of bits
+  pub owner : (k : ℕ) → k < spaces * shards_of bits → owner_of owners (position_of directory k) ≡ k
+  pub owner_in_range : (p : ℕ) → p < spaces * shards_of bits → owner_of owners p < spaces * shards_of bits
+  pub position : (p : ℕ) → p < spaces * shards_of bits → position_of directory (owner_of owners p) ≡ p
 
 -- packs, at most as many as the directory finds, with room for as many
-pub record AreWords (directory : List (Option ℕ)) (words : Vec ℕ Global) : Type 0 where
+pub record AreWords (directory : List ℕ) (words : Vec ℕ Global) : Type 0 where
   pub count : length words.items ≤ words_in directory
   pub room : words_in directory ≤ vec_capacity words
   pub packs : AllPass is_pack words.items

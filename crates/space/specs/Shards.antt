@@ -1,5 +1,6 @@
 -- What shards hold: a map from place to entry, and the index of each place's word.
 use Rattle.std.specs.Prelude.{◌≡◌, ℕ, ◌<◌, Bool, List, [], length, Option, is_none, slice_index}
+use Rattle.std.specs.Int.{div_ceil}
 use Rattle.std.specs.Option.{option_map_or}
 use Rattle.space.specs.declared.place.Place.{Place}
 use Rattle.space.specs.declared.place.Entry.{Entry}
@@ -39,6 +40,10 @@ is_taken s = is_none s.words
 -- the words; none while they are taken
 abbrev pub words_of : Shards → List ℕ
 words_of s = option_map_or (λ words. words.items) s.words []
+
+-- how many shards the words reach, the last one maybe in part
+abbrev pub shards_in_use : Shards → ℕ
+shards_in_use s = div_ceil (length (words_of s)) 64
 
 -- what stands at a place
 abbrev pub entry_at : Shards → Place → Option Entry

@@ -1,7 +1,7 @@
-ghost use Rattle.std.specs.Prelude.{◌≡◌, ◌<◌, ◌≤◌, IfOk, Some, map, vec_capacity};
+ghost use Rattle.std.specs.Prelude.{◌≡◌, ◌≤◌, IfOk, vec_capacity};
 ghost use Rattle.std.specs.List.{range_with_len};
 ghost use Rattle.std.specs.Option.{ForSome};
-ghost use Rattle.space.specs.Directory.{AreLimits, IsDirectory, AreWords, filled, turned};
+ghost use Rattle.space.specs.Directory.{AreLimits, IsDirectory, AreWords, filled};
 
 use crate::error::NoMemory;
 use crate::place::{Entry, Place};
@@ -26,32 +26,36 @@ pub struct Narrowed {
 
 /// A map from places to entries, kept as entry words (profile).
 ///
-/// The words lie one after another in shards of 64 pages of one space. A directory has for each shard of each space
-/// where its words stand.
+/// The words lie in shards of 64 pages of one space, one shard behind another. A directory has for each shard of each space where
+/// its words stand. `make` gives a shard that is not in use the first position behind the words in use, so that shards stand in
+/// the order of their first use.
 ///
-/// Words behind the end of the list stand for absent pages, so that pages behind the last one used cost nothing. The memory of
-/// all words is asked for at the start, so that no later call takes any.
+/// Words behind the end of the list stand for absent pages, so that shards that nobody uses cost nothing. The memory of all
+/// words is asked for at the start, so that no later call takes any.
 #[derive(Drop)]
 pub struct Shards {
     spaces: u32,
     bits: u32,
-    directory: Vec<Option<u32>>,
+    /// Where the words of each shard stand, counted in shards.
+    directory: Vec<u32>,
+    /// Which shard has its words at each of these positions.
+    owners: Vec<u32>,
     /// None while the words are taken.
     words: Option<Vec<u64>>,
     ghost limits: { AreLimits spaces bits },
-    ghost found: { IsDirectory spaces bits directory.items },
+    ghost found: { IsDirectory spaces bits directory.items owners.items },
     ghost packed: { ForSome words (AreWords directory.items) },
 }
 
 impl Shards {
-    ghost use Rattle.std.specs.Prelude.{◌≡◌, ◌<◌, IsTrue, IsFalse, IfOk, IfSome, None, length, option_map, is_some, slice_index};
+    ghost use Rattle.std.specs.Prelude.{◌≡◌, ◌+◌, ◌*◌, ◌<◌, IsTrue, IsFalse, IfOk, IfSome, None, length, option_map, is_some, slice_index};
     ghost use Rattle.std.specs.List.{AllPass};
     ghost use Rattle.std.specs.Option.{option_and_then};
     ghost use Rattle.space.specs.declared.place.Place.{Place};
     ghost use Rattle.space.specs.Word.{word_of, entry_of, is_pack, FrameFits};
     ghost use Rattle.space.specs.Directory.{AreLimits, shard_of};
     ghost use Rattle.space.specs.Entries.{narrowed, status_of, with_status, extended};
-    ghost use Rattle.space.specs.Shards.{shard_count, spaces_of, bits_of, IsPlace, word_count, index_of, is_taken, words_of, entry_at, IsLaidOutAs, IsSetAt};
+    ghost use Rattle.space.specs.Shards.{shard_count, spaces_of, bits_of, IsPlace, word_count, index_of, is_taken, words_of, shards_in_use, entry_at, IsLaidOutAs, IsSetAt};
 
     /// Spaces of `2^bits` bytes in which every page is absent.
     ///
@@ -64,12 +68,14 @@ impl Shards {
         ensures present { IfOk result (λ s. IsFalse (is_taken s)) }
     {
         let shards = spaces << (bits - SHARD_BITS);
-        let directory = in_turn(alloc, shards, 1 << (bits - SHARD_BITS))?;
+        let directory = in_order(alloc, shards)?;
+        let owners = in_order(alloc, shards)?;
         let words = Vec::with_capacity(alloc, shards as usize * SHARD_PAGES)?;
         Ok(Shards {
             spaces,
             bits,
             directory,
+            owners,
             words: Some(words),
         })
     }
@@ -95,7 +101,7 @@ impl Shards {
         ensures in_range { result < word_count self.now }
         ensures distinct { (q : Place) → IsPlace self.now q → index_of self.now q ≡ result → q ≡ place }
     {
-        let position = self.directory[self.shard(place)].unwrap();
+        let position = self.directory[self.shard(place)];
         position as usize * SHARD_PAGES + place.page as usize % SHARD_PAGES
     }
 
@@ -107,6 +113,30 @@ impl Shards {
     {
         let before = usize::from(place.space) << (self.bits - SHARD_BITS);
         before + place.page as usize / SHARD_PAGES
+    }
+
+    /// Has the words of a place stand directly behind those that are in use, where they are not in use yet, so that words that
+    /// nobody uses cost no memory. What stands at each place stays; the indexes of places that are not in use may become others.
+    /// This takes no memory.
+    pub fn make(&mut self, place: Place)
+        requires place { IsPlace self.old place }
+        requires present { IsFalse (is_taken self.old) }
+        ensures entries { (p : Place) → entry_at self.new p ≡ entry_at self.old p }
+        ensures near { index_of self.new place < (shards_in_use self.old + 1) * 64 }
+        ensures words { words_of self.new ≡ words_of self.old }
+        ensures spaces { spaces_of self.new ≡ spaces_of self.old }
+        ensures bits { bits_of self.new ≡ bits_of self.old }
+        ensures present { IsFalse (is_taken self.new) }
+    {
+        let shard = self.shard(place);
+        let position = self.directory[shard] as usize;
+        // The first position that no word reaches.
+        let behind = self.words.as_ref().unwrap().len().div_ceil(SHARD_PAGES);
+        if behind < position {
+            let other = self.owners[behind] as usize;
+            self.directory.swap(shard, other);
+            self.owners.swap(position, behind);
+        }
     }
 
     /// What stands at a place.
@@ -253,34 +283,13 @@ fn fill(words: &mut Vec<u64>, up_to: usize)
     }
 }
 
-/// A directory of so many shards, of which each space has some. The words of a space's shards stand together, one shard further
-/// on from space to space. Were they alike in each space, the words of one page in many spaces would stand a power of two apart,
-/// and crowd into a few lines of a cache.
-fn in_turn(alloc: Global, shards: u32, each: u32) -> Result<Vec<Option<u32>>, AllocError>
-    requires some { 0 < each }
-    requires few { each ≤ 64 }
-    requires all { shards ≤ 32768 }
-    ensures { IfOk result (λ directory. directory.items ≡ map (λ k. Some (turned each k)) (range_with_len 0 shards)) }
+/// The numbers of so many shards, in order.
+fn in_order(alloc: Global, shards: u32) -> Result<Vec<u32>, AllocError>
+    ensures { IfOk result (λ order. order.items ≡ range_with_len 0 shards) }
 {
-    let mut directory = Vec::with_capacity(alloc, shards as usize)?;
+    let mut order = Vec::with_capacity(alloc, shards as usize)?;
     for shard in 0..shards {
-        directory.push(Some(turned(shard, each)))?;
+        order.push(shard)?;
     }
-    Ok(directory)
-}
-
-/// Where the words of a shard stand, counted in shards, if each space has so many.
-fn turned(shard: u32, each: u32) -> u32
-    requires some { 0 < each }
-    requires few { each ≤ 64 }
-    requires below { shard < 32768 }
-    ensures { result ≡ turned each shard }
-{
-    let space = shard / each;
-    let at = shard % each + space % each;
-    if at < each {
-        space * each + at
-    } else {
-        space * each + (at - each)
-    }
+    Ok(order)
 }

@@ -124,6 +124,35 @@ fn keeps_entries_at_the_largest_limits(rt: HostRuntime) -> Result<(), Fail> {
     )
 }
 
+#[test]
+fn shards_stand_in_the_order_of_their_first_use(rt: HostRuntime) -> Result<(), Fail> {
+    let last = Place {
+        space: 511,
+        page: 4095,
+    };
+    let first = Place { space: 0, page: 64 };
+    let entry = Some(Entry {
+        frame: 5,
+        rights: Rights::all(),
+        status: Rights::none(),
+    });
+    let mut shards = Shards::new(rt.alloc(), 512, 24)?;
+    shards.make(last);
+    shards.set(last, entry);
+    shards.make(first);
+    assert_eq!(rt; shards.get(last), entry);
+    assert_eq!(rt; shards.get(first), None);
+    shards.set(first, entry);
+    // Nothing moves any more.
+    shards.make(last);
+    shards.make(first);
+    assert_eq!(rt; shards.get(last), entry);
+    assert_eq!(rt; shards.get(first), entry);
+    assert_eq!(rt; shards.index(last), 63);
+    assert_eq!(rt; shards.index(first), 64);
+    Ok(())
+}
+
 /// How many pages `keeps_a_million_entries_over_512_spaces` holds.
 const MILLION: u32 = 1_000_000;
 

@@ -7,5 +7,5 @@ use Rattle.space.proofs.shards.Shards.index.Goals as goal
 
 pub returns-clause-distinct : goal.returns-clause-distinct
 returns-clause-distinct c q place same =
-    let index : c.unwrap-position.result * 64 + c.args.place.page % 64 ≡ index_of c.args.self.now c.args.place = grind (arith, common_steps) in
+    let index : c.index-position.result.now * 64 + c.args.place.page % 64 ≡ index_of c.args.self.now c.args.place = grind (arith, common_steps) in
     words_are_their_own c.args.self.now q c.args.place place c.requires (same ∙ index)

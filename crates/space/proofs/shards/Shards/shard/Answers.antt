@@ -10,4 +10,4 @@ returns-clause-in_range c =
     let small : c.args.place.space < 2 ^ 16 = omega (arith, s.limits.few) in
     let few : s.bits - 18 ≤ 6 = omega (arith, s.limits.high) in
     rw (c.from.ensures, shifted c.args.place.space (s.bits - 18) 64 few small (omega arith))
-    (shard_within s.spaces s.bits s.directory.items s.limits s.found c.args.place c.requires.space c.requires.page)
+    (shard_within s.spaces s.bits s.directory.items s.owners.items s.limits s.found c.args.place c.requires.space c.requires.page)
