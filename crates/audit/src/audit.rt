@@ -17,6 +17,9 @@ use std::thread::Threads;
 /// How many bytes most lines have at most.
 const LINE: usize = 32;
 
+/// How many lines have their text made at once.
+const AT_ONCE: usize = 65_536;
+
 /// Returns every mapping of a database, by rising place.
 ///
 /// The errors are `Halted`, if the database is halted, and `NoMemory`, if memory runs out.
@@ -66,16 +69,35 @@ pub fn report(
     Ok(text)
 }
 
-ghost use Rattle.std.specs.Prelude.{flat_map};
-
-/// Returns the text of lines, made section by section side by side.
+/// Returns the text of lines. That of each so many lines is made beside the whole, and then put behind it.
 fn text_of(rt: &(impl Threads + Sync), alloc: Global, lines: &[Line]) -> Result<Vec<u8>, AllocError>
     ensures { IfOk result (λ text. text.items ≡ audit_lines (map mapped_of lines.now)) }
 {
+    let mut text = Vec::with_capacity(alloc, lines.len().saturating_mul(LINE))?;
+    let mut left = lines;
+    while !left.is_empty() {
+        let (some, others) = left.split_at(left.len().min(AT_ONCE));
+        push_lines(rt, alloc, &mut text, some)?;
+        left = others;
+    }
+    Ok(text)
+}
+
+ghost use Rattle.std.specs.Prelude.{◌++◌, OnOk, flat_map};
+
+/// Appends the text of lines, made section by section side by side.
+fn push_lines(
+    rt: &(impl Threads + Sync),
+    alloc: Global,
+    text: &mut Vec<u8>,
+    lines: &[Line],
+) -> Result<(), AllocError>
+    ensures { OnOk result (text.new.items ≡ text.old.items ++ audit_lines (map mapped_of lines.now)) }
+{
     let sections = sections(alloc, lines)?;
     let texts = section_texts(rt, alloc, &sections)?;
-    let text = whole_text(alloc, &texts)?;
-    Ok(text)
+    push_texts(text, &texts)?;
+    Ok(())
 }
 
 /// The lines of each space.
@@ -142,32 +164,20 @@ fn section_text(alloc: Global, lines: &[Line]) -> Result<String, AllocError>
     Ok(text)
 }
 
-ghost use Rattle.std.specs.Prelude.{IsOk, OnOk};
+ghost use Rattle.std.specs.Prelude.{IsOk};
 ghost use Rattle.std.specs.List.{All};
 ghost use Rattle.audit.specs.Sections.{bytes_in};
 
-/// Returns the texts one after another, if memory sufficed for each.
-fn whole_text(alloc: Global, texts: &[Result<String, AllocError>]) -> Result<Vec<u8>, AllocError>
-    ensures whole { IfOk result (λ whole. whole.items ≡ flat_map bytes_in texts.now) }
+/// Appends texts one after another, if memory sufficed for each.
+fn push_texts(whole: &mut Vec<u8>, texts: &[Result<String, AllocError>]) -> Result<(), AllocError>
+    ensures whole { OnOk result (whole.new.items ≡ whole.old.items ++ flat_map bytes_in texts.now) }
     ensures all { OnOk result (All IsOk texts.now) }
 {
-    let mut whole = Vec::with_capacity(alloc, bytes_of(texts))?;
     for text in texts {
         match text {
             Ok(text) => whole.extend_from_slice(text.as_bytes())?,
             Err(error) => return Err(*error),
         }
     }
-    Ok(whole)
-}
-
-/// How many bytes the texts have, for which room is made.
-fn bytes_of(texts: &[Result<String, AllocError>]) -> usize {
-    let mut bytes: usize = 0;
-    for text in texts {
-        if let Ok(text) = text {
-            bytes = bytes.saturating_add(text.len());
-        }
-    }
-    bytes
+    Ok(())
 }

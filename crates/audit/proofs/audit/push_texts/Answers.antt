@@ -4,7 +4,7 @@ use Rattle.std.specs.List.{All}
 use Rattle.std.proofs.lemmas.List.{take_all}
 use Rattle.std.proofs.lemmas.List.Elements.{All-more}
 use Rattle.audit.proofs.Texts.{one_more_text, text_is_ok}
-use Rattle.audit.proofs.audit.whole_text.Goals as goal
+use Rattle.audit.proofs.audit.push_texts.Goals as goal
 
 pub loop-text-preserved : goal.loop-text-preserved
 loop-text-preserved c =
