@@ -18,8 +18,8 @@ from typing import NamedTuple
 from support.program import TOP, Cases, Ended, build_library, program_path, run
 from support.refusals import EXTENTS, fault_of_refused, record_told, runs_refusing
 
-# By how many workers a trace of small phases is worked, each in pieces of one. There is a worker for every eight pieces at most, so
-# that these start no threads for a call.
+# By how many workers a trace of small phases is worked, each in pieces of one. Fewer than 64 pieces have one worker, so that these
+# start no threads for a call.
 WORKERS = [["--workers", str(workers), "--piece", "1"] for workers in (1, 4, 64)]
 
 # Traces of replays/ whose phases are small, with their answers beside them.
@@ -35,7 +35,7 @@ SMALL = [
 
 # Those of whole fpages, whose phases are in many pieces.
 LARGE = [
-    "unmaps/16-pages-of-one-frame",
+    "unmaps/complete-space-twice",
     "windows/complete-space-granted-to-and-fro",
     "windows/complete-space-granted-and-mapped-on",
 ]

@@ -7,13 +7,17 @@ use crate::error::CrewError;
 use crate::gate::{Gate, NoGate};
 use crate::shared::work_shared;
 use crate::workers::Workers;
-use pieces::{Done, Piece};
+use pieces::{Done, Piece, changed_words};
 use std::alloc::Global;
 use std::sync::Wait;
 use std::thread::Threads;
 
 /// There is a worker for so many pieces at most: to start a thread takes longer than to work fewer.
 const PIECES_OF_A_WORKER: usize = 8;
+
+/// Fewer pieces than this have one worker where no gate listens: alone it works in place, where a word takes a fraction of the
+/// time that it takes where words are shared.
+const FEW_PIECES: usize = 64;
 
 /// Worker threads, who work the pieces of a phase beside one another.
 #[derive(Drop)]
@@ -57,7 +61,7 @@ impl<'a, R: Threads + Wait, G: Gate> Crew<'a, R, G> {
 /// numbered from 0, in the order in which they are given.
 ///
 /// Each piece is a turn on shared words. The calling thread is the first worker, and each other a thread of its own. Where it
-/// is the only one, it works the pieces one after another on the words themselves, unless the gate listens. Pieces that can be
+/// is the only one, as it is where nobody listens and there are few full pieces, it works the pieces one after another on the words themselves, unless the gate listens. Pieces that can be
 /// worked beside one another may be worked in any order, and their steps may be mixed: what comes of it is always the same.
 ///
 /// Refused: `NoMemory`; `NoWorker`, where a thread could not be started. Then what was given is gone.
@@ -71,7 +75,11 @@ pub fn work<R: Threads + Wait, G: Gate>(
     requires can { CanBeWorked words.items pieces.items }
     ensures { IfOk result (λ r. IsWorked words.items pieces.items r.0.items r.1.items) }
 {
-    let count = workers_for(crew.workers, pieces.len());
+    let count = if crew.gate.listens() {
+        workers_for(crew.workers, pieces.len())
+    } else {
+        unheard_workers_for(crew.workers, full_pieces(&pieces, crew.piece_length))
+    };
     if count == 1 && !crew.gate.listens() {
         let worked = work_alone(alloc, words, pieces)?;
         return Ok(worked);
@@ -87,6 +95,33 @@ fn workers_for(most: usize, pieces: usize) -> usize
     most.min(pieces / PIECES_OF_A_WORKER).max(1)
 }
 
+/// The same where nobody hears of the pieces: few have one worker.
+fn unheard_workers_for(most: usize, pieces: usize) -> usize
+    ensures some { 1 ≤ result }
+    ensures most { 1 ≤ most → result ≤ most }
+{
+    if pieces < FEW_PIECES {
+        1
+    } else {
+        workers_for(most, pieces)
+    }
+}
+
+/// How many pieces these would be, if each but the last had so many words or accesses.
+fn full_pieces(pieces: &[Piece], length: usize) -> usize
+    requires { 1 ≤ length }
+{
+    let mut words: usize = 0;
+    for piece in pieces {
+        let more = match piece {
+            Piece::Touch(touch) => touch.len(),
+            _ => changed_words(piece),
+        };
+        words = words.saturating_add(more);
+    }
+    pieces.len().min(words.div_ceil(length))
+}
+
 /// A crew whose gate listens does the work for a type of its user's: an impl for every gate is refused (docs/DECISIONS.md).
 impl<'a, R: Threads + Wait> Workers for Crew<'a, R, NoGate> {
     fn piece_length(&self) -> usize {
@@ -94,7 +129,7 @@ impl<'a, R: Threads + Wait> Workers for Crew<'a, R, NoGate> {
     }
 
     fn works_alone(&self, pieces: usize) -> bool {
-        workers_for(self.workers, pieces) == 1
+        unheard_workers_for(self.workers, pieces) == 1
     }
 
     fn work(

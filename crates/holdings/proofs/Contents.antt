@@ -3,6 +3,7 @@ pub mod Listing
 pub mod Holders
 pub mod Consistent
 pub mod WordChanges
+pub mod SameEntries
 pub mod Accesses
 pub mod Roots
 pub mod Entered

@@ -9,6 +9,7 @@ mod item_pages;
 mod laws;
 mod limits;
 mod link;
+mod making;
 mod map;
 mod map_alone;
 mod mapping;

@@ -1,6 +1,7 @@
 //! Pages that are stripped one after another, each with all that derives from it, on the words and trees themselves.
 
 use crate::holdings::Holdings;
+use crate::phase::is_worked_alone;
 use crate::prune::{Left, prune_run};
 use crate::recursion::{take, visit};
 use crew::Workers;
@@ -65,42 +66,58 @@ impl Holdings {
     }
 
     /// Whether the calling thread would strip these pages alone, and one after another is the short way: each page has a greater
-    /// frame than the one before it, so that none derives from another, and none is passed over twice.
+    /// frame than the one before it, so that none derives from another, and none is passed over twice. Threads pay by the
+    /// mappings that they pass over, however few of these derive from each page: as many as would be pieces if all stood in one run.
     pub(crate) fn are_stripped_alone<W: Workers>(&self, places: &[Place], workers: &W) -> bool
         requires { All (IsWithin self.now.limits) places.now }
     {
-        let always = workers.works_alone(usize::MAX);
+        let Some(most) = self.most_mappings_from(places) else {
+            return false;
+        };
+        is_worked_alone(most, workers) || is_worked_alone(self.mappings_from(places), workers)
+    }
+
+    /// How many mappings derive from these pages at most, with their own, if each page has a greater frame than the one before it.
+    fn most_mappings_from(&self, places: &[Place]) -> Option<usize>
+        requires { All (IsWithin self.now.limits) places.now }
+    {
         let mut last = None;
-        let mut pieces: usize = 0;
+        let mut most: usize = 0;
         for place in places {
             let Some(entry) = self.shards.get(*place) else {
                 continue;
             };
             if last >= Some(entry.frame) {
-                return false;
+                return None;
             }
             last = Some(entry.frame);
-            if !always {
-                let tree = &self.trees[entry.frame as usize];
-                pieces = pieces.saturating_add(pieces_of(tree, *place, workers.piece_length()));
-                if !workers.works_alone(pieces) {
-                    return false;
-                }
+            most = most.saturating_add(self.trees[entry.frame as usize].len());
+        }
+        Some(most)
+    }
+
+    /// How many mappings derive from these pages, with their own.
+    fn mappings_from(&self, places: &[Place]) -> usize
+        requires { All (IsWithin self.now.limits) places.now }
+    {
+        let mut mappings: usize = 0;
+        for place in places {
+            if let Some(entry) = self.shards.get(*place) {
+                let more = run_len(&self.trees[entry.frame as usize], *place);
+                mappings = mappings.saturating_add(more);
             }
         }
-        true
+        mappings
     }
 }
 
-/// In how many pieces of at most so many nodes a page is stripped with all that derives from it.
-fn pieces_of(tree: &Tree, place: Place, most: usize) -> usize
-    requires { 1 ≤ most }
-{
+/// How many places of a tree derive from a place, with itself.
+fn run_len(tree: &Tree, place: Place) -> usize {
     let Some(i) = tree.find(place) else {
         return 0;
     };
     let run = tree.run_of(i);
-    run.end.saturating_sub(run.start).div_ceil(most)
+    run.end.saturating_sub(run.start)
 }
 
 ghost use Rattle.std.specs.Prelude.{◌≡◌, ◌<◌, ◌≤◌, true, length, IfOk, OnOk};

@@ -6,7 +6,7 @@ use Rattle.holdings.specs.Contents.{AreMapped}
 use Rattle.holdings.specs.Inner.Held.{contents_of}
 use Rattle.holdings.specs.Inner.Sound.{AreSound}
 use Rattle.holdings.proofs.Phases.MapPhase.{new_linkable, stores_distinct, stores_can, mapped_sound, are_mapped}
-use Rattle.holdings.proofs.holdings.Holdings.map.Goals as goal
+use Rattle.holdings.proofs.holdings.Holdings.map_made.Goals as goal
 
 pub links-requires-clause-distinct : goal.links-requires-clause-distinct
 links-requires-clause-distinct g c =

@@ -6,7 +6,7 @@ use Rattle.holdings.specs.Contents.{AreMoved}
 use Rattle.holdings.specs.Inner.Held.{contents_of}
 use Rattle.holdings.specs.Inner.Sound.{AreSound}
 use Rattle.holdings.proofs.Phases.MovePhase.{trees_movable, pairs_distinct, pairs_can, moved_sound, are_moved}
-use Rattle.holdings.proofs.holdings.Holdings.rename.Goals as goal
+use Rattle.holdings.proofs.holdings.Holdings.rename_made.Goals as goal
 
 pub moves-requires-clause-distinct : goal.moves-requires-clause-distinct
 moves-requires-clause-distinct g c =
