@@ -35,17 +35,21 @@ SMALL = [
 
 # Those of whole fpages, whose phases are in many pieces.
 LARGE = [
+    "unmaps/16-pages-of-one-frame",
     "unmaps/complete-space-twice",
     "windows/complete-space-granted-to-and-fro",
     "windows/complete-space-granted-and-mapped-on",
 ]
 
-# All traces, each with the options by which it runs, and whether its calls start threads then.
+# How many pages the largest traces map, which have no file.
+PAGES = 512
+
+# All traces with a file, each with the options by which it runs, and whether its calls start threads then.
 RUNS = [
     *((trace, [], False) for trace in SMALL),
     *((trace, options, False) for trace in SMALL for options in WORKERS),
     *((trace, ["--plain"], False) for trace in SMALL),
-    *((trace, options, options != WORKERS[0]) for trace in LARGE for options in WORKERS),
+    *((trace, options, False) for trace in LARGE for options in WORKERS),
 ]
 
 
@@ -63,6 +67,17 @@ def read_replay(trace, options, starts_threads):
     path = os.path.join(TOP, "tests", "replays", trace)
     with open(path + ".csv", "rb") as records, open(path + ".txt", "rb") as answer:
         return Replay(" ".join([trace, *options]), options, records.read(), answer.readlines(), starts_threads)
+
+
+def largest_replay(options):
+    """The trace of calls that start threads, and its answer by the definitions: pages are mapped, lose a right, and are granted."""
+    records = [f"l4map,1,3,21,{PAGES}", "send,0,1,10,8,17", "unmap,0,0,12", "send,1,2,10,a,17"]
+    sent = f"send absent=0 norights=0 origin=0 lost=0 extended=0 linked={PAGES}"
+    lines = [f"1 {sent}", "2 unmap 00000010", f"3 {sent}"]
+    lines += [f"0,{page},{page},rwx,---,-" for page in range(PAGES)]
+    lines += [f"2,{page},{page},r-x,---,0:{page}" for page in range(PAGES)]
+    trace, answer = (("\n".join(it) + "\n").encode() for it in (records, [*lines, "end 3 0"]))
+    return Replay(" ".join(["the largest trace", *options]), options, trace, answer.splitlines(keepends=True), True)
 
 
 def spaces_in_audit(replay):
@@ -96,7 +111,7 @@ def check_refusing(program, library, replay, what, and_rest, extent):
 
 def main():
     program, cases = program_path(), Cases()
-    replays = [read_replay(*row) for row in RUNS]
+    replays = [read_replay(*row) for row in RUNS] + [largest_replay(options) for options in WORKERS[1:]]
     for replay in replays:
         undisturbed = Ended(0, b"".join(replay.lines), b"")
         # This is what catches a body that always answers that it is out of memory, which meets every contract.

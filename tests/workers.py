@@ -30,7 +30,6 @@ PAGES = 8
 
 RUNS = 1000
 RUNS_AT_ONCE = 3 * (os.cpu_count() or 1)
-RECEIVERS = 8
 
 
 def names():
@@ -109,24 +108,27 @@ def random_trace(seed):
 
 
 def trace_for_many_workers():
-    """A trace, and its answer by the definitions: 64 pages go to eight spaces, are read, and lose a right in 576 places."""
-    pages, receivers = range(64), range(1, RECEIVERS + 1)
-    trace, answer = [f"l4map,1,{RECEIVERS + 1},18,64"], []
+    """A trace whose sends and unmaps start threads, and its answer by the definitions: 512 pages go to two spaces, lose a right, and are
+    granted on by one of them."""
+    pages = range(512)
+    trace, answer = ["l4map,1,4,21,512"], []
 
     def call(record, reply):
         trace.append(record)
         answer.append(f"{len(trace) - 1} {reply}")
 
-    for space in receivers:
-        call(f"send,0,{space},10,8,17", "send absent=0 norights=0 origin=0 lost=0 extended=0 linked=64")
-    for space in receivers:
+    sent = "send absent=0 norights=0 origin=0 lost=0 extended=0 linked=512"
+    for space in (1, 2):
+        call(f"send,0,{space},10,8,17", sent)
+    for space in (1, 2):
         call(f"access,{space},{space * 4096:x},r", "access ok")
     call("unmap,0,0,12", "unmap 00000014")
-    call("access,3,5000,x", "access ok")
-    call("access,3,5000,w", "access fault")
+    call("access,1,5000,x", "access ok")
+    call("access,2,5000,w", "access fault")
+    call("send,2,3,10,a,17", sent)
     call("unmap,0,0,10", "unmap 00000015")
     call("unmap,0,40,50c1", "unmap 000050c0")
-    for space in [0, *receivers]:
+    for space in (0, 1, 3):
         for page in pages:
             rights = "r" + ("w" if space == 0 else "-") + ("x" if page != 5 else "-")
             origin = "-" if space == 0 else f"0:{page}"

@@ -17,7 +17,7 @@ const PIECES_OF_A_WORKER: usize = 8;
 
 /// Fewer pieces than this have one worker where no gate listens: alone it works in place, where a word takes a fraction of the
 /// time that it takes where words are shared.
-const FEW_PIECES: usize = 64;
+const FEW_PIECES: usize = 512;
 
 /// Worker threads, who work the pieces of a phase beside one another.
 #[derive(Drop)]

@@ -96,7 +96,7 @@ impl Holdings {
         if !entry.rights.holds(access) {
             return false;
         }
-        self.shards.set(place, Some(entry.marked(access)));
+        self.shards.add_status(place, access.marks());
         true
     }
 }

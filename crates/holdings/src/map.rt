@@ -33,30 +33,15 @@ impl Holdings {
         requires ready { AreReady self.holdings rights transfers.now }
         ensures { IfOk result (AreMapped self transfers.now rights) }
     {
-        self.with_targets(transfers)
-            .map_made(alloc, transfers, rights, workers)
-    }
-
-    /// The same, where the targets have words in use.
-    fn map_made<W: Workers>(
-        self,
-        alloc: Global,
-        transfers: &[Transfer],
-        rights: Rights,
-        workers: &W,
-    ) -> Result<(Self, TransferCounts), CrewError>
-        requires planned { ArePlanned self.limits transfers.now }
-        requires ready { AreReady self.holdings rights transfers.now }
-        ensures { IfOk result (AreMapped self transfers.now rights) }
-    {
+        let held = self.with_targets(transfers);
         if is_worked_alone(transfers.len(), workers) {
-            let mapped = self.map_alone(alloc, transfers, rights)?;
+            let mapped = held.map_alone(alloc, transfers, rights)?;
             return Ok(mapped);
         }
         let Holdings {
             mut shards,
             mut trees,
-        } = self;
+        } = held;
         let counts = TransferCounts::of_all(&shards, transfers);
         let stores = stores(alloc, &shards, transfers, rights)?;
         let pieces = links(alloc, stores, workers.piece_length())?;

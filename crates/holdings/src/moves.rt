@@ -33,30 +33,15 @@ impl Holdings {
         requires free { AreFree self.holdings transfers.now }
         ensures { IfOk result (AreMoved self transfers.now) }
     {
-        self.with_targets(transfers)
-            .rename_made(alloc, transfers, workers)
-    }
-
-    /// The same, where the targets have words in use.
-    fn rename_made<W: Workers>(
-        self,
-        alloc: Global,
-        transfers: &[Transfer],
-        workers: &W,
-    ) -> Result<(Self, TransferCounts), CrewError>
-        requires planned { ArePlanned self.limits transfers.now }
-        requires all_go { AllGo transfers.now }
-        requires free { AreFree self.holdings transfers.now }
-        ensures { IfOk result (AreMoved self transfers.now) }
-    {
+        let held = self.with_targets(transfers);
         if is_worked_alone(transfers.len(), workers) {
-            let moved = self.rename_alone(alloc, transfers)?;
+            let moved = held.rename_alone(alloc, transfers)?;
             return Ok(moved);
         }
         let Holdings {
             mut shards,
             mut trees,
-        } = self;
+        } = held;
         let counts = TransferCounts::of_all(&shards, transfers);
         let pairs = pairs(alloc, &shards, transfers)?;
         let pieces = moves(alloc, pairs, workers.piece_length())?;

@@ -223,11 +223,11 @@ fn walk(
     ensures run_left { IsLeft shards.new (links_in trees.now frame) run.now result.left }
 {
     let tree = &trees[frame];
-    let first = tree.node(run.start).place;
+    let mut nodes = tree.nodes();
+    let first = nodes.at(run.start).place;
     let mut status = Rights::none();
     let mut all_held = true;
     let mut all_gone = true;
-    let mut nodes = tree.nodes();
     for i in run.start..run.end {
         let node = nodes.at(i);
         let narrowed = take(shards, node.place, first, revoked, flush);
@@ -236,7 +236,7 @@ fn walk(
         all_gone &= !narrowed.held;
     }
     if let Some(origin) = tree.origin_of(run.start) {
-        shards.add_status(tree.node(origin).place, status);
+        shards.add_status(nodes.at(origin).place, status);
     }
     let left = Left { all_held, all_gone };
     Stripped { status, left }

@@ -1,9 +1,10 @@
 -- A node read from some of the nodes of a list.
-use Rattle.std.proofs.Common.{◌≡◌, ℕ, ◌+◌, ◌-◌, ◌<◌, ◌≤◌, true, List, [], length, take, drop, get_or, subst, sym, ap, ◌∙◌, arith}
-use Rattle.std.proofs.lemmas.List.{get_or-take, get_or-drop}
+use Rattle.std.proofs.Common.{◌≡◌, refl, Bool, false, ℕ, ◌+◌, ◌-◌, ◌<◌, ◌≤◌, true, List, [], length, take, drop, get_or, subst, sym, ap, ◌∙◌, arith}
+use Rattle.std.proofs.lemmas.List.{get_or-take, get_or-drop, length-reverse}
 use Rattle.space.specs.declared.place.Place.{Place}
 use Rattle.maptree.specs.declared.node.Node.{Node}
 use Rattle.maptree.specs.Origins.{Origins, place_at, HasDepth}
+use Rattle.maptree.specs.Forms.{in_order}
 use Rattle.maptree.specs.Nodes.{is_forest, origins_of}
 use Rattle.maptree.proofs.Positions.{read_any, node_place, node_depth, node_only, length-links}
 
@@ -41,3 +42,14 @@ near_is ns near first i d n os is forest some least inside within read =
     let count = length-links [] ns in
     let inner : i < length ns = omega (arith, size, count, within) in
     read_is ns i n os is forest within (subst (λ m. m ≡ get_or ns i m) (sym read) (near_node ns near first i d some least inside inner))
+
+in_order_length : (backward : Bool) (near : List Node) → length (in_order backward near) ≡ length near
+in_order_length true near = length-reverse near
+in_order_length false near = refl
+
+-- and one that is read among some that may stand with the last one first
+pub seen_is : (ns near : List Node) (backward : Bool) (first i : ℕ) (n : Node) (os : Origins) → origins_of ns ≡ os → is_forest ns ≡ true → in_order backward near ≡ take (length near) (drop first ns) → first ≤ i
+    → i - first < length near → i < length os → n ≡ get_or (in_order backward near) (i - first) n → IsNodeAt os i n
+seen_is ns near backward first i n os is forest some least inside within read =
+    let size = in_order_length backward near in
+    near_is ns (in_order backward near) first i n n os is forest (subst (λ k. in_order backward near ≡ take k (drop first ns)) (sym size) some) least (omega (arith, size, inside)) within read

@@ -2,7 +2,7 @@
 use Rattle.std.proofs.Common.{◌≡◌, ◌≢◌, ℕ, suc, ◌+◌, ◌-◌, ◌<◌, ◌≤◌, false, List, [], ◌∷◌, ◌++◌, length, take, drop, get_or, set, insert, map, None, option_map, ◌⊎◌, inl, inr, refl, sym, ap, ◌∙◌, arith}
 use Rattle.std.specs.Prelude.{reverse, position}
 use Rattle.std.specs.List.{slice_range}
-use Rattle.std.proofs.lemmas.List.{reverse-append, length-reverse, get_or-reverse, length-set, length-map, length-drop, length-take-le, take-append-drop, drop_at, take_at, take_more, take_all, drop_all, drop-take, same_lists, get_or-set_same, get_or-set_other, map-append, append_assoc}
+use Rattle.std.proofs.lemmas.List.{reverse-append, length-reverse, get_or-reverse, length-set, length-drop, length-take-le, take-append-drop, drop_at, take_at, take_more, take_all, drop_all, drop-take, same_lists, get_or-set_same, get_or-set_other, map-append, append_assoc}
 use Rattle.space.specs.declared.place.Place.{Place}
 use Rattle.space.specs.Place.{same_place}
 use Rattle.maptree.specs.declared.node.Node.{Node}

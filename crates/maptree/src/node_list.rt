@@ -63,6 +63,7 @@ impl NodeList {
     ghost use Rattle.maptree.specs.Cuts.{AreGaps, IsCutting, joined, nodes_of, outside, pieces_of};
     ghost use Rattle.maptree.specs.PlaceMaps.{place_for};
     ghost use Rattle.maptree.specs.Renamings.{nodes_renamed};
+    ghost use Rattle.maptree.specs.Forms.{in_order};
 
     /// A list of one node. This takes no memory.
     pub fn one(alloc: Global, node: Node) -> NodeList
@@ -97,16 +98,19 @@ impl NodeList {
         }
     }
 
-    /// In a list in blocks the nodes of the block that has a position, and the position of the first of them.
-    pub fn near(&self, i: usize) -> Option<(usize, &[Node])>
+    /// Some nodes, one after another, that have a position among them; the position of the first; and whether the last stands first.
+    pub fn near(&self, i: usize) -> (usize, &[Node], bool)
         requires { i < length self.now.nodes }
-        ensures before { IfSome result (λ near. near.0 ≤ i) }
-        ensures behind { IfSome result (λ near. i < near.0 + length near.1.now) }
-        ensures nodes { IfSome result (λ near. near.1.now ≡ take (length near.1.now) (drop near.0 self.now.nodes)) }
+        ensures before { result.0 ≤ i }
+        ensures behind { i < result.0 + length result.1.now }
+        ensures nodes { in_order result.2 result.1.now ≡ take (length result.1.now) (drop result.0 self.now.nodes) }
     {
         match &self.form {
-            Form::Few(_) => None,
-            Form::Many(blocks) => Some(blocks.near(i)),
+            Form::Few(nodes) => (0, nodes, true),
+            Form::Many(blocks) => {
+                let (first, near) = blocks.near(i);
+                (first, near, false)
+            }
         }
     }
 

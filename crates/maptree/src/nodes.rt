@@ -5,11 +5,12 @@ ghost use Rattle.space.specs.declared.place.Place.{Place};
 ghost use Rattle.maptree.specs.Nodes.{is_forest, origins_of};
 ghost use Rattle.maptree.specs.Origins.{place_at, HasDepth};
 
+use crate::backward::node_at;
 use crate::node::Node;
 use crate::node_list::NodeList;
 use std::marker::Model;
 
-/// Reads nodes of a tree. One that stands near the one that was read before is read without a search for its block. A contract
+/// Reads nodes of a tree. One that stands near the one that was read before is read without a search for it. A contract
 /// sees the places of the tree with their origins.
 #[derive(Drop)]
 pub struct Nodes<'a> {
@@ -18,18 +19,21 @@ pub struct Nodes<'a> {
     near: &'a [Node],
     /// The position of the first of these.
     first: usize,
+    /// Whether they stand with the last one first.
+    backward: bool,
 }
 
 impl<'a> Model for Nodes<'a> {
     ghost use Rattle.std.specs.Prelude.{◌≡◌, true, length, take, drop};
     ghost use Rattle.maptree.specs.Nodes.{is_forest, origins_of};
     ghost use Rattle.maptree.specs.Origins.{Origins};
+    ghost use Rattle.maptree.specs.Forms.{in_order};
 
     ghost Value = { Origins };
 
     ghost view = { λ n. origins_of n.list.now.nodes };
 
-    ghost invariant = { λ n. (is_forest n.list.now.nodes ≡ true) × (n.near.now ≡ take (length n.near.now) (drop n.first n.list.now.nodes)) };
+    ghost invariant = { λ n. (is_forest n.list.now.nodes ≡ true) × (in_order n.backward n.near.now ≡ take (length n.near.now) (drop n.first n.list.now.nodes)) };
 }
 
 impl<'a> Nodes<'a> {
@@ -44,6 +48,7 @@ impl<'a> Nodes<'a> {
             list,
             near: &[],
             first: 0,
+            backward: false,
         }
     }
 
@@ -55,16 +60,28 @@ impl<'a> Nodes<'a> {
         ensures depth { HasDepth self.old result.place result.depth }
         ensures same { self.new ≡ self.old }
     {
-        if self.first <= i {
-            if let Some(node) = self.near.get(i - self.first) {
-                return *node;
-            }
+        if self.first <= i && i - self.first < self.near.len() {
+            return nth(self.near, self.backward, i - self.first);
         }
-        let Some((first, near)) = self.list.near(i) else {
-            return self.list.get(i);
-        };
+        let (first, near, backward) = self.list.near(i);
         self.first = first;
         self.near = near;
-        near[i - first]
+        self.backward = backward;
+        nth(near, backward, i - first)
+    }
+}
+
+ghost use Rattle.std.specs.Prelude.{get_or};
+ghost use Rattle.maptree.specs.Forms.{in_order};
+
+/// The node so far behind the first of some nodes, which may stand with the last one first.
+fn nth(nodes: &[Node], backward: bool, k: usize) -> Node
+    requires { k < length nodes.now }
+    ensures { result ≡ get_or (in_order backward nodes.now) k result }
+{
+    if backward {
+        node_at(nodes, k)
+    } else {
+        nodes[k]
     }
 }

@@ -13,4 +13,3 @@ pub mod Keeping
 pub mod NamedWords
 pub mod OfOneKind
 pub mod ReadyTests
-pub mod StepWords

@@ -6,12 +6,11 @@ use Rattle.std.specs.Option.{option_to_list}
 use Rattle.std.specs.Int.Bits.{or_zero_l, or_zero_r}
 use Rattle.std.proofs.lemmas.Bool.{cases_lt, eqb-true}
 use Rattle.std.proofs.lemmas.List.{map-append, get_or_past, get_or_default}
-use Rattle.fpage.specs.Rights.{is_empty, marks}
+use Rattle.fpage.specs.Rights.{marks}
 use Rattle.fpage.specs.declared.rights.Rights.{Rights}
 use Rattle.space.specs.declared.place.Entry.{Entry}
 use Rattle.space.specs.Word.{is_pack, entry_of, marked, FrameFits}
-use Rattle.space.specs.Entries.{rights_left}
-use Rattle.space.proofs.Words.{pack_gains_status, unpack_gives_back, unpacked_fits}
+use Rattle.space.proofs.Words.{narrowed_fits, pack_gains_status, unpack_gives_back, unpacked_fits}
 use Rattle.pieces.specs.Distinct.{is_none_of}
 use Rattle.pieces.specs.DistinctParts.{all_split}
 use Rattle.pieces.specs.Effects.{Effect, keeps, adds, writes, gained, written, word_after, words_after, writes_at, adds_at}
@@ -146,17 +145,6 @@ same_word_after w es i none nothing = by (cases_lt i (length w))
 
 -- ---- the steps of pieces
 
-fits_narrowed : (mask : Rights) (o : Option Entry) → FrameFits o → FrameFits (narrowed_by mask o)
-fits_narrowed mask None fits = fits
-fits_narrowed mask (Some e) fits = by (is_empty (rights_left true mask e.rights))
-  where
-    left : Entry
-    left = record e { rights = rights_left true mask e.rights; status = record { read = false; write = false; execute = false } }
-
-    by : (t : Bool) → FrameFits (if t then None else Some left)
-    by true f is = absurd (cc is)
-    by false f is = let same : left ≡ f = cc is in subst (λ (x : Entry). x.frame < 2 ^ 24) same (fits e refl)
-
 fits_linked : (through : Rights) (target source : Option Entry) → FrameFits source → FrameFits (option_map (linked through target) source)
 fits_linked through target None fits = λ e is. absurd (cc is)
 fits_linked through None (Some e) fits = λ f is. let same : linked through None e ≡ f = cc is in subst (λ (x : Entry). x.frame < 2 ^ 24) same (fits e refl)
@@ -172,7 +160,7 @@ not_absent word some zeroed = let gone : is_some (entry_of 0) ≡ true = subst (
 narrows_suit : (w is : List ℕ) (masks : List Rights) → AllSuit w (map (effect w) (map (λ e. narrow e.0 e.1) (zip is masks)))
 narrows_suit w [] masks = tt
 narrows_suit w (i ∷ is) [] = tt
-narrows_suit w (i ∷ is) (m ∷ masks) = ((unpack_gives_back (narrowed_by m (entry_in w i)) (fits_narrowed m (entry_in w i) (unpacked_fits (get_or w i 0)))).0, narrows_suit w is masks)
+narrows_suit w (i ∷ is) (m ∷ masks) = ((unpack_gives_back (narrowed_by m (entry_in w i)) (narrowed_fits true m (entry_in w i) (unpacked_fits (get_or w i 0)))).0, narrows_suit w is masks)
 
 fold_suits : (w : List ℕ) (f : Option ℕ) (s : Rights) → list_all (λ i. is_some (entry_in w i)) (option_to_list f) ≡ true → AllSuit w (map (effect w) (fold_of f s))
 fold_suits w None s there = tt

@@ -1,33 +1,21 @@
 //! What steps make of one entry word.
 
-ghost use Rattle.std.specs.Prelude.{◌≡◌, ◌<◌, ◌%◌, ◌^◌, true, false, is_some};
+ghost use Rattle.std.specs.Prelude.{◌≡◌, true, false, is_some};
 ghost use Rattle.std.specs.Option.{option_map, option_map_or};
-ghost use Rattle.fpage.specs.Rights.{has, number, of_bits, without};
+ghost use Rattle.fpage.specs.Rights.{has};
 ghost use Rattle.space.specs.Word.{word_of, entry_of, is_pack, FrameFits};
 ghost use Rattle.space.specs.Entries.{status_of};
 ghost use Rattle.pieces.specs.Steps.{narrowed_by, linked, without_status, status_bits};
 
 use fpage::{Access, Rights};
-use space::{Entry, pack, unpack};
+use space::{Entry, narrowed_word, pack, rights_left, unpack, word_bits, word_status};
 
 /// A word that loses rights and its status; 0 where no right is left.
 pub fn narrowed(word: u64, mask: Rights) -> u64
     requires { is_pack word ≡ true }
     ensures { result ≡ word_of (narrowed_by mask (entry_of word)) }
 {
-    let left = rights_left(word, mask);
-    if left == 0 {
-        return 0;
-    }
-    // Rights and status are the six lowest bits, and the two above them are clear.
-    word - word % 64 + left
-}
-
-/// The number of the rights of a word that are not withdrawn.
-fn rights_left(word: u64, mask: Rights) -> u64
-    ensures { result ≡ number (without (of_bits (word % 8)) mask) }
-{
-    word % 8 & u64::from(7 - mask.number())
+    narrowed_word(word, mask, true)
 }
 
 /// The word of a target once a source is mapped there with those of its rights that are let through.
@@ -74,7 +62,7 @@ pub fn status(word: u64) -> Rights
     requires { is_pack word ≡ true }
     ensures { result ≡ status_of (entry_of word) }
 {
-    Rights::of_bits((word / 8 % 8) as u32)
+    word_status(word)
 }
 
 /// Whether an access of a page with this word may be made.
@@ -89,7 +77,7 @@ pub fn permits(word: u64, access: Access) -> bool
 pub fn bits(status: Rights) -> u64
     ensures { result ≡ status_bits status }
 {
-    u64::from(status.number()) * 8
+    word_bits(status)
 }
 
 /// Whether a page with this word is left with a right that is not withdrawn.

@@ -1,4 +1,5 @@
 pub mod Places
 pub mod Words
+pub mod RightsLeft
 pub mod Directories
 pub mod ShardWords

@@ -1,16 +1,18 @@
 -- The entry word, field by field.
 use Rattle.std.proofs.Common.{◌≡◌, true, false, Bool, ◌||◌, refl, sym, ◌∙◌, ap, subst, arith, ℕ, ◌+◌, ◌*◌, ◌/◌, ◌%◌, ◌^◌, ◌<◌, Some, None, IsTrue}
 use Rattle.std.proofs.Common.{ne_eqb, eq-eqb, eqb-true, ◌==◌}
-use Rattle.std.specs.Prelude.{bit_or, if◌then◌else◌}
+use Rattle.std.specs.Prelude.{bit_or, if◌then◌else◌, ◌&&◌, Option}
 use Rattle.std.specs.Int.Bits.{or_zero_r}
 use Rattle.std.proofs.lemmas.Bool.{and_parts, and_from, or_right}
 use Rattle.std.proofs.lemmas.Nat.{or_block}
 use Rattle.std.proofs.lemmas.Bool.Decides.{nat_tests}
-use Rattle.std.specs.Option.{option_map}
-use Rattle.fpage.specs.Rights.{number, of_bits, join}
+use Rattle.std.specs.Option.{option_map, option_and_then}
+use Rattle.std.proofs.lemmas.Option.{same_Some}
+use Rattle.fpage.specs.Rights.{number, of_bits, join, is_empty, no_rights}
 use Rattle.fpage.specs.declared.rights.Rights.{Rights}
 use Rattle.space.specs.declared.place.Entry.{Entry}
 use Rattle.space.specs.Word.{word_of, entry_of, is_pack, FrameFits, marked}
+use Rattle.space.specs.Entries.{narrowed, rights_left}
 use Rattle.space.specs.EntryLaws.{UnpackGivesBack, PackGivesBack, WordsAreDistinct, FieldsOfWord, OrAddsStatus, PackGainsStatus}
 
 -- ---- three bits
@@ -171,6 +173,18 @@ unpacked_fits w = by (w == 0)
     by : (b : Bool) → FrameFits (if b then None else Some frame)
     by true e is = absurd (cc is)
     by false e is = let same : frame ≡ e = cc is in subst (λ (x : Entry). x.frame < 2 ^ 24) same (omega arith)
+
+-- what loses rights keeps its frame
+pub narrowed_fits : (flush : Bool) (a : Rights) (o : Option Entry) → FrameFits o → FrameFits (option_and_then (narrowed flush a) o)
+narrowed_fits flush a None fits = fits
+narrowed_fits flush a (Some e) fits = by (flush && is_empty (rights_left flush a e.rights))
+  where
+    left : Entry
+    left = record e { rights = rights_left flush a e.rights; status = no_rights }
+
+    by : (b : Bool) → FrameFits (if b then None else Some left)
+    by true x is = absurd (cc is)
+    by false x is = subst (λ (x : Entry). x.frame < 2 ^ 24) (same_Some left x is) (fits e refl)
 
 pub pack_gives_back : PackGivesBack
 pack_gives_back w pack = (unpacked_fits w, by (w == 0) refl)

@@ -1,8 +1,7 @@
 -- What becomes of one entry when a page loses rights, gains status or rights, or is accessed.
 use Rattle.std.specs.Prelude.{Bool, ◌&&◌, Option, Some, None, if◌then◌else◌}
 use Rattle.std.specs.Option.{option_map_or}
-use Rattle.fpage.specs.Rights.{no_rights, is_empty, join, marks, without}
-use Rattle.fpage.specs.declared.rights.Access.{Access}
+use Rattle.fpage.specs.Rights.{no_rights, is_empty, join, without}
 use Rattle.fpage.specs.declared.rights.Rights.{Rights}
 use Rattle.space.specs.declared.place.Entry.{Entry}
 
@@ -26,7 +25,3 @@ with_status status e = record e { status = join e.status status }
 -- an entry that gained rights
 abbrev pub extended : Rights → Entry → Entry
 extended rights e = record e { rights = join e.rights rights }
-
--- an entry with the marks of an access
-abbrev pub marked : Access → Entry → Entry
-marked a e = with_status (marks a) e

@@ -13,4 +13,4 @@ pub use error::NoMemory;
 pub use laws::{entry_words, shard_words};
 pub use place::{Entry, Place};
 pub use shards::{Narrowed, Shards};
-pub use word::{pack, unpack};
+pub use word::{narrowed_word, pack, rights_left, unpack, word_bits, word_status};

@@ -1,4 +1,4 @@
-use fpage::{Access, Rights};
+use fpage::Rights;
 use std::fmt;
 
 /// A page of an address space. Places are ordered by space, then by page.
@@ -19,35 +19,7 @@ pub struct Entry {
 
 impl Entry {
     ghost use Rattle.std.specs.Prelude.{◌≡◌};
-    ghost use Rattle.space.specs.Entries.{narrowed, with_status, extended, marked};
-
-    /// What is left where these rights are withheld, if they are: the status is cleared, and with no right left nothing is.
-    pub fn narrowed(self, revoked: Rights, flush: bool) -> Option<Entry>
-        ensures { result ≡ narrowed flush revoked self }
-    {
-        let rights = if flush {
-            self.rights.without(revoked)
-        } else {
-            self.rights
-        };
-        if flush && rights.is_empty() {
-            return None;
-        }
-        let status = Rights::none();
-        Some(Entry {
-            rights,
-            status,
-            ..self
-        })
-    }
-
-    /// The same with more status.
-    pub fn with_status(self, status: Rights) -> Entry
-        ensures { result ≡ with_status status self }
-    {
-        let status = self.status.join(status);
-        Entry { status, ..self }
-    }
+    ghost use Rattle.space.specs.Entries.{extended};
 
     /// The same with more rights.
     pub fn extended(self, rights: Rights) -> Entry
@@ -55,13 +27,6 @@ impl Entry {
     {
         let rights = self.rights.join(rights);
         Entry { rights, ..self }
-    }
-
-    /// The same with the status that an access leaves.
-    pub fn marked(self, access: Access) -> Entry
-        ensures { result ≡ marked access self }
-    {
-        self.with_status(access.marks())
     }
 }
 

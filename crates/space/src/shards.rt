@@ -5,7 +5,7 @@ ghost use Rattle.space.specs.Directory.{AreLimits, IsDirectory, AreWords, filled
 
 use crate::error::NoMemory;
 use crate::place::{Entry, Place};
-use crate::word::{pack, unpack};
+use crate::word::{narrowed_word, pack, unpack, word_bits, word_status};
 use fpage::Rights;
 use std::alloc::{AllocError, Global};
 
@@ -48,7 +48,7 @@ pub struct Shards {
 }
 
 impl Shards {
-    ghost use Rattle.std.specs.Prelude.{◌≡◌, ◌+◌, ◌*◌, ◌<◌, IsTrue, IsFalse, IfOk, IfSome, None, length, option_map, is_some, slice_index};
+    ghost use Rattle.std.specs.Prelude.{◌≡◌, ◌+◌, ◌*◌, ◌<◌, IsTrue, IsFalse, IfOk, IfSome, IfNone, None, length, option_map, is_some, slice_index};
     ghost use Rattle.std.specs.List.{AllPass};
     ghost use Rattle.std.specs.Option.{option_and_then};
     ghost use Rattle.space.specs.declared.place.Place.{Place};
@@ -154,8 +154,20 @@ impl Shards {
         ensures entry { result ≡ entry_of (slice_index (words_of self.now) index) }
         ensures within { IfSome result (λ _. index < length (words_of self.now)) }
     {
+        let word = self.word(index)?;
+        unpack(word)
+    }
+
+    /// The word at an index, if the words reach it.
+    fn word(&self, index: usize) -> Option<u64>
+        requires { IsFalse (is_taken self.now) }
+        ensures word { IfSome result (λ word. word ≡ slice_index (words_of self.now) index) }
+        ensures pack { IfSome result (λ word. IsTrue (is_pack word)) }
+        ensures within { IfSome result (λ _. index < length (words_of self.now)) }
+        ensures behind { IfNone result (slice_index (words_of self.now) index ≡ 0) }
+    {
         let word = self.words.as_ref().unwrap().get(index)?;
-        unpack(*word)
+        Some(*word)
     }
 
     /// Puts an entry at a place, or takes away what stands there.
@@ -185,8 +197,20 @@ impl Shards {
         ensures present { IsFalse (is_taken self.new) }
         ensures layout { IsLaidOutAs self.old self.new }
     {
+        self.put(index, pack(entry));
+    }
+
+    /// The same of a word.
+    fn put(&mut self, index: usize, word: u64)
+        requires present { IsFalse (is_taken self.old) }
+        requires within { index < length (words_of self.old) }
+        requires pack { IsTrue (is_pack word) }
+        ensures set { (p : Place) → IsPlace self.old p → index_of self.old p ≡ index → IsSetAt self.old self.new p (entry_of word) }
+        ensures present { IsFalse (is_taken self.new) }
+        ensures layout { IsLaidOutAs self.old self.new }
+    {
         let words = self.words.as_mut().unwrap();
-        words[index] = pack(entry);
+        words[index] = word;
     }
 
     /// Withholds rights from what a page holds, if `flush` says so, and clears its status. With no right left the page goes.
@@ -200,17 +224,17 @@ impl Shards {
         ensures layout { IsLaidOutAs self.old self.new }
     {
         let index = self.index(place);
-        let Some(entry) = self.read(index) else {
+        let Some(word) = self.word(index) else {
             return Narrowed {
                 status: Rights::none(),
                 held: false,
             };
         };
-        let left = entry.narrowed(revoked, flush);
-        self.write(index, left);
+        let left = narrowed_word(word, revoked, flush);
+        self.put(index, left);
         Narrowed {
-            status: entry.status,
-            held: left.is_some(),
+            status: word_status(word),
+            held: left != 0,
         }
     }
 
@@ -223,10 +247,13 @@ impl Shards {
         ensures layout { IsLaidOutAs self.old self.new }
     {
         let index = self.index(place);
-        let Some(entry) = self.read(index) else {
+        let Some(word) = self.word(index) else {
             return;
         };
-        self.write(index, Some(entry.with_status(status)));
+        if word == 0 {
+            return;
+        }
+        self.put(index, word | word_bits(status));
     }
 
     /// Adds rights to what a page holds.

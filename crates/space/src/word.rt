@@ -1,5 +1,8 @@
-ghost use Rattle.std.specs.Prelude.{◌≡◌, IsTrue};
+ghost use Rattle.std.specs.Prelude.{◌≡◌, ◌*◌, ◌%◌, ◌^◌, IsTrue};
+ghost use Rattle.std.specs.Option.{option_and_then};
+ghost use Rattle.fpage.specs.Rights.{number, of_bits, without};
 ghost use Rattle.space.specs.Word.{word_of, entry_of, is_pack, FrameFits};
+ghost use Rattle.space.specs.Entries.{narrowed, status_of};
 
 use crate::place::Entry;
 use fpage::Rights;
@@ -38,4 +41,43 @@ pub fn unpack(word: u64) -> Option<Entry>
         rights: Rights::of_bits((word % 8) as u32),
         status: Rights::of_bits((word / 8 % 8) as u32),
     })
+}
+
+/// The word of what is left where these rights are withheld from what a word says, if they are: the status is cleared, and with
+/// no right left nothing is.
+pub fn narrowed_word(word: u64, revoked: Rights, flush: bool) -> u64
+    requires { IsTrue (is_pack word) }
+    ensures { result ≡ word_of (option_and_then (narrowed flush revoked) (entry_of word)) }
+{
+    // Rights and status are the six lowest bits, and the two above them are clear.
+    if !flush {
+        return word - word % 64 + word % 8;
+    }
+    let left = rights_left(word, revoked);
+    if left == 0 {
+        return 0;
+    }
+    word - word % 64 + left
+}
+
+/// The number of the rights of a word that are not withheld.
+pub fn rights_left(word: u64, revoked: Rights) -> u64
+    ensures { result ≡ number (without (of_bits (word % 8)) revoked) }
+{
+    word % 8 & u64::from(7 - revoked.number())
+}
+
+/// The status of what a word says.
+pub fn word_status(word: u64) -> Rights
+    requires { IsTrue (is_pack word) }
+    ensures { result ≡ status_of (entry_of word) }
+{
+    Rights::of_bits((word / 8 % 8) as u32)
+}
+
+/// The bits of status in a word.
+pub fn word_bits(status: Rights) -> u64
+    ensures { result ≡ 2 ^ 3 * number status }
+{
+    u64::from(status.number()) * 8
 }

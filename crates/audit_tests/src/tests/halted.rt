@@ -23,11 +23,11 @@ const COMPLETE_WRITE: u32 = 0x12;
 /// The nilpage.
 const NIL: u32 = 0;
 
-/// The fpage of a word in the smallest spaces.
+/// The fpage of a word in spaces of 512 pages.
 fn fpage(rt: &impl Abort, word: u32) -> Fpage
-    ensures { IsFpageOf 18 result }
+    ensures { IsFpageOf 21 result }
 {
-    let Ok(fpage) = Fpage::read(word, 18) else {
+    let Ok(fpage) = Fpage::read(word, 21) else {
         panic!(rt; "the word {word} is refused");
     };
     fpage
@@ -36,22 +36,22 @@ fn fpage(rt: &impl Abort, word: u32) -> Fpage
 /// A page of space 1.
 fn page(rt: &impl Abort, page: u32) -> Place
     ensures space { result.space < 2 }
-    ensures page { result.page < pages_of 18 }
+    ensures page { result.page < pages_of 21 }
 {
-    assert!(rt; page < 64);
+    assert!(rt; page < 512);
     Place { space: 1, page }
 }
 
 /// Looks at the limits, which a halted database tells too.
 fn expect_limits(rt: &impl Abort, database: &Database)
-    ensures { database.now.limits ≡ record { spaces = 2; bits = 18; frames = 32 } }
+    ensures { database.now.limits ≡ record { spaces = 2; bits = 21; frames = 256 } }
 {
     let Limits {
         spaces,
         bits,
         frames,
     } = database.limits();
-    assert!(rt; spaces == 2 && bits == 18 && frames == 32);
+    assert!(rt; spaces == 2 && bits == 21 && frames == 256);
 }
 
 /// Maps the complete space from one space to another, in a window.
@@ -66,7 +66,7 @@ fn send<W: Workers>(
 ) -> Result<SendReply, DbError> {
     expect_limits(rt, database);
     let window = fpage(rt, window);
-    let Ok(item) = Item::read(8, COMPLETE, 18) else {
+    let Ok(item) = Item::read(8, COMPLETE, 21) else {
         panic!(rt; "the item is refused");
     };
     database.send(alloc, from, to, &window, &[item], workers)
@@ -105,7 +105,7 @@ fn unmap<W: Workers>(
     }
 }
 
-/// Maps 32 pages, writes to one of them, and takes w from all, twice: where workers have pieces of one, the calls start threads.
+/// Maps 256 pages, writes to one of them, and takes w from all 512, twice: where workers have pieces of one, that starts threads.
 fn work<W: Workers>(
     rt: &impl Abort,
     database: &mut Database,
@@ -113,10 +113,10 @@ fn work<W: Workers>(
     workers: &W,
 ) -> Result<(), DbError> {
     let reply = send(rt, database, alloc, workers, 0, 1, COMPLETE)?;
-    assert_eq!(rt; reply.linked, 32);
+    assert_eq!(rt; reply.linked, 256);
     let made = access(rt, database, alloc, workers, 5)?;
     assert_eq!(rt; made.as_slice(), [true].as_slice());
-    let made = access(rt, database, alloc, workers, 40)?;
+    let made = access(rt, database, alloc, workers, 400)?;
     assert_eq!(rt; made.as_slice(), [false].as_slice());
     let seen = unmap(rt, database, alloc, workers, 0, false)?;
     assert_eq!(rt; seen.as_slice(), [Rights::of_bits(6)].as_slice());
@@ -173,7 +173,7 @@ fn expect_no_answer(rt: &(impl Abort + AllocGlobal + Threads + Sync), database: 
 fn a_halted_database_refuses_every_call(rt: HostRuntime) -> Result<(), Fail> {
     let alloc = rt.alloc();
     let workers = Crew::new(&rt, 4, 1, &NoGate);
-    let mut database = Database::new(alloc, 2, 18, 32)?;
+    let mut database = Database::new(alloc, 2, 21, 256)?;
     match work(&rt, &mut database, alloc, &workers) {
         Ok(()) => {
             assert!(rt; !database.is_halted());

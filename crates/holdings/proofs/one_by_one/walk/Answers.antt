@@ -11,12 +11,18 @@ use Rattle.holdings.proofs.one_by_one.walk.Goals.{After-add_status, In_default}
 use Rattle.holdings.proofs.Contents.WordChanges.{place_kept}
 use Rattle.holdings.proofs.one_by_one.walk.Goals as goal
 
+pub at-requires : goal.at-requires
+at-requires c =
+    let links = links_read c.args.trees.now c.args.frame c.index-trees-frame.result c.requires.frame c.index-trees-frame.is in
+    let within : c.args.run.now.start < length (links_in c.args.trees.now c.args.frame) = omega (arith, c.requires.some, c.requires.within) in
+    subst (λ os. c.args.run.now.start < length os) (links ∙ sym c.nodes-nodes.ensures) within
+
 pub loop-i-init : goal.loop-i-init
 loop-i-init c = record {
-  nodes = c.nodes-nodes.ensures ∙ sym (links_read c.args.trees.now c.args.frame c.index-trees-frame.result c.requires.frame c.index-trees-frame.is);
+  nodes = c.at.ensures.same ∙ c.nodes-nodes.ensures ∙ sym (links_read c.args.trees.now c.args.frame c.index-trees-frame.result c.requires.frame c.index-trees-frame.is);
   walked =
-      subst (λ r. IsWalked c.args.shards.now c.args.trees.now c.args.frame c.args.run.now.start c.node.result.place c.args.revoked c.args.flush c.args.run.now.start c.args.shards.now r) (sym c.none-status.ensures)
-      (walk_begins c.args.shards.now c.args.trees.now c.requires.loose c.args.frame c.args.run.now.start c.node.result.place c.args.revoked c.args.flush);
+      subst (λ r. IsWalked c.args.shards.now c.args.trees.now c.args.frame c.args.run.now.start c.at.result.place c.args.revoked c.args.flush c.args.run.now.start c.args.shards.now r) (sym c.none-status.ensures)
+      (walk_begins c.args.shards.now c.args.trees.now c.requires.loose c.args.frame c.args.run.now.start c.at.result.place c.args.revoked c.args.flush);
   held = λ _ j less d least. absurd (omega (arith, less, least));
   gone = λ _ j less d least. absurd (omega (arith, less, least));
 }
@@ -46,9 +52,9 @@ loop-i-preserved c =
     record {
       nodes = c.at-node.ensures.same ∙ c.loop-i.invariant.nodes;
       walked =
-          subst (IsWalked c.args.shards.now c.args.trees.now c.args.frame c.args.run.now.start c.node.result.place c.args.revoked c.args.flush (c.loop-i.i + 1) narrowed.new.shards) (sym c.join-status.ensures)
-          (walk_goes c.args.shards.now c.args.trees.now c.requires.loose c.args.frame c.args.run.now.start c.node.result.place c.args.revoked c.args.flush c.loop-i.i c.loop-i.shards narrowed.new.shards
-          c.loop-i.status narrowed.result.status c.at-node.result.place (c.args.flush || not (same_place c.at-node.result.place c.node.result.place)) c.loop-i.invariant.walked
+          subst (IsWalked c.args.shards.now c.args.trees.now c.args.frame c.args.run.now.start c.at.result.place c.args.revoked c.args.flush (c.loop-i.i + 1) narrowed.new.shards) (sym c.join-status.ensures)
+          (walk_goes c.args.shards.now c.args.trees.now c.requires.loose c.args.frame c.args.run.now.start c.at.result.place c.args.revoked c.args.flush c.loop-i.i c.loop-i.shards narrowed.new.shards
+          c.loop-i.status narrowed.result.status c.at-node.result.place (c.args.flush || not (same_place c.at-node.result.place c.at.result.place)) c.loop-i.invariant.walked
           c.loop-i.auto.i within at only_there refl narrowed.ensures.status narrowed.ensures.set narrowed.ensures.present narrowed.ensures.layout);
       held = seen_more (λ b. b) (links_in c.args.trees.now c.args.frame) c.args.run.now.start c.loop-i.i c.loop-i.shards narrowed.new.shards c.at-node.result.place _ narrowed.ensures.set
           places within at only_there c.loop-i.all_held narrowed.result.held narrowed.ensures.held c.loop-i.invariant.held;
@@ -62,26 +68,25 @@ origin_of-requires c =
     let within : c.args.run.now.start < length (links_in c.args.trees.now c.args.frame) = omega (arith, c.requires.some, c.requires.within) in
     subst (λ os. c.args.run.now.start < length os) links within
 
-pub node-requires-in-Some : goal.node-requires-in-Some
-node-requires-in-Some c =
-    let links = links_read c.args.trees.now c.args.frame c.index-trees-frame.result c.requires.frame c.index-trees-frame.is in
+pub at-requires-in-Some : goal.at-requires-in-Some
+at-requires-in-Some c =
     let less = c.in-Some.ensures.before in
     let within : c.in-Some.origin < length (links_in c.args.trees.now c.args.frame) = omega (arith, less, c.requires.some, c.requires.within) in
-    subst (λ os. c.in-Some.origin < length os) links within
+    subst (λ os. c.in-Some.origin < length os) (sym c.loop-i.invariant.nodes) within
 
 pub add_status-requires-clause-place : goal.add_status-requires-clause-place
 add_status-requires-clause-place c =
     let links = links_read c.args.trees.now c.args.frame c.index-trees-frame.result c.requires.frame c.index-trees-frame.is in
     let less = c.in-Some.ensures.before in
-    place_kept c.args.shards.now c.loop-i.shards c.loop-i.invariant.walked.layout c.node-in-Some.result.place
-    (listed_place c.args.shards.now c.args.trees.now c.args.frame c.requires.loose c.in-Some.origin c.node-in-Some.result.place (omega (arith, less, c.requires.some, c.requires.within))
-    (λ e. ap (λ os. place_at os c.in-Some.origin e) links ∙ sym (c.node-in-Some.ensures.place e)))
+    place_kept c.args.shards.now c.loop-i.shards c.loop-i.invariant.walked.layout c.at-in-Some.result.place
+    (listed_place c.args.shards.now c.args.trees.now c.args.frame c.requires.loose c.in-Some.origin c.at-in-Some.result.place (omega (arith, less, c.requires.some, c.requires.within))
+    (λ e. ap (λ os. place_at os c.in-Some.origin e) (sym c.loop-i.invariant.nodes) ∙ sym (c.at-in-Some.ensures.place e)))
 
 -- the walk has come to the end of the run
 walked_some : (c : After-add_status) (d : Place) → IsWalked c.args.shards.now c.args.trees.now c.args.frame c.args.run.now.start (place_at (links_in c.args.trees.now c.args.frame) c.args.run.now.start d) c.args.revoked c.args.flush c.args.run.now.end c.loop-i.shards c.loop-i.status
 walked_some c d =
     let links = links_read c.args.trees.now c.args.frame c.index-trees-frame.result c.requires.frame c.index-trees-frame.is in
-    let here : c.node.result.place ≡ place_at (links_in c.args.trees.now c.args.frame) c.args.run.now.start d = c.node.ensures.place d ∙ ap (λ os. place_at os c.args.run.now.start d) (sym links) in
+    let here : c.at.result.place ≡ place_at (links_in c.args.trees.now c.args.frame) c.args.run.now.start d = c.at.ensures.place d ∙ ap (λ os. place_at os c.args.run.now.start d) (c.nodes-nodes.ensures ∙ sym links) in
     let end : c.loop-i.i ≡ c.args.run.now.end = omega (arith, c.loop-i-test.false, c.loop-i.auto) in
     subst (λ i. IsWalked c.args.shards.now c.args.trees.now c.args.frame c.args.run.now.start (place_at (links_in c.args.trees.now c.args.frame) c.args.run.now.start d) c.args.revoked c.args.flush i c.loop-i.shards c.loop-i.status) end
     (subst (λ q. IsWalked c.args.shards.now c.args.trees.now c.args.frame c.args.run.now.start q c.args.revoked c.args.flush c.loop-i.i c.loop-i.shards c.loop-i.status) here c.loop-i.invariant.walked)
@@ -90,7 +95,7 @@ walked_some c d =
 walked_none : (c : In_default) (d : Place) → IsWalked c.args.shards.now c.args.trees.now c.args.frame c.args.run.now.start (place_at (links_in c.args.trees.now c.args.frame) c.args.run.now.start d) c.args.revoked c.args.flush c.args.run.now.end c.loop-i.shards c.loop-i.status
 walked_none c d =
     let links = links_read c.args.trees.now c.args.frame c.index-trees-frame.result c.requires.frame c.index-trees-frame.is in
-    let here : c.node.result.place ≡ place_at (links_in c.args.trees.now c.args.frame) c.args.run.now.start d = c.node.ensures.place d ∙ ap (λ os. place_at os c.args.run.now.start d) (sym links) in
+    let here : c.at.result.place ≡ place_at (links_in c.args.trees.now c.args.frame) c.args.run.now.start d = c.at.ensures.place d ∙ ap (λ os. place_at os c.args.run.now.start d) (c.nodes-nodes.ensures ∙ sym links) in
     let end : c.loop-i.i ≡ c.args.run.now.end = omega (arith, c.loop-i-test.false, c.loop-i.auto) in
     subst (λ i. IsWalked c.args.shards.now c.args.trees.now c.args.frame c.args.run.now.start (place_at (links_in c.args.trees.now c.args.frame) c.args.run.now.start d) c.args.revoked c.args.flush i c.loop-i.shards c.loop-i.status) end
     (subst (λ q. IsWalked c.args.shards.now c.args.trees.now c.args.frame c.args.run.now.start q c.args.revoked c.args.flush c.loop-i.i c.loop-i.shards c.loop-i.status) here c.loop-i.invariant.walked)
@@ -101,15 +106,15 @@ with_origin c d =
     let p = place_at (links_in c.args.trees.now c.args.frame) c.args.run.now.start d in
     let within : c.args.run.now.start < length (links_in c.args.trees.now c.args.frame) = omega (arith, c.requires.some, c.requires.within) in
     let first : (e : Place) → place_at (links_in c.args.trees.now c.args.frame) c.args.run.now.start e ≡ p = λ e. place_any (links_in c.args.trees.now c.args.frame) c.args.run.now.start e d within in
-    let origin : origin_in (links_in c.args.trees.now c.args.frame) p ≡ Some c.node-in-Some.result.place =
+    let origin : origin_in (links_in c.args.trees.now c.args.frame) p ≡ Some c.at-in-Some.result.place =
     ap (λ os. origin_in os (place_at os c.args.run.now.start d)) links ∙ c.origin_of.ensures.origin d ∙ ap (option_map (λ r. place_at c.index-trees-frame.result.links r d)) c.in-Some.is
-    ∙ ap Some (sym (c.node-in-Some.ensures.place d)) in
+    ∙ ap Some (ap (λ os. place_at os c.in-Some.origin d) (sym links ∙ sym c.loop-i.invariant.nodes) ∙ sym (c.at-in-Some.ensures.place d)) in
     let less = c.in-Some.ensures.before in
-    let place = place_kept c.args.shards.now c.loop-i.shards c.loop-i.invariant.walked.layout c.node-in-Some.result.place
-    (listed_place c.args.shards.now c.args.trees.now c.args.frame c.requires.loose c.in-Some.origin c.node-in-Some.result.place (omega (arith, less, c.requires.some, c.requires.within))
-    (λ e. ap (λ os. place_at os c.in-Some.origin e) links ∙ sym (c.node-in-Some.ensures.place e))) in
+    let place = place_kept c.args.shards.now c.loop-i.shards c.loop-i.invariant.walked.layout c.at-in-Some.result.place
+    (listed_place c.args.shards.now c.args.trees.now c.args.frame c.requires.loose c.in-Some.origin c.at-in-Some.result.place (omega (arith, less, c.requires.some, c.requires.within))
+    (λ e. ap (λ os. place_at os c.in-Some.origin e) (sym c.loop-i.invariant.nodes) ∙ sym (c.at-in-Some.ensures.place e))) in
     run_with_origin c.args.shards.now c.args.trees.now c.requires.loose c.args.frame c.args.run.now c.requires.run c.requires.some c.requires.within p first c.args.revoked c.args.flush c.loop-i.shards c.loop-i.status (walked_some c d)
-    c.node-in-Some.result.place c.add_status.new.self origin place c.add_status.ensures.set c.add_status.ensures.present c.add_status.ensures.layout
+    c.at-in-Some.result.place c.add_status.new.self origin place c.add_status.ensures.set c.add_status.ensures.present c.add_status.ensures.layout
 
 without_origin : (c : In_default) (d : Place) → IsStripped c.args.shards.now c.args.trees.now (place_at (links_in c.args.trees.now c.args.frame) c.args.run.now.start d) c.args.revoked c.args.flush c.loop-i.shards c.loop-i.status
 without_origin c d =
@@ -128,10 +133,10 @@ pub returns-in-Some-clause-left : goal.returns-in-Some-clause-left
 returns-in-Some-clause-left c = λ d. (with_origin c d).left
 
 pub returns-in-Some-clause-loose : goal.returns-in-Some-clause-loose
-returns-in-Some-clause-loose c = (with_origin c c.node.result.place).loose
+returns-in-Some-clause-loose c = (with_origin c c.at.result.place).loose
 
 pub returns-in-Some-clause-layout : goal.returns-in-Some-clause-layout
-returns-in-Some-clause-layout c = (with_origin c c.node.result.place).layout
+returns-in-Some-clause-layout c = (with_origin c c.at.result.place).layout
 
 pub returns-in_default-clause-status : goal.returns-in_default-clause-status
 returns-in_default-clause-status c = λ d. (without_origin c d).word
@@ -140,17 +145,17 @@ pub returns-in_default-clause-left : goal.returns-in_default-clause-left
 returns-in_default-clause-left c = λ d. (without_origin c d).left
 
 pub returns-in_default-clause-loose : goal.returns-in_default-clause-loose
-returns-in_default-clause-loose c = (without_origin c c.node.result.place).loose
+returns-in_default-clause-loose c = (without_origin c c.at.result.place).loose
 
 pub returns-in_default-clause-layout : goal.returns-in_default-clause-layout
-returns-in_default-clause-layout c = (without_origin c c.node.result.place).layout
+returns-in_default-clause-layout c = (without_origin c c.at.result.place).layout
 
 pub returns-in-Some-clause-run_left : goal.returns-in-Some-clause-run_left
 returns-in-Some-clause-run_left c =
     let links = links_in c.args.trees.now c.args.frame in
     let end : c.loop-i.i ≡ c.args.run.now.end = omega (arith, c.loop-i-test.false, c.loop-i.auto) in
     let places = places_now c.args.shards.now c.args.trees.now c.args.frame c.requires.loose c.loop-i.shards c.loop-i.invariant.walked.layout in
-    let kept = seen_kept c.loop-i.shards c.add_status.new.self c.node-in-Some.result.place c.loop-i.status c.add_status.ensures.set in
+    let kept = seen_kept c.loop-i.shards c.add_status.new.self c.at-in-Some.result.place c.loop-i.status c.add_status.ensures.set in
     run_left c.add_status.new.self links c.args.run.now (record { all_held = c.loop-i.all_held; all_gone = c.loop-i.all_gone })
     (kept (λ b. b) c.loop-i.all_held links c.args.run.now.start c.args.run.now.end places c.requires.within (subst (IsSeen (λ b. b) c.loop-i.all_held c.loop-i.shards links c.args.run.now.start) end c.loop-i.invariant.held))
     (kept not c.loop-i.all_gone links c.args.run.now.start c.args.run.now.end places c.requires.within (subst (IsSeen not c.loop-i.all_gone c.loop-i.shards links c.args.run.now.start) end c.loop-i.invariant.gone))

@@ -1,9 +1,8 @@
 -- The nodes are read in the order of the list.
-use Rattle.std.proofs.Common.{◌≡◌, ◌<◌, ◌≤◌, ◌+◌, ◌-◌, ℕ, length, get_or, subst, sym, ap, ◌∙◌, arith}
+use Rattle.std.proofs.Common.{◌<◌, ◌≤◌, ◌+◌, ◌-◌, subst, sym, ap, ◌∙◌, arith}
 use Rattle.std.specs.Prelude.{reverse}
 use Rattle.std.proofs.lemmas.List.{length-reverse}
 use Rattle.maptree.specs.declared.node.Node.{Node}
-use Rattle.maptree.specs.Nodes.{run_len}
 use Rattle.maptree.proofs.Reversed.{deeper_begins, deeper_goes, deeper_stops, deeper_ends}
 use Rattle.maptree.proofs.backward.deeper.Goals as goal
 

@@ -1,11 +1,10 @@
 -- No place stands twice, so one that stands there is found there.
-use Rattle.std.proofs.Common.{◌≡◌, true, false, length, rules, sym, ap, ◌∙◌, arith}
+use Rattle.std.proofs.Common.{◌≡◌, true, rules, sym, ap, ◌∙◌, arith}
 use Rattle.std.specs.Prelude.{reverse}
 use Rattle.std.proofs.lemmas.List.{length-reverse}
 use Rattle.space.specs.Place.{same_place}
 use Rattle.maptree.specs.declared.node.Node.{Node}
 use Rattle.maptree.proofs.Standing.{stands_at}
-use Rattle.maptree.proofs.Reversed.{not_at_first, not_on, not_at_all}
 use Rattle.maptree.proofs.backward.find.Goals as goal
 
 pub returns-then-eq : goal.returns-then-eq

@@ -1,5 +1,5 @@
 -- The end of the vector is the front of the list.
-use Rattle.std.proofs.Common.{◌≡◌, ◌∙◌, ap}
+use Rattle.std.proofs.Common.{◌∙◌, ap}
 use Rattle.std.specs.Prelude.{reverse}
 use Rattle.maptree.proofs.Reversed.{range_back}
 use Rattle.maptree.proofs.backward.forward.Goals as goal

@@ -1,5 +1,5 @@
 -- The search ends at a node that is less deep, and goes on at another.
-use Rattle.std.proofs.Common.{◌≡◌, ℕ, ◌<◌, ◌≤◌, ◌-◌, suc, List, None, length, get_or, subst, sym, ap, ◌∙◌, take, drop, arith}
+use Rattle.std.proofs.Common.{◌≡◌, ℕ, ◌<◌, ◌≤◌, ◌-◌, suc, List, length, subst, sym, ap, ◌∙◌, take, drop, arith}
 use Rattle.std.specs.Prelude.{reverse}
 use Rattle.std.proofs.lemmas.List.{length-reverse, length-take-le, get_or-take}
 use Rattle.maptree.specs.declared.node.Node.{Node}

@@ -1,5 +1,5 @@
 -- The node at the position, from the other end.
-use Rattle.std.proofs.Common.{◌≡◌, ◌-◌, length, get_or, set, sym, ap, ◌∙◌, arith}
+use Rattle.std.proofs.Common.{◌-◌, length, get_or, set, sym, ap, ◌∙◌, arith}
 use Rattle.std.specs.Prelude.{reverse}
 use Rattle.std.proofs.lemmas.List.{get_or-reverse}
 use Rattle.maptree.specs.declared.node.Node.{Node}

@@ -1,7 +1,8 @@
 -- An access that is made marks its word; a fault changes nothing.
 use Rattle.std.proofs.Common.{◌≡◌, length, true, false, Some, sym, ap, ◌∙◌, subst}
+use Rattle.std.specs.Option.{option_map}
 use Rattle.fpage.specs.Rights.{has}
-use Rattle.space.specs.declared.place.Entry.{Entry}
+use Rattle.space.specs.Entries.{with_status}
 use Rattle.model.specs.Calls.{Limits}
 use Rattle.model.specs.Touch.{can_touch, touch}
 use Rattle.holdings.specs.Places.{IsWithin}
@@ -37,21 +38,22 @@ pub returns-then-not-holds-clause-left : goal.returns-then-not-holds-clause-left
 returns-then-not-holds-clause-left c = ap (left_with c.args.self.now) (sym (touch_fault _ _ _ (sym (returns-then-not-holds-clause-answer c))))
 
 -- the word has the marks
-word_set : (c : goal.After-set) → IsWordSet c.self.inside.shards c.set.new.self c.args.place (Some (marked_entry c.args.access c.in-Some.entry))
+word_set : (c : goal.After-add_status) → IsWordSet c.self.inside.shards c.add_status.new.self c.args.place (Some (marked_entry c.args.access c.in-Some.entry))
 word_set c =
-    subst (λ (e : Entry). IsWordSet c.self.inside.shards c.set.new.self c.args.place (Some e)) c.marked.ensures
-    (record { set = c.set.ensures.set; present = c.set.ensures.present; layout = c.set.ensures.layout })
+    let marked = ap (option_map (with_status c.marks.result)) (sym c.get.ensures ∙ c.in-Some.is) ∙ ap (λ s. Some (with_status s c.in-Some.entry)) c.marks.ensures in
+    subst (IsWordSet c.self.inside.shards c.add_status.new.self c.args.place) marked
+    (record { set = c.add_status.ensures.set; present = c.add_status.ensures.present; layout = c.add_status.ensures.layout })
 
 -- the limits stay
-same_limits : (c : goal.After-set) → limits_in c.set.new.self c.self.inside.trees.items ≡ limits_in c.self.inside.shards c.self.inside.trees.items
-same_limits c = λ i. record { spaces = c.set.ensures.layout.spaces i; bits = c.set.ensures.layout.bits i; frames = length c.self.inside.trees.items }
+same_limits : (c : goal.After-add_status) → limits_in c.add_status.new.self c.self.inside.trees.items ≡ limits_in c.self.inside.shards c.self.inside.trees.items
+same_limits c = λ i. record { spaces = c.add_status.ensures.layout.spaces i; bits = c.add_status.ensures.layout.bits i; frames = length c.self.inside.trees.items }
 
 pub invariant_of-self : goal.invariant_of-self
 invariant_of-self c =
     let d = c.self.inside in
     let within = subst (λ (s : Contents). IsWithin s.limits c.args.place) (sym c.self.view_is) c.requires in
-    subst (λ (l : Limits). IsSound l c.set.new.self d.trees.items) (sym (same_limits c))
-    (touched_sound (limits_in d.shards d.trees.items) d.shards c.set.new.self d.trees.items c.args.place c.args.access c.in-Some.entry c.self.invariant (word_set c) within
+    subst (λ (l : Limits). IsSound l c.add_status.new.self d.trees.items) (sym (same_limits c))
+    (touched_sound (limits_in d.shards d.trees.items) d.shards c.add_status.new.self d.trees.items c.args.place c.args.access c.in-Some.entry c.self.invariant (word_set c) within
     (sym c.get.ensures ∙ c.in-Some.is) (sym c.holds.ensures ∙ c.if-not-holds.false))
 
 pub returns-clause-answer : goal.returns-clause-answer
@@ -66,11 +68,11 @@ pub returns-clause-left : goal.returns-clause-left
 returns-clause-left c =
     let d = c.self.inside in
     let t = d.trees.items in
-    let new = c.set.new.self in
+    let new = c.add_status.new.self in
     let within = subst (λ (s : Contents). IsWithin s.limits c.args.place) (sym c.self.view_is) c.requires in
     let left =
     touched (limits_in d.shards t) d.shards new t c.args.place c.args.access c.in-Some.entry c.self.invariant.kept.fits (word_set c) within
     (sym c.get.ensures ∙ c.in-Some.is) (sym c.holds.ensures ∙ c.if-not-holds.false) in
-    let same : limits_in new t ≡ limits_in d.shards t = λ i. record { spaces = c.set.ensures.layout.spaces i; bits = c.set.ensures.layout.bits i; frames = length t } in
+    let same : limits_in new t ≡ limits_in d.shards t = λ i. record { spaces = c.add_status.ensures.layout.spaces i; bits = c.add_status.ensures.layout.bits i; frames = length t } in
     subst (λ (s : Contents). contents_of new t ≡ left_with s (touch s.holdings c.args.place c.args.access)) c.self.view_is
     ((λ i. record { limits = same i; holdings = holdings_of (same i) new t }) ∙ ap (λ h. record { limits = limits_in d.shards t; holdings = h }) left)

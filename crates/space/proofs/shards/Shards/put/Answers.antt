@@ -1,0 +1,22 @@
+-- A word becomes another pack, and what stands at its place changes alone.
+use Rattle.std.proofs.Common.{◌≡◌, ◌∙◌, sym, ap, subst, slice_index, slice_set}
+use Rattle.std.specs.Option.{option_copied_mut}
+use Rattle.space.specs.declared.place.Place.{Place}
+use Rattle.space.specs.Word.{entry_of}
+use Rattle.space.specs.Shards.{index_of, entry_at, IsPlace}
+use Rattle.space.proofs.Words.{pack_gives_back}
+use Rattle.space.proofs.ShardWords.{words_reach, set_there, set_elsewhere}
+use Rattle.space.proofs.shards.Shards.put.Goals as goal
+
+pub returns-clause-set : goal.returns-clause-set
+returns-clause-set c p place is =
+    let s = c.args.self.now in
+    let old = c.unwrap-words.result.now in
+    let held = sym c.as_mut.ensures.value ∙ ap option_copied_mut c.unwrap-words.ensures in
+    let within = words_reach s old held (index_of s p) (rw is c.requires.within) in
+    let back = pack_gives_back c.args.word c.requires.pack in
+    record {
+      there = rw (← is) (subst (λ w. entry_of (slice_index (slice_set old.items (index_of s p) w) (index_of s p)) ≡ entry_of c.args.word) back.1 (set_there s old held p place (entry_of c.args.word) back.0 within));
+      elsewhere = rw (← is) (subst (λ w. (q : Place) → IsPlace s q → (q ≡ p → ⊥) → entry_of (slice_index (slice_set old.items (index_of s p) w) (index_of s q)) ≡ entry_at s q) back.1
+          (set_elsewhere s old held p place (entry_of c.args.word) back.0));
+    }
