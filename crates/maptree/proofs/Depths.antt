@@ -1,10 +1,10 @@
 -- A number that no depth of some nodes goes below, and what it says of runs.
-use Rattle.std.proofs.Common.{◌≡◌, ℕ, zero, suc, ◌<◌, ◌≤◌, true, Bool, ◌&&◌, nat_le, List, [], ◌∷◌, ◌++◌, length, take, drop, set, get_or, Option, None, refl, ap, arith}
+use Rattle.std.proofs.Common.{◌≡◌, ℕ, zero, suc, ◌<◌, ◌≤◌, true, Bool, ◌&&◌, nat_le, nat_lt, min, List, [], ◌∷◌, ◌++◌, length, take, drop, set, get_or, Option, None, refl, sym, ap, ◌∙◌, arith}
 use Rattle.std.specs.Prelude.{insert}
 use Rattle.std.proofs.lemmas.Bool.{and_parts, leb-true, le-leb, lt-ltb, le-ltb}
 use Rattle.space.specs.declared.place.Place.{Place}
 use Rattle.maptree.specs.declared.node.Node.{Node}
-use Rattle.maptree.specs.Nodes.{run_len, last_less}
+use Rattle.maptree.specs.Nodes.{run_len, last_less, one_on}
 use Rattle.maptree.specs.Blocks.{is_least}
 use Rattle.maptree.specs.Renamings.{nodes_renamed}
 
@@ -78,3 +78,53 @@ none_less depth least (n ∷ ns) low is =
 
 pub least_one : (a : ℕ) (n : Node) → a ≤ n.depth → is_least a (n ∷ []) ≡ true
 least_one a n low = both (nat_le a n.depth) true (le-leb a n.depth low) refl
+
+-- ---- all but the first
+
+-- where there was none, the first that comes is the first of all
+pub behind_new : (a least : ℕ) (xs ys : List Node) → xs ≡ [] → a ≤ least → is_least least (drop 1 ys) ≡ true → is_least a (drop 1 (xs ++ ys)) ≡ true
+behind_new a least xs ys none low is = ap (λ ns. is_least a (drop 1 (ns ++ ys))) none ∙ least_less a least (drop 1 ys) low is
+
+-- else all that come stand behind it
+pub behind_more : (a least : ℕ) (xs ys : List Node) → 0 < length xs → a ≤ least → is_least least ys ≡ true → is_least a (drop 1 xs) ≡ true → is_least a (drop 1 (xs ++ ys)) ≡ true
+behind_more a least [] ys some low is behind = absurd (omega (arith, some))
+behind_more a least (x ∷ xs) ys some low is behind = least_append a xs ys behind (least_less a least ys low is)
+
+-- a node that comes first has all others behind it
+pub behind_in_front : (a : ℕ) (n : Node) (ns : List Node) → is_least a ns ≡ true → is_least a (drop 1 (insert ns 0 n)) ≡ true
+behind_in_front a n ns least = least
+
+pub behind_insert : (a b i : ℕ) (n : Node) (ns : List Node) → 0 < i → i ≤ length ns → a ≤ b → a ≤ n.depth → is_least b (drop 1 ns) ≡ true → is_least a (drop 1 (insert ns i n)) ≡ true
+behind_insert a b zero n ns some within low here behind = absurd (omega (arith, some))
+behind_insert a b (suc i) n [] some within low here behind = absurd (omega (arith, within))
+behind_insert a b (suc i) n (m ∷ ns) some within low here behind = least_insert a i n ns here (least_less a b ns low behind)
+
+pub behind_set : (a i : ℕ) (p : Place) (d : Node) (ns : List Node) → i < length ns → is_least a (drop 1 ns) ≡ true → is_least a (drop 1 (set ns i (record { place = p; depth = (get_or ns i d).depth }))) ≡ true
+behind_set a i p d [] within behind = absurd (omega (arith, within))
+behind_set a zero p d (n ∷ ns) within behind = behind
+behind_set a (suc i) p d (n ∷ ns) within behind = least_set a i p d ns (omega (arith, within)) behind
+
+pub behind_renamed : (new : Place → Option Place) (a : ℕ) (ns : List Node) → is_least a (drop 1 (nodes_renamed new ns)) ≡ is_least a (drop 1 ns)
+behind_renamed new a [] = refl
+behind_renamed new a (n ∷ ns) = least_renamed new a ns
+
+pub behind_take : (a k : ℕ) (ns : List Node) → is_least a (drop 1 ns) ≡ true → is_least a (drop 1 (take k ns)) ≡ true
+behind_take a zero ns behind = refl
+behind_take a (suc k) [] behind = refl
+behind_take a (suc k) (n ∷ ns) behind = least_take a k ns behind
+
+pub behind_removed : (a from to : ℕ) (ns : List Node) → from ≤ to → is_least a (drop 1 ns) ≡ true → is_least a (drop 1 (take from ns ++ drop to ns)) ≡ true
+behind_removed a zero zero ns rising behind = behind
+behind_removed a zero (suc to) [] rising behind = refl
+behind_removed a zero (suc to) (n ∷ ns) rising behind = least_drop a 1 (drop to ns) (least_drop a to ns behind)
+behind_removed a (suc from) zero ns rising behind = absurd (omega (arith, rising))
+behind_removed a (suc from) (suc to) [] rising behind = refl
+behind_removed a (suc from) (suc to) (n ∷ ns) rising behind = least_append a (take from ns) (drop to ns) (least_take a from ns behind) (least_drop a to ns behind)
+
+-- where none behind the first is less deep, the last one that is can be the first alone
+pub first_alone : (depth least k : ℕ) (ns : List Node) → depth ≤ least → is_least least (drop 1 ns) ≡ true → last_less depth (take k ns) ≡ last_less depth (take (min k 1) ns)
+first_alone depth least zero ns low behind = refl
+first_alone depth least (suc k) [] low behind = let one : min (suc k) 1 ≡ suc 0 = omega arith in ap (λ m. last_less depth (take m [])) (sym one)
+first_alone depth least (suc k) (n ∷ ns) low behind =
+    let one : min (suc k) 1 ≡ suc 0 = omega arith in
+    ap (one_on (nat_lt n.depth depth)) (none_less depth least (take k ns) low (least_take least k ns behind)) ∙ ap (λ m. last_less depth (take m (n ∷ ns))) (sym one)

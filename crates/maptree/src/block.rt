@@ -1,6 +1,6 @@
 //! A block of a list of nodes.
 
-ghost use Rattle.std.specs.Prelude.{◌≡◌, true};
+ghost use Rattle.std.specs.Prelude.{◌≡◌, true, drop};
 ghost use Rattle.maptree.specs.Blocks.{is_least};
 
 use crate::node::Node;
@@ -21,12 +21,14 @@ pub struct Block {
     nodes: Vec<Node>,
     /// None of its nodes is less deep than this.
     least: usize,
+    /// None of its nodes but the first is less deep than this.
+    behind: usize,
     /// The number by which `Hints` know it.
     number: u32,
 }
 
 impl Model for Block {
-    ghost use Rattle.std.specs.Prelude.{◌≡◌, ◌≤◌, true, List, length, vec_capacity};
+    ghost use Rattle.std.specs.Prelude.{◌≡◌, ◌≤◌, true, List, length, drop, vec_capacity};
     ghost use Rattle.maptree.specs.declared.node.Node.{Node};
     ghost use Rattle.maptree.specs.Blocks.{block_size, is_least};
 
@@ -34,11 +36,11 @@ impl Model for Block {
 
     ghost view = { λ b. b.nodes.items };
 
-    ghost invariant = { λ b. (length b.nodes.items ≤ block_size) × (block_size ≤ vec_capacity b.nodes) × (is_least b.least b.nodes.items ≡ true) };
+    ghost invariant = { λ b. (length b.nodes.items ≤ block_size) × (block_size ≤ vec_capacity b.nodes) × (is_least b.least b.nodes.items ≡ true) × (is_least b.behind (drop 1 b.nodes.items) ≡ true) };
 }
 
 impl Block {
-    ghost use Rattle.std.specs.Prelude.{◌≡◌, ◌+◌, ◌<◌, ◌≤◌, true, [], ◌++◌, length, take, drop, get_or, set, insert, position, IfOk, IfSome};
+    ghost use Rattle.std.specs.Prelude.{◌≡◌, ◌+◌, ◌<◌, ◌≤◌, ℕ, true, [], ◌++◌, length, take, drop, get_or, set, insert, position, IfOk, IfSome};
     ghost use Rattle.space.specs.Place.{same_place};
     ghost use Rattle.maptree.specs.declared.node.Node.{Node};
     ghost use Rattle.maptree.specs.Blocks.{block_size, is_least};
@@ -54,6 +56,7 @@ impl Block {
         Ok(Block {
             nodes,
             least: usize::MAX,
+            behind: usize::MAX,
             number: 0,
         })
     }
@@ -138,7 +141,24 @@ impl Block {
         if depth <= self.least {
             return None;
         }
+        // As in a fan, whose root stands in front: only the first node can be less deep.
+        let end = if depth <= self.behind {
+            end.min(1)
+        } else {
+            end
+        };
         last_above(&self.nodes[..end], depth)
+    }
+
+    /// The least depth of nodes that are put behind its own, without the first of all.
+    fn least_behind(&self, nodes: &[Node]) -> usize
+        ensures { (a : ℕ) → a ≤ result → is_least a (drop 1 self.now) ≡ true → is_least a (drop 1 (self.now ++ nodes.now)) ≡ true }
+    {
+        if self.nodes.is_empty() {
+            least_of(behind_first(nodes))
+        } else {
+            least_of(nodes)
+        }
     }
 
     /// Adds nodes behind the others.
@@ -146,6 +166,7 @@ impl Block {
         requires { length self.old + length nodes.now ≤ block_size }
         ensures { self.new ≡ self.old ++ nodes.now }
     {
+        self.behind = self.behind.min(self.least_behind(nodes));
         self.least = self.least.min(least_of(nodes));
         let extended = self.nodes.extend_from_slice(nodes);
         prove!(extended.is_ok());
@@ -157,6 +178,12 @@ impl Block {
         requires room { length self.old < block_size }
         ensures { self.new ≡ insert self.old i node }
     {
+        // The node that was the first one stands behind the new one, if that comes first.
+        self.behind = if i == 0 {
+            self.least
+        } else {
+            self.behind.min(node.depth)
+        };
         self.least = self.least.min(node.depth);
         // A push and a shift take fewer steps than `insert` of a vector (DECISIONS).
         let pushed = self.nodes.push(node);
@@ -199,10 +226,18 @@ impl Block {
     {
         other.nodes.clear();
         other.least = usize::MAX;
+        other.behind = usize::MAX;
         other.extend(&self.nodes[at..]);
         self.nodes.truncate(at);
         self.least = least_of(&self.nodes);
     }
+}
+
+/// Some nodes without the first.
+fn behind_first(nodes: &[Node]) -> &[Node]
+    ensures { result.now ≡ drop 1 nodes.now }
+{
+    if nodes.is_empty() { nodes } else { &nodes[1..] }
 }
 
 /// The least depth of some nodes.

@@ -53,6 +53,7 @@ impl<'a> Nodes<'a> {
     }
 
     /// The node at a position. No other position has its place.
+    #[inline(always)]
     pub fn at(&mut self, i: usize) -> Node
         requires { i < length self.old }
         ensures place { (d : Place) → result.place ≡ place_at self.old i d }

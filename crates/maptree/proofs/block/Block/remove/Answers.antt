@@ -2,7 +2,7 @@
 use Rattle.std.proofs.Common.{◌≡◌, ◌≤◌, ◌++◌, ◌+◌, ◌-◌, take, drop, ap, ◌∙◌, rules, arith, length}
 use Rattle.std.proofs.lemmas.List.{length-append, length-take-le, length-drop}
 use Rattle.maptree.specs.Blocks.{is_least}
-use Rattle.maptree.proofs.Depths.{least_take, least_drop, least_append}
+use Rattle.maptree.proofs.Depths.{least_take, least_drop, least_append, behind_removed}
 use Rattle.maptree.proofs.BlockChanges.{closed}
 use Rattle.maptree.proofs.block.Block.remove.Goals as goal
 
@@ -30,4 +30,5 @@ invariant_of-self c =
       search (rules, arith),
       ap (is_least least) is ∙ least_append least (take c.args.from nodes) (drop c.args.to nodes) (least_take least c.args.from nodes c.self.invariant.2)
           (least_drop least c.args.to nodes c.self.invariant.2),
+      ap (λ ns. is_least c.self.inside.behind (drop 1 ns)) is ∙ behind_removed c.self.inside.behind c.args.from c.args.to nodes c.requires.rising c.self.invariant.3,
     )
