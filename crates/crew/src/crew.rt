@@ -61,8 +61,9 @@ impl<'a, R: Threads + Wait, G: Gate> Crew<'a, R, G> {
 /// numbered from 0, in the order in which they are given.
 ///
 /// Each piece is a turn on shared words. The calling thread is the first worker, and each other a thread of its own. Where it
-/// is the only one, as it is where nobody listens and there are few full pieces, it works the pieces one after another on the words themselves, unless the gate listens. Pieces that can be
-/// worked beside one another may be worked in any order, and their steps may be mixed: what comes of it is always the same.
+/// is the only one, as it is where nobody listens and there are few full pieces, it works the pieces one after another on the
+/// words themselves, unless the gate listens. Pieces that can be worked beside one another may be worked in any order, and their
+/// steps may be mixed: what comes of it is always the same.
 ///
 /// Refused: `NoMemory`; `NoWorker`, where a thread could not be started. Then what was given is gone.
 pub fn work<R: Threads + Wait, G: Gate>(

@@ -18,3 +18,4 @@ pub mod Pigeons
 pub mod Marks
 pub mod Ending
 pub mod Crosses
+pub mod AllWords

@@ -266,9 +266,15 @@ all_too f test too (p ∷ ps) all =
     let parts = all_split test (named p) (flat_map named ps) all in
     all_append test (f p) (flat_map f ps) (too p parts.0) (all_too f test too ps parts.1)
 
+pub changes_within : (w : List ℕ) (ps : List Piece) → CanBeWorked w ps → list_all (λ i. nat_lt i (length w)) (flat_map changes ps) ≡ true
+changes_within w ps can = all_too changes (λ i. nat_lt i (length w)) (changes_too (λ i. nat_lt i (length w))) ps can.within
+
+pub common_within : (w : List ℕ) (ps : List Piece) → CanBeWorked w ps → list_all (λ i. nat_lt i (length w)) (flat_map common ps) ≡ true
+common_within w ps can = all_too common (λ i. nat_lt i (length w)) (common_too (λ i. nat_lt i (length w))) ps can.within
+
 -- every word that is shared is one of all words
 pub shared_within : (w : List ℕ) (ps : List Piece) (at : List ℕ) → CanBeWorked w ps
     → ((test : ℕ → Bool) → test 0 ≡ true → list_all test (flat_map changes ps) ≡ true → list_all test (flat_map common ps) ≡ true → list_all test at ≡ true) → All (λ i. i < length w) at
 shared_within w ps at can within =
     let test : ℕ → Bool = λ i. nat_lt i (length w) in
-    indexes_within (length w) at (within test (lt-ltb 0 (length w) can.some) (all_too changes test (changes_too test) ps can.within) (all_too common test (common_too test) ps can.within))
+    indexes_within (length w) at (within test (lt-ltb 0 (length w) can.some) (changes_within w ps can) (common_within w ps can))

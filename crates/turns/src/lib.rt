@@ -18,5 +18,6 @@ mod work;
 pub use laws::the_rule_is_kept;
 pub use open::{NotAll, Open, Unended};
 pub use rule::{Fixed, Rule};
+pub use sharing::Indexes;
 pub use turn::{Progress, Turn};
 pub use view::{Opening, View};

@@ -7,7 +7,7 @@ ghost use Rattle.turns.specs.Views.{none_done};
 ghost use Rattle.turns.specs.Sheets.{IsSeat};
 ghost use Rattle.turns.specs.Turns.{new_turns};
 
-use crate::sharing::indexes;
+use crate::sharing::shared_indexes;
 use crate::sheet::{Seat, Sheet};
 use crate::turn::Turn;
 use pieces::{Done, Piece, are_pieces, changed_words};
@@ -79,7 +79,7 @@ impl Open {
     {
         are_pieces(&pieces);
         let opening = Snapshot::of(&pieces);
-        let (at, own) = indexes(alloc, &pieces)?;
+        let (at, own) = shared_indexes(alloc, &words, &pieces)?;
         let (sheet, seat) = Sheet::lay(alloc, words, opening, at, own)?;
         let flags = vec![in alloc; false; pieces.len()]?;
         let dones = Vec::with_capacity(alloc, pieces.len())?;

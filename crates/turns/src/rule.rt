@@ -1,4 +1,5 @@
 //! The rule of a table of shared words, and what its steps tell.
+use crate::sharing::Indexes;
 use crate::view::View;
 use atomic_table::{Join, Play, Split, TableRule};
 use pieces::Piece;
@@ -11,8 +12,8 @@ pub struct Fixed {
     pub words: Snapshot<Vec<u64>>,
     /// The pieces.
     pub pieces: Snapshot<Vec<Piece>>,
-    /// The indexes of the words that are shared.
-    pub at: Snapshot<Vec<usize>>,
+    /// Which words are shared.
+    pub at: Snapshot<Indexes>,
 }
 
 /// The shared words are those at opening with the steps that all seats together count.

@@ -1,19 +1,102 @@
 //! Which words of a phase are shared.
 
 ghost use Rattle.std.specs.Prelude.{◌≡◌, ◌<◌, ◌++◌, ℕ, Bool, true, false, length, map, IfOk, OnOk};
-ghost use Rattle.std.specs.List.{flat_map, list_all};
+ghost use Rattle.std.specs.List.{All, flat_map, list_all};
 ghost use Rattle.std.specs.Option.{option_to_list};
 ghost use Rattle.pieces.specs.Distinct.{is_none_of, are_distinct};
-ghost use Rattle.pieces.specs.Phases.{changes};
-ghost use Rattle.turns.specs.Sheets.{common};
+ghost use Rattle.pieces.specs.Phases.{CanBeWorked, IsPiece, changes};
+ghost use Rattle.turns.specs.Sheets.{IsPhase, common};
+ghost use Rattle.turns.specs.Tables.{indexes_of};
 
-use pieces::{Piece, Strip, Touch, changed_indexes};
+use pieces::{Piece, Strip, Touch, changed_indexes, changed_words};
 use std::alloc::{AllocError, Global};
+
+/// Which words of a phase are shared.
+#[derive(Drop)]
+pub enum Indexes {
+    /// All, in their order.
+    All,
+    /// Those at these indexes, in the order of these.
+    Listed(Vec<usize>),
+}
+
+impl Indexes {
+    ghost use Rattle.std.specs.Prelude.{◌≡◌};
+    ghost use Rattle.turns.specs.Tables.{listed};
+
+    /// The indexes, if they are listed; else none.
+    pub(crate) fn listed(&self) -> &[usize]
+        ensures { result.now ≡ listed self.now }
+    {
+        match self {
+            Indexes::All => &[],
+            Indexes::Listed(at) => at,
+        }
+    }
+}
+
+/// The words that are shared, and how many of them stand in front that one piece alone has a step about. Where pieces change at least
+/// half of all words, and each words that stand side by side, all are shared: that takes less than a list of those that are. Where they
+/// stand apart, a list takes less: it has the words of a piece side by side.
+pub(crate) fn shared_indexes(
+    alloc: Global,
+    words: &[u64],
+    pieces: &[Piece],
+) -> Result<(Indexes, usize), AllocError>
+    requires each { All IsPiece pieces.now }
+    requires can { CanBeWorked words.now pieces.now }
+    ensures phase { IfOk result (λ r. IsPhase (record { words = words.now; pieces = pieces.now; at = indexes_of (length words.now) r.0 })) }
+    ensures some { IfOk result (λ r. 0 < length (indexes_of (length words.now) r.0)) }
+    ensures within { IfOk result (λ r. All (λ i. i < length words.now) (indexes_of (length words.now) r.0)) }
+{
+    if are_most_changed(words, pieces) {
+        return Ok((Indexes::All, 0));
+    }
+    let (at, own) = listed_indexes(alloc, pieces)?;
+    Ok((Indexes::Listed(at), own))
+}
+
+/// Whether pieces that change words side by side change at least half of these.
+fn are_most_changed(words: &[u64], pieces: &[Piece]) -> bool {
+    let mut count: usize = 0;
+    for piece in pieces {
+        if is_side_by_side(piece) {
+            count = count.saturating_add(changed_words(piece));
+        }
+    }
+    count >= words.len() / 2
+}
+
+/// Whether the words that a piece changes stand side by side, as far as the first and the last of them tell.
+fn is_side_by_side(piece: &Piece) -> bool {
+    match ends(piece) {
+        Some((first, last)) => {
+            first.saturating_add(changed_words(piece)) == last.saturating_add(1)
+        }
+        None => false,
+    }
+}
+
+/// The indexes of the first and the last word that a strip narrows or a link puts.
+fn ends(piece: &Piece) -> Option<(usize, usize)> {
+    match piece {
+        Piece::Strip(strip) => {
+            let indexes = strip.indexes();
+            Some((*indexes.first()?, *indexes.last()?))
+        }
+        Piece::Link(link) => {
+            let stores = link.stores();
+            Some((stores.first()?.put, stores.last()?.put))
+        }
+        Piece::Move(_) => None,
+        Piece::Touch(_) => None,
+    }
+}
 
 /// The indexes of the words that the steps of pieces are about, each once, and how many of these one piece alone has a step about.
 /// Those are in front, in the order of the pieces and of their steps; behind them the others rise. With no step, the first word is
 /// shared, since a table has one at least.
-pub(crate) fn indexes(alloc: Global, pieces: &[Piece]) -> Result<(Vec<usize>, usize), AllocError>
+fn listed_indexes(alloc: Global, pieces: &[Piece]) -> Result<(Vec<usize>, usize), AllocError>
     requires distinct { are_distinct (flat_map changes pieces.now) ≡ true }
     requires apart { list_all (is_none_of (flat_map changes pieces.now)) (flat_map common pieces.now) ≡ true }
     ensures distinct { IfOk result (λ r. are_distinct r.0.items ≡ true) }

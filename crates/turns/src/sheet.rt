@@ -1,12 +1,14 @@
 //! The shared words of a phase. Nothing but this file calls `atomic_table`.
 
 ghost use Rattle.std.specs.Prelude.{◌≡◌, ◌<◌, false, Some, length, map, slice_get, slice_index, IfOk};
-ghost use Rattle.std.specs.List.{All};
+ghost use Rattle.std.specs.List.{All, range_with_len};
 ghost use Rattle.std.specs.Slots.{slots_items, slots_len, IsFull};
 ghost use Rattle.pieces.specs.Distinct.{is_none_of};
 ghost use Rattle.turns.specs.Sheets.{replaced};
+ghost use Rattle.turns.specs.Tables.{indexes_of, listed};
 
 use crate::rule::{Dealt, Entered, Fixed, Made, Once, Rule, TakenBack};
+use crate::sharing::Indexes;
 use crate::view::View;
 use atomic_table::{Closed, Table};
 use pieces::Piece;
@@ -24,9 +26,9 @@ pub(crate) struct Sheet {
     table: Table<(), View, Fixed, Rule, Global>,
     /// All words, as they were at opening.
     words: Vec<u64>,
-    /// The index of each shared word.
-    at: Vec<usize>,
-    /// The shared words, as they were at opening: a step finds its own here beside those of the steps around it.
+    /// Which words are shared.
+    at: Indexes,
+    /// Those that are listed, as they were at opening: a step finds its own here beside those of the steps around it.
     then: Vec<u64>,
     /// How many of these stand in front that one piece alone has a step about. The others rise. No proof rests on it.
     own: usize,
@@ -37,13 +39,13 @@ impl Model for Sheet {
 
     ghost Value = { SheetContent };
 
-    ghost use Rattle.std.specs.Prelude.{◌≡◌, map, slice_index};
-    ghost use Rattle.turns.specs.Tables.{opened};
+    ghost use Rattle.std.specs.Prelude.{◌≡◌, length, map, slice_index};
+    ghost use Rattle.turns.specs.Tables.{opened, indexes_of, listed};
     ghost use Rattle.turns.specs.Sheets.{IsSheet};
 
     ghost view = { λ s. record { id = s.table.shared.table_id; opening = opened s.table.shared.key } };
 
-    ghost invariant = { λ s. IsSheet (record { id = s.table.shared.table_id; opening = opened s.table.shared.key }) s.words.items s.at.items × (s.then.items ≡ map (slice_index s.words.items) s.at.items) };
+    ghost invariant = { λ s. IsSheet (record { id = s.table.shared.table_id; opening = opened s.table.shared.key }) s.words.items (indexes_of (length s.words.items) s.at) × (s.then.items ≡ map (slice_index s.words.items) (listed s.at)) };
 }
 
 impl Sheet {
@@ -53,19 +55,20 @@ impl Sheet {
     ghost use Rattle.turns.specs.Views.{count_in, names_in, none_done, first_of, behind_first, HasOnce};
     ghost use Rattle.turns.specs.Rules.{IsNext, IsMade, steps_in};
     ghost use Rattle.turns.specs.Sheets.{IsPhase, IsSeat};
+    ghost use Rattle.turns.specs.Tables.{indexes_of};
 
-    /// Shares the words at some indexes. The first seat has all pieces, and no step is done.
+    /// Shares words. The first seat has all pieces, and no step is done.
     pub(crate) fn lay(
         alloc: Global,
         words: Vec<u64>,
         pieces: Snapshot<Vec<Piece>>,
-        at: Vec<usize>,
+        at: Indexes,
         own: usize,
     ) -> Result<(Sheet, Seat), AllocError>
-        requires phase { IsPhase (record { words = words.items; pieces = pieces.value.items; at = at.items }) }
-        requires some { 0 < length at.items }
-        requires within { All (λ i. i < length words.items) at.items }
-        ensures opening { IfOk result (λ r. r.0.opening ≡ record { words = words.items; pieces = pieces.value.items; at = at.items }) }
+        requires phase { IsPhase (record { words = words.items; pieces = pieces.value.items; at = indexes_of (length words.items) at }) }
+        requires some { 0 < length (indexes_of (length words.items) at) }
+        requires within { All (λ i. i < length words.items) (indexes_of (length words.items) at) }
+        ensures opening { IfOk result (λ r. r.0.opening ≡ record { words = words.items; pieces = pieces.value.items; at = indexes_of (length words.items) at }) }
         ensures seat { IfOk result (λ r. IsSeat r.0 r.1.table_id r.1.me × (r.1.me.0.counts ≡ none_done (length pieces.value.items))) }
     {
         let fixed = Fixed {
@@ -73,8 +76,8 @@ impl Sheet {
             pieces,
             at: Snapshot::of(&at),
         };
-        let then = gathered(alloc, &words, &at)?;
-        let (table, seat) = Table::of_words(alloc, &then, &fixed)?;
+        let then = gathered(alloc, &words, at.listed())?;
+        let (table, seat) = Table::of_words(alloc, shared_words(&words, &then, &at), &fixed)?;
         Ok((
             Sheet {
                 table,
@@ -148,7 +151,7 @@ impl Sheet {
         ensures seat { IsSeat self.now seat.new.table_id seat.new.me }
         ensures made { IsMade index seat.old.me.0 result seat.new.me.0 }
     {
-        let at = position(&self.at, self.own, index, hint);
+        let at = place(&self.at, &self.words, self.own, index, hint);
         self.table.shared.load::<Made>(seat, at)
     }
 
@@ -159,7 +162,7 @@ impl Sheet {
         ensures seat { IsSeat self.now seat.new.table_id seat.new.me }
         ensures made { IsMade index seat.old.me.0 result seat.new.me.0 }
     {
-        let at = position(&self.at, self.own, index, hint);
+        let at = place(&self.at, &self.words, self.own, index, hint);
         self.table.shared.fetch_or::<Made>(seat, at, bits)
     }
 
@@ -170,7 +173,7 @@ impl Sheet {
         ensures seat { IsSeat self.now seat.new.table_id seat.new.me }
         ensures made { IsMade index seat.old.me.0 result seat.new.me.0 }
     {
-        let at = position(&self.at, self.own, index, hint);
+        let at = place(&self.at, &self.words, self.own, index, hint);
         self.table.shared.swap::<Made>(seat, at, word)
     }
 
@@ -201,7 +204,8 @@ impl Sheet {
         requires { index < length self.now.opening.words }
         ensures { result ≡ slice_index self.now.opening.words index }
     {
-        if hint < self.at.len() && self.at[hint] == index {
+        let at = self.at.listed();
+        if hint < at.len() && at[hint] == index {
             return self.then[hint];
         }
         self.words[index]
@@ -220,8 +224,43 @@ fn gathered(alloc: Global, words: &[u64], at: &[usize]) -> Result<Vec<u64>, Allo
     Ok(found)
 }
 
+/// The words that are shared, of which those that are listed were gathered.
+fn shared_words<'a>(words: &'a [u64], then: &'a [u64], at: &Indexes) -> &'a [u64]
+    requires { then.now ≡ map (slice_index words.now) (listed at.now) }
+    ensures { result.now ≡ map (slice_index words.now) (indexes_of (length words.now) at.now) }
+{
+    match at {
+        Indexes::All => words,
+        Indexes::Listed(_) => then,
+    }
+}
+
 /// Puts back the words that were shared, each at its index.
-fn put_back(words: &mut [u64], at: &[usize], shared: &Closed<(), Global>)
+fn put_back(words: &mut [u64], at: &Indexes, shared: &Closed<(), Global>)
+    requires within { All (λ i. i < length words.old) (indexes_of (length words.old) at.now) }
+    requires full { IsFull shared.now.words }
+    requires each { slots_len shared.now.words ≡ length (indexes_of (length words.old) at.now) }
+    ensures { words.new ≡ replaced words.old (indexes_of (length words.old) at.now) (slots_items shared.now.words) }
+{
+    match at {
+        Indexes::All => put_all_back(words, shared),
+        Indexes::Listed(at) => put_listed_back(words, at, shared),
+    }
+}
+
+/// Puts back all words, which were shared in their order.
+fn put_all_back(words: &mut [u64], shared: &Closed<(), Global>)
+    requires full { IsFull shared.now.words }
+    requires each { slots_len shared.now.words ≡ length words.old }
+    ensures { words.new ≡ replaced words.old (range_with_len 0 (length words.old)) (slots_items shared.now.words) }
+{
+    for k in 0..words.len() {
+        words[k] = shared.word(k);
+    }
+}
+
+/// Puts back the words that were shared at these indexes.
+fn put_listed_back(words: &mut [u64], at: &[usize], shared: &Closed<(), Global>)
     requires within { All (λ i. i < length words.old) at.now }
     requires full { IsFull shared.now.words }
     requires each { slots_len shared.now.words ≡ length at.now }
@@ -229,6 +268,17 @@ fn put_back(words: &mut [u64], at: &[usize], shared: &Closed<(), Global>)
 {
     for k in 0..at.len() {
         words[at[k]] = shared.word(k);
+    }
+}
+
+/// Where the word at an index stands among those that are shared. The hint says where among those that are listed.
+fn place(at: &Indexes, words: &[u64], rising: usize, index: usize, hint: usize) -> usize
+    requires { is_none_of (indexes_of (length words.now) at.now) index ≡ false }
+    ensures { slice_get (indexes_of (length words.now) at.now) result ≡ Some index }
+{
+    match at {
+        Indexes::All => index,
+        Indexes::Listed(at) => position(at, rising, index, hint),
     }
 }
 

@@ -8,7 +8,7 @@ pub struct Opening {
     pub words: LinkedList<u64>,
     /// The pieces, by their numbers.
     pub pieces: LinkedList<Piece>,
-    /// Which words are shared: the indexes of those that pieces name.
+    /// The indexes of the words that are shared: all, or those that pieces have steps about.
     pub at: LinkedList<usize>,
 }
 

@@ -2,7 +2,7 @@
 use Rattle.std.proofs.Common.{◌≡◌, take}
 use Rattle.std.specs.Slots.{slots_items}
 use Rattle.turns.specs.Sheets.{replaced}
-use Rattle.turns.proofs.sheet.put_back.Given as goal
+use Rattle.turns.proofs.sheet.put_listed_back.Given as goal
 
 abbrev pub invariant-loop-k : goal.invariant-loop-k
 invariant-loop-k l = l.words ≡ replaced l.initial.words (take l.k l.at) (slots_items l.shared.words)

@@ -3,8 +3,8 @@ use Rattle.std.proofs.lemmas.Bool.{eqb-true}
 use Rattle.std.specs.List.{list_all}
 use Rattle.pieces.specs.Distinct.{is_none_of, are_distinct}
 use Rattle.turns.proofs.Rising.{distinct_behind, distinct_one}
-use Rattle.turns.proofs.sharing.indexes.Goals.{then-is_empty+in_ok-push, else-is_empty}
-use Rattle.turns.proofs.sharing.indexes.Goals as goal
+use Rattle.turns.proofs.sharing.listed_indexes.Goals.{then-is_empty+in_ok-push, else-is_empty}
+use Rattle.turns.proofs.sharing.listed_indexes.Goals as goal
 
 pub returns-clause-distinct : goal.returns-clause-distinct
 returns-clause-distinct c =
