@@ -44,6 +44,9 @@ LARGE = [
 # How many pages the largest traces map, which have no file.
 PAGES = 512
 
+# How many lines an audit has at least that several threads make.
+LINES = 4096
+
 # All traces with a file, each with the options by which it runs, and whether its calls start threads then.
 RUNS = [
     *((trace, [], False) for trace in SMALL),
@@ -54,13 +57,14 @@ RUNS = [
 
 
 class Replay(NamedTuple):
-    """A trace with its options, the lines of its whole answer, and whether its calls start threads."""
+    """A trace with its options, the lines of its whole answer, whether its calls start threads, and what it is refused in turn."""
 
     name: str
     options: list
     trace: bytes
     lines: list
     starts_threads: bool
+    refused: tuple = ("allocation", "thread")
 
 
 def read_replay(trace, options, starts_threads):
@@ -80,10 +84,22 @@ def largest_replay(options):
     return Replay(" ".join(["the largest trace", *options]), options, trace, answer.splitlines(keepends=True), True)
 
 
-def spaces_in_audit(replay):
-    """How many spaces the audit lists: the lines of each are made beside those of others."""
+def audit_replay():
+    """The trace of an audit that several threads make, and its answer by the definitions: all pages of a space are mapped to another."""
+    pages = LINES // 2
+    records = [f"l4map,1,3,23,{pages}", "send,0,1,10,8,17"]
+    lines = [f"1 send absent=0 norights=0 origin=0 lost=0 extended=0 linked={pages}"]
+    lines += [f"0,{page},{page},rwx,---,-" for page in range(pages)]
+    lines += [f"1,{page},{page},rwx,---,0:{page}" for page in range(pages)]
+    trace, answer = (("\n".join(it) + "\n").encode() for it in (records, [*lines, "end 1 0"]))
+    return Replay("a long audit", [], trace, answer.splitlines(keepends=True), False, ("thread",))
+
+
+def audit_starts_threads(replay):
+    """Whether threads make the audit: the lines of each space are made beside those of others, if there are enough."""
     records = int(replay.lines[-1].split()[1])
-    return len({line.split(b",")[0] for line in replay.lines[records:-1]})
+    audit = replay.lines[records:-1]
+    return len(audit) >= LINES and len({line.split(b",")[0] for line in audit}) > 1
 
 
 def wanting(replay, what, runs):
@@ -97,7 +113,7 @@ def wanting(replay, what, runs):
         return "" if 0 in told and at_record and last + 1 in told else f"runs ended at the records {sorted(told)} alone"
     if at_record != replay.starts_threads:
         return f"a call was refused a thread: {at_record}"
-    starts = replay.starts_threads or spaces_in_audit(replay) > 1
+    starts = replay.starts_threads or audit_starts_threads(replay)
     return "" if runs[0].was_refused == starts else f"a thread was refused: {runs[0].was_refused}"
 
 
@@ -111,7 +127,7 @@ def check_refusing(program, library, replay, what, and_rest, extent):
 
 def main():
     program, cases = program_path(), Cases()
-    replays = [read_replay(*row) for row in RUNS] + [largest_replay(options) for options in WORKERS[1:]]
+    replays = [read_replay(*row) for row in RUNS] + [largest_replay(options) for options in WORKERS[1:]] + [audit_replay()]
     for replay in replays:
         undisturbed = Ended(0, b"".join(replay.lines), b"")
         # This is what catches a body that always answers that it is out of memory, which meets every contract.
@@ -121,7 +137,7 @@ def main():
         tasks = [
             pool.submit(check_refusing, program, library, replay, what, and_rest, extent)
             for replay in replays
-            for what in ("allocation", "thread")
+            for what in replay.refused
             for and_rest, extent in EXTENTS
         ]
         for task in tasks:

@@ -1,15 +1,13 @@
--- The texts of sections, one after another, are the text of all lines.
-use Rattle.std.proofs.Common.{◌≡◌, ℕ, ◌+◌, ◌<◌, ◌++◌, List, [], ◌∷◌, length, map, drop, flat_map, get_or, Result, Ok, Err, IsOk, String, Global, refl, sym, ap, ◌∙◌, append_assoc}
+-- The texts of spaces, one after another, are the text of all mappings.
+use Rattle.std.proofs.Common.{◌≡◌, ℕ, ◌+◌, ◌<◌, ◌++◌, List, [], ◌∷◌, length, drop, flat_map, get_or, Result, Ok, Err, IsOk, String, Global, refl, sym, ap, ◌∙◌, append_assoc}
 use Rattle.std.specs.Prelude.{string_bytes}
-use Rattle.std.specs.Borrow.{Bor}
 use Rattle.std.specs.List.{All, AllZip}
 use Rattle.std.specs.declared.alloc.AllocError.{AllocError}
 use Rattle.std.proofs.lemmas.Grind.{flat_map-append}
-use Rattle.std.proofs.lemmas.List.{drop_more, map-append}
+use Rattle.std.proofs.lemmas.List.{drop_more}
 use Rattle.std.proofs.lemmas.List.Elements.{All-head, All-tail}
 use Rattle.model.specs.Text.{audit_line, audit_lines}
-use Rattle.holdings.specs.declared.mapping.Mapping.{Mapping}
-use Rattle.holdings.specs.Mappings.{mapped_of}
+use Rattle.model.specs.Holdings.{Holdings}
 use Rattle.audit.specs.Sections.{IsTextOf, bytes_in}
 
 abbrev Text : Type 0
@@ -29,15 +27,12 @@ is_ok_from item text is = rw is refl
 pub text_is_ok : (texts : List Text) (i : ℕ) (item : Text) (text : String Global) → item ≡ get_or texts i item → item ≡ Ok text → IsOk (get_or texts i item)
 text_is_ok texts i item text read is = is_ok_from (get_or texts i item) text (sym read ∙ is)
 
-lines_append : (xs ys : List Mapping) → audit_lines (map mapped_of (xs ++ ys)) ≡ audit_lines (map mapped_of xs) ++ audit_lines (map mapped_of ys)
-lines_append xs ys = ap audit_lines (map-append mapped_of xs ys) ∙ flat_map-append audit_line (map mapped_of xs) (map mapped_of ys)
-
--- the texts of all sections, where memory sufficed for each
-pub all_texts : (sections : List (Bor (List Mapping))) (texts : List Text) → AllZip (λ s t. IsTextOf s.now t) sections texts → All IsOk texts
-    → flat_map bytes_in texts ≡ audit_lines (map mapped_of (flat_map (λ s. s.now) sections))
-all_texts [] [] each all = refl
-all_texts [] (t ∷ ts) each all = absurd each
-all_texts (s ∷ ss) [] each all = absurd each
-all_texts (s ∷ ss) (Err e ∷ ts) each all = absurd (cc (All-head IsOk (Err e) ts all))
-all_texts (s ∷ ss) (Ok text ∷ ts) each all =
-    (λ i. each.0 i ++ all_texts ss ts each.1 (All-tail IsOk (Ok text) ts all) i) ∙ sym (lines_append s.now (flat_map (λ s. s.now) ss))
+-- the texts of all spaces, where memory sufficed for each
+pub all_texts : (mappings : ℕ → Holdings) (spaces : List ℕ) (texts : List Text) → AllZip (λ s t. IsTextOf (mappings s) t) spaces texts → All IsOk texts
+    → flat_map bytes_in texts ≡ audit_lines (flat_map mappings spaces)
+all_texts mappings [] [] each all = refl
+all_texts mappings [] (t ∷ ts) each all = absurd each
+all_texts mappings (s ∷ ss) [] each all = absurd each
+all_texts mappings (s ∷ ss) (Err e ∷ ts) each all = absurd (cc (All-head IsOk (Err e) ts all))
+all_texts mappings (s ∷ ss) (Ok text ∷ ts) each all =
+    (λ i. each.0 i ++ all_texts mappings ss ts each.1 (All-tail IsOk (Ok text) ts all) i) ∙ sym (flat_map-append audit_line (mappings s) (flat_map mappings ss))

@@ -9,16 +9,20 @@ ghost use Rattle.audit.specs.declared.error.AuditError.TheVariants.{Halted, NoMe
 use crate::checker::check;
 use crate::error::AuditError;
 use crate::line::{Line, push_line};
-use mapdb::{Database, DbError};
+use mapdb::{Database, Mappings};
 use rayon::prelude::*;
+use space::Place;
 use std::alloc::{AllocError, Global};
 use std::thread::Threads;
 
 /// How many bytes most lines have at most.
 const LINE: usize = 32;
 
-/// How many lines have their text made at once.
-const AT_ONCE: usize = 65_536;
+/// How many lines are too few to pay for a thread.
+const FEW: usize = 4_096;
+
+/// How many spaces have their text made at once.
+const AT_ONCE: usize = 16;
 
 /// Returns every mapping of a database, by rising place.
 ///
@@ -31,11 +35,8 @@ pub fn lines(alloc: Global, database: &Database) -> Result<Vec<Line>, AuditError
 {
     // Its contract says that what is held is lawful.
     let _ = database.limits();
-    match database.mappings(alloc) {
-        Ok(lines) => Ok(lines),
-        Err(DbError::Halted) => Err(AuditError::Halted),
-        Err(_) => Err(AuditError::NoMemory),
-    }
+    let lines = database.mappings(alloc)?;
+    Ok(lines)
 }
 
 /// Returns whether the lines of a database pass `check`. They always do, as the contract says: what a database holds is
@@ -52,7 +53,8 @@ pub fn check_database(alloc: Global, database: &Database) -> Result<bool, AuditE
 }
 
 /// Returns the text of every mapping of a database, by rising place, a line for each. The lines of each space are made
-/// side by side with those of others; where a thread cannot be started, with fewer threads.
+/// side by side with those of others, if there are enough to pay for threads; where a thread cannot be started, with fewer
+/// threads.
 ///
 /// The errors are `Halted`, if the database is halted, and `NoMemory`, if memory runs out.
 pub fn report(
@@ -64,102 +66,99 @@ pub fn report(
     ensures text { IfOk result (λ text. text.items ≡ audit_lines database.now.holdings) }
 {
     let alloc = rt.alloc();
-    let lines = lines(alloc, database)?;
-    let text = text_of(rt, alloc, &lines)?;
+    let mappings = database.by_place(alloc)?;
+    let text = text_of(rt, alloc, &mappings)?;
     Ok(text)
 }
 
-/// Returns the text of lines. That of each so many lines is made beside the whole, and then put behind it.
-fn text_of(rt: &(impl Threads + Sync), alloc: Global, lines: &[Line]) -> Result<Vec<u8>, AllocError>
-    ensures { IfOk result (λ text. text.items ≡ audit_lines (map mapped_of lines.now)) }
+/// Returns the text of every mapping, by rising place. That of so many spaces is made beside the whole, and then put behind it.
+fn text_of(
+    rt: &(impl Threads + Sync),
+    alloc: Global,
+    mappings: &Mappings<'_>,
+) -> Result<Vec<u8>, AllocError>
+    ensures { IfOk result (λ text. text.items ≡ audit_lines mappings.now.holdings) }
 {
-    let mut text = Vec::with_capacity(alloc, lines.len().saturating_mul(LINE))?;
-    let mut left = lines;
+    let spaces = held_spaces(alloc, mappings)?;
+    let mut text = Vec::with_capacity(alloc, mappings.len().saturating_mul(LINE))?;
+    let mut left = spaces.as_slice();
     while !left.is_empty() {
         let (some, others) = left.split_at(left.len().min(AT_ONCE));
-        push_lines(rt, alloc, &mut text, some)?;
+        push_spaces(rt, alloc, &mut text, mappings, some)?;
         left = others;
     }
     Ok(text)
 }
 
 ghost use Rattle.std.specs.Prelude.{◌++◌, OnOk, flat_map};
+ghost use Rattle.holdings.specs.Mappings.{held_from};
 
-/// Appends the text of lines, made section by section side by side.
-fn push_lines(
+/// The spaces that hold anything, by rising number.
+fn held_spaces(alloc: Global, mappings: &Mappings<'_>) -> Result<Vec<u16>, AllocError>
+    ensures { IfOk result (λ spaces. flat_map (λ space. held_from mappings.now space 0) spaces.items ≡ mappings.now.holdings) }
+{
+    let mut spaces = Vec::new(alloc);
+    let limits = mappings.limits();
+    for space in 0..limits.spaces as u16 {
+        if mappings.next_from(Place { space, page: 0 }).is_some() {
+            spaces.push(space)?;
+        }
+    }
+    Ok(spaces)
+}
+
+/// Appends the text of the mappings of some spaces, made space by space side by side.
+fn push_spaces(
     rt: &(impl Threads + Sync),
     alloc: Global,
     text: &mut Vec<u8>,
-    lines: &[Line],
+    mappings: &Mappings<'_>,
+    spaces: &[u16],
 ) -> Result<(), AllocError>
-    ensures { OnOk result (text.new.items ≡ text.old.items ++ audit_lines (map mapped_of lines.now)) }
+    ensures { OnOk result (text.new.items ≡ text.old.items ++ audit_lines (flat_map (λ space. held_from mappings.now space 0) spaces.now)) }
 {
-    let sections = sections(alloc, lines)?;
-    let texts = section_texts(rt, alloc, &sections)?;
+    let texts = space_texts(rt, alloc, mappings, spaces)?;
     push_texts(text, &texts)?;
     Ok(())
-}
-
-/// The lines of each space.
-fn sections<'a>(alloc: Global, lines: &'a [Line]) -> Result<Vec<&'a [Line]>, AllocError>
-    ensures { IfOk result (λ sections. flat_map (λ section. section.now) sections.items ≡ lines.now) }
-{
-    let mut sections = Vec::new(alloc);
-    let mut rest = lines;
-    while !rest.is_empty() {
-        let (section, others) = rest.split_at(first_section(rest));
-        sections.push(section)?;
-        rest = others;
-    }
-    Ok(sections)
-}
-
-ghost use Rattle.std.specs.Prelude.{◌<◌, ◌≤◌, length};
-
-/// Returns how many lines from the front on are of the space of the first.
-fn first_section(lines: &[Line]) -> usize
-    requires { 0 < length lines.now }
-    ensures some { 0 < result }
-    ensures most { result ≤ length lines.now }
-{
-    let space = lines[0].place.space;
-    for i in 1..lines.len() {
-        if lines[i].place.space != space {
-            return i;
-        }
-    }
-    lines.len()
 }
 
 ghost use Rattle.std.specs.List.{AllZip};
 ghost use Rattle.audit.specs.Sections.{IsTextOf};
 
-/// The text of each section, side by side.
-fn section_texts(
+/// The text of the mappings of each space, side by side if there are enough to pay for threads.
+fn space_texts(
     rt: &(impl Threads + Sync),
     alloc: Global,
-    sections: &[&[Line]],
+    mappings: &Mappings<'_>,
+    spaces: &[u16],
 ) -> Result<Vec<Result<String, AllocError>>, AllocError>
-    ensures { IfOk result (λ texts. AllZip (λ section text. IsTextOf section.now text) sections.now texts.items) }
+    ensures { IfOk result (λ texts. AllZip (λ space text. IsTextOf (held_from mappings.now space 0) text) spaces.now texts.items) }
 {
-    sections
+    let least = if mappings.len() < FEW {
+        spaces.len()
+    } else {
+        1
+    };
+    spaces
         .par_iter()
         .map(
-            |section: &&[Line]| -> Result<String, AllocError>
-                ensures { IsTextOf section.now.now result }
-            { section_text(alloc, section) },
+            |space: &u16| -> Result<String, AllocError>
+                ensures { IsTextOf (held_from mappings.entry.now space.now 0) result }
+            { space_text(alloc, mappings, *space) },
         )
-        .with_min_len(1)
+        .with_min_len(least.max(1))
         .collect(rt, alloc)
 }
 
-/// The text of some lines.
-fn section_text(alloc: Global, lines: &[Line]) -> Result<String, AllocError>
-    ensures { IsTextOf lines.now result }
+/// The text of the mappings of a space.
+fn space_text(alloc: Global, mappings: &Mappings<'_>, space: u16) -> Result<String, AllocError>
+    ensures { IsTextOf (held_from mappings.now space 0) result }
 {
-    let mut text = String::with_capacity(alloc, lines.len().saturating_mul(LINE))?;
-    for line in lines {
-        push_line(&mut text, line)?;
+    let mut text = String::new(alloc);
+    let mut from = Place { space, page: 0 };
+    while let Some(line) = mappings.next_from(from) {
+        push_line(&mut text, &line)?;
+        from.page = line.place.page + 1;
     }
     Ok(text)
 }

@@ -23,3 +23,18 @@ impl From<AllocError> for AuditError {
         AuditError::NoMemory
     }
 }
+
+impl From<DbError> for AuditError {
+    ghost use Rattle.std.specs.Prelude.{◌≡◌, if◌then◌else◌};
+    ghost use Rattle.audit.specs.Errors.{is_halted};
+    ghost use Rattle.audit.specs.declared.error.AuditError.TheVariants.{Halted, NoMemory};
+
+    ghost from_gives = { λ error e. e ≡ (if is_halted error then Halted else NoMemory) };
+
+    fn from(error: DbError) -> Self {
+        match error {
+            DbError::Halted => AuditError::Halted,
+            _ => AuditError::NoMemory,
+        }
+    }
+}

@@ -4,4 +4,5 @@ pub mod Sequences
 pub mod Outer
 pub mod Frames
 pub mod HeldPages
+pub mod HeldSets
 pub mod LeftOfRuns

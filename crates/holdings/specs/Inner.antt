@@ -13,3 +13,4 @@ pub mod StripPlans
 pub mod Outcomes
 pub mod Links
 pub mod Renamings
+pub mod WordOrigins

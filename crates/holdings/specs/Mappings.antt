@@ -1,8 +1,16 @@
--- What is held, as a list of mappings.
+-- What is held, as mappings.
+use Rattle.std.specs.Prelude.{ℕ, ◌-◌}
+use Rattle.space.specs.Directory.{pages_of}
 use Rattle.space.specs.declared.place.Place.{Place}
-use Rattle.model.specs.Holdings.{Held}
+use Rattle.model.specs.Holdings.{Held, Holdings, at}
+use Rattle.holdings.specs.Contents.{Contents}
+use Rattle.holdings.specs.Places.{pages_from, listed}
 use Rattle.holdings.specs.declared.mapping.Mapping.{Mapping}
 
 -- a mapping as the definitions have it: its place, and what is held there
 abbrev pub mapped_of : Mapping → Place × Held
 mapped_of m = (m.place, record { frame = m.frame; rights = m.rights; status = m.status; origin = m.origin })
+
+-- what the pages of a space from a page on hold, by rising page
+abbrev pub held_from : Contents → ℕ → ℕ → Holdings
+held_from c space page = listed (at c.holdings) (pages_from space page (pages_of c.limits.bits - page))

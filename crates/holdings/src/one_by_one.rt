@@ -7,7 +7,7 @@ use crate::recursion::{take, visit};
 use crew::Workers;
 use fpage::Rights;
 use maptree::Tree;
-use space::{NoMemory, Place, Shards};
+use space::{NoMemory, Place, Shards, Status};
 use std::alloc::{AllocError, Global};
 use std::ops::Range;
 
@@ -225,7 +225,7 @@ fn walk(
     let tree = &trees[frame];
     let mut nodes = tree.nodes();
     let first = nodes.at(run.start).place;
-    let mut status = Rights::none();
+    let mut status = Status::none();
     let mut all_held = true;
     let mut all_gone = true;
     for i in run.start..run.end {
@@ -235,6 +235,7 @@ fn walk(
         all_held &= narrowed.held;
         all_gone &= !narrowed.held;
     }
+    let status = status.rights();
     if let Some(origin) = tree.origin_of(run.start) {
         shards.add_status(nodes.at(origin).place, status);
     }

@@ -11,10 +11,12 @@ ghost use Rattle.space.specs.Place.{same_place};
 
 use crate::holdings::Holdings;
 use crate::item_pages::ItemPages;
+use crate::shard::pages_in_shard;
 use fpage::{ItemKind, Rights};
 use maptree::Tree;
 use space::{Place, Shards};
 use std::alloc::{AllocError, Global};
+use std::ops::Range;
 
 /// What becomes of a page of an item, as things stand at the item's start (profile).
 #[derive(Clone, Copy, Debug, PartialEq, Eq)]
@@ -38,6 +40,8 @@ impl Holdings {
 
     /// What becomes of each page of an item, as things stand (profile).
     ///
+    /// Sources in a shard that the words do not reach are absent, without a look at each.
+    ///
     /// Fails where memory is refused.
     pub fn outcomes(&self, alloc: Global, pages: &ItemPages) -> Result<Vec<Outcome>, AllocError>
         requires { AreItemPages self.now.limits pages.now }
@@ -47,27 +51,58 @@ impl Holdings {
         let shards = &self.shards;
         let trees = self.trees.as_slice();
         let mut outcomes = Vec::with_capacity(alloc, pages.count as usize)?;
-        let ItemPages {
-            kind,
-            rights,
-            source: first,
-            target: window,
-            count,
-        } = *pages;
-        for i in 0..count {
-            let source = Place {
-                page: first.page + i,
-                ..first
-            };
-            let target = Place {
-                page: window.page + i,
-                ..window
-            };
-            let outcome = outcome_of(shards, trees, kind, rights, source, target);
-            outcomes.push(outcome)?;
+        let mut i = 0;
+        while i < pages.count {
+            let source = page_on(pages.source, i);
+            let next = i + pages_in_shard(source.page, pages.count - i);
+            if shards.has(source) {
+                add_outcomes(shards, trees, pages, i..next, &mut outcomes)?;
+            } else {
+                outcomes.resize(next as usize, Outcome::Absent)?;
+            }
+            i = next;
         }
         Ok(outcomes)
     }
+}
+
+ghost use Rattle.std.specs.Prelude.{◌+◌, ◌^◌, ◌<◌, ◌≤◌, OnOk};
+ghost use Rattle.holdings.specs.Sending.{page_on};
+ghost use Rattle.holdings.specs.Inner.Outcomes.{AreOutcomesUpTo};
+
+/// The page so far behind a first page.
+fn page_on(first: Place, i: u32) -> Place
+    requires { first.page + i < 2 ^ 32 }
+    ensures { result ≡ page_on first i }
+{
+    Place {
+        page: first.page + i,
+        ..first
+    }
+}
+
+/// Adds the outcomes of some pages of an item, each by a look at its words, behind those of the pages before them.
+fn add_outcomes(
+    shards: &Shards,
+    trees: &[Tree],
+    pages: &ItemPages,
+    part: Range<u32>,
+    outcomes: &mut Vec<Outcome>,
+) -> Result<(), AllocError>
+    requires sound { AreSound shards.now trees.now }
+    requires pages { AreItemPages (limits_in shards.now trees.now) pages.now }
+    requires some { part.start ≤ part.end }
+    requires within { part.end ≤ pages.now.count }
+    requires so_far { AreOutcomesUpTo (holdings_in shards.now trees.now) pages.now part.start outcomes.old.items }
+    ensures { OnOk result (AreOutcomesUpTo (holdings_in shards.now trees.now) pages.now part.end outcomes.new.items) }
+{
+    for i in part.start..part.end {
+        let source = page_on(pages.source, i);
+        let target = page_on(pages.target, i);
+        let outcome = outcome_of(shards, trees, pages.kind, pages.rights, source, target);
+        outcomes.push(outcome)?;
+    }
+    Ok(())
 }
 
 /// The outcome of one page: the first that fits.

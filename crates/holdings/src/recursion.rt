@@ -76,12 +76,20 @@ pub fn visit(
         let node = tree.node(i);
         // This page derives from none that stands as deep, so their visits end.
         while let Some(page) = pop_from(&mut begun, node.depth) {
-            status = status.join(take(shards, page.place, first, revoked, flush).status);
+            status = status.join(
+                take(shards, page.place, first, revoked, flush)
+                    .status
+                    .rights(),
+            );
         }
         begun.push(node)?;
     }
     while let Some(page) = begun.pop() {
-        status = status.join(take(shards, page.place, first, revoked, flush).status);
+        status = status.join(
+            take(shards, page.place, first, revoked, flush)
+                .status
+                .rights(),
+        );
     }
     if let Some(origin) = tree.origin_of(run.start) {
         shards.add_status(tree.node(origin).place, status);

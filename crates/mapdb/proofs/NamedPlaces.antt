@@ -1,38 +1,69 @@
--- The pages that an fpage names in a space, as a list.
-use Rattle.std.proofs.Common.{◌≡◌, ℕ, zero, suc, ◌+◌, ◌-◌, ◌<◌, ◌≤◌, List, [], ◌∷◌, ◌++◌, ap, ◌∙◌, arith}
+-- The pages that an fpage names in a space, and those of them that are held.
+use Rattle.std.proofs.Common.{◌≡◌, ℕ, ◌+◌, ◌-◌, ◌<◌, ◌&&◌, true, Bool, List, [], ◌∷◌, filter, sym, ap, ◌∙◌, subst, arith}
+use Rattle.std.specs.Prelude.{Result, Ok, Err, IfOk}
 use Rattle.std.specs.List.{All}
-use Rattle.std.proofs.lemmas.List.{append_assoc}
-use Rattle.std.proofs.lemmas.List.Elements.{All-nil, All-cons}
-use Rattle.fpage.specs.Fpage.{Flexpage}
+use Rattle.std.specs.declared.ops.Range.{Range}
+use Rattle.std.proofs.lemmas.List.Elements.{All-filter}
+use Rattle.fpage.specs.Fpage.{Flexpage, IsFpageOf}
+use Rattle.fpage.specs.declared.rights.Rights.{Rights}
 use Rattle.space.specs.declared.place.Place.{Place}
-use Rattle.space.specs.Directory.{pages_of}
-use Rattle.model.specs.Calls.{Limits}
 use Rattle.model.specs.Answers.{pages_in}
+use Rattle.model.specs.Calls.{Limits}
+use Rattle.model.specs.Holdings.{is_held}
+use Rattle.holdings.specs.Contents.{Contents, IsConsistent, IsStripped}
 use Rattle.holdings.specs.Places.{IsWithin, pages_from, any_of}
 use Rattle.holdings.proofs.Contents.Listing.{in_pages}
+use Rattle.holdings.proofs.Contents.HeldAmong.{pages_within, any_kept}
+use Rattle.holdings.proofs.Stripping.HeldSets.{stripped_same}
 
--- one page more
-pub one_page : (space page n : ℕ) (front all : List Place) → 0 < n → front ++ pages_from space page n ≡ all → (front ++ record { space = space; page = page } ∷ []) ++ pages_from space (page + 1) (n - 1) ≡ all
-one_page space page zero front all some is = absurd (omega (arith, some))
-one_page space page (suc n) front all some is =
-    append_assoc front (record { space = space; page = page } ∷ []) (pages_from space (page + 1) (suc n - 1)) ∙ ap (λ m. front ++ record { space = space; page = page } ∷ pages_from space (page + 1) m) (less n) ∙ is
-  where
-    less : (n : ℕ) → suc n - 1 ≡ n
-    less n = omega arith
+-- the held ones of the pages that a range of numbers has
+abbrev pub held_of_range : Contents → ℕ → Range ℕ → List Place
+held_of_range old space pages = filter (is_held old.holdings) (pages_from space pages.start (pages.end - pages.start))
 
--- they are those that are named
-pub named_set : (space : ℕ) (f : Flexpage) → any_of (pages_from space f.first f.count) ≡ pages_in space f
-named_set space f i p = in_pages p space f.first f.count i
+module _ (old : Contents) (space : ℕ) (f : Flexpage) (pages : Range ℕ) (start : pages.start ≡ f.first) (end : pages.end ≡ f.first + f.count) (places read : List Place) (same : read ≡ places) (are : places ≡ held_of_range old space pages) where
+  -- they are those of the fpage
+  named : read ≡ filter (is_held old.holdings) (pages_from space f.first f.count)
+  named = same ∙ are ∙ (λ i. filter (is_held old.holdings) (pages_from space (start i) (many i)))
+    where
+      less : (a b c d : ℕ) → a ≡ c → b ≡ c + d → b - a ≡ d
+      less a b c d is_a is_b = omega (arith, is_a, is_b)
 
--- they lie within the limits
-pub all_within : (limits : Limits) (space : ℕ) → space < limits.spaces → (page n : ℕ) → page + n ≤ pages_of limits.bits → All (IsWithin limits) (pages_from space page n)
-all_within limits space less page zero most = All-nil (IsWithin limits)
-all_within limits space less page (suc n) most =
-    All-cons (IsWithin limits) (record { space = space; page = page }) (pages_from space (page + 1) n) (record { space = less; page = below page n (pages_of limits.bits) most })
-    (all_within limits space less (page + 1) n (on page n (pages_of limits.bits) most))
-  where
-    below : (a b c : ℕ) → a + suc b ≤ c → a < c
-    below a b c most = omega (arith, most)
+      many : pages.end - pages.start ≡ f.count
+      many = less pages.start pages.end f.first f.count start end
 
-    on : (a b c : ℕ) → a + suc b ≤ c → a + 1 + b ≤ c
-    on a b c most = omega (arith, most)
+  -- they lie within the limits
+  pub held_within : space < old.limits.spaces → IsFpageOf old.limits.bits f → All (IsWithin old.limits) read
+  held_within less most = subst (All (IsWithin old.limits)) (sym named) (All-filter (is_held old.holdings) (IsWithin old.limits) (pages_from space f.first f.count) (pages_within old.limits space less f.first f.count most))
+
+  -- among what is held they are all that are named
+  named_set : (p : Place) → is_held old.holdings p ≡ true → any_of read p ≡ pages_in space f p
+  named_set p held =
+      ap (λ ps. any_of ps p) named ∙ any_kept (is_held old.holdings) (pages_from space f.first f.count) p ∙ ap (λ b. b && is_held old.holdings p) (in_pages p space f.first f.count)
+      ∙ all (pages_in space f p) (is_held old.holdings p) held
+    where
+      all : (a b : Bool) → b ≡ true → (a && b) ≡ a
+      all a b is = grind (arith, is)
+
+  -- what is stripped of them is stripped of all that are named
+  pub named_stripped : IsConsistent old → (revoked : Rights) (flush : Bool) → {E : Type 0} (r : Result (Contents × Rights) E) → IfOk r (IsStripped old (any_of read) revoked flush) → IfOk r (IsStripped old (pages_in space f) revoked flush)
+  named_stripped consistent revoked flush (Ok r) is = stripped_same old (any_of read) (pages_in space f) consistent.lawful named_set revoked flush r is
+  named_stripped consistent revoked flush (Err e) is = is
+
+-- ---- of one page
+
+module _ (space : ℕ) (f : Flexpage) (pages : Range ℕ) (start : pages.start ≡ f.first) (end : pages.end ≡ f.first + f.count) (one : pages.end - pages.start ≡ 1) where
+  abbrev only_page : List Place
+  only_page = record { space = space; page = pages.start } ∷ []
+
+  -- it is all that the fpage names
+  only_named : only_page ≡ pages_from space f.first f.count
+  only_named = (λ i. record { space = space; page = start i } ∷ []) ∙ ap (pages_from space f.first) (sym (single pages.start pages.end f.first f.count start end one))
+    where
+      single : (a b c d : ℕ) → a ≡ c → b ≡ c + d → b - a ≡ 1 → d ≡ 1
+      single a b c d is_a is_b is = omega (arith, is_a, is_b, is)
+
+  pub only_within : (limits : Limits) → space < limits.spaces → IsFpageOf limits.bits f → All (IsWithin limits) only_page
+  only_within limits less most = subst (All (IsWithin limits)) (sym only_named) (pages_within limits space less f.first f.count most)
+
+  pub only_set : any_of only_page ≡ pages_in space f
+  only_set = ap any_of only_named ∙ (λ i p. in_pages p space f.first f.count i)

@@ -4,7 +4,7 @@ use crate::reply::SendReply;
 use crate::unmap::{unmap_words, unmap_words_by_recursion};
 use crew::Workers;
 use fpage::{Access, Control, Fpage, Item, Rights};
-use holdings::{Holdings, Limits, Mapping};
+use holdings::{Holdings, Limits, Mapping, Mappings};
 use space::{Entry, Place};
 use std::alloc::Global;
 use std::marker::Model;
@@ -122,7 +122,23 @@ impl Database {
         Ok(held.origin(place))
     }
 
-    /// Every mapping, by rising place. It takes time by what is held, and not by how many pages there are.
+    /// A reader of every mapping, by rising place. To make it takes time by what is held, and not by how many pages there are.
+    ///
+    /// Refused where the database is halted, `Halted`, and where memory is, `NoMemory`; the database is not halted by it.
+    pub fn by_place(&self, alloc: Global) -> Result<Mappings<'_>, DbError>
+        ensures halted { IsErrOf result Halted ↔ (self.now.is_halted ≡ true) }
+        ensures errors { IfErr result (λ e. (e ≡ Halted) ⊎ (e ≡ NoMemory)) }
+        ensures limits { IfOk result (λ mappings. mappings.limits ≡ self.now.limits) }
+        ensures holdings { IfOk result (λ mappings. mappings.holdings ≡ self.now.holdings) }
+    {
+        let Some(held) = &self.held else {
+            return Err(DbError::Halted);
+        };
+        let mappings = held.by_place(alloc)?;
+        Ok(mappings)
+    }
+
+    /// Every mapping, by rising place.
     ///
     /// Refused where the database is halted, `Halted`, and where memory is, `NoMemory`; nothing changes, and the database
     /// is not halted by it.

@@ -12,5 +12,5 @@ mod unmap;
 
 pub use database::Database;
 pub use error::DbError;
-pub use holdings::{Limits, Mapping};
+pub use holdings::{Limits, Mapping, Mappings};
 pub use reply::SendReply;

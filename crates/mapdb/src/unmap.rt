@@ -82,7 +82,16 @@ fn unmap_word<W: Workers>(
     requires fpage { IsFpageOf held.limits.bits fpage.now }
     ensures { IfOk result (IsStripped held (pages_in space fpage.now) fpage.now.rights flush) }
 {
-    let places = named_places(alloc, space, fpage)?;
+    let pages = fpage.pages();
+    if pages.end - pages.start == 1 {
+        // A list of one page would cost more than the look at its word.
+        let place = Place {
+            space,
+            page: pages.start,
+        };
+        return held.strip(alloc, &[place], fpage.rights(), flush, workers);
+    }
+    let places = held.held_among(alloc, space, pages)?;
     held.strip(alloc, &places, fpage.rights(), flush, workers)
 }
 
@@ -100,20 +109,6 @@ fn unmap_word_by_recursion(
     requires fpage { IsFpageOf held.limits.bits fpage.now }
     ensures { IfOk result (IsStripped held (pages_in space fpage.now) fpage.now.rights flush) }
 {
-    let places = named_places(alloc, space, fpage)?;
+    let places = held.held_among(alloc, space, fpage.pages())?;
     held.strip_by_recursion(alloc, &places, fpage.rights(), flush)
-}
-
-ghost use Rattle.holdings.specs.Places.{pages_from};
-
-/// The pages of a space that an fpage names, by rising page.
-fn named_places(alloc: Global, space: u16, fpage: &Fpage) -> Result<Vec<Place>, AllocError>
-    ensures { IfOk result (λ places. places.items ≡ pages_from space fpage.now.first fpage.now.count) }
-{
-    let named = fpage.pages();
-    let mut places = Vec::with_capacity(alloc, (named.end - named.start) as usize)?;
-    for page in named.start..named.end {
-        places.push(Place { space, page })?;
-    }
-    Ok(places)
 }

@@ -72,6 +72,11 @@ or_number r s =
       or_bit r.execute s.execute,
     ) refl
 
+-- the number of a union of sets that numbers spell
+pub joined_bits : (a b : ℕ) → a < 8 → b < 8 → bit_or a b ≡ number (join (of_bits a) (of_bits b))
+joined_bits a b a_small b_small =
+    ap (λ x. bit_or x b) (sym (number_bits a a_small)) ∙ ap (bit_or (number (of_bits a))) (sym (number_bits b b_small)) ∙ or_number (of_bits a) (of_bits b)
+
 -- ---- a word by its fields
 
 module _ (f s r : ℕ) (frame : f < 2 ^ 24) (status : s < 8) (rights : r < 8) where

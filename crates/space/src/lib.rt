@@ -5,6 +5,7 @@ mod error;
 mod laws;
 mod place;
 mod shards;
+mod status;
 #[cfg(test)]
 mod tests;
 mod word;
@@ -13,4 +14,5 @@ pub use error::NoMemory;
 pub use laws::{entry_words, shard_words};
 pub use place::{Entry, Place};
 pub use shards::{Narrowed, Shards};
+pub use status::Status;
 pub use word::{narrowed_word, pack, rights_left, unpack, word_bits, word_status};

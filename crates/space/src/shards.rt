@@ -5,7 +5,8 @@ ghost use Rattle.space.specs.Directory.{AreLimits, IsDirectory, AreWords, filled
 
 use crate::error::NoMemory;
 use crate::place::{Entry, Place};
-use crate::word::{narrowed_word, pack, unpack, word_bits, word_status};
+use crate::status::Status;
+use crate::word::{narrowed_word, pack, unpack, word_bits};
 use fpage::Rights;
 use std::alloc::{AllocError, Global};
 
@@ -16,10 +17,10 @@ const SHARD_BITS: u32 = 18;
 const SHARD_PAGES: usize = 64;
 
 /// What became of a page from which rights were withheld.
-#[derive(Clone, Copy, Debug, PartialEq, Eq)]
+#[derive(Clone, Copy)]
 pub struct Narrowed {
     /// The status that it had.
-    pub status: Rights,
+    pub status: Status,
     /// Whether it still holds anything.
     pub held: bool,
 }
@@ -48,7 +49,7 @@ pub struct Shards {
 }
 
 impl Shards {
-    ghost use Rattle.std.specs.Prelude.{◌≡◌, ◌+◌, ◌*◌, ◌<◌, IsTrue, IsFalse, IfOk, IfSome, IfNone, None, length, option_map, is_some, slice_index};
+    ghost use Rattle.std.specs.Prelude.{◌≡◌, ◌↔◌, ◌+◌, ◌*◌, ◌/◌, ◌<◌, IsTrue, IsFalse, IfOk, IfSome, IfNone, None, length, option_map, is_some, slice_index};
     ghost use Rattle.std.specs.List.{AllPass};
     ghost use Rattle.std.specs.Option.{option_and_then};
     ghost use Rattle.space.specs.declared.place.Place.{Place};
@@ -139,6 +140,27 @@ impl Shards {
         }
     }
 
+    /// Whether the words reach the shard of a place, that is the 64 pages of its space among which it is. Where they do not, each of
+    /// these pages is absent.
+    pub fn has(&self, place: Place) -> bool
+        requires place { IsPlace self.now place }
+        requires present { IsFalse (is_taken self.now) }
+        ensures in_use { IsTrue result ↔ (index_of self.now place / 64 < shards_in_use self.now) }
+        ensures absent { IsFalse result → (p : Place) → p.space ≡ place.space → p.page / 64 ≡ place.page / 64 → entry_at self.now p ≡ None }
+    {
+        let position = self.directory[self.shard(place)] as usize;
+        position < self.words.as_ref().unwrap().len().div_ceil(SHARD_PAGES)
+    }
+
+    /// How many words there are up to the last one that is in use. Each page that is held has its word among them.
+    pub fn words_in_use(&self) -> usize
+        requires present { IsFalse (is_taken self.now) }
+        ensures count { result ≡ length (words_of self.now) }
+        ensures held { (p : Place) → IsTrue (is_some (entry_at self.now p)) → index_of self.now p < result }
+    {
+        self.words.as_ref().unwrap().len()
+    }
+
     /// What stands at a place.
     pub fn get(&self, place: Place) -> Option<Entry>
         requires place { IsPlace self.now place }
@@ -226,14 +248,14 @@ impl Shards {
         let index = self.index(place);
         let Some(word) = self.word(index) else {
             return Narrowed {
-                status: Rights::none(),
+                status: Status::none(),
                 held: false,
             };
         };
         let left = narrowed_word(word, revoked, flush);
         self.put(index, left);
         Narrowed {
-            status: word_status(word),
+            status: Status::of_word(word),
             held: left != 0,
         }
     }

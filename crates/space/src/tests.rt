@@ -56,7 +56,11 @@ fn goes_round(
     };
     let mut shards = Shards::new(rt.alloc(), spaces, bits)?;
     assert_eq!(rt; shards.get(place), None);
+    assert!(rt; !shards.has(place));
+    assert_eq!(rt; shards.words_in_use(), 0);
     shards.set(place, Some(unseen));
+    assert!(rt; shards.has(place));
+    assert!(rt; shards.index(place) < shards.words_in_use());
     assert_eq!(rt; shards.get(place), Some(unseen));
     assert_eq!(rt; shards.get(other), None);
 

@@ -1,7 +1,6 @@
 -- Where each word says what it said, the same is held, wherever the words stand.
-use Rattle.std.proofs.Common.{◌≡◌, ◌∙◌, true, List, Option, length, sym, ap, subst}
+use Rattle.std.proofs.Common.{◌≡◌, ◌∙◌, List, length, sym, ap, subst}
 use Rattle.std.specs.Prelude.{IsFalse, option_map}
-use Rattle.space.specs.declared.place.Entry.{Entry}
 use Rattle.space.specs.declared.place.Place.{Place}
 use Rattle.space.specs.declared.shards.Shards.{Shards}
 use Rattle.space.specs.Shards.{entry_at, spaces_of, bits_of, is_taken}

@@ -1,7 +1,8 @@
 //! Calls in three spaces of sixteen frames, with answers that are worked out by hand.
 
 use super::calls::{
-    ALL, Case, EXECUTE, LINKED, NO_PAIRS, NONE, READ, READ_EXECUTE, READ_WRITE, Step, work_case,
+    ALL, Case, EXECUTE, LINKED, MAP, NO_PAIRS, NONE, READ, READ_EXECUTE, READ_WRITE, Step,
+    work_case,
 };
 use crew::{Crew, NoGate, Workers};
 use fpage::Access;
@@ -233,6 +234,37 @@ static CASES: [Case; 17] = [
     },
 ];
 
+/// Two pages of different shards are held, of a space whose other shards nobody uses.
+static FEW_OF_MANY: Case = Case {
+    name: "complete spaces of which two pages are held",
+    steps: &[
+        Step::Map((0, 0), (1, 70)),
+        Step::Map((0, 1), (1, 4000)),
+        Step::Send(
+            1,
+            2,
+            0x10,
+            (MAP, 0x17),
+            SendReply {
+                absent: 4094,
+                linked: 2,
+                ..NO_PAIRS
+            },
+        ),
+        Step::Touch((2, 4000), Access::Write),
+        Step::Unmap(1, 0, 0x12, 0x16),
+        Step::Unmap(2, 0x40, 0x17, 0x10),
+    ],
+    left: &[
+        ((0, 0), Some((0, ALL, NONE, None))),
+        ((0, 1), Some((1, ALL, READ_WRITE, None))),
+        ((1, 70), Some((0, ALL, NONE, Some((0, 0))))),
+        ((1, 4000), Some((1, ALL, NONE, Some((0, 1))))),
+        ((2, 70), None),
+        ((2, 4000), None),
+    ],
+};
+
 /// Works all cases, unmaps by recursion if `plain`.
 fn work_cases<T: Workers>(
     rt: &impl Abort,
@@ -248,6 +280,12 @@ fn work_cases<T: Workers>(
     for case in &CASES {
         work_case(rt, alloc, workers, limits, &CHAIN, case, plain)?;
     }
+    let large = Limits {
+        spaces: 3,
+        bits: 24,
+        frames: 2,
+    };
+    work_case(rt, alloc, workers, large, &[], &FEW_OF_MANY, plain)?;
     Ok(())
 }
 

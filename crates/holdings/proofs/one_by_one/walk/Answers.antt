@@ -83,24 +83,26 @@ add_status-requires-clause-place c =
     (λ e. ap (λ os. place_at os c.in-Some.origin e) (sym c.loop-i.invariant.nodes) ∙ sym (c.at-in-Some.ensures.place e)))
 
 -- the walk has come to the end of the run
-walked_some : (c : After-add_status) (d : Place) → IsWalked c.args.shards.now c.args.trees.now c.args.frame c.args.run.now.start (place_at (links_in c.args.trees.now c.args.frame) c.args.run.now.start d) c.args.revoked c.args.flush c.args.run.now.end c.loop-i.shards c.loop-i.status
+walked_some : (c : After-add_status) (d : Place) → IsWalked c.args.shards.now c.args.trees.now c.args.frame c.args.run.now.start (place_at (links_in c.args.trees.now c.args.frame) c.args.run.now.start d) c.args.revoked c.args.flush c.args.run.now.end c.loop-i.shards c.rights-status.result
 walked_some c d =
     let links = links_read c.args.trees.now c.args.frame c.index-trees-frame.result c.requires.frame c.index-trees-frame.is in
     let here : c.at.result.place ≡ place_at (links_in c.args.trees.now c.args.frame) c.args.run.now.start d = c.at.ensures.place d ∙ ap (λ os. place_at os c.args.run.now.start d) (c.nodes-nodes.ensures ∙ sym links) in
     let end : c.loop-i.i ≡ c.args.run.now.end = omega (arith, c.loop-i-test.false, c.loop-i.auto) in
-    subst (λ i. IsWalked c.args.shards.now c.args.trees.now c.args.frame c.args.run.now.start (place_at (links_in c.args.trees.now c.args.frame) c.args.run.now.start d) c.args.revoked c.args.flush i c.loop-i.shards c.loop-i.status) end
-    (subst (λ q. IsWalked c.args.shards.now c.args.trees.now c.args.frame c.args.run.now.start q c.args.revoked c.args.flush c.loop-i.i c.loop-i.shards c.loop-i.status) here c.loop-i.invariant.walked)
+    subst (λ r. IsWalked c.args.shards.now c.args.trees.now c.args.frame c.args.run.now.start (place_at (links_in c.args.trees.now c.args.frame) c.args.run.now.start d) c.args.revoked c.args.flush c.args.run.now.end c.loop-i.shards r) (sym c.rights-status.ensures)
+    (subst (λ i. IsWalked c.args.shards.now c.args.trees.now c.args.frame c.args.run.now.start (place_at (links_in c.args.trees.now c.args.frame) c.args.run.now.start d) c.args.revoked c.args.flush i c.loop-i.shards c.loop-i.status) end
+    (subst (λ q. IsWalked c.args.shards.now c.args.trees.now c.args.frame c.args.run.now.start q c.args.revoked c.args.flush c.loop-i.i c.loop-i.shards c.loop-i.status) here c.loop-i.invariant.walked))
 
 -- the walk has come to the end of the run
-walked_none : (c : In_default) (d : Place) → IsWalked c.args.shards.now c.args.trees.now c.args.frame c.args.run.now.start (place_at (links_in c.args.trees.now c.args.frame) c.args.run.now.start d) c.args.revoked c.args.flush c.args.run.now.end c.loop-i.shards c.loop-i.status
+walked_none : (c : In_default) (d : Place) → IsWalked c.args.shards.now c.args.trees.now c.args.frame c.args.run.now.start (place_at (links_in c.args.trees.now c.args.frame) c.args.run.now.start d) c.args.revoked c.args.flush c.args.run.now.end c.loop-i.shards c.rights-status.result
 walked_none c d =
     let links = links_read c.args.trees.now c.args.frame c.index-trees-frame.result c.requires.frame c.index-trees-frame.is in
     let here : c.at.result.place ≡ place_at (links_in c.args.trees.now c.args.frame) c.args.run.now.start d = c.at.ensures.place d ∙ ap (λ os. place_at os c.args.run.now.start d) (c.nodes-nodes.ensures ∙ sym links) in
     let end : c.loop-i.i ≡ c.args.run.now.end = omega (arith, c.loop-i-test.false, c.loop-i.auto) in
-    subst (λ i. IsWalked c.args.shards.now c.args.trees.now c.args.frame c.args.run.now.start (place_at (links_in c.args.trees.now c.args.frame) c.args.run.now.start d) c.args.revoked c.args.flush i c.loop-i.shards c.loop-i.status) end
-    (subst (λ q. IsWalked c.args.shards.now c.args.trees.now c.args.frame c.args.run.now.start q c.args.revoked c.args.flush c.loop-i.i c.loop-i.shards c.loop-i.status) here c.loop-i.invariant.walked)
+    subst (λ r. IsWalked c.args.shards.now c.args.trees.now c.args.frame c.args.run.now.start (place_at (links_in c.args.trees.now c.args.frame) c.args.run.now.start d) c.args.revoked c.args.flush c.args.run.now.end c.loop-i.shards r) (sym c.rights-status.ensures)
+    (subst (λ i. IsWalked c.args.shards.now c.args.trees.now c.args.frame c.args.run.now.start (place_at (links_in c.args.trees.now c.args.frame) c.args.run.now.start d) c.args.revoked c.args.flush i c.loop-i.shards c.loop-i.status) end
+    (subst (λ q. IsWalked c.args.shards.now c.args.trees.now c.args.frame c.args.run.now.start q c.args.revoked c.args.flush c.loop-i.i c.loop-i.shards c.loop-i.status) here c.loop-i.invariant.walked))
 
-with_origin : (c : After-add_status) (d : Place) → IsStripped c.args.shards.now c.args.trees.now (place_at (links_in c.args.trees.now c.args.frame) c.args.run.now.start d) c.args.revoked c.args.flush c.add_status.new.self c.loop-i.status
+with_origin : (c : After-add_status) (d : Place) → IsStripped c.args.shards.now c.args.trees.now (place_at (links_in c.args.trees.now c.args.frame) c.args.run.now.start d) c.args.revoked c.args.flush c.add_status.new.self c.rights-status.result
 with_origin c d =
     let links = links_read c.args.trees.now c.args.frame c.index-trees-frame.result c.requires.frame c.index-trees-frame.is in
     let p = place_at (links_in c.args.trees.now c.args.frame) c.args.run.now.start d in
@@ -113,10 +115,10 @@ with_origin c d =
     let place = place_kept c.args.shards.now c.loop-i.shards c.loop-i.invariant.walked.layout c.at-in-Some.result.place
     (listed_place c.args.shards.now c.args.trees.now c.args.frame c.requires.loose c.in-Some.origin c.at-in-Some.result.place (omega (arith, less, c.requires.some, c.requires.within))
     (λ e. ap (λ os. place_at os c.in-Some.origin e) (sym c.loop-i.invariant.nodes) ∙ sym (c.at-in-Some.ensures.place e))) in
-    run_with_origin c.args.shards.now c.args.trees.now c.requires.loose c.args.frame c.args.run.now c.requires.run c.requires.some c.requires.within p first c.args.revoked c.args.flush c.loop-i.shards c.loop-i.status (walked_some c d)
+    run_with_origin c.args.shards.now c.args.trees.now c.requires.loose c.args.frame c.args.run.now c.requires.run c.requires.some c.requires.within p first c.args.revoked c.args.flush c.loop-i.shards c.rights-status.result (walked_some c d)
     c.at-in-Some.result.place c.add_status.new.self origin place c.add_status.ensures.set c.add_status.ensures.present c.add_status.ensures.layout
 
-without_origin : (c : In_default) (d : Place) → IsStripped c.args.shards.now c.args.trees.now (place_at (links_in c.args.trees.now c.args.frame) c.args.run.now.start d) c.args.revoked c.args.flush c.loop-i.shards c.loop-i.status
+without_origin : (c : In_default) (d : Place) → IsStripped c.args.shards.now c.args.trees.now (place_at (links_in c.args.trees.now c.args.frame) c.args.run.now.start d) c.args.revoked c.args.flush c.loop-i.shards c.rights-status.result
 without_origin c d =
     let links = links_read c.args.trees.now c.args.frame c.index-trees-frame.result c.requires.frame c.index-trees-frame.is in
     let p = place_at (links_in c.args.trees.now c.args.frame) c.args.run.now.start d in
@@ -124,7 +126,7 @@ without_origin c d =
     let first : (e : Place) → place_at (links_in c.args.trees.now c.args.frame) c.args.run.now.start e ≡ p = λ e. place_any (links_in c.args.trees.now c.args.frame) c.args.run.now.start e d within in
     let origin : origin_in (links_in c.args.trees.now c.args.frame) p ≡ None =
     ap (λ os. origin_in os (place_at os c.args.run.now.start d)) links ∙ c.origin_of.ensures.origin d ∙ ap (option_map (λ r. place_at c.index-trees-frame.result.links r d)) c.in_default.is in
-    run_without_origin c.args.shards.now c.args.trees.now c.requires.loose c.args.frame c.args.run.now c.requires.run c.requires.some c.requires.within p first c.args.revoked c.args.flush c.loop-i.shards c.loop-i.status (walked_none c d) origin
+    run_without_origin c.args.shards.now c.args.trees.now c.requires.loose c.args.frame c.args.run.now c.requires.run c.requires.some c.requires.within p first c.args.revoked c.args.flush c.loop-i.shards c.rights-status.result (walked_none c d) origin
 
 pub returns-in-Some-clause-status : goal.returns-in-Some-clause-status
 returns-in-Some-clause-status c = λ d. (with_origin c d).word
@@ -155,7 +157,7 @@ returns-in-Some-clause-run_left c =
     let links = links_in c.args.trees.now c.args.frame in
     let end : c.loop-i.i ≡ c.args.run.now.end = omega (arith, c.loop-i-test.false, c.loop-i.auto) in
     let places = places_now c.args.shards.now c.args.trees.now c.args.frame c.requires.loose c.loop-i.shards c.loop-i.invariant.walked.layout in
-    let kept = seen_kept c.loop-i.shards c.add_status.new.self c.at-in-Some.result.place c.loop-i.status c.add_status.ensures.set in
+    let kept = seen_kept c.loop-i.shards c.add_status.new.self c.at-in-Some.result.place c.rights-status.result c.add_status.ensures.set in
     run_left c.add_status.new.self links c.args.run.now (record { all_held = c.loop-i.all_held; all_gone = c.loop-i.all_gone })
     (kept (λ b. b) c.loop-i.all_held links c.args.run.now.start c.args.run.now.end places c.requires.within (subst (IsSeen (λ b. b) c.loop-i.all_held c.loop-i.shards links c.args.run.now.start) end c.loop-i.invariant.held))
     (kept not c.loop-i.all_gone links c.args.run.now.start c.args.run.now.end places c.requires.within (subst (IsSeen not c.loop-i.all_gone c.loop-i.shards links c.args.run.now.start) end c.loop-i.invariant.gone))

@@ -1,7 +1,7 @@
 -- Each page of the run is taken once, and the origin gains.
 use Rattle.std.specs.Vec.{vec_items}
 use Rattle.std.proofs.Common.{◌≡◌, ◌<◌, ◌+◌, ◌||◌, not, List, length, Some, None, ◌∷◌, [], option_map, refl, sym, ap, ◌∙◌, subst, arith}
-use Rattle.fpage.specs.Rights.{no_rights}
+use Rattle.fpage.specs.Rights.{join, no_rights}
 use Rattle.space.specs.declared.place.Place.{Place}
 use Rattle.space.specs.Place.{same_place}
 use Rattle.maptree.specs.declared.node.Node.{Node}
@@ -37,7 +37,7 @@ pub loop-page-preserved : goal.loop-page-preserved
 loop-page-preserved c =
     let before = subst (λ ns. IsVisiting c.args.shards.now c.args.trees.now c.args.frame c.args.run.now.start c.node.result.place c.args.revoked c.args.flush c.loop-i.i ns c.loop-page.shards c.loop-page.status) c.in-Some.ensures.some c.loop-page.invariant in
     let place = begun_place c.args.shards.now c.args.trees.now c.requires.loose c.args.frame c.args.run.now.start c.node.result.place c.args.revoked c.args.flush c.loop-i.i c.pop_from.new.begun.items c.in-Some.page c.loop-page.shards c.loop-page.status before in
-    subst (IsVisiting c.args.shards.now c.args.trees.now c.args.frame c.args.run.now.start c.node.result.place c.args.revoked c.args.flush c.loop-i.i c.pop_from.new.begun.items c.take.new.shards) (sym c.join-status.ensures)
+    subst (IsVisiting c.args.shards.now c.args.trees.now c.args.frame c.args.run.now.start c.node.result.place c.args.revoked c.args.flush c.loop-i.i c.pop_from.new.begun.items c.take.new.shards) (sym (c.join-status.ensures ∙ ap (join c.loop-page.status) c.rights.ensures))
     (visit_pops c.args.shards.now c.args.trees.now c.requires.loose c.args.frame c.args.run.now.start c.node.result.place c.args.revoked c.args.flush c.loop-i.i c.pop_from.new.begun.items c.in-Some.page c.loop-page.shards c.take.new.shards
     c.loop-page.status c.take.result.status (c.args.flush || not (same_place c.in-Some.page.place c.node.result.place)) before place refl c.take.ensures.status c.take.ensures.set c.take.ensures.present c.take.ensures.layout)
 
@@ -61,7 +61,7 @@ pub loop-page-2-preserved : goal.loop-page-2-preserved
 loop-page-2-preserved c =
     let before = subst (λ ns. IsVisiting c.args.shards.now c.args.trees.now c.args.frame c.args.run.now.start c.node.result.place c.args.revoked c.args.flush c.args.run.now.end ns c.loop-page-2.shards c.loop-page-2.status) c.in-Some-pop.ensures.items c.loop-page-2.invariant in
     let place = begun_place c.args.shards.now c.args.trees.now c.requires.loose c.args.frame c.args.run.now.start c.node.result.place c.args.revoked c.args.flush c.args.run.now.end c.pop.new.self.items c.in-Some-pop.page c.loop-page-2.shards c.loop-page-2.status before in
-    subst (IsVisiting c.args.shards.now c.args.trees.now c.args.frame c.args.run.now.start c.node.result.place c.args.revoked c.args.flush c.args.run.now.end c.pop.new.self.items c.take-in-Some-pop.new.shards) (sym c.join-status-in-Some-pop.ensures)
+    subst (IsVisiting c.args.shards.now c.args.trees.now c.args.frame c.args.run.now.start c.node.result.place c.args.revoked c.args.flush c.args.run.now.end c.pop.new.self.items c.take-in-Some-pop.new.shards) (sym (c.join-status-in-Some-pop.ensures ∙ ap (join c.loop-page-2.status) c.rights-in-Some-pop.ensures))
     (visit_pops c.args.shards.now c.args.trees.now c.requires.loose c.args.frame c.args.run.now.start c.node.result.place c.args.revoked c.args.flush c.args.run.now.end c.pop.new.self.items c.in-Some-pop.page c.loop-page-2.shards c.take-in-Some-pop.new.shards
     c.loop-page-2.status c.take-in-Some-pop.result.status (c.args.flush || not (same_place c.in-Some-pop.page.place c.node.result.place)) before place refl c.take-in-Some-pop.ensures.status c.take-in-Some-pop.ensures.set c.take-in-Some-pop.ensures.present c.take-in-Some-pop.ensures.layout)
 

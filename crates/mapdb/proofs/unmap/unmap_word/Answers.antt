@@ -1,20 +1,30 @@
--- The places are those that the word names.
-use Rattle.std.proofs.Common.{sym, ap, ◌∙◌, subst}
+-- The places are those that the word names and that are held.
+use Rattle.std.proofs.Common.{subst}
 use Rattle.std.specs.Prelude.{IfOk}
-use Rattle.std.specs.List.{All}
 use Rattle.fpage.specs.declared.rights.Rights.{Rights}
+use Rattle.model.specs.Answers.{pages_in}
 use Rattle.model.specs.Holdings.{PlaceSet}
-use Rattle.holdings.specs.Places.{IsWithin, any_of}
+use Rattle.holdings.specs.Places.{any_of}
 use Rattle.holdings.specs.Contents.{IsStripped}
-use Rattle.mapdb.proofs.NamedPlaces.{all_within, named_set}
+use Rattle.mapdb.proofs.NamedPlaces.{held_within, named_stripped, only_within, only_set}
 use Rattle.mapdb.proofs.unmap.unmap_word.Goals as goal
 
-pub strip-requires : goal.strip-requires
-strip-requires g c =
-    record { within = subst (All (IsWithin c.args.held.limits)) (sym (c.deref.ensures.value ∙ c.in_ok-places.ensures)) (all_within c.args.held.limits c.args.space c.requires.space c.args.fpage.now.first c.args.fpage.now.count c.requires.fpage) }
+pub strip-requires-2 : goal.strip-requires-2
+strip-requires-2 g c =
+    record { within = held_within c.args.held c.args.space c.args.fpage.now c.pages-pages.result c.pages-pages.ensures.start c.pages-pages.ensures.end c.in_ok-places.places.items c.deref.result.now c.deref.ensures.value c.in_ok-places.ensures.held c.requires.space c.requires.fpage }
 
 pub returns : goal.returns
 returns g c =
     let word = c.args.fpage.now in
-    subst (λ (set : PlaceSet). IfOk c.strip.result (IsStripped c.args.held set word.rights c.args.flush)) (ap any_of (c.deref.ensures.value ∙ c.in_ok-places.ensures) ∙ named_set c.args.space word)
-    (subst (λ (a : Rights). IfOk c.strip.result (IsStripped c.args.held (any_of c.deref.result.now) a c.args.flush)) c.rights.ensures c.strip.ensures)
+    named_stripped c.args.held c.args.space word c.pages-pages.result c.pages-pages.ensures.start c.pages-pages.ensures.end c.in_ok-places.places.items c.deref.result.now c.deref.ensures.value c.in_ok-places.ensures.held c.held_among.ensures.consistent word.rights c.args.flush c.strip-2.result
+    (subst (λ (a : Rights). IfOk c.strip-2.result (IsStripped c.args.held (any_of c.deref.result.now) a c.args.flush)) c.rights-2.ensures c.strip-2.ensures)
+
+pub strip-requires : goal.strip-requires
+strip-requires g c =
+    record { within = only_within c.args.space c.args.fpage.now c.pages-pages.result c.pages-pages.ensures.start c.pages-pages.ensures.end c.if-pages-eq1.true c.args.held.limits c.requires.space c.requires.fpage }
+
+pub returns-then-pages-eq1 : goal.returns-then-pages-eq1
+returns-then-pages-eq1 g c =
+    let set = only_set c.args.space c.args.fpage.now c.pages-pages.result c.pages-pages.ensures.start c.pages-pages.ensures.end c.if-pages-eq1.true in
+    subst (λ (a : Rights). IfOk c.strip.result (IsStripped c.args.held (pages_in c.args.space c.args.fpage.now) a c.args.flush)) c.rights.ensures
+    (subst (λ (s : PlaceSet). IfOk c.strip.result (IsStripped c.args.held s c.rights.result c.args.flush)) set c.strip.ensures)

@@ -1,20 +1,18 @@
--- The places are those that the word names.
-use Rattle.std.proofs.Common.{sym, ap, ◌∙◌, subst}
+-- The places are those that the word names and that are held.
+use Rattle.std.proofs.Common.{subst}
 use Rattle.std.specs.Prelude.{IfOk}
-use Rattle.std.specs.List.{All}
 use Rattle.fpage.specs.declared.rights.Rights.{Rights}
-use Rattle.model.specs.Holdings.{PlaceSet}
-use Rattle.holdings.specs.Places.{IsWithin, any_of}
+use Rattle.holdings.specs.Places.{any_of}
 use Rattle.holdings.specs.Contents.{IsStripped}
-use Rattle.mapdb.proofs.NamedPlaces.{all_within, named_set}
+use Rattle.mapdb.proofs.NamedPlaces.{held_within, named_stripped}
 use Rattle.mapdb.proofs.unmap.unmap_word_by_recursion.Goals as goal
 
 pub strip_by_recursion-requires : goal.strip_by_recursion-requires
 strip_by_recursion-requires c =
-    subst (All (IsWithin c.args.held.limits)) (sym (c.deref.ensures.value ∙ c.in_ok-places.ensures)) (all_within c.args.held.limits c.args.space c.requires.space c.args.fpage.now.first c.args.fpage.now.count c.requires.fpage)
+    held_within c.args.held c.args.space c.args.fpage.now c.pages.result c.pages.ensures.start c.pages.ensures.end c.in_ok-places.places.items c.deref.result.now c.deref.ensures.value c.in_ok-places.ensures.held c.requires.space c.requires.fpage
 
 pub returns : goal.returns
 returns c =
     let word = c.args.fpage.now in
-    subst (λ (set : PlaceSet). IfOk c.strip_by_recursion.result (IsStripped c.args.held set word.rights c.args.flush)) (ap any_of (c.deref.ensures.value ∙ c.in_ok-places.ensures) ∙ named_set c.args.space word)
+    named_stripped c.args.held c.args.space word c.pages.result c.pages.ensures.start c.pages.ensures.end c.in_ok-places.places.items c.deref.result.now c.deref.ensures.value c.in_ok-places.ensures.held c.held_among.ensures.consistent word.rights c.args.flush c.strip_by_recursion.result
     (subst (λ (a : Rights). IfOk c.strip_by_recursion.result (IsStripped c.args.held (any_of c.deref.result.now) a c.args.flush)) c.rights.ensures c.strip_by_recursion.ensures)

@@ -1,0 +1,128 @@
+//! A reader of what is held, by rising place.
+
+use crate::limits::Limits;
+use crate::mapping::Mapping;
+use crate::shard::SHARD_PAGES;
+use maptree::Tree;
+use space::{Place, Shards};
+use std::alloc::{AllocError, Global};
+use std::marker::Model;
+
+/// Reads what is held, by rising place. A contract sees the holdings.
+#[derive(Drop)]
+pub struct Mappings<'a> {
+    pub(crate) shards: &'a Shards,
+    /// The tree of each frame, at its number.
+    pub(crate) trees: &'a [Tree],
+    /// The origin of each page that is held, at the index of its word.
+    pub(crate) origins: Vec<Option<Place>>,
+}
+
+impl<'a> Model for Mappings<'a> {
+    ghost use Rattle.std.specs.Prelude.{length};
+    ghost use Rattle.holdings.specs.Contents.{Contents};
+    ghost use Rattle.holdings.specs.Inner.Held.{contents_of};
+    ghost use Rattle.holdings.specs.Inner.Sound.{AreSound};
+    ghost use Rattle.holdings.specs.Inner.WordOrigins.{AreOrigins};
+
+    ghost Value = { Contents };
+
+    ghost view = { λ m. contents_of m.shards.now m.trees.now };
+
+    ghost invariant = { λ m. AreSound m.shards.now m.trees.now × AreOrigins m.shards.now m.trees.now (length m.trees.now) m.origins.items };
+}
+
+impl<'a> Mappings<'a> {
+    ghost use Rattle.std.specs.Prelude.{◌≡◌, ◌∷◌, ◌++◌, ◌+◌, ◌<◌, ◌^◌, [], IfOk, IfSome, OnOk, MatchOption, map, option_map};
+    ghost use Rattle.model.specs.Holdings.{at};
+    ghost use Rattle.holdings.specs.Meaning.{limits_of};
+    ghost use Rattle.holdings.specs.Places.{IsWithin};
+    ghost use Rattle.holdings.specs.Contents.{IsConsistent};
+    ghost use Rattle.holdings.specs.Mappings.{mapped_of, held_from};
+
+    /// The limits of what is read.
+    pub fn limits(&self) -> Limits
+        ensures limits { limits_of result ≡ self.now.limits }
+        ensures consistent { IsConsistent self.now }
+    {
+        Limits {
+            spaces: self.shards.spaces(),
+            bits: self.shards.bits(),
+            frames: self.trees.len() as u32,
+        }
+    }
+
+    /// How many mappings there are, for which room is made.
+    pub fn len(&self) -> usize {
+        let mut len: usize = 0;
+        for tree in self.trees {
+            len = len.saturating_add(tree.len());
+        }
+        len
+    }
+
+    /// What a page holds. Takes no search.
+    pub fn at(&self, place: Place) -> Option<Mapping>
+        requires { IsWithin self.now.limits place }
+        ensures held { option_map (λ m. (mapped_of m).1) result ≡ at self.now.holdings place }
+        ensures place { IfSome result (λ m. m.place ≡ place) }
+    {
+        let entry = self.shards.get(place)?;
+        Some(Mapping {
+            place,
+            frame: entry.frame,
+            rights: entry.rights,
+            status: entry.status,
+            origin: self.origins[self.shards.index(place)],
+        })
+    }
+
+    /// The first mapping of a space from a page on; none where no page from there on holds anything. Shards that nobody used are
+    /// passed over whole.
+    pub fn next_from(&self, from: Place) -> Option<Mapping>
+        ensures next { MatchOption result (held_from self.now from.space from.page ≡ [])
+            (λ m. held_from self.now from.space from.page ≡ mapped_of m ∷ held_from self.now from.space (m.place.page + 1)) }
+        ensures small { IfSome result (λ m. m.place.page < 2 ^ 20) }
+    {
+        let limits = self.limits();
+        if u32::from(from.space) >= limits.spaces {
+            return None;
+        }
+        let pages = 1 << (limits.bits - 12);
+        let mut place = from;
+        while place.page < pages {
+            if place.page % SHARD_PAGES == 0 && !self.shards.has(place) {
+                place.page += SHARD_PAGES;
+            } else if let Some(mapping) = self.at(place) {
+                return Some(mapping);
+            } else {
+                place.page += 1;
+            }
+        }
+        None
+    }
+
+    /// Every mapping, by rising place.
+    pub(crate) fn list(&self, alloc: Global) -> Result<Vec<Mapping>, AllocError>
+        ensures { IfOk result (λ mappings. map mapped_of mappings.items ≡ self.now.holdings) }
+    {
+        let mut list = Vec::with_capacity(alloc, self.len())?;
+        let limits = self.limits();
+        for space in 0..limits.spaces as u16 {
+            self.push_space(&mut list, space)?;
+        }
+        Ok(list)
+    }
+
+    /// Appends every mapping of a space, by rising page.
+    fn push_space(&self, list: &mut Vec<Mapping>, space: u16) -> Result<(), AllocError>
+        ensures { OnOk result (map mapped_of list.new.items ≡ map mapped_of list.old.items ++ held_from self.now space 0) }
+    {
+        let mut from = Place { space, page: 0 };
+        while let Some(mapping) = self.next_from(from) {
+            list.push(mapping)?;
+            from.page = mapping.place.page + 1;
+        }
+        Ok(())
+    }
+}

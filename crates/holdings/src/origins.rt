@@ -1,0 +1,41 @@
+//! The origins of all pages that are held, found by their words.
+
+ghost use Rattle.std.specs.Prelude.{◌≡◌, ◌<◌, true, length, IfOk};
+ghost use Rattle.std.specs.List.{All};
+ghost use Rattle.space.specs.Shards.{IsPlace, index_of};
+ghost use Rattle.maptree.specs.Origins.{are_once};
+ghost use Rattle.holdings.specs.Inner.Sound.{AreSound};
+ghost use Rattle.holdings.specs.Inner.WordOrigins.{AreOrigins, ArePut};
+
+use maptree::Tree;
+use space::{NoMemory, Place, Shards};
+use std::alloc::Global;
+
+/// The origin of each page that is held, at the index of its word, by one pass over the trees.
+pub fn origins_by_word(
+    alloc: Global,
+    shards: &Shards,
+    trees: &[Tree],
+) -> Result<Vec<Option<Place>>, NoMemory>
+    requires { AreSound shards.now trees.now }
+    ensures { IfOk result (λ origins. AreOrigins shards.now trees.now (length trees.now) origins.items) }
+{
+    let mut origins = vec![in alloc; None; shards.words_in_use()]?;
+    for tree in trees {
+        let links = tree.links(alloc)?;
+        put_origins(shards, &links, &mut origins);
+    }
+    Ok(origins)
+}
+
+/// Puts the origin of each place of a tree at the index of the place's word.
+fn put_origins(shards: &Shards, links: &[(Place, Option<Place>)], origins: &mut [Option<Place>])
+    requires places { All (λ link. IsPlace shards.now link.0) links.now }
+    requires reached { All (λ link. index_of shards.now link.0 < length origins.old) links.now }
+    requires once { are_once links.now ≡ true }
+    ensures { ArePut shards.now links.now origins.old origins.new }
+{
+    for (place, origin) in links {
+        origins[shards.index(*place)] = *origin;
+    }
+}
