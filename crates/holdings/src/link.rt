@@ -1,6 +1,7 @@
 //! Pages that are mapped or moved to targets, and the new mappings in the trees.
 
-ghost use Rattle.std.specs.Prelude.{◌≡◌, IfOk, OnOk, IsFalse};
+ghost use Rattle.std.specs.Prelude.{◌≡◌, ◌∷◌, [], IfOk, OnOk, IsFalse};
+ghost use Rattle.std.specs.Option.{option_to_list};
 ghost use Rattle.std.specs.List.{All};
 ghost use Rattle.space.specs.Shards.{IsPlace, is_taken};
 ghost use Rattle.holdings.specs.Inner.Links.{links_of, AreLinkable, AreLinked};
@@ -19,6 +20,50 @@ pub struct Link {
     pub target: Place,
 }
 
+/// Puts the new mappings of transfers that go, and whose source is held, into the trees, each into the tree of its frame.
+///
+/// Refused, where memory is: `NoMemory`.
+pub fn link_all(
+    alloc: Global,
+    shards: &Shards,
+    trees: &mut [Tree],
+    transfers: &[Transfer],
+) -> Result<(), NoMemory>
+    requires present { IsFalse (is_taken shards.now) }
+    requires places { All (λ t. IsPlace shards.now t.source) transfers.now }
+    requires linkable { AreLinkable trees.old (links_of shards.now transfers.now) }
+    ensures { OnOk result (AreLinked (links_of shards.now transfers.now) trees.old trees.new) }
+{
+    if let [transfer] = transfers {
+        // A list of one link would cost more than the link.
+        return match new_link(shards, *transfer) {
+            Some(link) => insert_links(trees, &[link]),
+            None => Ok(()),
+        };
+    }
+    let links = new_links(alloc, shards, transfers)?;
+    insert_links(trees, &links)
+}
+
+/// The link of a transfer, if it goes and its source is held, as the words stand.
+fn new_link(shards: &Shards, transfer: Transfer) -> Option<Link>
+    requires present { IsFalse (is_taken shards.now) }
+    requires source { IsPlace shards.now transfer.source }
+    ensures { option_to_list result ≡ links_of shards.now (transfer ∷ []) }
+{
+    if transfer.extends {
+        return None;
+    }
+    let Transfer { source, target, .. } = transfer;
+    let entry = shards.get(source)?;
+    let frame = entry.frame;
+    Some(Link {
+        frame,
+        source,
+        target,
+    })
+}
+
 /// The links of transfers that go and whose source is held, as the words stand.
 pub fn new_links(
     alloc: Global,
@@ -31,17 +76,8 @@ pub fn new_links(
 {
     let mut links = Vec::with_capacity(alloc, transfers.len())?;
     for transfer in transfers {
-        if transfer.extends {
-            continue;
-        }
-        let Transfer { source, target, .. } = *transfer;
-        if let Some(entry) = shards.get(source) {
-            let frame = entry.frame;
-            links.push(Link {
-                frame,
-                source,
-                target,
-            })?;
+        if let Some(link) = new_link(shards, *transfer) {
+            links.push(link)?;
         }
     }
     Ok(links)
@@ -50,7 +86,7 @@ pub fn new_links(
 /// Puts new mappings into the trees, each into the tree of its frame.
 ///
 /// Refused, where memory is: `NoMemory`.
-pub fn insert_links(trees: &mut [Tree], links: &[Link]) -> Result<(), NoMemory>
+fn insert_links(trees: &mut [Tree], links: &[Link]) -> Result<(), NoMemory>
     requires { AreLinkable trees.old links.now }
     ensures { OnOk result (AreLinked links.now trees.old trees.new) }
 {

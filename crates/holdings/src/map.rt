@@ -1,7 +1,7 @@
 //! The pages of a MapItem, after the flush: each is linked to its source, or extended.
 
 use crate::holdings::Holdings;
-use crate::link::{insert_links, new_links};
+use crate::link::link_all;
 use crate::phase::is_worked_alone;
 use crate::transfer::Transfer;
 use crate::transfer_counts::TransferCounts;
@@ -45,8 +45,7 @@ impl Holdings {
         let counts = TransferCounts::of_all(&shards, transfers);
         let stores = stores(alloc, &shards, transfers, rights)?;
         let pieces = links(alloc, stores, workers.piece_length())?;
-        let new_mappings = new_links(alloc, &shards, transfers)?;
-        insert_links(&mut trees, &new_mappings)?;
+        link_all(alloc, &shards, &mut trees, transfers)?;
         write_phase(alloc, &mut shards, pieces, workers)?;
         Ok((Holdings { shards, trees }, counts))
     }

@@ -1,7 +1,7 @@
 //! The pages of a MapItem, worked by the calling thread alone: one word after another, in place.
 
 use crate::holdings::Holdings;
-use crate::link::{insert_links, new_links};
+use crate::link::link_all;
 use crate::transfer::Transfer;
 use crate::transfer_counts::TransferCounts;
 use fpage::Rights;
@@ -31,8 +31,7 @@ impl Holdings {
             mut shards,
             mut trees,
         } = self;
-        let links = new_links(alloc, &shards, transfers)?;
-        insert_links(&mut trees, &links)?;
+        link_all(alloc, &shards, &mut trees, transfers)?;
         let mut worked = TransferCounts::none();
         for transfer in transfers {
             let one = map_page(&mut shards, *transfer, rights);

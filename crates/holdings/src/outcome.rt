@@ -34,9 +34,29 @@ pub enum Outcome {
 }
 
 impl Holdings {
-    ghost use Rattle.std.specs.Prelude.{IfOk};
+    ghost use Rattle.std.specs.Prelude.{◌≡◌, ◌<◌, IfOk};
+    ghost use Rattle.model.specs.Items.{fate};
     ghost use Rattle.holdings.specs.Contents.{IsConsistent};
-    ghost use Rattle.holdings.specs.Sending.{AreItemPages, AreOutcomes};
+    ghost use Rattle.holdings.specs.Sending.{fate_of_outcome, job_of_pages, AreItemPages, AreOutcomes};
+
+    /// What becomes of the first page of an item, as things stand (profile).
+    pub fn outcome(&self, pages: &ItemPages) -> Outcome
+        requires pages { AreItemPages self.now.limits pages.now }
+        requires some { 0 < pages.now.count }
+        ensures outcome { fate_of_outcome result ≡ fate self.now.holdings (job_of_pages pages.now) (pages.now.source, pages.now.target) }
+        ensures consistent { IsConsistent self.now }
+    {
+        let shards = &self.shards;
+        let trees = self.trees.as_slice();
+        outcome_of(
+            shards,
+            trees,
+            pages.kind,
+            pages.rights,
+            pages.source,
+            pages.target,
+        )
+    }
 
     /// What becomes of each page of an item, as things stand (profile).
     ///

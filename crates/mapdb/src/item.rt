@@ -9,11 +9,12 @@ ghost use Rattle.mapdb.specs.Sending.{IsSent};
 
 use crate::grant::grant_pages;
 use crate::item_pages::item_pages;
-use crate::plan::{End, ends, plan_item};
+use crate::plan::{End, ends, plan_item, transfer_of};
 use crate::reply::SendReply;
 use crew::{CrewError, Workers};
 use fpage::{Fpage, Item, ItemKind, Rights};
 use holdings::{Holdings, ItemPages, Transfer, TransferCounts};
+use space::Place;
 use std::alloc::Global;
 
 /// Works items from one space to the window of another, one after another, and adds their counts.
@@ -65,11 +66,80 @@ fn work_item<W: Workers>(
     ensures sent { IfOk result (IsSent held (item_answer held.holdings (job_of_pages pages.now)).left (item_answer held.holdings (job_of_pages pages.now)).counts) }
     ensures few { IfOk result (λ r. total (counts_of r.1) < 2 ^ 32) }
 {
+    if pages.count == 1 {
+        return work_page(alloc, held, pages, workers);
+    }
     let plan = plan_item(alloc, &held, pages)?;
     let replaced = ends(alloc, &plan.transfers, End::Target)?;
-    let (held, _) = held.strip(alloc, &replaced, Rights::all(), true, workers)?;
-    let (held, worked) = map_or_grant(alloc, held, pages, &plan.transfers, workers)?;
-    Ok((held, plan.decided.plus(SendReply::of_transfers(worked))))
+    work_plan(
+        alloc,
+        held,
+        pages,
+        plan.decided,
+        &plan.transfers,
+        &replaced,
+        workers,
+    )
+}
+
+/// The same of one page, without lists.
+///
+/// Refused, where memory or a worker is: `NoMemory`, `NoWorker`.
+fn work_page<W: Workers>(
+    alloc: Global,
+    held: Holdings,
+    pages: &ItemPages,
+    workers: &W,
+) -> Result<(Holdings, SendReply), CrewError>
+    requires pages { AreItemPages held.limits pages.now }
+    requires one { pages.now.count ≡ 1 }
+    ensures sent { IfOk result (IsSent held (item_answer held.holdings (job_of_pages pages.now)).left (item_answer held.holdings (job_of_pages pages.now)).counts) }
+    ensures few { IfOk result (λ r. total (counts_of r.1) < 2 ^ 32) }
+{
+    let outcome = held.outcome(pages);
+    let decided = SendReply::of_outcome(outcome);
+    match transfer_of(outcome, pages, 0) {
+        None => work_plan(alloc, held, pages, decided, &[], &[], workers),
+        Some(transfer) if transfer.extends => {
+            work_plan(alloc, held, pages, decided, &[transfer], &[], workers)
+        }
+        Some(transfer) => {
+            let replaced = [transfer.target];
+            work_plan(alloc, held, pages, decided, &[transfer], &replaced, workers)
+        }
+    }
+}
+
+ghost use Rattle.space.specs.declared.place.Place.{Place};
+ghost use Rattle.holdings.specs.Contents.{IsConsistent};
+ghost use Rattle.holdings.specs.Places.{any_of};
+ghost use Rattle.mapdb.specs.declared.plan.End.TheVariants.{Target};
+ghost use Rattle.mapdb.specs.Sending.{counts_before_flush, transfers_of, ends_of};
+
+/// Works what was planned for an item: the flush of the targets that are replaced, and then the transfers. So many pages were decided
+/// before.
+///
+/// Refused, where memory or a worker is: `NoMemory`, `NoWorker`.
+fn work_plan<W: Workers>(
+    alloc: Global,
+    held: Holdings,
+    pages: &ItemPages,
+    decided: SendReply,
+    transfers: &[Transfer],
+    replaced: &[Place],
+    workers: &W,
+) -> Result<(Holdings, SendReply), CrewError>
+    requires pages { AreItemPages held.limits pages.now }
+    requires consistent { IsConsistent held }
+    requires decided { counts_of decided ≡ counts_before_flush held.holdings (job_of_pages pages.now) (job_of_pages pages.now).pairs }
+    requires transfers { transfers.now ≡ transfers_of held.holdings (job_of_pages pages.now) (job_of_pages pages.now).pairs }
+    requires replaced { (p : Place) → any_of replaced.now p ≡ ends_of Target transfers.now p }
+    ensures sent { IfOk result (IsSent held (item_answer held.holdings (job_of_pages pages.now)).left (item_answer held.holdings (job_of_pages pages.now)).counts) }
+    ensures few { IfOk result (λ r. total (counts_of r.1) < 2 ^ 32) }
+{
+    let (held, _) = held.strip(alloc, replaced, Rights::all(), true, workers)?;
+    let (held, worked) = map_or_grant(alloc, held, pages, transfers, workers)?;
+    Ok((held, decided.plus(SendReply::of_transfers(worked))))
 }
 
 ghost use Rattle.std.specs.Prelude.{true};

@@ -48,7 +48,7 @@ ghost use Rattle.std.specs.Prelude.{◌<◌, ◌+◌, ◌^◌};
 ghost use Rattle.holdings.specs.Sending.{page_on};
 
 /// The transfer of a page that goes or extends.
-fn transfer_of(outcome: Outcome, pages: &ItemPages, i: u32) -> Option<Transfer>
+pub fn transfer_of(outcome: Outcome, pages: &ItemPages, i: u32) -> Option<Transfer>
     requires source { pages.now.source.page + i < 2 ^ 32 }
     requires target { pages.now.target.page + i < 2 ^ 32 }
     ensures { MatchOption result

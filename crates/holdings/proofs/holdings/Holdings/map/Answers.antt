@@ -1,9 +1,10 @@
 -- The targets have words in use; stores are planned, new mappings put into the trees, and the words written.
-use Rattle.std.proofs.Common.{◌≡◌, List, length, sym, ap, ◌∙◌, subst, arith}
+use Rattle.std.proofs.Common.{◌≡◌, refl, List, length, sym, ap, ◌∙◌, subst, arith}
 use Rattle.std.proofs.lemmas.List.{with_items_is}
 use Rattle.maptree.specs.Origins.{Shape}
 use Rattle.holdings.specs.Contents.{AreMapped}
 use Rattle.holdings.specs.Inner.Held.{contents_of}
+use Rattle.holdings.specs.Inner.Links.{links_of}
 use Rattle.holdings.specs.Inner.Sound.{AreSound}
 use Rattle.holdings.proofs.Phases.MapPhase.{new_linkable, stores_distinct, stores_can, mapped_sound, are_mapped}
 use Rattle.holdings.proofs.holdings.Holdings.map.Goals as goal
@@ -13,10 +14,10 @@ links-requires-clause-distinct g c =
     stores_distinct c.held.inside.shards c.held.inside.trees.items c.held.invariant c.args.self (c.held.view_is ∙ c.with_targets-held.ensures) c.args.rights c.args.transfers.now c.requires.planned c.requires.ready
     c.in_ok-stores.stores.items c.in_ok-stores.ensures
 
-pub insert_links-requires : goal.insert_links-requires
-insert_links-requires g c =
+pub link_all-requires-clause-linkable : goal.link_all-requires-clause-linkable
+link_all-requires-clause-linkable g c =
     new_linkable c.held.inside.shards c.held.inside.trees.items c.held.invariant c.args.self (c.held.view_is ∙ c.with_targets-held.ensures) c.args.rights c.args.transfers.now c.requires.planned c.requires.ready
-    c.deref_mut.result.now c.deref_mut.ensures.value c.deref.result.now (c.deref.ensures.value ∙ c.in_ok-new_mappings.ensures)
+    c.deref_mut.result.now c.deref_mut.ensures.value (links_of c.held.inside.shards c.args.transfers.now) refl
 
 pub write_phase-requires-clause-can : goal.write_phase-requires-clause-can
 write_phase-requires-clause-can g c =
@@ -25,18 +26,18 @@ write_phase-requires-clause-can g c =
 
 pub invariant_of-result : goal.invariant_of-result
 invariant_of-result g c =
-    let count : length c.insert_links.new.trees ≡ c.held.inside.trees.len = omega (arith, c.insert_links.auto.trees, ap length c.deref_mut.ensures.value, c.held.inside.trees.ok.0) in
-    subst (AreSound c.write_phase.new.shards) (sym (with_items_is c.held.inside.trees c.insert_links.new.trees count))
+    let count : length c.link_all.new.trees ≡ c.held.inside.trees.len = omega (arith, c.link_all.auto.trees, ap length c.deref_mut.ensures.value, c.held.inside.trees.ok.0) in
+    subst (AreSound c.write_phase.new.shards) (sym (with_items_is c.held.inside.trees c.link_all.new.trees count))
     (mapped_sound c.held.inside.shards c.held.inside.trees.items c.held.invariant c.args.self (c.held.view_is ∙ c.with_targets-held.ensures) c.args.rights c.args.transfers.now c.requires.planned c.requires.ready
     c.in_ok-stores.stores.items c.in_ok-stores.ensures c.piece_length.result c.piece_length.ensures c.in_ok-pieces.pieces.items c.in_ok-pieces.ensures
-    c.deref.result.now (c.deref.ensures.value ∙ c.in_ok-new_mappings.ensures) c.deref_mut.result.now c.deref_mut.ensures.value c.insert_links.new.trees c.in_ok-insert_links.ensures
+    (links_of c.held.inside.shards c.args.transfers.now) refl c.deref_mut.result.now c.deref_mut.ensures.value c.link_all.new.trees c.in_ok-link_all.ensures
     c.write_phase.new.shards c.in_ok-write_phase.ensures)
 
 pub returns : goal.returns
 returns g c =
-    let count : length c.insert_links.new.trees ≡ c.held.inside.trees.len = omega (arith, c.insert_links.auto.trees, ap length c.deref_mut.ensures.value, c.held.inside.trees.ok.0) in
-    subst (λ (now : List Shape). AreMapped c.args.self c.args.transfers.now c.args.rights (contents_of c.write_phase.new.shards now, c.of_all-counts.result)) (sym (with_items_is c.held.inside.trees c.insert_links.new.trees count))
+    let count : length c.link_all.new.trees ≡ c.held.inside.trees.len = omega (arith, c.link_all.auto.trees, ap length c.deref_mut.ensures.value, c.held.inside.trees.ok.0) in
+    subst (λ (now : List Shape). AreMapped c.args.self c.args.transfers.now c.args.rights (contents_of c.write_phase.new.shards now, c.of_all-counts.result)) (sym (with_items_is c.held.inside.trees c.link_all.new.trees count))
     (are_mapped c.held.inside.shards c.held.inside.trees.items c.held.invariant c.args.self (c.held.view_is ∙ c.with_targets-held.ensures) c.args.rights c.args.transfers.now c.requires.planned c.requires.ready
     c.in_ok-stores.stores.items c.in_ok-stores.ensures c.piece_length.result c.piece_length.ensures c.in_ok-pieces.pieces.items c.in_ok-pieces.ensures
-    c.deref.result.now (c.deref.ensures.value ∙ c.in_ok-new_mappings.ensures) c.deref_mut.result.now c.deref_mut.ensures.value c.insert_links.new.trees c.in_ok-insert_links.ensures
+    (links_of c.held.inside.shards c.args.transfers.now) refl c.deref_mut.result.now c.deref_mut.ensures.value c.link_all.new.trees c.in_ok-link_all.ensures
     c.write_phase.new.shards c.in_ok-write_phase.ensures c.of_all-counts.result c.of_all-counts.ensures)

@@ -1,25 +1,24 @@
 -- The trees first, and then word by word.
-use Rattle.std.proofs.Common.{◌≡◌, ◌+◌, List, length, sym, ap, ◌∙◌, subst, arith}
+use Rattle.std.proofs.Common.{◌≡◌, ◌+◌, List, length, sym, ap, subst, arith}
 use Rattle.std.specs.Vec.{with_items}
 use Rattle.std.proofs.lemmas.List.{with_items_is}
 use Rattle.maptree.specs.Origins.{Shape}
 use Rattle.model.specs.SendLaws.{total}
 use Rattle.holdings.specs.Contents.{Contents}
 use Rattle.holdings.specs.Meaning.{counts_of}
-use Rattle.holdings.specs.Inner.Links.{AreLinkable, AreLinked}
+use Rattle.holdings.specs.Inner.Links.{AreLinkable, AreLinked, links_of}
 use Rattle.holdings.specs.Sending.{ArePlanned, AreReady}
 use Rattle.holdings.specs.Inner.Held.{limits_in, holdings_in}
 use Rattle.holdings.proofs.Maps.MapWords.{AreAhead, linkable, none_ahead, one_page, one_counts, all_counted, all_left, all_sound, all_limits}
 use Rattle.holdings.proofs.holdings.Holdings.map_alone.Goals as goal
 
-pub insert_links-requires : goal.insert_links-requires
-insert_links-requires c =
+pub link_all-requires-clause-linkable : goal.link_all-requires-clause-linkable
+link_all-requires-clause-linkable c =
     let s = c.self.inside.shards in
     let t = c.self.inside.trees.items in
     let planned = subst (λ (h : Contents). ArePlanned h.limits c.args.transfers.now) (sym c.self.view_is) c.requires.planned in
     let ready = subst (λ (h : Contents). AreReady h.holdings c.args.rights c.args.transfers.now) (sym c.self.view_is) c.requires.ready in
-    subst (λ (ts : List Shape). AreLinkable ts c.deref.result.now) (sym c.deref_mut.ensures.value)
-    (subst (AreLinkable t) (sym (c.deref.ensures.value ∙ c.in_ok-links.ensures)) (linkable s t c.self.invariant c.args.rights c.args.transfers.now planned ready))
+    subst (λ (ts : List Shape). AreLinkable ts (links_of s c.args.transfers.now)) (sym c.deref_mut.ensures.value) (linkable s t c.self.invariant c.args.rights c.args.transfers.now planned ready)
 
 pub loop-transfer-init : goal.loop-transfer-init
 loop-transfer-init c =
@@ -27,13 +26,13 @@ loop-transfer-init c =
     let t = c.self.inside.trees.items in
     let planned = subst (λ (h : Contents). ArePlanned h.limits c.args.transfers.now) (sym c.self.view_is) c.requires.planned in
     let ready = subst (λ (h : Contents). AreReady h.holdings c.args.rights c.args.transfers.now) (sym c.self.view_is) c.requires.ready in
-    let linked : AreLinked _ t c.insert_links.new.trees = subst (λ ls. AreLinked ls t c.insert_links.new.trees) (c.deref.ensures.value ∙ c.in_ok-links.ensures)
-    (subst (λ (ts : List Shape). AreLinked c.deref.result.now ts c.insert_links.new.trees) c.deref_mut.ensures.value c.in_ok-insert_links.ensures) in
-    let count : length c.insert_links.new.trees ≡ c.self.inside.trees.len = omega (arith, c.insert_links.auto.trees, ap length c.deref_mut.ensures.value, c.self.inside.trees.ok.0) in
-    subst (λ (h : Contents). AreAhead s h.limits h.holdings c.args.rights c.args.transfers.now 0 s (with_items c.self.inside.trees c.insert_links.new.trees).items (counts_of c.none-worked.result)) c.self.view_is
-    (subst (λ ts. AreAhead s (limits_in s t) (holdings_in s t) c.args.rights c.args.transfers.now 0 s ts (counts_of c.none-worked.result)) (sym (with_items_is c.self.inside.trees c.insert_links.new.trees count))
-    (subst (AreAhead s (limits_in s t) (holdings_in s t) c.args.rights c.args.transfers.now 0 s c.insert_links.new.trees) (sym c.none-worked.ensures)
-    (none_ahead s t c.self.invariant c.args.rights c.args.transfers.now planned ready c.insert_links.new.trees linked)))
+    let linked : AreLinked (links_of s c.args.transfers.now) t c.link_all.new.trees =
+    subst (λ (ts : List Shape). AreLinked (links_of s c.args.transfers.now) ts c.link_all.new.trees) c.deref_mut.ensures.value c.in_ok-link_all.ensures in
+    let count : length c.link_all.new.trees ≡ c.self.inside.trees.len = omega (arith, c.link_all.auto.trees, ap length c.deref_mut.ensures.value, c.self.inside.trees.ok.0) in
+    subst (λ (h : Contents). AreAhead s h.limits h.holdings c.args.rights c.args.transfers.now 0 s (with_items c.self.inside.trees c.link_all.new.trees).items (counts_of c.none-worked.result)) c.self.view_is
+    (subst (λ ts. AreAhead s (limits_in s t) (holdings_in s t) c.args.rights c.args.transfers.now 0 s ts (counts_of c.none-worked.result)) (sym (with_items_is c.self.inside.trees c.link_all.new.trees count))
+    (subst (AreAhead s (limits_in s t) (holdings_in s t) c.args.rights c.args.transfers.now 0 s c.link_all.new.trees) (sym c.none-worked.ensures)
+    (none_ahead s t c.self.invariant c.args.rights c.args.transfers.now planned ready c.link_all.new.trees linked)))
 
 pub plus-worked-requires : goal.plus-worked-requires
 plus-worked-requires c =
@@ -41,7 +40,7 @@ plus-worked-requires c =
     let t = c.self.inside.trees.items in
     let planned = subst (λ (h : Contents). ArePlanned h.limits c.args.transfers.now) (sym c.self.view_is) c.requires.planned in
     let ready = subst (λ (h : Contents). AreReady h.holdings c.args.rights c.args.transfers.now) (sym c.self.view_is) c.requires.ready in
-    let after = (with_items c.self.inside.trees c.insert_links.new.trees).items in
+    let after = (with_items c.self.inside.trees c.link_all.new.trees).items in
     let so_far = subst (λ (h : Contents). AreAhead s h.limits h.holdings c.args.rights c.args.transfers.now c.loop-transfer.transfer-index c.loop-transfer.shards after (counts_of c.loop-transfer.worked)) (sym c.self.view_is) c.loop-transfer.invariant in
     let one : total (counts_of c.map_page-one.result) ≡ 1 =
     one_counts s t c.args.rights c.args.transfers.now c.loop-transfer.transfer-index c.loop-transfer-test.true c.loop-transfer.shards after (counts_of c.loop-transfer.worked)
@@ -54,7 +53,7 @@ loop-transfer-preserved c =
     let t = c.self.inside.trees.items in
     let planned = subst (λ (h : Contents). ArePlanned h.limits c.args.transfers.now) (sym c.self.view_is) c.requires.planned in
     let ready = subst (λ (h : Contents). AreReady h.holdings c.args.rights c.args.transfers.now) (sym c.self.view_is) c.requires.ready in
-    let after = (with_items c.self.inside.trees c.insert_links.new.trees).items in
+    let after = (with_items c.self.inside.trees c.link_all.new.trees).items in
     let so_far = subst (λ (h : Contents). AreAhead s h.limits h.holdings c.args.rights c.args.transfers.now c.loop-transfer.transfer-index c.loop-transfer.shards after (counts_of c.loop-transfer.worked)) (sym c.self.view_is) c.loop-transfer.invariant in
     subst (λ (h : Contents). AreAhead s h.limits h.holdings c.args.rights c.args.transfers.now (c.loop-transfer.transfer-index + 1) c.map_page-one.new.shards after (counts_of c.plus-worked.result)) c.self.view_is
     (subst (AreAhead s (limits_in s t) (holdings_in s t) c.args.rights c.args.transfers.now (c.loop-transfer.transfer-index + 1) c.map_page-one.new.shards after) (sym c.plus-worked.ensures)
