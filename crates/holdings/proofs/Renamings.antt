@@ -2,3 +2,4 @@
 pub mod MovedPages
 pub mod MovingWords
 pub mod MovingTrees
+pub mod OneLink

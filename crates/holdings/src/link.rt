@@ -46,7 +46,7 @@ pub fn link_all(
 }
 
 /// The link of a transfer, if it goes and its source is held, as the words stand.
-fn new_link(shards: &Shards, transfer: Transfer) -> Option<Link>
+pub fn new_link(shards: &Shards, transfer: Transfer) -> Option<Link>
     requires present { IsFalse (is_taken shards.now) }
     requires source { IsPlace shards.now transfer.source }
     ensures { option_to_list result ≡ links_of shards.now (transfer ∷ []) }

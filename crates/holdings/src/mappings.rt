@@ -61,6 +61,28 @@ impl<'a> Mappings<'a> {
         len
     }
 
+    /// How many mappings a space has, for which room is made.
+    pub fn len_of(&self, space: u16) -> usize {
+        let limits = self.limits();
+        if u32::from(space) >= limits.spaces {
+            return 0;
+        }
+        let pages = 1 << (limits.bits - 12);
+        let mut len: usize = 0;
+        let mut place = Place { space, page: 0 };
+        while place.page < pages {
+            if place.page % SHARD_PAGES == 0 && !self.shards.has(place) {
+                place.page += SHARD_PAGES;
+            } else {
+                if self.shards.get(place).is_some() {
+                    len = len.saturating_add(1);
+                }
+                place.page += 1;
+            }
+        }
+        len
+    }
+
     /// What a page holds. Takes no search.
     pub fn at(&self, place: Place) -> Option<Mapping>
         requires { IsWithin self.now.limits place }

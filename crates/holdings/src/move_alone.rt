@@ -1,8 +1,7 @@
 //! Pages that move to other places, moved by the calling thread alone: one word after another, in place.
 
 use crate::holdings::Holdings;
-use crate::link::new_links;
-use crate::renaming::rename_links;
+use crate::renaming::rename_all;
 use crate::transfer::Transfer;
 use crate::transfer_counts::TransferCounts;
 use fpage::Rights;
@@ -32,8 +31,7 @@ impl Holdings {
             mut shards,
             mut trees,
         } = self;
-        let links = new_links(alloc, &shards, transfers)?;
-        rename_links(alloc, &mut trees, links)?;
+        rename_all(alloc, &shards, &mut trees, transfers)?;
         let mut worked = TransferCounts::none();
         for transfer in transfers {
             let one = move_page(&mut shards, transfer.source, transfer.target);

@@ -1,9 +1,8 @@
 //! Pages that move to other places, with all that derives from them.
 
 use crate::holdings::Holdings;
-use crate::link::new_links;
 use crate::phase::is_worked_alone;
-use crate::renaming::rename_links;
+use crate::renaming::rename_all;
 use crate::transfer::Transfer;
 use crate::transfer_counts::TransferCounts;
 use crate::writes::write_phase;
@@ -45,8 +44,7 @@ impl Holdings {
         let counts = TransferCounts::of_all(&shards, transfers);
         let pairs = pairs(alloc, &shards, transfers)?;
         let pieces = moves(alloc, pairs, workers.piece_length())?;
-        let links = new_links(alloc, &shards, transfers)?;
-        rename_links(alloc, &mut trees, links)?;
+        rename_all(alloc, &shards, &mut trees, transfers)?;
         write_phase(alloc, &mut shards, pieces, workers)?;
         Ok((Holdings { shards, trees }, counts))
     }

@@ -1,20 +1,53 @@
 //! Pages that move, in the trees: those of one frame in one pass.
 
-ghost use Rattle.std.specs.Prelude.{None, OnOk};
-ghost use Rattle.holdings.specs.Inner.Links.{last_target};
+ghost use Rattle.std.specs.Prelude.{◌∷◌, [], None, OnOk, IsFalse};
+ghost use Rattle.std.specs.List.{All};
+ghost use Rattle.space.specs.Shards.{IsPlace, is_taken};
+ghost use Rattle.holdings.specs.Inner.Links.{last_target, links_of};
 ghost use Rattle.holdings.specs.Inner.Renamings.{AreMovable, AreRenamed};
 
-use crate::link::Link;
+use crate::link::{Link, new_link, new_links};
+use crate::transfer::Transfer;
+use crate::tree::replace;
 use maptree::{PlaceMap, Tree};
+use space::Shards;
 use std::alloc::{AllocError, Global};
 
-/// Replaces each source by its target in the trees, as a place and as an origin. A tree is passed over once, however many of
-/// its places move.
-pub fn rename_links(
+/// Replaces the source of each transfer that goes, and whose source is held, by its target in the trees, as a place and as an
+/// origin.
+pub fn rename_all(
     alloc: Global,
+    shards: &Shards,
     trees: &mut [Tree],
-    mut links: Vec<Link>,
+    transfers: &[Transfer],
 ) -> Result<(), AllocError>
+    requires present { IsFalse (is_taken shards.now) }
+    requires places { All (λ t. IsPlace shards.now t.source) transfers.now }
+    requires movable { AreMovable trees.old (links_of shards.now transfers.now) }
+    ensures { OnOk result (AreRenamed (λ p. last_target (links_of shards.now transfers.now) p None) (links_of shards.now transfers.now) trees.old trees.new) }
+{
+    if let [transfer] = transfers {
+        // A list and a map of one link would cost more than the link.
+        if let Some(link) = new_link(shards, *transfer) {
+            rename_link(trees, link);
+        }
+        return Ok(());
+    }
+    let links = new_links(alloc, shards, transfers)?;
+    rename_links(alloc, trees, links)
+}
+
+/// Replaces the source of a link by its target in the tree of its frame.
+fn rename_link(trees: &mut [Tree], link: Link)
+    requires { AreMovable trees.old (link ∷ []) }
+    ensures { AreRenamed (λ p. last_target (link ∷ []) p None) (link ∷ []) trees.old trees.new }
+{
+    let tree = &mut trees[link.frame as usize];
+    replace(tree, link.source, link.target);
+}
+
+/// Replaces each source by its target in the trees. A tree is passed over once, however many of its places move.
+fn rename_links(alloc: Global, trees: &mut [Tree], mut links: Vec<Link>) -> Result<(), AllocError>
     requires { AreMovable trees.old links.items }
     ensures { OnOk result (AreRenamed (λ p. last_target links.items p None) links.items trees.old trees.new) }
 {
@@ -34,7 +67,6 @@ pub fn rename_links(
 }
 
 ghost use Rattle.std.specs.Prelude.{◌≡◌, ◌≤◌, IfOk};
-ghost use Rattle.std.specs.List.{All};
 ghost use Rattle.maptree.specs.PlaceMaps.{place_for};
 ghost use Rattle.holdings.specs.Inner.Links.{AreTargets};
 

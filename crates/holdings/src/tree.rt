@@ -1,7 +1,7 @@
 //! The derivation tree of a frame.
 
 ghost use Rattle.std.specs.Prelude.{◌≡◌, true, false, OnOk, OnErr};
-ghost use Rattle.maptree.specs.Origins.{origin_in};
+ghost use Rattle.maptree.specs.Origins.{origin_in, renamed};
 ghost use Rattle.holdings.specs.Inner.Derivation.{stands_in, IsDerived};
 
 use maptree::Tree;
@@ -29,4 +29,14 @@ pub fn derive(tree: &mut Tree, origin: Place, place: Place) -> Result<(), NoMemo
     let i = tree.find(origin).unwrap();
     tree.insert_below(i, place);
     Ok(())
+}
+
+/// Replaces a place of the tree by another, as a place and as an origin.
+pub fn replace(tree: &mut Tree, source: Place, target: Place)
+    requires source { stands_in tree.old.links source ≡ true }
+    requires target { stands_in tree.old.links target ≡ false }
+    ensures { tree.new.links ≡ renamed source target tree.old.links }
+{
+    let i = tree.find(source).unwrap();
+    tree.rename(i, target);
 }

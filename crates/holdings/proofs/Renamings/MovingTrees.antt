@@ -285,6 +285,8 @@ module _ (limits : Limits) (old : Shards) (trees : List Shape) (sound : IsSound 
     targets = each_link (λ t. (t.source.space ≡ planned.from) × (t.target.space ≡ planned.to)) (λ l. l.target.space ≡ planned.from → ⊥) (λ t e _ spaces same. planned.differ (sym same ∙ spaces.1)) ts (spaces_all planned.from planned.to ts planned.paired);
     frames = each_link (IsTransferWithin limits) (λ l. l.frame < length trees)
         (λ t e is w. subst (λ n. e.frame < n) count (sound.kept.fits.frame t.source e (record { space = w.source_space; page = w.source_page }) is)) ts planned.within;
+    there = each_link (IsTransferWithin limits) (λ l. is_listed trees l.frame l.source ≡ true)
+        (λ t e is w. sound.kept.fits.listed t.source e (record { space = w.source_space; page = w.source_page }) is) ts planned.within;
     apart = λ f. subst (λ n. StayApart n (links_in trees f)) (sym targets_told) (stay_apart limits old trees planned.from planned.to (moving_of h ts) sound pairs pairs_free f);
   }
 

@@ -10,7 +10,7 @@ use Rattle.space.specs.declared.shards.Shards.{Shards}
 use Rattle.maptree.specs.Origins.{Shape}
 use Rattle.maptree.specs.Renamings.{all_renamed, StayApart}
 use Rattle.model.specs.Items.{counts_of, Counts, goes}
-use Rattle.holdings.specs.Inner.Held.{links_in}
+use Rattle.holdings.specs.Inner.Held.{links_in, is_listed}
 use Rattle.holdings.specs.Inner.Links.{last_target}
 use Rattle.holdings.specs.declared.link.Link.{Link}
 
@@ -18,12 +18,13 @@ use Rattle.holdings.specs.declared.link.Link.{Link}
 abbrev pub is_of_frame : List Link → ℕ → Bool
 is_of_frame ls f = list_any (λ l. l.frame == f) ls
 
--- in trees each source can become its target: no two places of a tree become one
+-- in trees each source, which stands in that of its frame, can become its target: no two places of a tree become one
 pub record AreMovable (trees : List Shape) (ls : List Link) : Type 0 where
   pub space : ℕ
   pub sources : All (λ l. l.source.space ≡ space) ls
   pub targets : All (λ l. l.target.space ≡ space → ⊥) ls
   pub frames : All (λ l. l.frame < length trees) ls
+  pub there : All (λ l. is_listed trees l.frame l.source ≡ true) ls
   pub apart : (f : ℕ) → StayApart (λ p. last_target ls p None) (links_in trees f)
 
 -- places were replaced in the trees of these frames

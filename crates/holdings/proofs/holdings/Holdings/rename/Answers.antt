@@ -1,9 +1,10 @@
 -- The targets have words in use; pairs are planned, the trees renamed, and the words written.
-use Rattle.std.proofs.Common.{◌≡◌, ◌∙◌, List, length, sym, ap, subst, arith}
+use Rattle.std.proofs.Common.{◌≡◌, ◌∙◌, List, length, refl, sym, ap, subst, arith}
 use Rattle.std.proofs.lemmas.List.{with_items_is}
 use Rattle.maptree.specs.Origins.{Shape}
 use Rattle.holdings.specs.Contents.{AreMoved}
 use Rattle.holdings.specs.Inner.Held.{contents_of}
+use Rattle.holdings.specs.Inner.Links.{links_of}
 use Rattle.holdings.specs.Inner.Sound.{AreSound}
 use Rattle.holdings.proofs.Phases.MovePhase.{trees_movable, pairs_distinct, pairs_can, moved_sound, are_moved}
 use Rattle.holdings.proofs.holdings.Holdings.rename.Goals as goal
@@ -13,10 +14,10 @@ moves-requires-clause-distinct g c =
     pairs_distinct c.held.inside.shards c.held.inside.trees.items c.held.invariant c.args.self (c.held.view_is ∙ c.with_targets-held.ensures) c.args.transfers.now c.requires.planned c.requires.all_go c.requires.free
     c.in_ok-pairs.pairs.items c.in_ok-pairs.ensures
 
-pub rename_links-requires : goal.rename_links-requires
-rename_links-requires g c =
+pub rename_all-requires-clause-movable : goal.rename_all-requires-clause-movable
+rename_all-requires-clause-movable g c =
     trees_movable c.held.inside.shards c.held.inside.trees.items c.held.invariant c.args.self (c.held.view_is ∙ c.with_targets-held.ensures) c.args.transfers.now c.requires.planned c.requires.all_go c.requires.free
-    c.deref_mut.result.now c.deref_mut.ensures.value c.in_ok-links.links.items c.in_ok-links.ensures
+    c.deref_mut.result.now c.deref_mut.ensures.value (links_of c.held.inside.shards c.args.transfers.now) refl
 
 pub write_phase-requires-clause-can : goal.write_phase-requires-clause-can
 write_phase-requires-clause-can g c =
@@ -25,18 +26,18 @@ write_phase-requires-clause-can g c =
 
 pub invariant_of-result : goal.invariant_of-result
 invariant_of-result g c =
-    let count : length c.rename_links.new.trees ≡ c.held.inside.trees.len = omega (arith, c.rename_links.auto.trees, ap length c.deref_mut.ensures.value, c.held.inside.trees.ok.0) in
-    subst (AreSound c.write_phase.new.shards) (sym (with_items_is c.held.inside.trees c.rename_links.new.trees count))
+    let count : length c.rename_all.new.trees ≡ c.held.inside.trees.len = omega (arith, c.rename_all.auto.trees, ap length c.deref_mut.ensures.value, c.held.inside.trees.ok.0) in
+    subst (AreSound c.write_phase.new.shards) (sym (with_items_is c.held.inside.trees c.rename_all.new.trees count))
     (moved_sound c.held.inside.shards c.held.inside.trees.items c.held.invariant c.args.self (c.held.view_is ∙ c.with_targets-held.ensures) c.args.transfers.now c.requires.planned c.requires.all_go c.requires.free
     c.in_ok-pairs.pairs.items c.in_ok-pairs.ensures c.piece_length.result c.piece_length.ensures c.in_ok-pieces.pieces.items c.in_ok-pieces.ensures
-    c.in_ok-links.links.items c.in_ok-links.ensures c.deref_mut.result.now c.deref_mut.ensures.value c.rename_links.new.trees c.in_ok-rename_links.ensures
+    (links_of c.held.inside.shards c.args.transfers.now) refl c.deref_mut.result.now c.deref_mut.ensures.value c.rename_all.new.trees c.in_ok-rename_all.ensures
     c.write_phase.new.shards c.in_ok-write_phase.ensures)
 
 pub returns : goal.returns
 returns g c =
-    let count : length c.rename_links.new.trees ≡ c.held.inside.trees.len = omega (arith, c.rename_links.auto.trees, ap length c.deref_mut.ensures.value, c.held.inside.trees.ok.0) in
-    subst (λ (now : List Shape). AreMoved c.args.self c.args.transfers.now (contents_of c.write_phase.new.shards now, c.of_all-counts.result)) (sym (with_items_is c.held.inside.trees c.rename_links.new.trees count))
+    let count : length c.rename_all.new.trees ≡ c.held.inside.trees.len = omega (arith, c.rename_all.auto.trees, ap length c.deref_mut.ensures.value, c.held.inside.trees.ok.0) in
+    subst (λ (now : List Shape). AreMoved c.args.self c.args.transfers.now (contents_of c.write_phase.new.shards now, c.of_all-counts.result)) (sym (with_items_is c.held.inside.trees c.rename_all.new.trees count))
     (are_moved c.held.inside.shards c.held.inside.trees.items c.held.invariant c.args.self (c.held.view_is ∙ c.with_targets-held.ensures) c.args.transfers.now c.requires.planned c.requires.all_go c.requires.free
     c.in_ok-pairs.pairs.items c.in_ok-pairs.ensures c.piece_length.result c.piece_length.ensures c.in_ok-pieces.pieces.items c.in_ok-pieces.ensures
-    c.in_ok-links.links.items c.in_ok-links.ensures c.deref_mut.result.now c.deref_mut.ensures.value c.rename_links.new.trees c.in_ok-rename_links.ensures
+    (links_of c.held.inside.shards c.args.transfers.now) refl c.deref_mut.result.now c.deref_mut.ensures.value c.rename_all.new.trees c.in_ok-rename_all.ensures
     c.write_phase.new.shards c.in_ok-write_phase.ensures c.of_all-counts.result c.of_all-counts.ensures)

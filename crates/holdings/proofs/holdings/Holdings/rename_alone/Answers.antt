@@ -1,5 +1,5 @@
 -- The trees first, and then word by word.
-use Rattle.std.proofs.Common.{◌≡◌, ◌+◌, List, None, length, sym, ap, subst, arith}
+use Rattle.std.proofs.Common.{◌≡◌, ◌+◌, List, None, length, refl, sym, ap, subst, arith}
 use Rattle.std.proofs.lemmas.List.{with_items_is}
 use Rattle.maptree.specs.Origins.{Shape}
 use Rattle.holdings.specs.Contents.{Contents, AreMoved}
@@ -7,23 +7,23 @@ use Rattle.holdings.specs.Inner.Held.{contents_of, limits_in, holdings_in}
 use Rattle.holdings.specs.Meaning.{counts_of}
 use Rattle.holdings.specs.Inner.Sound.{AreSound}
 use Rattle.holdings.specs.Sending.{ArePlanned, AreFree}
-use Rattle.holdings.specs.Inner.Links.{last_target}
+use Rattle.holdings.specs.Inner.Links.{last_target, links_of}
 use Rattle.holdings.specs.Inner.Renamings.{AreMovable, AreRenamed}
 use Rattle.holdings.proofs.Links.LinkedTrees.{no_transfer}
 use Rattle.holdings.proofs.Renamings.MovingWords.{AreMoving, none_moved, ends_apart, source_place, target_place, step, one_counts, all_moved}
 use Rattle.holdings.proofs.Renamings.MovingTrees.{movable, all_left, all_sound, same_limits}
 use Rattle.holdings.proofs.holdings.Holdings.rename_alone.Goals as goal
 
-pub rename_links-requires : goal.rename_links-requires
-rename_links-requires c =
+pub rename_all-requires-clause-movable : goal.rename_all-requires-clause-movable
+rename_all-requires-clause-movable c =
     let s = c.self.inside.shards in
     let t = c.self.inside.trees.items in
     let limits = limits_in s t in
     let ts = c.args.transfers.now in
     let planned = subst (λ (h : Contents). ArePlanned h.limits ts) (sym c.self.view_is) c.requires.planned in
     let free = subst (λ (h : Contents). AreFree h.holdings ts) (sym c.self.view_is) c.requires.free in
-    subst (λ (now : List Shape). AreMovable now c.in_ok-links.links.items) (sym c.deref_mut.ensures.value)
-    (subst (AreMovable t) (sym c.in_ok-links.ensures) (movable limits s t c.self.invariant ts planned c.requires.all_go free (sym c.self.invariant.kept.fits.count)))
+    subst (λ (now : List Shape). AreMovable now (links_of s ts)) (sym c.deref_mut.ensures.value)
+    (movable limits s t c.self.invariant ts planned c.requires.all_go free (sym c.self.invariant.kept.fits.count))
 
 pub loop-transfer-init : goal.loop-transfer-init
 loop-transfer-init c =
@@ -105,10 +105,10 @@ invariant_of-result c =
     let free = subst (λ (h : Contents). AreFree h.holdings ts) (sym c.self.view_is) c.requires.free in
     let so_far = subst (λ (h : Contents). AreMoving h.limits h.holdings s ts c.loop-transfer.transfer-index c.loop-transfer.shards (counts_of c.loop-transfer.worked)) (sym c.self.view_is) c.loop-transfer.invariant in
     let all = all_moved limits (holdings_in s t) s ts c.loop-transfer.transfer-index c.loop-transfer.shards (counts_of c.loop-transfer.worked) c.loop-transfer-test.false so_far in
-    let renamed = subst (λ (now : List Shape). AreRenamed (λ p. last_target c.in_ok-links.links.items p None) c.in_ok-links.links.items now c.rename_links.new.trees) c.deref_mut.ensures.value c.in_ok-rename_links.ensures in
-    let count : length c.rename_links.new.trees ≡ c.self.inside.trees.len = omega (arith, c.rename_links.auto.trees, ap length c.deref_mut.ensures.value, c.self.inside.trees.ok.0) in
-    let same = with_items_is c.self.inside.trees c.rename_links.new.trees count in
-    subst (AreSound c.loop-transfer.shards) (sym same) (all_sound s t c.self.invariant ts planned c.requires.all_go free c.loop-transfer.shards c.rename_links.new.trees c.in_ok-links.links.items c.in_ok-links.ensures renamed all.0)
+    let renamed = subst (λ (now : List Shape). AreRenamed (λ p. last_target (links_of s ts) p None) (links_of s ts) now c.rename_all.new.trees) c.deref_mut.ensures.value c.in_ok-rename_all.ensures in
+    let count : length c.rename_all.new.trees ≡ c.self.inside.trees.len = omega (arith, c.rename_all.auto.trees, ap length c.deref_mut.ensures.value, c.self.inside.trees.ok.0) in
+    let same = with_items_is c.self.inside.trees c.rename_all.new.trees count in
+    subst (AreSound c.loop-transfer.shards) (sym same) (all_sound s t c.self.invariant ts planned c.requires.all_go free c.loop-transfer.shards c.rename_all.new.trees (links_of s ts) refl renamed all.0)
 
 pub returns : goal.returns
 returns c =
@@ -120,11 +120,11 @@ returns c =
     let free = subst (λ (h : Contents). AreFree h.holdings ts) (sym c.self.view_is) c.requires.free in
     let so_far = subst (λ (h : Contents). AreMoving h.limits h.holdings s ts c.loop-transfer.transfer-index c.loop-transfer.shards (counts_of c.loop-transfer.worked)) (sym c.self.view_is) c.loop-transfer.invariant in
     let all = all_moved limits (holdings_in s t) s ts c.loop-transfer.transfer-index c.loop-transfer.shards (counts_of c.loop-transfer.worked) c.loop-transfer-test.false so_far in
-    let renamed = subst (λ (now : List Shape). AreRenamed (λ p. last_target c.in_ok-links.links.items p None) c.in_ok-links.links.items now c.rename_links.new.trees) c.deref_mut.ensures.value c.in_ok-rename_links.ensures in
-    let count : length c.rename_links.new.trees ≡ c.self.inside.trees.len = omega (arith, c.rename_links.auto.trees, ap length c.deref_mut.ensures.value, c.self.inside.trees.ok.0) in
-    let same = with_items_is c.self.inside.trees c.rename_links.new.trees count in
-    let left = all_left s t c.self.invariant ts planned c.requires.all_go free c.loop-transfer.shards c.rename_links.new.trees c.in_ok-links.links.items c.in_ok-links.ensures renamed all.0 in
-    let kept = same_limits s t c.self.invariant ts planned c.requires.all_go free c.loop-transfer.shards c.rename_links.new.trees c.in_ok-links.links.items c.in_ok-links.ensures renamed all.0 in
+    let renamed = subst (λ (now : List Shape). AreRenamed (λ p. last_target (links_of s ts) p None) (links_of s ts) now c.rename_all.new.trees) c.deref_mut.ensures.value c.in_ok-rename_all.ensures in
+    let count : length c.rename_all.new.trees ≡ c.self.inside.trees.len = omega (arith, c.rename_all.auto.trees, ap length c.deref_mut.ensures.value, c.self.inside.trees.ok.0) in
+    let same = with_items_is c.self.inside.trees c.rename_all.new.trees count in
+    let left = all_left s t c.self.invariant ts planned c.requires.all_go free c.loop-transfer.shards c.rename_all.new.trees (links_of s ts) refl renamed all.0 in
+    let kept = same_limits s t c.self.invariant ts planned c.requires.all_go free c.loop-transfer.shards c.rename_all.new.trees (links_of s ts) refl renamed all.0 in
     subst (λ (now : List Shape). AreMoved c.args.self ts (contents_of c.loop-transfer.shards now, c.loop-transfer.worked)) (sym same)
-    (subst (λ (old : Contents). AreMoved old ts (contents_of c.loop-transfer.shards c.rename_links.new.trees, c.loop-transfer.worked)) c.self.view_is
+    (subst (λ (old : Contents). AreMoved old ts (contents_of c.loop-transfer.shards c.rename_all.new.trees, c.loop-transfer.worked)) c.self.view_is
     (record { left = λ i. record { limits = kept i; holdings = left i }; counted = all.1 }))
