@@ -154,7 +154,8 @@ fn space_texts(
 fn space_text(alloc: Global, mappings: &Mappings<'_>, space: u16) -> Result<String, AllocError>
     ensures { IsTextOf (held_from mappings.now space 0) result }
 {
-    let mut text = String::new(alloc);
+    let room = mappings.len_of(space).saturating_mul(LINE);
+    let mut text = String::with_capacity(alloc, room)?;
     let mut from = Place { space, page: 0 };
     while let Some(line) = mappings.next_from(from) {
         push_line(&mut text, &line)?;

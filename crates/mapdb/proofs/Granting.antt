@@ -1,6 +1,5 @@
 -- The strip of the sources of a grant: each that was held is still held.
-use Rattle.std.specs.Prelude.{Result, IfOk}
-use Rattle.std.proofs.Common.{◌≡◌, Ok, Err, subst, suc, true, false, Bool, ◌&&◌, ◌||◌, not, if◌then◌else◌, [], ◌∷◌, List, Option, Some, None, refl, sym, ap, ◌∙◌, arith, ◌⊎◌, inl, inr, get_or}
+use Rattle.std.proofs.Common.{◌≡◌, subst, suc, true, false, Bool, ◌&&◌, ◌||◌, not, if◌then◌else◌, [], ◌∷◌, List, Option, Some, None, refl, sym, ap, ◌∙◌, arith, ◌⊎◌, inl, inr, get_or}
 use Rattle.std.specs.List.{All}
 use Rattle.std.specs.Option.{is_some}
 use Rattle.std.proofs.lemmas.Bool.{or_right}
@@ -21,11 +20,11 @@ use Rattle.model.proofs.StripAt.{is_stripped}
 use Rattle.model.proofs.StripUnions.{strip_same}
 use Rattle.model.proofs.Flushes.{strip_absent}
 use Rattle.model.proofs.Grants.{without_withheld}
-use Rattle.fpage.specs.declared.item.ItemKind.TheVariants.{Grant}
-use Rattle.crew.specs.declared.error.CrewError.{CrewError}
+use Rattle.fpage.specs.declared.item.ItemKind.{ItemKind}
+use Rattle.fpage.specs.declared.item.ItemKind.TheVariants.{Map, Grant}
 use Rattle.holdings.specs.declared.transfer.Transfer.{Transfer}
 use Rattle.holdings.specs.declared.transfer_counts.TransferCounts.{TransferCounts}
-use Rattle.holdings.specs.Contents.{Contents, left_with, IsStripped, AreMoved}
+use Rattle.holdings.specs.Contents.{Contents, left_with, IsStripped, AreMapped, AreMoved}
 use Rattle.holdings.specs.Places.{any_of}
 use Rattle.mapdb.specs.declared.plan.End.TheVariants.{Source}
 use Rattle.holdings.specs.Sending.{pair_of, fate_in, AllGo, IsReady, moving_of, counts_after_flush}
@@ -118,9 +117,8 @@ module _ (old : Contents) (lawful : is_lawful old.holdings ≡ true) (rights : R
       (after_strip_free old.holdings (lawful_parts old.holdings lawful) rights (sources_of (moving_of old.holdings ts)) ts go ready)
 
   -- what was moved then is what the definition moves
-  pub moved_after : All (IsReady old.holdings rights) ts → (r : Result (Contents × TransferCounts) CrewError) → IfOk r (AreMoved now ts) → IfOk r (AreWorkedBy old Grant rights ts)
-  moved_after ready (Err e) moved = tt
-  moved_after ready (Ok r) moved =
+  pub moved_after : All (IsReady old.holdings rights) ts → (r : Contents × TransferCounts) → AreMoved now ts r → AreWorkedBy old Grant rights ts r
+  moved_after ready r moved =
       let h = old.holdings in
       let l = lawful_parts h lawful in
       let left = strip h (sources_of (moving_of h ts)) (without all_rights rights) true in
@@ -128,3 +126,14 @@ module _ (old : Contents) (lawful : is_lawful old.holdings ≡ true) (rights : R
         left = moved.left ∙ ap (λ (g : Contents). left_with g (renamed (moving_of g.holdings ts) g.holdings)) sources_stripped ∙ ap (λ es. left_with old (renamed es left)) (after_strip_moving h l rights ts ready);
         counted = moved.counted ∙ ap (λ (g : Contents). counts_after_flush g.holdings ts) sources_stripped ∙ after_strip_worked h l rights ts ready;
       }
+
+-- what was mapped is what the definition maps
+pub mapped_after : (old : Contents) (rights : Rights) (ts : List Transfer) (r : Contents × TransferCounts) → AreMapped old ts rights r → AreWorkedBy old Map rights ts r
+mapped_after old rights ts r mapped = record { left = mapped.left; counted = mapped.counted }
+
+-- either, by the kind of the item
+pub worked_as : (old : Contents) (kind k : ItemKind) (rights : Rights) (us ts : List Transfer) (r x : Contents × TransferCounts) → kind ≡ k → us ≡ ts → x ≡ r → AreWorkedBy old k rights us r → AreWorkedBy old kind rights ts x
+worked_as old kind k rights us ts r x kind_is us_are x_is worked =
+    subst (λ (y : Contents × TransferCounts). AreWorkedBy old kind rights ts y) (sym x_is)
+    (subst (λ (vs : List Transfer). AreWorkedBy old kind rights vs r) us_are
+    (subst (λ (j : ItemKind). AreWorkedBy old j rights us r) (sym kind_is) worked))

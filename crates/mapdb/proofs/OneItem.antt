@@ -1,6 +1,7 @@
 -- The phases of one item, one after another, are those of the definition.
 use Rattle.std.proofs.Common.{◌≡◌, ℕ, ◌+◌, ◌^◌, ◌<◌, true, List, sym, ap, ◌∙◌, subst, arith}
 use Rattle.fpage.specs.Rights.{all_rights}
+use Rattle.fpage.specs.declared.item.ItemKind.TheVariants.{Grant}
 use Rattle.fpage.specs.declared.rights.Rights.{Rights}
 use Rattle.space.specs.declared.place.Place.{Place}
 use Rattle.model.specs.Calls.{Limits}
@@ -18,11 +19,14 @@ use Rattle.holdings.specs.declared.transfer_counts.TransferCounts.{TransferCount
 use Rattle.holdings.specs.Contents.{Contents, left_with, IsConsistent, IsStripped}
 use Rattle.holdings.specs.Meaning as phase
 use Rattle.holdings.specs.Places.{any_of}
-use Rattle.holdings.specs.Sending.{job_of_pages, AreItemPages, ArePlanned, AreReady, counts_after_flush}
+use Rattle.holdings.specs.Sending.{job_of_pages, AreItemPages, ArePlanned, AllGo, AreReady, counts_after_flush}
 use Rattle.holdings.proofs.CountSums.{total_sum}
 use Rattle.mapdb.specs.declared.plan.End.TheVariants.{Target}
 use Rattle.mapdb.specs.Sending.{transfers_of, counts_before_flush, ends_of, after_flush, AreWorkedBy}
-use Rattle.mapdb.proofs.Phases.{is_job, flush_is, left_is, counts_are, total_is, are_planned, all_ready, few_pages}
+use Rattle.mapdb.proofs.Phases.{is_job, flush_is, left_is, counts_are, total_is, are_planned, all_ready, few_pages, grant_goes}
+
+abbrev pub the_transfers_of : Contents → ItemPages → List Transfer
+the_transfers_of old p = transfers_of old.holdings (job_of_pages p) (job_of_pages p).pairs
 
 module _ (old : Contents) (p : ItemPages) (consistent : IsConsistent old) (pages : AreItemPages old.limits p) where
   lawful : IsLawful old.holdings
@@ -81,8 +85,24 @@ module _ (old : Contents) (p : ItemPages) (consistent : IsConsistent old) (pages
 
 -- ---- the flush
 
+-- what the flush of an item left, and what is known of its transfers then
+pub record IsFlushed (old : Contents) (p : ItemPages) (ts : List Transfer) (now : Contents) : Type 0 where
+  pub left : now ≡ left_with old (strip old.holdings (ends_of Target (the_transfers_of old p)) all_rights true)
+  pub lawful_now : is_lawful now.holdings ≡ true
+  pub are_planned : ArePlanned now.limits ts
+  pub are_ready : AreReady now.holdings p.rights ts
+  pub all_go : p.kind ≡ Grant → AllGo ts
+
 -- the places that lost all their rights are the targets of the transfers that go
-pub flush_left : (old : Contents) (us ts : List Transfer) (places : List Place) (a : Rights) (r : Contents × Rights) → IsStripped old (any_of places) a true r → a ≡ all_rights
-    → ((p : Place) → any_of places p ≡ ends_of Target us p) → us ≡ ts → r.0 ≡ left_with old (strip old.holdings (ends_of Target ts) all_rights true)
-flush_left old us ts places a r is all targets same =
-    is.left ∙ (λ i. left_with old (strip old.holdings (λ p. targets p i) (all i) true)) ∙ ap (λ (vs : List Transfer). left_with old (strip old.holdings (ends_of Target vs) all_rights true)) same
+pub is_flushed : (old : Contents) (p : ItemPages) → IsConsistent old → AreItemPages old.limits p → (ts : List Transfer) → ts ≡ the_transfers_of old p → (places : List Place) → ((q : Place) → any_of places q ≡ ends_of Target ts q)
+    → (a : Rights) → a ≡ all_rights → (r : Contents × Rights) → IsStripped old (any_of places) a true r → IsFlushed old p ts r.0
+is_flushed old p consistent pages ts same places targets a all r is =
+    let left : r.0 ≡ left_with old (strip old.holdings (ends_of Target (the_transfers_of old p)) all_rights true) =
+    is.left ∙ (λ i. left_with old (strip old.holdings (λ q. targets q i) (all i) true)) ∙ ap (λ (us : List Transfer). left_with old (strip old.holdings (ends_of Target us) all_rights true)) same in
+    record {
+      left = left;
+      lawful_now = lawful_then old p consistent pages r.0 left;
+      are_planned = subst (ArePlanned r.0.limits) (sym same) (planned_then old p consistent pages r.0 left);
+      are_ready = subst (AreReady r.0.holdings p.rights) (sym same) (ready_then old p consistent pages r.0 left);
+      all_go = λ grants. subst AllGo (sym same) (grant_goes old.holdings (job_of_pages p) grants (job_of_pages p).pairs);
+    }

@@ -248,6 +248,32 @@ impl Database {
         ensures left { OnOk result (self.new ≡
             left_with self.old (unmap_left space control.flush fpages.now self.old.holdings)) }
     {
+        let mut status = Vec::new(alloc);
+        self.unmap_into(alloc, space, control, fpages, &mut status, workers)?;
+        Ok(status)
+    }
+
+    /// The same as `unmap`; the status of each word is put in place of what the list had, so that one list serves many calls.
+    ///
+    /// Refused as `unmap` is. Then the list has anything.
+    pub fn unmap_into<W: Workers>(
+        &mut self,
+        alloc: Global,
+        space: u16,
+        control: Control,
+        fpages: &[Fpage],
+        status: &mut Vec<Rights>,
+        workers: &W,
+    ) -> Result<(), DbError>
+        requires bits { All (IsFpageOf self.old.limits.bits) fpages.now }
+        ensures refused { IsRefused (unmap_refusal self.old space) self.old self.new result }
+        ensures no_memory { IsErrOf result NoMemory → self.new ≡ halted self.old }
+        ensures no_worker { IsErrOf result NoWorker → self.new ≡ halted self.old }
+        ensures status { OnOk result (
+            status.new.items ≡ unmap_status space control.flush fpages.now self.old.holdings) }
+        ensures left { OnOk result (self.new ≡
+            left_with self.old (unmap_left space control.flush fpages.now self.old.holdings)) }
+    {
         if self.held.is_none() {
             return Err(DbError::Halted);
         }
@@ -256,9 +282,9 @@ impl Database {
         }
         let held = self.held.take().unwrap();
         let flush = control.is_flush();
-        let (held, status) = unmap_words(alloc, held, space, flush, fpages, workers)?;
+        let held = unmap_words(alloc, held, space, flush, fpages, status, workers)?;
         self.held = Some(held);
-        Ok(status)
+        Ok(())
     }
 
     /// The same as `unmap`, by recursion on the calling thread: page by page of those that an fpage names and that are still

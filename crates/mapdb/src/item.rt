@@ -7,13 +7,12 @@ ghost use Rattle.model.specs.Answers.{item_answer, send_answer};
 ghost use Rattle.holdings.specs.Sending.{job_of_pages, AreItemPages};
 ghost use Rattle.mapdb.specs.Sending.{IsSent};
 
-use crate::grant::grant_pages;
 use crate::item_pages::item_pages;
 use crate::plan::{End, ends, plan_item, transfer_of};
 use crate::reply::SendReply;
 use crew::{CrewError, Workers};
 use fpage::{Fpage, Item, ItemKind, Rights};
-use holdings::{Holdings, ItemPages, Transfer, TransferCounts};
+use holdings::{Holdings, ItemPages, Transfer};
 use space::Place;
 use std::alloc::Global;
 
@@ -41,7 +40,11 @@ pub fn work_items<W: Workers>(
     let mut reply = SendReply::none();
     for item in items {
         let pages = item_pages(from, to, window, item);
-        let (left, worked) = work_item(alloc, held, &pages, workers)?;
+        let (left, worked) = if pages.count == 1 {
+            work_page(alloc, held, &pages, workers)?
+        } else {
+            work_item(alloc, held, &pages, workers)?
+        };
         held = left;
         reply = reply.plus(worked);
     }
@@ -52,8 +55,7 @@ ghost use Rattle.std.specs.Prelude.{◌^◌};
 ghost use Rattle.model.specs.SendLaws.{total};
 ghost use Rattle.mapdb.specs.Meaning.{counts_of};
 
-/// Works one item: the outcome of each page from the start; the flush of the targets that are replaced; then the pages
-/// whose sources are still held (profile).
+/// Works one item: the outcome of each page from the start, and then the phases.
 ///
 /// Refused, where memory or a worker is: `NoMemory`, `NoWorker`.
 fn work_item<W: Workers>(
@@ -66,23 +68,22 @@ fn work_item<W: Workers>(
     ensures sent { IfOk result (IsSent held (item_answer held.holdings (job_of_pages pages.now)).left (item_answer held.holdings (job_of_pages pages.now)).counts) }
     ensures few { IfOk result (λ r. total (counts_of r.1) < 2 ^ 32) }
 {
-    if pages.count == 1 {
-        return work_page(alloc, held, pages, workers);
-    }
     let plan = plan_item(alloc, &held, pages)?;
-    let replaced = ends(alloc, &plan.transfers, End::Target)?;
-    work_plan(
-        alloc,
-        held,
-        pages,
-        plan.decided,
-        &plan.transfers,
-        &replaced,
-        workers,
-    )
+    let targets = ends(alloc, &plan.transfers, End::Target)?;
+    let sources = match pages.kind {
+        ItemKind::Map => Vec::new(alloc),
+        ItemKind::Grant => ends(alloc, &plan.transfers, End::Source)?,
+    };
+    let phases = Phases {
+        decided: plan.decided,
+        transfers: &plan.transfers,
+        targets: &targets,
+        sources: &sources,
+    };
+    work_phases(alloc, held, pages, &phases, workers)
 }
 
-/// The same of one page, without lists.
+/// The same of an item of one page, without lists.
 ///
 /// Refused, where memory or a worker is: `NoMemory`, `NoWorker`.
 fn work_page<W: Workers>(
@@ -97,75 +98,84 @@ fn work_page<W: Workers>(
     ensures few { IfOk result (λ r. total (counts_of r.1) < 2 ^ 32) }
 {
     let outcome = held.outcome(pages);
-    let decided = SendReply::of_outcome(outcome);
+    let none = Phases {
+        decided: SendReply::of_outcome(outcome),
+        transfers: &[],
+        targets: &[],
+        sources: &[],
+    };
     match transfer_of(outcome, pages, 0) {
-        None => work_plan(alloc, held, pages, decided, &[], &[], workers),
+        None => work_phases(alloc, held, pages, &none, workers),
         Some(transfer) if transfer.extends => {
-            work_plan(alloc, held, pages, decided, &[transfer], &[], workers)
+            let transfers = [transfer];
+            let phases = Phases {
+                transfers: &transfers,
+                ..none
+            };
+            work_phases(alloc, held, pages, &phases, workers)
         }
         Some(transfer) => {
-            let replaced = [transfer.target];
-            work_plan(alloc, held, pages, decided, &[transfer], &replaced, workers)
+            let (transfers, targets, sources) = ([transfer], [transfer.target], [transfer.source]);
+            let phases = Phases {
+                transfers: &transfers,
+                targets: &targets,
+                sources: &sources,
+                ..none
+            };
+            work_phases(alloc, held, pages, &phases, workers)
         }
     }
 }
 
+/// What the phases of an item work, as it was decided from the start.
+#[derive(Clone, Copy)]
+struct Phases<'a> {
+    /// How many pages neither go nor extend.
+    decided: SendReply,
+    /// The others, in order.
+    transfers: &'a [Transfer],
+    /// The targets of those that go.
+    targets: &'a [Place],
+    /// The sources of those that go, where the item is a grant.
+    sources: &'a [Place],
+}
+
+ghost use Rattle.fpage.specs.declared.item.ItemKind.TheVariants.{Grant};
 ghost use Rattle.space.specs.declared.place.Place.{Place};
 ghost use Rattle.holdings.specs.Contents.{IsConsistent};
 ghost use Rattle.holdings.specs.Places.{any_of};
-ghost use Rattle.mapdb.specs.declared.plan.End.TheVariants.{Target};
+ghost use Rattle.mapdb.specs.declared.plan.End.TheVariants.{Source, Target};
 ghost use Rattle.mapdb.specs.Sending.{counts_before_flush, transfers_of, ends_of};
 
-/// Works what was planned for an item: the flush of the targets that are replaced, and then the transfers. So many pages were decided
-/// before.
+/// Works the phases of an item: the flush of the targets that are replaced; then those pages whose sources are still held (profile) are
+/// mapped, or lose what a grant withholds and move.
 ///
 /// Refused, where memory or a worker is: `NoMemory`, `NoWorker`.
-fn work_plan<W: Workers>(
+fn work_phases<W: Workers>(
     alloc: Global,
     held: Holdings,
     pages: &ItemPages,
-    decided: SendReply,
-    transfers: &[Transfer],
-    replaced: &[Place],
+    phases: &Phases<'_>,
     workers: &W,
 ) -> Result<(Holdings, SendReply), CrewError>
     requires pages { AreItemPages held.limits pages.now }
     requires consistent { IsConsistent held }
-    requires decided { counts_of decided ≡ counts_before_flush held.holdings (job_of_pages pages.now) (job_of_pages pages.now).pairs }
-    requires transfers { transfers.now ≡ transfers_of held.holdings (job_of_pages pages.now) (job_of_pages pages.now).pairs }
-    requires replaced { (p : Place) → any_of replaced.now p ≡ ends_of Target transfers.now p }
+    requires decided { counts_of phases.now.decided ≡ counts_before_flush held.holdings (job_of_pages pages.now) (job_of_pages pages.now).pairs }
+    requires transfers { phases.now.transfers.now ≡ transfers_of held.holdings (job_of_pages pages.now) (job_of_pages pages.now).pairs }
+    requires targets { (p : Place) → any_of phases.now.targets.now p ≡ ends_of Target phases.now.transfers.now p }
+    requires sources { pages.now.kind ≡ Grant → (p : Place) → any_of phases.now.sources.now p ≡ ends_of Source phases.now.transfers.now p }
     ensures sent { IfOk result (IsSent held (item_answer held.holdings (job_of_pages pages.now)).left (item_answer held.holdings (job_of_pages pages.now)).counts) }
     ensures few { IfOk result (λ r. total (counts_of r.1) < 2 ^ 32) }
 {
-    let (held, _) = held.strip(alloc, replaced, Rights::all(), true, workers)?;
-    let (held, worked) = map_or_grant(alloc, held, pages, transfers, workers)?;
-    Ok((held, decided.plus(SendReply::of_transfers(worked))))
-}
-
-ghost use Rattle.std.specs.Prelude.{true};
-ghost use Rattle.fpage.specs.declared.item.ItemKind.TheVariants.{Grant};
-ghost use Rattle.model.specs.Lawful.{is_lawful};
-ghost use Rattle.holdings.specs.Sending.{ArePlanned, AreReady, AllGo};
-ghost use Rattle.mapdb.specs.Sending.{AreWorkedBy};
-
-/// Works the pages whose sources are still held after the flush.
-///
-/// Refused, where memory or a worker is: `NoMemory`, `NoWorker`.
-fn map_or_grant<W: Workers>(
-    alloc: Global,
-    held: Holdings,
-    pages: &ItemPages,
-    transfers: &[Transfer],
-    workers: &W,
-) -> Result<(Holdings, TransferCounts), CrewError>
-    requires lawful { is_lawful held.holdings ≡ true }
-    requires planned { ArePlanned held.limits transfers.now }
-    requires all_go { pages.now.kind ≡ Grant → AllGo transfers.now }
-    requires ready { AreReady held.holdings pages.now.rights transfers.now }
-    ensures { IfOk result (AreWorkedBy held pages.now.kind pages.now.rights transfers.now) }
-{
-    match pages.kind {
-        ItemKind::Map => held.map(alloc, transfers, pages.rights, workers),
-        ItemKind::Grant => grant_pages(alloc, held, transfers, pages.rights, workers),
-    }
+    let (held, _) = held.strip(alloc, phases.targets, Rights::all(), true, workers)?;
+    let (held, worked) = match pages.kind {
+        ItemKind::Map => held.map(alloc, phases.transfers, pages.rights, workers)?,
+        ItemKind::Grant => {
+            let withheld = Rights::all().without(pages.rights);
+            let (held, _) = held.strip(alloc, phases.sources, withheld, true, workers)?;
+            held.rename(alloc, phases.transfers, workers)?
+        }
+    };
+    let worked = SendReply::of_transfers(worked);
+    Ok((held, phases.decided.plus(worked)))
 }

@@ -3,7 +3,6 @@
 
 mod database;
 mod error;
-mod grant;
 mod item;
 mod item_pages;
 mod plan;

@@ -1,6 +1,6 @@
 //! The words of an unmap, one after another.
 
-ghost use Rattle.std.specs.Prelude.{◌≡◌, ◌<◌, IfOk};
+ghost use Rattle.std.specs.Prelude.{◌≡◌, ◌<◌, IfOk, OnOk};
 ghost use Rattle.std.specs.List.{All};
 ghost use Rattle.fpage.specs.Fpage.{IsFpageOf};
 ghost use Rattle.holdings.specs.Contents.{left_with};
@@ -12,8 +12,8 @@ use holdings::Holdings;
 use space::{NoMemory, Place};
 use std::alloc::{AllocError, Global};
 
-/// Works the words of an unmap one after another. Each gives back the status of its pages and of all that derives from
-/// them, and these lose its rights; with `flush` the pages themselves do.
+/// Works the words of an unmap one after another. Each tells the status of its pages and of all that derives from them, and
+/// these lose its rights; with `flush` the pages themselves do. What they tell is put in place of what the list had.
 ///
 /// Refused, where memory or a worker is: `NoMemory`, `NoWorker`.
 pub fn unmap_words<W: Workers>(
@@ -22,24 +22,26 @@ pub fn unmap_words<W: Workers>(
     space: u16,
     flush: bool,
     fpages: &[Fpage],
+    status: &mut Vec<Rights>,
     workers: &W,
-) -> Result<(Holdings, Vec<Rights>), CrewError>
+) -> Result<Holdings, CrewError>
     requires space { space < held.limits.spaces }
     requires fpages { All (IsFpageOf held.limits.bits) fpages.now }
-    ensures left { IfOk result (λ r. r.0 ≡ left_with held (unmap_left space flush fpages.now held.holdings)) }
-    ensures status { IfOk result (λ r. r.1.items ≡ unmap_status space flush fpages.now held.holdings) }
+    ensures left { IfOk result (λ left. left ≡ left_with held (unmap_left space flush fpages.now held.holdings)) }
+    ensures status { OnOk result (status.new.items ≡ unmap_status space flush fpages.now held.holdings) }
 {
     let mut held = held;
-    let mut status = Vec::with_capacity(alloc, fpages.len())?;
+    status.clear();
+    status.reserve(fpages.len())?;
     for fpage in fpages {
         let (left, word) = unmap_word(alloc, held, space, flush, fpage, workers)?;
         held = left;
         status.push(word).map_err(AllocError::from)?;
     }
-    Ok((held, status))
+    Ok(held)
 }
 
-/// The same, each word by recursion, on the calling thread.
+/// The same, each word by recursion, on the calling thread; what the words tell is returned.
 ///
 /// Refused, where memory is: `NoMemory`.
 pub fn unmap_words_by_recursion(

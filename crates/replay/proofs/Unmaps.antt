@@ -1,5 +1,5 @@
 -- The words that an unmap gives back, and what it leaves.
-use Rattle.std.proofs.Common.{◌≡◌, nat_lt, true, false, Some, None, if◌then◌else◌, Result, Ok, Err, IfOk, OnOk, Vec, Global, ℕ, Bool, List, [], ◌∷◌, ◌++◌, map, length, ◌⊎◌, inl, inr, refl, sym, ap, ◌∙◌, append_assoc, append-nil, arith}
+use Rattle.std.proofs.Common.{◌≡◌, nat_lt, true, false, Some, None, if◌then◌else◌, Result, Ok, Err, OnOk, ℕ, Bool, List, [], ◌∷◌, ◌++◌, map, length, ◌⊎◌, inl, inr, refl, sym, ap, ◌∙◌, append_assoc, append-nil, arith}
 use Rattle.std.specs.List.{zip}
 use Rattle.std.specs.Option.{option_map}
 use Rattle.fpage.specs.Fpage.{Flexpage}
@@ -51,21 +51,21 @@ pub record IsUnmapped (s : State) (space : ℕ) (f : Bool) (fpages : List Flexpa
   pub status_is : status ≡ unmap_status space f fpages s.holdings
   pub left_is : new.holdings ≡ unmap_left space f fpages s.holdings
 
--- by what either way to unmap promises
-pub unmapped_by : (s new : State) (space : ℕ) (f : Bool) (fpages : List Flexpage) (status : Vec Rights Global) (r : Result (Vec Rights Global) DbError) → r ≡ Ok status
+-- by what the unmap of a database promises
+pub unmapped_by : {A : Type 0} → (s new : State) (space : ℕ) (f : Bool) (fpages : List Flexpage) (status : List Rights) (r : Result A DbError) (v : A) → r ≡ Ok v
     → IsRefused (unmap_refusal s space) s new r
-    → IfOk r (λ told. told.items ≡ unmap_status space f fpages s.holdings) → OnOk r (new ≡ left_with s (unmap_left space f fpages s.holdings)) → IsUnmapped s space f fpages status.items new
-unmapped_by s new space f fpages status (Ok v) is refused told left = record {
+    → OnOk r (status ≡ unmap_status space f fpages s.holdings) → OnOk r (new ≡ left_with s (unmap_left space f fpages s.holdings)) → IsUnmapped s space f fpages status new
+unmapped_by s new space f fpages status (Ok u) v is refused told left = record {
   there = by s.is_halted (nat_lt space s.limits.spaces) refused;
-  status_is = cc;
+  status_is = told;
   left_is = ap (λ (t : State). t.holdings) left;
 }
   where
-    by : (halted there : Bool) → IsRefused (if halted then Some Halted else option_map error_of (if there then None else Some no_such_space)) s new (Ok v) → there ≡ true
+    by : (halted there : Bool) → IsRefused (if halted then Some Halted else option_map error_of (if there then None else Some no_such_space)) s new (Ok u) → there ≡ true
     by true there refused = absurd (cc refused.0)
     by false true refused = refl
     by false false refused = absurd (cc refused.0)
-unmapped_by s new space f fpages status (Err e) is refused told left = absurd (cc is)
+unmapped_by s new space f fpages status (Err e) v is refused told left = absurd (cc is)
 
 -- the answer to an unmap, from what the database gave and left
 pub unmap_answered : {s new : State} {space : ℕ} {f : Bool} {fpages : List Flexpage} {status : List Rights} → IsUnmapped s space f fpages status new → (words reply : List ℕ) → length fpages ≡ length words → reply ≡ told words status

@@ -10,16 +10,18 @@ ghost use Rattle.model.specs.Records.{are_limits};
 ghost use Rattle.holdings.specs.Contents.{access_answers, touched_all};
 ghost use Rattle.holdings.specs.Meaning.{limits_of};
 ghost use Rattle.holdings.specs.Places.{IsWithin};
-ghost use Rattle.mapdb.specs.State.{left_with};
+ghost use Rattle.mapdb.specs.State.{left_with, IsRefused, unmap_refusal, unmap_status, unmap_left};
 ghost use Rattle.trace.specs.Meaning.{reply_of, request_of, IsWithinLimits};
 ghost use Rattle.trace.specs.Unread.{past, first_request, access_in};
 ghost use Rattle.replay.specs.Steps.{AreAsked, replies_of, told_of, told_behind};
 
+use crate::buffers::Buffers;
 use crew::{CrewError, Workers};
 use fpage::{Access, Control, Fpage, Item, Rights, with_status};
 use mapdb::{Database, DbError, Limits};
 use space::{NoMemory, Place};
 use std::alloc::{AllocError, Global};
+use std::mem;
 use trace::{Call, Refusal, Reply, TraceReader};
 
 /// How many accesses in a row are one call of the database at most. The lists of a longer call would take more memory and no
@@ -36,8 +38,7 @@ pub enum Replies {
 }
 
 /// Takes the next record, answers it, and leaves what it changed; an unmap by recursion if `plain`. Where it is an access, the
-/// accesses right behind it are taken and answered too, up to 65,536 in all: they are one call of the database. The accesses
-/// are put in place of those that were there.
+/// accesses right behind it are taken and answered too, up to 65,536 in all: they are one call of the database.
 ///
 /// Not answered where memory or a worker is refused: `NoMemory`, `NoWorker`.
 pub fn answer_first<W: Workers>(
@@ -46,7 +47,7 @@ pub fn answer_first<W: Workers>(
     trace: &mut TraceReader<'_>,
     workers: &W,
     plain: bool,
-    accesses: &mut Vec<(Place, Access)>,
+    buffers: &mut Buffers,
 ) -> Result<Replies, CrewError>
     requires running { database.old.is_halted ≡ false }
     requires records { 0 < length trace.old.records }
@@ -60,7 +61,7 @@ pub fn answer_first<W: Workers>(
 {
     let limits = database.limits();
     let asked = trace.next_call(&limits)?;
-    let replies = answer_call(alloc, database, &asked, trace, workers, plain, accesses)?;
+    let replies = answer_call(alloc, database, &asked, trace, workers, plain, buffers)?;
     if let Ok(call) = asked {
         trace.reuse(call);
     }
@@ -75,7 +76,7 @@ fn answer_call<W: Workers>(
     trace: &mut TraceReader<'_>,
     workers: &W,
     plain: bool,
-    accesses: &mut Vec<(Place, Access)>,
+    buffers: &mut Buffers,
 ) -> Result<Replies, CrewError>
     requires running { database.old.is_halted ≡ false }
     requires within { IfOk asked.now (IsWithinLimits database.old.limits) }
@@ -91,6 +92,7 @@ fn answer_call<W: Workers>(
         Err(refusal) => Ok(Replies::One(Reply::Refused(*refusal))),
         Ok(Call::Access { place, access }) => {
             let limits = database.limits();
+            let accesses = &mut buffers.accesses;
             read_accesses(&limits, (*place, *access), trace, accesses)?;
             let answers = access_pages(alloc, database, workers, accesses)?;
             Ok(Replies::Accesses(answers))
@@ -115,7 +117,7 @@ fn answer_call<W: Workers>(
             },
         ) => {
             let reply = unmap_pages(
-                alloc, database, workers, plain, *space, *control, words, fpages,
+                alloc, database, workers, plain, *space, *control, words, fpages, buffers,
             )?;
             Ok(Replies::One(reply))
         }
@@ -223,6 +225,7 @@ fn unmap_pages<W: Workers>(
     control: Control,
     words: &[u32],
     fpages: &[Fpage],
+    buffers: &mut Buffers,
 ) -> Result<Reply, CrewError>
     requires within { All (IsFpageOf database.old.limits.bits) fpages.now }
     requires count { length fpages.now ≡ length words.now }
@@ -230,16 +233,42 @@ fn unmap_pages<W: Workers>(
         ≡ record { reply = reply_of reply; left = database.new.holdings }) }
     ensures keeps { OnOk result (database.new ≡ left_with database.old database.new.holdings) }
 {
-    let status = if plain {
-        database.unmap_plain(alloc, space, control, fpages)
-    } else {
-        database.unmap(alloc, space, control, fpages, workers)
-    };
-    match status {
-        Ok(status) => Ok(Reply::Unmapped(reply_words(alloc, words, &status)?)),
+    let status = &mut buffers.status;
+    match unmap_by(
+        alloc, database, workers, plain, space, control, fpages, status,
+    ) {
+        Ok(()) => {
+            let reply = mem::replace(&mut buffers.words, Vec::new(alloc));
+            Ok(Reply::Unmapped(reply_words(reply, words, status)?))
+        }
         Err(DbError::NoSuchSpace) => Ok(Reply::Refused(Refusal::NoSuchSpace)),
         Err(error) => Err(unanswered(error)),
     }
+}
+
+/// The status that each word of an unmap tells, in place of what the list had; by recursion if `plain`.
+fn unmap_by<W: Workers>(
+    alloc: Global,
+    database: &mut Database,
+    workers: &W,
+    plain: bool,
+    space: u16,
+    control: Control,
+    fpages: &[Fpage],
+    status: &mut Vec<Rights>,
+) -> Result<(), DbError>
+    requires within { All (IsFpageOf database.old.limits.bits) fpages.now }
+    ensures refused { IsRefused (unmap_refusal database.old space) database.old database.new result }
+    ensures status { OnOk result (
+        status.new.items ≡ unmap_status space control.flush fpages.now database.old.holdings) }
+    ensures left { OnOk result (
+        database.new ≡ left_with database.old (unmap_left space control.flush fpages.now database.old.holdings)) }
+{
+    if plain {
+        *status = database.unmap_plain(alloc, space, control, fpages)?;
+        return Ok(());
+    }
+    database.unmap_into(alloc, space, control, fpages, status, workers)
 }
 
 /// Why a call has no answer that was not refused for what it asks.
@@ -250,11 +279,16 @@ fn unanswered(error: DbError) -> CrewError {
     }
 }
 
-/// Each word with its status in place of its rights.
-fn reply_words(alloc: Global, words: &[u32], status: &[Rights]) -> Result<Vec<u32>, AllocError>
+/// Each word with its status in place of its rights, in place of what the reply had.
+fn reply_words(
+    mut reply: Vec<u32>,
+    words: &[u32],
+    status: &[Rights],
+) -> Result<Vec<u32>, AllocError>
     ensures { IfOk result (λ reply. reply.items ≡ map (λ e. with_status e.0 e.1) (zip words.now status.now)) }
 {
-    let mut reply = Vec::with_capacity(alloc, words.len())?;
+    reply.clear();
+    reply.reserve(words.len())?;
     for (word, status) in words.iter().zip(status) {
         reply.push(with_status(*word, *status))?;
     }

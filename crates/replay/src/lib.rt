@@ -2,6 +2,7 @@
 #![tactic(auto)]
 
 mod answer;
+mod buffers;
 mod error;
 mod lines;
 mod options;
@@ -9,6 +10,7 @@ mod replay;
 mod watch;
 
 pub use answer::{Replies, answer_first};
+pub use buffers::Buffers;
 pub use error::RunError;
 pub use options::Options;
 pub use replay::{Summary, run, run_by};

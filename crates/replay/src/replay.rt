@@ -13,6 +13,7 @@ ghost use Rattle.replay.specs.Steps.{replies_of, told_of, PassesOn, StopsAt, Sto
 ghost use Rattle.replay.specs.Steps.{ReplaysTrace, StopsTrace};
 
 use crate::answer::{Replies, answer_first};
+use crate::buffers::Buffers;
 use crate::error::RunError;
 use crate::lines::Lines;
 use crate::options::Options;
@@ -248,18 +249,18 @@ pub fn replay_records<W: Sink, C: Workers, V: Watch>(
 {
     let alloc = rt.alloc();
     let mut lines = Lines::new(alloc, watch.block());
-    let mut accesses = Vec::new(alloc);
+    let mut buffers = Buffers::new(alloc);
     let mut number = trace.number();
     let mut refused = 0;
     while !trace.is_at_end() {
         watch.hear(number);
-        let replies = match answer_first(alloc, database, trace, workers, plain, &mut accesses) {
+        let replies = match answer_first(alloc, database, trace, workers, plain, &mut buffers) {
             Ok(replies) => replies,
             Err(why) => return Err(stop_at(writer, &mut lines, number, why)),
         };
         let next = trace.number();
         let refusals = write_replies(writer, &mut lines, number, &replies)?;
-        drop(replies);
+        buffers.keep(replies);
         refused += refusals;
         number = next;
     }

@@ -11,7 +11,7 @@ use audit::{AuditError, check, lines};
 use crew::{Crew, CrewError, Gate, NoGate, Workers, work};
 use mapdb::{Database, DbError};
 use pieces::{Done, Piece};
-use replay::{NoWatch, Options, RunError, Summary, Watch, answer_first, run, run_by};
+use replay::{Buffers, NoWatch, Options, RunError, Summary, Watch, answer_first, run, run_by};
 use space::NoMemory;
 use std::alloc::{AllocError, Global};
 use std::process::Abort;
@@ -183,12 +183,12 @@ fn answer_all(
     trace: &mut TraceReader<'_>,
 ) -> Result<(), CrewError> {
     let crew = Crew::new(rt, 1, 256, &NoGate);
-    let mut accesses = Vec::new(alloc);
+    let mut buffers = Buffers::new(alloc);
     for _ in 0..u64::MAX {
         if trace.is_at_end() || database.is_halted() {
             break;
         }
-        answer_first(alloc, database, trace, &crew, false, &mut accesses)?;
+        answer_first(alloc, database, trace, &crew, false, &mut buffers)?;
     }
     Ok(())
 }

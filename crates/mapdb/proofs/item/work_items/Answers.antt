@@ -3,13 +3,17 @@ use Rattle.std.proofs.Common.{◌≡◌, ℕ, ◌+◌, ◌*◌, ◌^◌, ◌<◌
 use Rattle.fpage.specs.Fpage.{Flexpage, IsFpageOf}
 use Rattle.fpage.specs.declared.item.Item.{Item}
 use Rattle.model.specs.Calls.{Limits}
+use Rattle.model.specs.Answers.{item_answer}
 use Rattle.model.specs.Items.{job_of}
 use Rattle.model.specs.SendLaws.{total}
 use Rattle.holdings.specs.declared.item_pages.ItemPages.{ItemPages}
+use Rattle.holdings.specs.Contents.{Contents}
 use Rattle.holdings.specs.Sending.{job_of_pages, AreItemPages}
 use Rattle.mapdb.specs.Meaning.{counts_of}
-use Rattle.mapdb.specs.Sending.{FitsIn}
+use Rattle.mapdb.specs.Sending.{FitsIn, IsSent}
+use Rattle.mapdb.specs.declared.reply.SendReply.{SendReply}
 use Rattle.mapdb.proofs.ItemByItem.{AreWorked, none_worked, one_worked, all_worked}
+use Rattle.mapdb.proofs.item.work_items.Goals.{then-pages-eq1+in_ok-work_page, else-pages-eq1+in_ok-left}
 use Rattle.mapdb.proofs.item.work_items.Goals as goal
 
 pub loop-item-init : goal.loop-item-init
@@ -31,6 +35,11 @@ within old now from to window item p same from_less to_less differ window_within
       differ = λ one. differ (sym source ∙ one ∙ target);
     })
 
+-- one item was worked, and its counts are few
+record IsOne (old : Contents) (p : ItemPages) (r : Contents × SendReply) : Type 0 where
+  sent : IsSent old (item_answer old.holdings (job_of_pages p)).left (item_answer old.holdings (job_of_pages p)).counts r
+  few : total (counts_of r.1) < 2 ^ 32
+
 pub work_item-requires : goal.work_item-requires
 work_item-requires g c =
     let sent = subst (λ (item : Item). IsFpageOf c.args.held.limits.bits item.sent) (sym c.item-item.is) (c.requires.items c.loop-item.item-index c.item-item.result c.loop-item-test.true) in
@@ -41,18 +50,28 @@ work_item-requires g c =
 
 pub plus-reply-requires : goal.plus-reply-requires
 plus-reply-requires g c =
+    let one : IsOne c.loop-item.held c.item_pages-pages.result c.if-pages-eq1.left =
+    elim c.if-pages-eq1.branch [
+      | then-pages-eq1+in_ok-work_page w ↦ subst (IsOne c.loop-item.held c.item_pages-pages.result) (sym w.left-is) (record { sent = w.in_ok-work_page.ensures.sent; few = w.in_ok-work_page.ensures.few })
+      | else-pages-eq1+in_ok-left w ↦ subst (IsOne c.loop-item.held c.item_pages-pages.result) (sym w.left-is) (record { sent = w.in_ok-left.ensures.sent; few = w.in_ok-left.ensures.few })
+    ] in
     let index : c.loop-item.item-index < 2 ^ 64 = omega arith in
-    fits (total (counts_of c.loop-item.reply)) (total (counts_of c.in_ok-left.worked)) c.loop-item.item-index c.loop-item.invariant.few c.in_ok-left.ensures.few index
+    fits (total (counts_of c.loop-item.reply)) (total (counts_of c.if-pages-eq1.left.1)) c.loop-item.item-index c.loop-item.invariant.few one.few index
   where
     fits : (a b i : ℕ) → a ≤ 2 ^ 32 * i → b < 2 ^ 32 → i < 2 ^ 64 → a + b < 2 ^ 128
     fits a b i so_far few index = omega (arith, so_far, few, index)
 
 pub loop-item-preserved : goal.loop-item-preserved
 loop-item-preserved g c =
-    subst (AreWorked c.args.held c.args.from c.args.to c.args.window.now c.args.items.now (c.loop-item.item-index + 1) c.in_ok-left.left) (sym c.plus-reply.ensures)
-    (one_worked c.args.held c.args.from c.args.to c.args.window.now c.args.items.now c.loop-item.item-index c.item-item.result c.loop-item-test.true c.loop-item.held c.in_ok-left.left
-    (counts_of c.loop-item.reply) (counts_of c.in_ok-left.worked) c.loop-item.invariant (job_of_pages c.item_pages-pages.result) (c.item_pages-pages.ensures.job ∙ ap (job_of c.args.from c.args.to c.args.window.now) c.item-item.is)
-    c.in_ok-left.ensures.sent.left_is c.in_ok-left.ensures.sent.counted c.in_ok-left.ensures.few)
+    let one : IsOne c.loop-item.held c.item_pages-pages.result c.if-pages-eq1.left =
+    elim c.if-pages-eq1.branch [
+      | then-pages-eq1+in_ok-work_page w ↦ subst (IsOne c.loop-item.held c.item_pages-pages.result) (sym w.left-is) (record { sent = w.in_ok-work_page.ensures.sent; few = w.in_ok-work_page.ensures.few })
+      | else-pages-eq1+in_ok-left w ↦ subst (IsOne c.loop-item.held c.item_pages-pages.result) (sym w.left-is) (record { sent = w.in_ok-left.ensures.sent; few = w.in_ok-left.ensures.few })
+    ] in
+    subst (AreWorked c.args.held c.args.from c.args.to c.args.window.now c.args.items.now (c.loop-item.item-index + 1) c.if-pages-eq1.left.0) (sym c.plus-reply.ensures)
+    (one_worked c.args.held c.args.from c.args.to c.args.window.now c.args.items.now c.loop-item.item-index c.item-item.result c.loop-item-test.true c.loop-item.held c.if-pages-eq1.left.0
+    (counts_of c.loop-item.reply) (counts_of c.if-pages-eq1.left.1) c.loop-item.invariant (job_of_pages c.item_pages-pages.result) (c.item_pages-pages.ensures.job ∙ ap (job_of c.args.from c.args.to c.args.window.now) c.item-item.is)
+    one.sent.left_is one.sent.counted one.few)
 
 pub returns : goal.returns
 returns g c =

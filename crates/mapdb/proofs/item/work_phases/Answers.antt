@@ -1,87 +1,120 @@
 -- The phases of what was planned, one after another, are those of the definition.
-use Rattle.std.proofs.Common.{◌≡◌, ◌+◌, ◌^◌, ◌<◌, true, List, sym, ap, ◌∙◌, subst}
+use Rattle.std.proofs.Common.{◌≡◌, ◌+◌, ◌^◌, ◌<◌, sym, ap, ◌∙◌, subst}
 use Rattle.std.specs.List.{All}
-use Rattle.fpage.specs.Rights.{all_rights}
+use Rattle.fpage.specs.Rights.{without}
+use Rattle.fpage.specs.declared.item.ItemKind.TheVariants.{Map, Grant}
 use Rattle.model.specs.Items.{Counts, add_counts}
 use Rattle.model.specs.SendLaws.{total}
-use Rattle.model.specs.Strip.{strip}
-use Rattle.holdings.specs.declared.transfer.Transfer.{Transfer}
-use Rattle.holdings.specs.Contents.{left_with}
+use Rattle.holdings.specs.Contents.{Contents}
 use Rattle.holdings.specs.Meaning as phase
-use Rattle.holdings.specs.Sending.{job_of_pages, IsTransferWithin, ArePlanned, AllGo, AreReady}
-use Rattle.mapdb.specs.declared.plan.End.TheVariants.{Target}
+use Rattle.holdings.specs.Sending.{IsTransferWithin, ArePlanned}
+use Rattle.mapdb.specs.declared.plan.End.TheVariants.{Source, Target}
 use Rattle.mapdb.specs.Meaning.{counts_of}
-use Rattle.mapdb.specs.Sending.{ends_of, transfers_of, AreWorkedBy}
+use Rattle.mapdb.specs.Sending.{AreWorkedBy}
 use Rattle.mapdb.proofs.Ends.{all_within}
-use Rattle.mapdb.proofs.Phases.{ends_within, grant_goes}
-use Rattle.mapdb.proofs.OneItem.{flush_left, planned, lawful_then, planned_then, ready_then, left_then, counts_then, total_then, fits_then}
-use Rattle.mapdb.proofs.item.work_plan.Given.{Over}
-use Rattle.mapdb.proofs.item.work_plan.Goals as goal
+use Rattle.mapdb.proofs.Phases.{ends_within}
+use Rattle.mapdb.proofs.Granting.{still_free, mapped_after, moved_after, worked_as}
+use Rattle.mapdb.proofs.OneItem.{the_transfers_of, planned, IsFlushed, is_flushed, left_then, counts_then, total_then, fits_then}
+use Rattle.mapdb.proofs.item.work_phases.Given.{Over}
+use Rattle.mapdb.proofs.item.work_phases.Goals.{After-plus, in-Map+in_ok-map-in-Map, in-Grant+in_ok-held-in-Grant+in_ok-held-in-Grant-2}
+use Rattle.mapdb.proofs.item.work_phases.Goals as goal
 
 pub strip-requires : goal.strip-requires
 strip-requires g c =
     let limits = c.args.held.limits in
+    let ts = c.args.phases.now.transfers.now in
     let transfers = subst (All (IsTransferWithin limits)) (sym c.requires.transfers) (planned c.args.held c.args.pages.now c.requires.consistent c.requires.pages).within in
     record {
-      within = all_within limits c.args.replaced.now (λ p named. ends_within limits Target c.args.transfers.now transfers p (sym (c.requires.replaced p) ∙ named));
+      within = all_within limits c.args.phases.now.targets.now (λ p named. ends_within limits Target ts transfers p (sym (c.requires.targets p) ∙ named));
     }
 
-module _ (g : Over) (c : goal.In_ok-held g) where
-  flushed : c.in_ok-held.held ≡ left_with c.args.held (strip c.args.held.holdings (ends_of Target (transfers_of c.args.held.holdings (job_of_pages c.args.pages.now) (job_of_pages c.args.pages.now).pairs)) all_rights true)
-  flushed =
-      flush_left c.args.held c.args.transfers.now _ c.args.replaced.now c.all.result (c.in_ok-held.held, c.in_ok-held.field-0-1) c.in_ok-held.ensures c.all.ensures
-      c.requires.replaced c.requires.transfers
+pub map-requires-clause-planned : goal.map-requires-clause-planned
+map-requires-clause-planned g c =
+    let f = is_flushed c.args.held c.args.pages.now c.requires.consistent c.requires.pages c.args.phases.now.transfers.now c.requires.transfers c.args.phases.now.targets.now c.requires.targets c.all.result c.all.ensures
+    (c.in_ok-held.held, c.in_ok-held.field-0-1) c.in_ok-held.ensures in
+    f.are_planned
 
-  shown : c.args.transfers.now ≡ transfers_of c.args.held.holdings (job_of_pages c.args.pages.now) (job_of_pages c.args.pages.now).pairs
-  shown = c.requires.transfers
+pub map-requires-clause-ready : goal.map-requires-clause-ready
+map-requires-clause-ready g c =
+    let f = is_flushed c.args.held c.args.pages.now c.requires.consistent c.requires.pages c.args.phases.now.transfers.now c.requires.transfers c.args.phases.now.targets.now c.requires.targets c.all.result c.all.ensures
+    (c.in_ok-held.held, c.in_ok-held.field-0-1) c.in_ok-held.ensures in
+    f.are_ready
 
-pub map_or_grant-requires-clause-lawful : goal.map_or_grant-requires-clause-lawful
-map_or_grant-requires-clause-lawful g c = lawful_then c.args.held c.args.pages.now c.requires.consistent c.requires.pages c.in_ok-held.held (flushed g c)
+pub strip-requires-in-Grant : goal.strip-requires-in-Grant
+strip-requires-in-Grant g c =
+    let f = is_flushed c.args.held c.args.pages.now c.requires.consistent c.requires.pages c.args.phases.now.transfers.now c.requires.transfers c.args.phases.now.targets.now c.requires.targets c.all.result c.all.ensures
+    (c.in_ok-held.held, c.in_ok-held.field-0-1) c.in_ok-held.ensures in
+    record {
+      within = all_within c.in_ok-held.held.limits c.args.phases.now.sources.now
+          (λ p named. ends_within c.in_ok-held.held.limits Source c.args.phases.now.transfers.now f.are_planned.within p (sym (c.requires.sources c.in-Grant.is p) ∙ named));
+    }
 
-pub map_or_grant-requires-clause-planned : goal.map_or_grant-requires-clause-planned
-map_or_grant-requires-clause-planned g c = subst (ArePlanned c.in_ok-held.held.limits) (sym (shown g c)) (planned_then c.args.held c.args.pages.now c.requires.consistent c.requires.pages c.in_ok-held.held (flushed g c))
+pub rename-requires-clause-planned : goal.rename-requires-clause-planned
+rename-requires-clause-planned g c =
+    let f = is_flushed c.args.held c.args.pages.now c.requires.consistent c.requires.pages c.args.phases.now.transfers.now c.requires.transfers c.args.phases.now.targets.now c.requires.targets c.all.result c.all.ensures
+    (c.in_ok-held.held, c.in_ok-held.field-0-1) c.in_ok-held.ensures in
+    subst (λ (d : Contents). ArePlanned d.limits c.args.phases.now.transfers.now) (sym c.in_ok-held-in-Grant.ensures.left) f.are_planned
 
-pub map_or_grant-requires-clause-all_go : goal.map_or_grant-requires-clause-all_go
-map_or_grant-requires-clause-all_go g c = λ grants. subst AllGo (sym (shown g c)) (grant_goes c.args.held.holdings (job_of_pages c.args.pages.now) grants (job_of_pages c.args.pages.now).pairs)
+pub rename-requires-clause-all_go : goal.rename-requires-clause-all_go
+rename-requires-clause-all_go g c =
+    let f = is_flushed c.args.held c.args.pages.now c.requires.consistent c.requires.pages c.args.phases.now.transfers.now c.requires.transfers c.args.phases.now.targets.now c.requires.targets c.all.result c.all.ensures
+    (c.in_ok-held.held, c.in_ok-held.field-0-1) c.in_ok-held.ensures in
+    f.all_go c.in-Grant.is
 
-pub map_or_grant-requires-clause-ready : goal.map_or_grant-requires-clause-ready
-map_or_grant-requires-clause-ready g c = subst (AreReady c.in_ok-held.held.holdings c.args.pages.now.rights) (sym (shown g c)) (ready_then c.args.held c.args.pages.now c.requires.consistent c.requires.pages c.in_ok-held.held (flushed g c))
-
-module _ (g : Over) (c : goal.After-of_transfers g) where
-  flushed_before : c.in_ok-held.held ≡ left_with c.args.held (strip c.args.held.holdings (ends_of Target (transfers_of c.args.held.holdings (job_of_pages c.args.pages.now) (job_of_pages c.args.pages.now).pairs)) all_rights true)
-  flushed_before =
-      flush_left c.args.held c.args.transfers.now _ c.args.replaced.now c.all.result (c.in_ok-held.held, c.in_ok-held.field-0-1) c.in_ok-held.ensures c.all.ensures
-      c.requires.replaced c.requires.transfers
-
-  phased : AreWorkedBy c.in_ok-held.held c.args.pages.now.kind c.args.pages.now.rights (transfers_of c.args.held.holdings (job_of_pages c.args.pages.now) (job_of_pages c.args.pages.now).pairs) (c.in_ok-held-2.held, c.in_ok-held-2.worked)
-  phased =
-      subst (λ (ts : List Transfer). AreWorkedBy c.in_ok-held.held c.args.pages.now.kind c.args.pages.now.rights ts (c.in_ok-held-2.held, c.in_ok-held-2.worked)) (c.requires.transfers) c.in_ok-held-2.ensures
+pub rename-requires-clause-free : goal.rename-requires-clause-free
+rename-requires-clause-free g c =
+    let f = is_flushed c.args.held c.args.pages.now c.requires.consistent c.requires.pages c.args.phases.now.transfers.now c.requires.transfers c.args.phases.now.targets.now c.requires.targets c.all.result c.all.ensures
+    (c.in_ok-held.held, c.in_ok-held.field-0-1) c.in_ok-held.ensures in
+    still_free c.in_ok-held.held f.lawful_now c.args.pages.now.rights c.args.phases.now.transfers.now (f.all_go c.in-Grant.is) c.in_ok-held-in-Grant.held c.in_ok-held-in-Grant.field-0-1 c.args.phases.now.sources.now
+    (c.requires.sources c.in-Grant.is) c.without-withheld.result (c.without-withheld.ensures ∙ ap (λ r. without r c.args.pages.now.rights) c.all-in-Grant.ensures) c.in_ok-held-in-Grant.ensures f.are_ready
 
 pub plus-requires : goal.plus-requires
 plus-requires g c =
-    subst (λ (more : Counts). total (counts_of c.args.decided) + total more < 2 ^ 128) (sym c.of_transfers.ensures)
-    (fits_then c.args.held c.args.pages.now c.requires.consistent c.requires.pages c.in_ok-held.held (flushed_before g c) (c.in_ok-held-2.held, c.in_ok-held-2.worked) (phased g c) (counts_of c.args.decided) c.requires.decided)
+    let f = is_flushed c.args.held c.args.pages.now c.requires.consistent c.requires.pages c.args.phases.now.transfers.now c.requires.transfers c.args.phases.now.targets.now c.requires.targets c.all.result c.all.ensures
+    (c.in_ok-held.held, c.in_ok-held.field-0-1) c.in_ok-held.ensures in
+    let phased : AreWorkedBy c.in_ok-held.held c.args.pages.now.kind c.args.pages.now.rights (the_transfers_of c.args.held c.args.pages.now) c.match-pages.held =
+    elim c.match-pages.branch [
+      | in-Map+in_ok-map-in-Map w ↦
+          worked_as c.in_ok-held.held c.args.pages.now.kind Map c.args.pages.now.rights c.args.phases.now.transfers.now (the_transfers_of c.args.held c.args.pages.now) (w.in_ok-map-in-Map.held, w.in_ok-map-in-Map.worked) c.match-pages.held w.in-Map.is c.requires.transfers w.held-is
+          (mapped_after c.in_ok-held.held c.args.pages.now.rights c.args.phases.now.transfers.now (w.in_ok-map-in-Map.held, w.in_ok-map-in-Map.worked) w.in_ok-map-in-Map.ensures)
+      | in-Grant+in_ok-held-in-Grant+in_ok-held-in-Grant-2 w ↦
+          worked_as c.in_ok-held.held c.args.pages.now.kind Grant c.args.pages.now.rights c.args.phases.now.transfers.now (the_transfers_of c.args.held c.args.pages.now) (w.in_ok-held-in-Grant-2.held, w.in_ok-held-in-Grant-2.worked) c.match-pages.held w.in-Grant.is c.requires.transfers w.held-is
+          (moved_after c.in_ok-held.held f.lawful_now c.args.pages.now.rights c.args.phases.now.transfers.now (f.all_go w.in-Grant.is) w.in_ok-held-in-Grant.held w.in_ok-held-in-Grant.field-0-1 c.args.phases.now.sources.now
+          (c.requires.sources w.in-Grant.is) w.without-withheld.result (w.without-withheld.ensures ∙ ap (λ r. without r c.args.pages.now.rights) w.all-in-Grant.ensures) w.in_ok-held-in-Grant.ensures f.are_ready
+          (w.in_ok-held-in-Grant-2.held, w.in_ok-held-in-Grant-2.worked) w.in_ok-held-in-Grant-2.ensures)
+    ] in
+    subst (λ (more : Counts). total (counts_of c.args.phases.now.decided) + total more < 2 ^ 128) (sym c.of_transfers-worked.ensures)
+    (fits_then c.args.held c.args.pages.now c.requires.consistent c.requires.pages c.in_ok-held.held f.left c.match-pages.held phased (counts_of c.args.phases.now.decided) c.requires.decided)
 
-module _ (g : Over) (c : goal.After-plus g) where
-  flushed_last : c.in_ok-held.held ≡ left_with c.args.held (strip c.args.held.holdings (ends_of Target (transfers_of c.args.held.holdings (job_of_pages c.args.pages.now) (job_of_pages c.args.pages.now).pairs)) all_rights true)
-  flushed_last =
-      flush_left c.args.held c.args.transfers.now _ c.args.replaced.now c.all.result (c.in_ok-held.held, c.in_ok-held.field-0-1) c.in_ok-held.ensures c.all.ensures
-      c.requires.replaced c.requires.transfers
+module _ (g : Over) (c : After-plus g) where
+  f : IsFlushed c.args.held c.args.pages.now c.args.phases.now.transfers.now c.in_ok-held.held
+  f =
+      is_flushed c.args.held c.args.pages.now c.requires.consistent c.requires.pages c.args.phases.now.transfers.now c.requires.transfers c.args.phases.now.targets.now c.requires.targets c.all.result c.all.ensures
+      (c.in_ok-held.held, c.in_ok-held.field-0-1) c.in_ok-held.ensures
 
-  phased_last : AreWorkedBy c.in_ok-held.held c.args.pages.now.kind c.args.pages.now.rights (transfers_of c.args.held.holdings (job_of_pages c.args.pages.now) (job_of_pages c.args.pages.now).pairs) (c.in_ok-held-2.held, c.in_ok-held-2.worked)
-  phased_last =
-      subst (λ (ts : List Transfer). AreWorkedBy c.in_ok-held.held c.args.pages.now.kind c.args.pages.now.rights ts (c.in_ok-held-2.held, c.in_ok-held-2.worked)) (c.requires.transfers) c.in_ok-held-2.ensures
+  phased : AreWorkedBy c.in_ok-held.held c.args.pages.now.kind c.args.pages.now.rights (the_transfers_of c.args.held c.args.pages.now) c.match-pages.held
+  phased =
+      elim c.match-pages.branch [
+        | in-Map+in_ok-map-in-Map w ↦
+            worked_as c.in_ok-held.held c.args.pages.now.kind Map c.args.pages.now.rights c.args.phases.now.transfers.now (the_transfers_of c.args.held c.args.pages.now) (w.in_ok-map-in-Map.held, w.in_ok-map-in-Map.worked) c.match-pages.held w.in-Map.is c.requires.transfers w.held-is
+            (mapped_after c.in_ok-held.held c.args.pages.now.rights c.args.phases.now.transfers.now (w.in_ok-map-in-Map.held, w.in_ok-map-in-Map.worked) w.in_ok-map-in-Map.ensures)
+        | in-Grant+in_ok-held-in-Grant+in_ok-held-in-Grant-2 w ↦
+            worked_as c.in_ok-held.held c.args.pages.now.kind Grant c.args.pages.now.rights c.args.phases.now.transfers.now (the_transfers_of c.args.held c.args.pages.now) (w.in_ok-held-in-Grant-2.held, w.in_ok-held-in-Grant-2.worked) c.match-pages.held w.in-Grant.is c.requires.transfers w.held-is
+            (moved_after c.in_ok-held.held f.lawful_now c.args.pages.now.rights c.args.phases.now.transfers.now (f.all_go w.in-Grant.is) w.in_ok-held-in-Grant.held w.in_ok-held-in-Grant.field-0-1 c.args.phases.now.sources.now
+            (c.requires.sources w.in-Grant.is) w.without-withheld.result (w.without-withheld.ensures ∙ ap (λ r. without r c.args.pages.now.rights) w.all-in-Grant.ensures) w.in_ok-held-in-Grant.ensures f.are_ready
+            (w.in_ok-held-in-Grant-2.held, w.in_ok-held-in-Grant-2.worked) w.in_ok-held-in-Grant-2.ensures)
+      ]
 
-  counted : counts_of c.plus.result ≡ add_counts (counts_of c.args.decided) (phase.counts_of c.in_ok-held-2.worked)
-  counted = c.plus.ensures ∙ ap (add_counts (counts_of c.args.decided)) c.of_transfers.ensures
+  counted : counts_of c.plus.result ≡ add_counts (counts_of c.args.phases.now.decided) (phase.counts_of c.match-pages.held.1)
+  counted = c.plus.ensures ∙ ap (add_counts (counts_of c.args.phases.now.decided)) c.of_transfers-worked.ensures
 
 pub returns-clause-sent : goal.returns-clause-sent
 returns-clause-sent g c = record {
-  left_is = left_then c.args.held c.args.pages.now c.requires.consistent c.requires.pages c.in_ok-held.held (flushed_last g c) (c.in_ok-held-2.held, c.in_ok-held-2.worked) (phased_last g c) (counts_of c.args.decided) c.requires.decided;
-  counted = counted g c ∙ counts_then c.args.held c.args.pages.now c.requires.consistent c.requires.pages c.in_ok-held.held (flushed_last g c) (c.in_ok-held-2.held, c.in_ok-held-2.worked) (phased_last g c) (counts_of c.args.decided) c.requires.decided;
+  left_is = left_then c.args.held c.args.pages.now c.requires.consistent c.requires.pages c.in_ok-held.held (f g c).left c.match-pages.held (phased g c) (counts_of c.args.phases.now.decided) c.requires.decided;
+  counted = counted g c ∙ counts_then c.args.held c.args.pages.now c.requires.consistent c.requires.pages c.in_ok-held.held (f g c).left c.match-pages.held (phased g c) (counts_of c.args.phases.now.decided) c.requires.decided;
 }
 
 pub returns-clause-few : goal.returns-clause-few
 returns-clause-few g c =
     subst (λ (k : Counts). total k < 2 ^ 32) (sym (counted g c))
-    (total_then c.args.held c.args.pages.now c.requires.consistent c.requires.pages c.in_ok-held.held (flushed_last g c) (c.in_ok-held-2.held, c.in_ok-held-2.worked) (phased_last g c) (counts_of c.args.decided) c.requires.decided)
+    (total_then c.args.held c.args.pages.now c.requires.consistent c.requires.pages c.in_ok-held.held (f g c).left c.match-pages.held (phased g c) (counts_of c.args.phases.now.decided) c.requires.decided)
