@@ -5,6 +5,7 @@ pub mod Starts
 pub mod Leasts
 pub mod Standing
 pub mod InBlocks
+pub mod AtSeat
 pub mod Searches
 pub mod LastLess
 pub mod Depths

@@ -16,6 +16,8 @@ pub struct Starts {
     inside: Vec<usize>,
     /// For each group, how many nodes stand before it.
     groups: Vec<usize>,
+    /// How many blocks 2^32 nodes had, when they were counted: searches begin by it. No clause rests on it.
+    density: usize,
 }
 
 impl Model for Starts {
@@ -40,7 +42,11 @@ impl Starts {
     {
         let inside = Vec::with_capacity(alloc, blocks)?;
         let groups = Vec::with_capacity(alloc, blocks / GROUP + 1)?;
-        Ok(Starts { inside, groups })
+        Ok(Starts {
+            inside,
+            groups,
+            density: 0,
+        })
     }
 
     /// Memory for so many more blocks.
@@ -70,11 +76,25 @@ impl Starts {
         ensures below { 0 < result → number_at self.now result < n }
         ensures next { result + 1 < length self.now.inside → n ≤ number_at self.now (result + 1) }
     {
-        let group = last_less(&self.groups, 0, self.groups.len(), n);
+        let near = self.blocks_of(n) / GROUP;
+        let group = last_less(&self.groups, 0, self.groups.len(), near, n);
         let left = n.saturating_sub(self.groups[group]);
         let first = group * GROUP;
         let end = first + GROUP.min(self.inside.len() - first);
-        last_less(&self.inside, first, end, left)
+        let near = first.wrapping_add(self.blocks_of(left));
+        last_less(&self.inside, first, end, near, left)
+    }
+
+    /// About how many blocks so many nodes have.
+    fn blocks_of(&self, nodes: usize) -> usize {
+        nodes.wrapping_mul(self.density) >> 32
+    }
+
+    /// All blocks together have so many nodes: later searches begin by that.
+    pub fn set_nodes(&mut self, nodes: usize)
+        ensures { self.new ≡ self.old }
+    {
+        self.density = self.inside.len().wrapping_mul(1 << 32) / nodes.max(1);
     }
 
     /// No blocks.
@@ -137,8 +157,9 @@ impl Starts {
     }
 }
 
-/// Of numbers that do not fall from a position to another, the last one that is less than this; the first one, if none is.
-fn last_less(numbers: &[usize], from: usize, to: usize, bound: usize) -> usize
+/// Of numbers that do not fall from a position to another, the last one that is less than this; the first one, if none is. It is
+/// looked for from a position on, number by number.
+fn last_less(numbers: &[usize], from: usize, to: usize, near: usize, bound: usize) -> usize
     requires some { from < to }
     requires within { to ≤ length numbers.now }
     ensures from { from ≤ result }
@@ -146,15 +167,12 @@ fn last_less(numbers: &[usize], from: usize, to: usize, bound: usize) -> usize
     ensures less { from < result → slice_index numbers.now result < bound }
     ensures next { result + 1 < to → bound ≤ slice_index numbers.now (result + 1) }
 {
-    let mut at = from;
-    let mut end = to;
-    while end - at > 1 {
-        let middle = at + (end - at) / 2;
-        if numbers[middle] < bound {
-            at = middle;
-        } else {
-            end = middle;
-        }
+    let mut at = near.max(from).min(to - 1);
+    while at > from && bound <= numbers[at] {
+        at -= 1;
+    }
+    while at + 1 < to && numbers[at + 1] < bound {
+        at += 1;
     }
     at
 }

@@ -23,6 +23,9 @@ const FILLED: usize = 96;
 /// A block of fewer nodes is joined to one beside it, if that has room for them.
 const SPARSE: usize = 32;
 
+/// Of so many blocks one may have few nodes, or none, before such blocks are joined.
+const THIN: usize = 64;
+
 /// How many nodes stay in a block that is split in the middle.
 const HALF: usize = 64;
 
@@ -50,6 +53,8 @@ pub struct Blocks {
     room: usize,
     /// How many nodes there are.
     len: usize,
+    /// How often a block came to have few nodes, or none, since such blocks were joined. No clause rests on it.
+    thinned: usize,
     hints: Hints,
 }
 
@@ -170,19 +175,23 @@ impl Blocks {
         None
     }
 
-    /// How many nodes behind a position are deeper than this, one after another.
-    pub fn deeper(&self, i: usize, depth: usize) -> usize
+    /// The node at a position, and how many nodes behind it are deeper than it is, one after another.
+    pub fn run_of(&self, i: usize) -> (Node, usize)
         requires { i < length (nodes_in self.now.blocks) }
-        ensures { result ≡ run_len depth (drop (i + 1) (nodes_in self.now.blocks)) }
+        ensures node { result.0 ≡ get_or (nodes_in self.now.blocks) i result.0 }
+        ensures run { result.1 ≡ run_len result.0.depth (drop (i + 1) (nodes_in self.now.blocks)) }
+        ensures fits { length (nodes_in self.now.blocks) < 2 ^ 64 }
     {
         let seat = self.seat_of(i);
         let first = &self.blocks[seat.block];
         let len = first.len();
-        let deeper = first.deeper(seat.offset + 1, depth);
+        let node = first.get(seat.offset);
+        let deeper = first.deeper(seat.offset + 1, node.depth);
         if seat.offset + 1 + deeper < len {
-            return deeper;
+            return (node, deeper);
         }
-        self.end_from(seat.block + 1, depth) - (i + 1)
+        let end = self.end_from(seat.block + 1, node.depth);
+        (node, end - (i + 1))
     }
 
     /// The position of the first node from a block on that is not deeper than this; behind the last, where all are.
@@ -203,17 +212,20 @@ impl Blocks {
         self.len
     }
 
-    /// The position of the last of the nodes before a position that is less deep than this.
-    pub fn last_above(&self, i: usize, depth: usize) -> Option<usize>
-        requires { i ≤ length (nodes_in self.now.blocks) }
-        ensures { result ≡ last_less depth (take i (nodes_in self.now.blocks)) }
+    /// The node at a position, and the position of the last node before it that is less deep than it is.
+    pub fn origin_of(&self, i: usize) -> (Node, Option<usize>)
+        requires { i < length (nodes_in self.now.blocks) }
+        ensures node { result.0 ≡ get_or (nodes_in self.now.blocks) i result.0 }
+        ensures origin { result.1 ≡ last_less result.0.depth (take i (nodes_in self.now.blocks)) }
     {
-        let seat = self.seat(i);
+        let seat = self.seat_of(i);
+        let block = &self.blocks[seat.block];
+        let node = block.get(seat.offset);
         let before = i - seat.offset;
-        if let Some(r) = self.blocks[seat.block].last_above(seat.offset, depth) {
-            return Some(before + r);
+        if let Some(r) = block.last_above(seat.offset, node.depth) {
+            return (node, Some(before + r));
         }
-        self.last_before(seat.block, depth)
+        (node, self.last_before(seat.block, node.depth))
     }
 
     /// The same of the nodes before a block.
@@ -373,6 +385,7 @@ impl Blocks {
             spare: Vec::new(alloc),
             room: 0,
             len: nodes.len(),
+            thinned: 0,
             hints,
         })
     }
@@ -416,29 +429,28 @@ impl Blocks {
     {
         let removed = &mut self.blocks[block];
         forget_nodes(&mut self.hints, &removed.nodes()[from..to]);
+        let thins = thins(removed.len(), to - from);
         removed.remove(from, to);
+        self.thinned = self.thinned.saturating_add(usize::from(thins));
         self.len -= to - from;
         self.starts.subtract(block, to - from);
     }
 
-    /// Takes the nodes from a position to another out, and says whether a block has few nodes now that had more.
-    pub fn remove(&mut self, from: usize, to: usize) -> bool
+    /// Takes the nodes from a position to another out.
+    fn remove(&mut self, from: usize, to: usize)
         requires rising { from ≤ to }
         requires within { to ≤ length (nodes_in self.old.blocks) }
         ensures nodes { nodes_in self.new.blocks ≡ take from (nodes_in self.old.blocks) ++ drop to (nodes_in self.old.blocks) }
         ensures room { self.new.room ≡ self.old.room }
     {
-        let mut sparse = false;
         let mut left = to - from;
         while left > 0 {
             let Seat { block, offset } = self.seat_of(from);
             let len = self.blocks[block].len();
             let taken = left.min(len - offset);
             self.remove_in_block(block, offset, offset + taken);
-            sparse |= len == taken || len - taken < SPARSE && SPARSE <= len;
             left -= taken;
         }
-        sparse
     }
 
     /// Takes ranges out.
@@ -447,14 +459,24 @@ impl Blocks {
         ensures nodes { nodes_in self.new.blocks ≡ outside 0 ranges.now (nodes_in self.old.blocks) }
         ensures room { self.new.room ≡ self.old.room }
     {
-        let mut sparse = false;
         let mut gone = 0;
         for range in ranges {
-            sparse |= self.remove(range.start - gone, range.end - gone);
+            self.remove(range.start - gone, range.end - gone);
             gone += range.end - range.start;
         }
-        if sparse {
+        self.renew_density(gone);
+        // To close up is a pass over all blocks, so many blocks wait for it where there are many.
+        if self.thinned > self.blocks.len() / THIN {
             self.close_up();
+        }
+    }
+
+    /// So many nodes went: searches are told of how many are left, if there are so many fewer.
+    fn renew_density(&mut self, gone: usize)
+        ensures { self.new ≡ self.old }
+    {
+        if self.len % SPARSE < gone {
+            self.starts.set_nodes(self.len);
         }
     }
 
@@ -466,6 +488,7 @@ impl Blocks {
         if self.len == 0 {
             return;
         }
+        self.thinned = 0;
         join_sparse(&mut self.blocks, &mut self.hints);
         free_empty(&mut self.hints, &self.blocks);
         self.blocks.retain(|block| !block.nodes().is_empty());
@@ -514,6 +537,7 @@ fn count(starts: &mut Starts, blocks: &[Block])
         starts.push(before);
         before += block.len();
     }
+    starts.set_nodes(before);
 }
 
 /// For each of some blocks a depth that none of its nodes goes below. This takes no memory.
@@ -526,6 +550,12 @@ fn list_leasts(leasts: &mut Leasts, blocks: &[Block])
     for block in blocks {
         leasts.push(block.least());
     }
+}
+
+/// Whether a block of so many nodes has few when so many go, or none.
+fn thins(nodes: usize, gone: usize) -> bool {
+    let left = nodes.saturating_sub(gone);
+    left == 0 || left < SPARSE && SPARSE <= nodes
 }
 
 /// How many nodes of a full block stay in it when it is split, where a node is put behind so many of them. At the ends of a

@@ -42,8 +42,8 @@ impl Cutting {
     {
         let mut cutting = Cutting {
             left: 0,
-            gaps: Vec::new(alloc),
-            parts: Vec::new(alloc),
+            gaps: Vec::with_capacity(alloc, ranges.len())?,
+            parts: Vec::with_capacity(alloc, ranges.len())?,
         };
         let mut from = 0;
         for range in ranges {

@@ -93,7 +93,7 @@ impl Hints {
         self.taken = 0;
         for slot in &old {
             if slot.number != NUMBERS {
-                self.set(*slot);
+                self.note(*slot);
             }
         }
         Ok(())
@@ -119,28 +119,26 @@ impl Hints {
 
     /// The place stands in the block with this number, at this position. Where no slot is free there is no hint.
     pub fn put(&mut self, place: Place, number: u32, offset: usize) {
-        let new = Slot {
+        self.note(Slot {
             key: key_of(place),
             number: (number % NUMBERS as u32) as u16,
             offset: (offset % 256) as u8,
-        };
-        match self.slot_of(new.key) {
-            Some(at) => self.put_slot(at, new),
-            None => self.set(new),
-        }
+        });
     }
 
-    /// Takes a slot for a place that has none.
-    fn set(&mut self, slot: Slot) {
+    /// Takes the slot of a place, or a free one for a place that has none.
+    fn note(&mut self, slot: Slot) {
         let own = own_slot(slot.key);
         for step in 0..STEPS {
             let at = self.slot_at(own, step);
-            if let Some(there) = self.slots.get_mut(at) {
-                if there.number == NUMBERS {
-                    *there = slot;
-                    self.taken = self.taken.saturating_add(1);
-                    return;
-                }
+            let Some(there) = self.slots.get_mut(at) else {
+                return;
+            };
+            let free = there.number == NUMBERS;
+            if free || there.key == slot.key {
+                *there = slot;
+                self.taken = self.taken.saturating_add(usize::from(free));
+                return;
             }
         }
     }

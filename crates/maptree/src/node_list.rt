@@ -125,25 +125,34 @@ impl NodeList {
         }
     }
 
-    /// How many nodes behind a position are deeper than this, one after another.
-    pub fn deeper(&self, i: usize, depth: usize) -> usize
+    /// The node at a position, and how many nodes behind it are deeper than it is, one after another.
+    pub fn run_of(&self, i: usize) -> (Node, usize)
         requires { i < length self.now.nodes }
-        ensures { result ≡ run_len depth (drop (i + 1) self.now.nodes) }
+        ensures node { result.0 ≡ get_or self.now.nodes i result.0 }
+        ensures run { result.1 ≡ run_len result.0.depth (drop (i + 1) self.now.nodes) }
+        ensures fits { length self.now.nodes < 2 ^ 64 }
     {
         match &self.form {
-            Form::Few(nodes) => backward::deeper(nodes, i, depth),
-            Form::Many(blocks) => blocks.deeper(i, depth),
+            Form::Few(nodes) => {
+                let node = node_at(nodes, i);
+                (node, backward::deeper(nodes, i, node.depth))
+            }
+            Form::Many(blocks) => blocks.run_of(i),
         }
     }
 
-    /// The position of the last of the nodes before a position that is less deep than this.
-    pub fn last_above(&self, i: usize, depth: usize) -> Option<usize>
-        requires { i ≤ length self.now.nodes }
-        ensures { result ≡ last_less depth (take i self.now.nodes) }
+    /// The node at a position, and the position of the last node before it that is less deep than it is.
+    pub fn origin_of(&self, i: usize) -> (Node, Option<usize>)
+        requires { i < length self.now.nodes }
+        ensures node { result.0 ≡ get_or self.now.nodes i result.0 }
+        ensures origin { result.1 ≡ last_less result.0.depth (take i self.now.nodes) }
     {
         match &self.form {
-            Form::Few(nodes) => backward::last_above(nodes, i, depth),
-            Form::Many(blocks) => blocks.last_above(i, depth),
+            Form::Few(nodes) => {
+                let node = node_at(nodes, i);
+                (node, backward::last_above(nodes, i, node.depth))
+            }
+            Form::Many(blocks) => blocks.origin_of(i),
         }
     }
 

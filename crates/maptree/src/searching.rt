@@ -27,7 +27,7 @@ pub fn runs_of(
         let i = positions[m];
         // What stands before the end is in the last run.
         if end <= i {
-            let derived = list.deeper(i, list.get(i).depth);
+            let (_, derived) = list.run_of(i);
             end = i + 1 + derived;
             runs.push(i..end)?;
         }

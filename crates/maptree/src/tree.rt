@@ -120,8 +120,7 @@ impl Tree {
             → Decides (nat_le i j && nat_lt j result.end)
             (LeadsTo self.now.links 0 (place_at self.now.links j d) (place_at self.now.links i d)) }
     {
-        let depth = self.nodes.get(i).depth;
-        let derived = self.nodes.deeper(i, depth);
+        let (_, derived) = self.nodes.run_of(i);
         i..i + 1 + derived
     }
 
@@ -132,8 +131,8 @@ impl Tree {
         ensures origin { (d : Place) → origin_in self.now.links (place_at self.now.links i d)
             ≡ option_map (λ r. place_at self.now.links r d) result }
     {
-        let depth = self.nodes.get(i).depth;
-        self.nodes.last_above(i, depth)
+        let (_, origin) = self.nodes.origin_of(i);
+        origin
     }
 
     /// The place from which the node at a position derives; none for a root.
@@ -152,11 +151,12 @@ impl Tree {
         ensures { (d : Place) → Decides result
             (LeadsTo self.now.links 1 (place_at self.now.links b d) (place_at self.now.links a d)) }
     {
-        let depth = self.nodes.get(a).depth;
+        let nodes = &self.nodes;
         if b <= a {
             return false;
         }
-        self.nodes.deeper(a, depth) >= b - a
+        let (_, derived) = nodes.run_of(a);
+        derived >= b - a
     }
 
     /// Every place in the order of positions, with its origin.
@@ -191,10 +191,11 @@ impl Tree {
     fn run_of_place(&self, alloc: Global, place: Place) -> Result<Vec<Range<usize>>, NoMemory>
         ensures { IfOk result (λ runs. AreOuterRuns self.now.links (place ∷ []) runs.items) }
     {
-        let mut runs = Vec::new(alloc);
-        if let Some(i) = self.nodes.find(place) {
-            runs.push(self.run_of(i)).map_err(AllocError::from)?;
-        }
+        let Some(i) = self.nodes.find(place) else {
+            return Ok(Vec::new(alloc));
+        };
+        let mut runs = Vec::with_capacity(alloc, 1)?;
+        runs.push(self.run_of(i)).map_err(AllocError::from)?;
         Ok(runs)
     }
 

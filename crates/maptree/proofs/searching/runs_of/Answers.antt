@@ -13,9 +13,9 @@ overflow_add-end-then-end-i c =
     let inside : c.loop-m.m < length c.in_ok-positions.positions.items = search (rules, arith) in
     let within = subst (λ k. k < length ns) (sym c.index-i.ensures) (c.in_ok-positions.ensures.positions.within c.loop-m.m i inside) in
     let size = length-drop (i + 1) ns in
-    let most = run_len-le c.get.result.depth (drop (i + 1) ns) in
-    let run = c.deeper-derived.ensures in
-    let fits = c.get.ensures.fits in
+    let most = run_len-le c.run_of-derived.result.0.depth (drop (i + 1) ns) in
+    let run = c.run_of-derived.ensures.run in
+    let fits = c.run_of-derived.ensures.fits in
     search (rules, arith, within, size, most, run, fits)
 
 pub loop-m-preserved : goal.loop-m-preserved
@@ -29,8 +29,8 @@ loop-m-preserved c =
     elim c.if-end-i.branch [
       | then-end-i+in_ok-push w ↦
           subst (λ e. AreRunsTo ns c.args.places.now at (c.loop-m.m + 1) e c.if-end-i.runs.items) (sym w.end-is)
-          (subst (AreRunsTo ns c.args.places.now at (c.loop-m.m + 1) (i + 1 + w.deeper-derived.result)) (sym (ap (λ v. v.items) w.runs-is ∙ w.in_ok-push.ensures.items))
-          (next_run ns c.args.places.now at c.loop-m.m c.loop-m.end c.loop-m.runs.items are rising c.loop-m.invariant i w.deeper-derived.result w.get.result c.requires inside c.index-i.ensures w.if-end-i.true w.get.ensures.node w.deeper-derived.ensures))
+          (subst (AreRunsTo ns c.args.places.now at (c.loop-m.m + 1) (i + 1 + w.run_of-derived.result.1)) (sym (ap (λ v. v.items) w.runs-is ∙ w.in_ok-push.ensures.items))
+          (next_run ns c.args.places.now at c.loop-m.m c.loop-m.end c.loop-m.runs.items are rising c.loop-m.invariant i w.run_of-derived.result.1 w.run_of-derived.result.0 c.requires inside c.index-i.ensures w.if-end-i.true w.run_of-derived.ensures.node w.run_of-derived.ensures.run))
       | else-end-i w ↦
           subst (λ e. AreRunsTo ns c.args.places.now at (c.loop-m.m + 1) e c.if-end-i.runs.items) (sym w.end-is)
           (subst (AreRunsTo ns c.args.places.now at (c.loop-m.m + 1) c.loop-m.end) (sym (ap (λ v. v.items) w.runs-is))

@@ -17,5 +17,5 @@ pub returns : goal.returns
 returns c =
     let nodes = c.self.inside.nodes.nodes in
     let size : length c.args.self.now.links ≡ length nodes = ap (λ (s : Shape). length s.links) (sym c.self.view_is) ∙ length-links [] nodes in
-    subst (λ (s : Shape). (d : Place) → Decides (nat_le (c.args.b - c.args.a) c.deeper.result) (LeadsTo s.links 1 (place_at s.links c.args.b d) (place_at s.links c.args.a d))) c.self.view_is
-    (strict_upto nodes c.args.a c.args.b c.deeper.result c.get-depth.result c.self.invariant c.if-b-a.false (omega (arith, size, c.requires.b)) c.get-depth.ensures.node c.deeper.ensures)
+    subst (λ (s : Shape). (d : Place) → Decides (nat_le (c.args.b - c.args.a) c.run_of-derived.result.1) (LeadsTo s.links 1 (place_at s.links c.args.b d) (place_at s.links c.args.a d))) c.self.view_is
+    (strict_upto nodes c.args.a c.args.b c.run_of-derived.result.1 c.run_of-derived.result.0 c.self.invariant c.if-b-a.false (omega (arith, size, c.requires.b)) c.run_of-derived.ensures.node c.run_of-derived.ensures.run)
