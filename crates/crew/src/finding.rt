@@ -8,7 +8,7 @@ ghost use Rattle.pieces.specs.Dones.{found_as};
 ghost use Rattle.pieces.specs.Values.{no_value};
 
 use fpage::Rights;
-use maptree::Slice;
+use mapnode::Slice;
 use pieces::Touch;
 use pieces::steps::permits;
 use std::alloc::{AllocError, Global};

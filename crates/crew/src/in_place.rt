@@ -11,7 +11,7 @@ ghost use Rattle.pieces.specs.Kept.{nodes_kept};
 ghost use Rattle.crew.specs.Opening.{narrows, linked_word, marks_made};
 
 use fpage::Rights;
-use maptree::Node;
+use mapnode::Node;
 use pieces::steps::{bits, linked, moved, narrowed, remains, status};
 use pieces::{Link, Masks, Move, Store, Touch, move_node};
 use std::alloc::AllocError;

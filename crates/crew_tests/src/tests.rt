@@ -7,7 +7,7 @@ ghost use Rattle.pieces.specs.Phases.{CanBeWorked};
 use crate::assertions::assert_equal;
 use crew::{Alone, Crew, CrewError, Gate, NoGate, Workers, work};
 use fpage::{Access, Rights};
-use maptree::{Node, Slice};
+use mapnode::{Node, Slice};
 use pieces::{
     Done, Gathered, Pair, Piece, Store, Strip, WordAccess, gather, links, moves, touches,
 };

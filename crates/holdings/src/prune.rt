@@ -4,12 +4,14 @@ ghost use Rattle.std.specs.Prelude.{◌≡◌, ◌≤◌, true, not, length, fil
 ghost use Rattle.std.specs.List.{All, list_all, slice_range};
 ghost use Rattle.space.specs.Shards.{IsPlace, is_taken};
 ghost use Rattle.maptree.specs.Origins.{IsRun, AreRising};
-ghost use Rattle.maptree.specs.Cuts.{outside, nodes_of, kept_of};
+ghost use Rattle.mapnode.specs.Slices.{nodes_of};
+ghost use Rattle.maptree.specs.Cuts.{outside, kept_of};
 ghost use Rattle.holdings.specs.Inner.Held.{has_entry};
 ghost use Rattle.holdings.specs.Inner.Stripping.{pruned, OriginsHaveEntries};
 
 use crate::planning::FrameRuns;
-use maptree::{Node, Slice, Tree};
+use mapnode::{Node, Slice};
+use maptree::Tree;
 use space::{NoMemory, Shards};
 use std::alloc::{AllocError, Global};
 use std::ops::Range;

@@ -3,7 +3,8 @@
 use crate::holdings::Holdings;
 use crate::one_by_one::Order;
 use fpage::Rights;
-use maptree::{Node, Tree};
+use mapnode::Node;
+use maptree::Tree;
 use space::{Narrowed, NoMemory, Place, Shards};
 use std::alloc::{AllocError, Global};
 use std::ops::Range;

@@ -1,6 +1,6 @@
 -- The node that is read at a seat stands at its position.
 use Rattle.std.proofs.Common.{◌≡◌, ℕ, ◌<◌, List, [], length, get_or, sym, ap, ◌∙◌}
-use Rattle.maptree.specs.declared.node.Node.{Node}
+use Rattle.mapnode.specs.declared.node.Node.{Node}
 use Rattle.maptree.specs.declared.blocks.Seat.{Seat}
 use Rattle.maptree.specs.Blocks.{nodes_in, IsSeat}
 use Rattle.maptree.proofs.InBlocks.{as_read, at_seat, read_of}

@@ -9,28 +9,18 @@ use Rattle.std.proofs.lemmas.Bool.{cases_lt}
 use Rattle.std.proofs.Math.Seq.{paste}
 use Rattle.std.proofs.lemmas.List.Edits.{take-paste, drop-paste, length-paste}
 use Rattle.std.proofs.lemmas.List.{take-append-drop, drop_more, drop-append-le, take-append-le, length-drop, append_assoc, append-nil, map-append, drop-map, drop-drop, length-append, length-map, length-take-le, drop-take}
-use Rattle.maptree.specs.declared.node.Node.{Node}
-use Rattle.maptree.specs.declared.slice.Slice.{Slice}
+use Rattle.mapnode.specs.declared.node.Node.{Node}
+use Rattle.mapnode.specs.declared.slice.Slice.{Slice}
 use Rattle.maptree.specs.declared.cutting.Cutting.{Cutting}
 use Rattle.maptree.specs.Origins.{AreRising}
+use Rattle.mapnode.proofs.Lists.{first_piece, take_all, drop_all}
 use Rattle.maptree.proofs.BlockChanges.{first_of}
-use Rattle.maptree.specs.Cuts.{outside, pieces, pieces_of, nodes_of, joined, AreGaps, IsCutting}
+use Rattle.mapnode.specs.Slices.{pieces, nodes_of}
+use Rattle.maptree.specs.Cuts.{outside, pieces_of, joined, AreGaps, IsCutting}
 
 -- ---- parts of lists
 
 module _ {A : Type 0} where
-  pub take_all : (n : ℕ) (xs : List A) → length xs ≤ n → take n xs ≡ xs
-  take_all zero [] upto = refl
-  take_all (suc n) [] upto = refl
-  take_all zero (x ∷ xs) upto = absurd (omega (arith, upto))
-  take_all (suc n) (x ∷ xs) upto = ap (λ ys. x ∷ ys) (take_all n xs (omega (arith, upto)))
-
-  pub drop_all : (n : ℕ) (xs : List A) → length xs ≤ n → drop n xs ≡ []
-  drop_all zero [] upto = refl
-  drop_all (suc n) [] upto = refl
-  drop_all zero (x ∷ xs) upto = absurd (omega (arith, upto))
-  drop_all (suc n) (x ∷ xs) upto = drop_all n xs (omega (arith, upto))
-
   pub drop_drop : (a b : ℕ) (xs : List A) → drop b (drop a xs) ≡ drop (a + b) xs
   drop_drop zero b xs = let same : b ≡ 0 + b = omega arith in ap (λ n. drop n xs) same
   drop_drop (suc a) b [] = drop_all b [] (omega arith) ∙ sym (drop_all (suc a + b) [] (omega arith))
@@ -50,40 +40,6 @@ module _ {A : Type 0} where
   take_more (suc a) (suc b) (x ∷ xs) upto =
       let less : suc b - suc a ≡ b - a = omega arith in
       ap (λ ys. x ∷ ys) (take_more a b xs (omega (arith, upto))) ∙ ap (λ n. x ∷ take a xs ++ take n (drop a xs)) (sym less)
-
-  -- ---- pieces
-
-  -- room for pieces changes nothing where there is enough
-  pieces_same : (n m most : ℕ) (xs : List A) → 1 ≤ most → length xs ≤ n → length xs ≤ m → pieces n most xs ≡ pieces m most xs
-  pieces_same zero zero most [] some upto upto_m = refl
-  pieces_same zero (suc m) most [] some upto upto_m = refl
-  pieces_same (suc n) zero most [] some upto upto_m = refl
-  pieces_same (suc n) (suc m) most [] some upto upto_m = refl
-  pieces_same zero m most (x ∷ xs) some upto upto_m = absurd (omega (arith, upto))
-  pieces_same (suc n) zero most (x ∷ xs) some upto upto_m = absurd (omega (arith, upto_m))
-  pieces_same (suc n) (suc m) most (x ∷ xs) some upto upto_m =
-      let dropped = length-drop most (x ∷ xs) in
-      ap (λ ps. take most (x ∷ xs) ∷ ps) (pieces_same n m most (drop most (x ∷ xs)) some (omega (arith, dropped, some, upto)) (omega (arith, dropped, some, upto_m)))
-
-  -- the first piece, and the others
-  pub first_piece : (most : ℕ) (xs : List A) → 1 ≤ most → 0 < length xs → pieces (length xs) most xs ≡ take (min most (length xs)) xs ∷ pieces (length (drop (min most (length xs)) xs)) most (drop (min most (length xs)) xs)
-  first_piece most [] some more = absurd (omega (arith, more))
-  first_piece most (x ∷ xs) some more =
-      let dropped = length-drop most (x ∷ xs) in
-      let left : length (drop most (x ∷ xs)) ≤ length xs = omega (arith, dropped, some) in
-      ap (λ ps. take most (x ∷ xs) ∷ ps) (pieces_same (length xs) (length (drop most (x ∷ xs))) most (drop most (x ∷ xs)) some left (omega arith))
-      ∙ by (x ∷ xs) (min most (length (x ∷ xs))) (cases most (length (x ∷ xs)))
-    where
-      cases : (m n : ℕ) → (min m n ≡ m) ⊎ ((min m n ≡ n) × (n ≤ m))
-      cases m n = by_order (cases_lt n m)
-        where
-          by_order : (n < m) ⊎ (m ≤ n) → (min m n ≡ m) ⊎ ((min m n ≡ n) × (n ≤ m))
-          by_order (inl less) = inr (min-eq_right (omega (arith, less)), omega (arith, less))
-          by_order (inr upto) = inl (min-eq_left upto)
-
-      by : (ys : List A) (k : ℕ) → (k ≡ most) ⊎ ((k ≡ length ys) × (length ys ≤ most)) → take most ys ∷ pieces (length (drop most ys)) most (drop most ys) ≡ take k ys ∷ pieces (length (drop k ys)) most (drop k ys)
-      by ys k (inl same) = rw same refl
-      by ys k (inr all) = rw (take_all most ys all.1, drop_all most ys all.1, take_all k ys (omega (arith, all.0)), drop_all k ys (omega (arith, all.0))) refl
 
 -- ---- parts and gaps
 

@@ -6,7 +6,7 @@ use Rattle.std.proofs.lemmas.List.{length-drop}
 use Rattle.space.specs.declared.place.Place.{Place}
 use Rattle.space.specs.Place.{same_place}
 use Rattle.space.proofs.Places.{apart_back}
-use Rattle.maptree.specs.declared.node.Node.{Node}
+use Rattle.mapnode.specs.declared.node.Node.{Node}
 use Rattle.maptree.specs.Origins.{place_at}
 use Rattle.maptree.specs.Nodes.{are_depths, is_new, are_distinct, is_forest, above, first, links, origins_of}
 use Rattle.maptree.proofs.Runs.{place_of, depth_of}

@@ -2,11 +2,12 @@
 use Rattle.std.proofs.Common.{◌≡◌, refl, Bool, false, ℕ, ◌+◌, ◌-◌, ◌<◌, ◌≤◌, true, List, [], length, take, drop, get_or, subst, sym, ap, ◌∙◌, arith}
 use Rattle.std.proofs.lemmas.List.{get_or-take, get_or-drop, length-reverse}
 use Rattle.space.specs.declared.place.Place.{Place}
-use Rattle.maptree.specs.declared.node.Node.{Node}
+use Rattle.mapnode.specs.declared.node.Node.{Node}
 use Rattle.maptree.specs.Origins.{Origins, place_at, HasDepth}
 use Rattle.maptree.specs.Forms.{in_order}
 use Rattle.maptree.specs.Nodes.{is_forest, origins_of}
-use Rattle.maptree.proofs.Positions.{read_any, node_place, node_depth, node_only, length-links}
+use Rattle.mapnode.proofs.Lists.{read_any}
+use Rattle.maptree.proofs.Positions.{node_place, node_depth, node_only, length-links}
 
 -- the node at a position of a tree
 pub record IsNodeAt (os : Origins) (i : ℕ) (n : Node) : Type 0 where

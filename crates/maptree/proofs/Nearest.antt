@@ -3,7 +3,7 @@ use Rattle.std.proofs.Common.{◌≡◌, ℕ, zero, suc, ◌<◌, ◌≤◌, tru
 use Rattle.std.proofs.Math.Nat.{min-le_left}
 use Rattle.std.proofs.lemmas.List.{length-take, length-take-le}
 use Rattle.space.specs.declared.place.Place.{Place}
-use Rattle.maptree.specs.declared.node.Node.{Node}
+use Rattle.mapnode.specs.declared.node.Node.{Node}
 use Rattle.maptree.specs.Origins.{origin_in, place_at}
 use Rattle.maptree.specs.Nodes.{is_forest, origins_of, last_less}
 use Rattle.maptree.proofs.Runs.{depth_of}

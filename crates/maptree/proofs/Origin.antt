@@ -3,7 +3,7 @@ use Rattle.std.proofs.Common.{◌≡◌, ℕ, zero, suc, ◌+◌, ◌-◌, ◌<�
 use Rattle.std.specs.Option.{option_and_then}
 use Rattle.std.proofs.lemmas.Bool.{and_parts, leb-true, lt-ltb}
 use Rattle.space.specs.declared.place.Place.{Place}
-use Rattle.maptree.specs.declared.node.Node.{Node}
+use Rattle.mapnode.specs.declared.node.Node.{Node}
 use Rattle.maptree.specs.Origins.{Origins, origin_in, after_origins, place_at, LeadsTo, HasDepth}
 use Rattle.maptree.specs.Nodes.{are_depths, are_distinct, is_forest, origins_of, run_len}
 use Rattle.maptree.proofs.Runs.{place_of, depth_of, run_at, forest_strict, forest_depth}
@@ -131,10 +131,6 @@ first_is_root (n ∷ ns) forest some =
     omega (arith, low)
 
 -- ---- looking back
-
--- what a read past the end would give
-abbrev pub blank : Node
-blank = record { place = record { space = 0; page = 0 }; depth = 0 }
 
 split_order : (a b : ℕ) → a ≤ b → (a ≡ b) ⊎ (a < b)
 split_order a b upto = grind (arith, upto)

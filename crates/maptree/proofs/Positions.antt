@@ -8,7 +8,7 @@ use Rattle.std.proofs.lemmas.List.{length-drop, take_rest}
 use Rattle.std.proofs.lemmas.List.Sums.{prefix_len-le-length}
 use Rattle.space.specs.declared.place.Place.{Place}
 use Rattle.space.specs.Place.{same_place}
-use Rattle.maptree.specs.declared.node.Node.{Node}
+use Rattle.mapnode.specs.declared.node.Node.{Node}
 use Rattle.maptree.specs.Origins.{place_at, LeadsTo, HasDepth}
 use Rattle.maptree.specs.Nodes.{are_depths, is_new, are_distinct, is_forest, above, links, origins_of, run_len}
 use Rattle.maptree.proofs.Runs.{place_of, depth_of, run_at, forest_run, forest_strict, forest_depth, has_place}
@@ -25,12 +25,6 @@ pub place_at-links : (path : List Place) (ns : List Node) (i : ℕ) (d : Place) 
 place_at-links path [] i d = refl
 place_at-links path (n ∷ ns) zero d = refl
 place_at-links path (n ∷ ns) (suc i) d = place_at-links (n.place ∷ above n path) ns i d
-
--- a read within the list does not depend on what a read past its end would give
-pub read_any : (ns : List Node) (i : ℕ) (a b : Node) → i < length ns → get_or ns i a ≡ get_or ns i b
-read_any [] i a b within = absurd (omega (arith, within))
-read_any (m ∷ ns) zero a b within = refl
-read_any (m ∷ ns) (suc i) a b within = read_any ns i a b (omega (arith, within))
 
 -- the place of the node that is read
 pub place_of_read : (ns : List Node) (i : ℕ) (d : Place) (n : Node) → i < length ns → place_of ns i d ≡ (get_or ns i n).place

@@ -1,7 +1,7 @@
 -- A list of nodes in blocks.
 use Rattle.std.specs.Prelude.{◌≡◌, ℕ, ◌+◌, ◌*◌, ◌/◌, ◌^◌, ◌<◌, ◌≤◌, nat_le, ◌&&◌, Bool, true, List, [], ◌∷◌, length, take, drop, get_or, set, insert, slice_index}
 use Rattle.std.specs.List.{flat_map}
-use Rattle.maptree.specs.declared.node.Node.{Node}
+use Rattle.mapnode.specs.declared.node.Node.{Node}
 use Rattle.maptree.specs.declared.blocks.Seat.{Seat}
 
 -- how many nodes a block has at most

@@ -3,8 +3,9 @@ use Rattle.std.specs.Prelude.{◌≡◌, ℕ, zero, suc, ◌+◌, ◌≤◌, tru
 use Rattle.std.specs.List.{All, list_all, slice_range}
 use Rattle.std.specs.declared.ops.Range.{Range}
 use Rattle.space.specs.declared.place.Place.{Place}
-use Rattle.maptree.specs.declared.node.Node.{Node}
-use Rattle.maptree.specs.declared.slice.Slice.{Slice}
+use Rattle.mapnode.specs.declared.node.Node.{Node}
+use Rattle.mapnode.specs.declared.slice.Slice.{Slice}
+use Rattle.mapnode.specs.Slices.{pieces, nodes_of}
 use Rattle.maptree.specs.Origins.{Origins, Shape, origin_in, HasDepth}
 use Rattle.maptree.specs.Nodes.{is_forest, origins_of}
 
@@ -13,20 +14,10 @@ abbrev pub outside : {A : Type 0} → ℕ → List (Range ℕ) → List A → Li
 outside from [] xs = drop from xs
 outside from (r ∷ rs) xs = slice_range xs from r.start ++ outside r.end rs xs
 
--- a list in pieces of so many elements, of which the last may have fewer; the first number bounds how many pieces there are
-abbrev pub pieces : {A : Type 0} → ℕ → ℕ → List A → List (List A)
-pieces zero most xs = []
-pieces (suc n) most [] = []
-pieces (suc n) most (x ∷ xs) = take most (x ∷ xs) ∷ pieces n most (drop most (x ∷ xs))
-
 -- the elements of each range in pieces of so many
 abbrev pub pieces_of : {A : Type 0} → ℕ → List (Range ℕ) → List A → List (List A)
 pieces_of most [] xs = []
 pieces_of most (r ∷ rs) xs = let run = slice_range xs r.start r.end in pieces (length run) most run ++ pieces_of most rs xs
-
--- the nodes of each part
-abbrev pub nodes_of : List Slice → List (List Node)
-nodes_of parts = map (λ s. s.nodes.items) parts
 
 -- the places of each part
 abbrev pub places_of : List Slice → List (List Place)

@@ -6,14 +6,14 @@
 ghost use Rattle.std.specs.Prelude.{◌≡◌, ◌+◌, ◌-◌, ◌<◌, ◌≤◌, true, length, take, drop, reverse, get_or, set, insert, position, IfOk};
 ghost use Rattle.std.specs.List.{slice_range};
 ghost use Rattle.space.specs.Place.{same_place};
-ghost use Rattle.maptree.specs.declared.node.Node.{Node};
+ghost use Rattle.mapnode.specs.declared.node.Node.{Node};
 ghost use Rattle.maptree.specs.Nodes.{are_distinct, run_len, last_less};
 ghost use Rattle.maptree.specs.Cuts.{outside};
 ghost use Rattle.maptree.specs.Origins.{AreRising};
 ghost use Rattle.maptree.specs.PlaceMaps.{place_for};
 ghost use Rattle.maptree.specs.Renamings.{nodes_renamed};
 
-use crate::node::Node;
+use mapnode::Node;
 use crate::place_map::PlaceMap;
 use crate::replacing::replace_places;
 use crate::shifts::{close_gaps, shift_in};

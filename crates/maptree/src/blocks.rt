@@ -9,9 +9,9 @@ use crate::block::{BLOCK_SIZE, Block};
 use crate::block_leasts::Leasts;
 use crate::block_starts::Starts;
 use crate::hints::Hints;
-use crate::node::Node;
+use mapnode::Node;
 use crate::place_map::PlaceMap;
-use crate::slice::Slice;
+use mapnode::Slice;
 use space::Place;
 use std::alloc::{AllocError, Global};
 use std::marker::Model;
@@ -73,11 +73,12 @@ impl Blocks {
     ghost use Rattle.std.specs.Prelude.{◌≡◌, ◌+◌, ◌<◌, ◌≤◌, ◌^◌, true, [], ◌++◌, length, take, drop, get_or, set, insert, position, IfOk, OnOk, OnErr, vec_capacity};
     ghost use Rattle.std.specs.List.{slice_range};
     ghost use Rattle.space.specs.Place.{same_place};
-    ghost use Rattle.maptree.specs.declared.node.Node.{Node};
+    ghost use Rattle.mapnode.specs.declared.node.Node.{Node};
     ghost use Rattle.maptree.specs.Blocks.{block_size, nodes_in, IsSeat, split_block};
     ghost use Rattle.maptree.specs.Nodes.{are_distinct, run_len, last_less};
     ghost use Rattle.maptree.specs.Origins.{AreRising};
-    ghost use Rattle.maptree.specs.Cuts.{AreGaps, count_of, joined, nodes_of, outside};
+    ghost use Rattle.mapnode.specs.Slices.{nodes_of};
+    ghost use Rattle.maptree.specs.Cuts.{AreGaps, count_of, joined, outside};
     ghost use Rattle.maptree.specs.PlaceMaps.{place_for};
     ghost use Rattle.maptree.specs.Renamings.{nodes_renamed};
 

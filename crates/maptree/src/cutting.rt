@@ -2,11 +2,12 @@
 
 ghost use Rattle.std.specs.Prelude.{◌≡◌, ◌≤◌, IfOk, length, vec_capacity};
 ghost use Rattle.maptree.specs.Origins.{AreRising};
-ghost use Rattle.maptree.specs.Cuts.{AreGaps, joined, nodes_of, outside};
+ghost use Rattle.mapnode.specs.Slices.{nodes_of};
+ghost use Rattle.maptree.specs.Cuts.{AreGaps, joined, outside};
 
-use crate::node::Node;
+use mapnode::Node;
 use crate::node_list::NodeList;
-use crate::slice::Slice;
+use mapnode::Slice;
 use std::alloc::{AllocError, Global};
 use std::ops::Range;
 
@@ -24,9 +25,10 @@ pub struct Cutting {
 impl Cutting {
     ghost use Rattle.std.specs.Prelude.{◌≡◌, ◌≤◌, ◌++◌, List, OnOk, IfOk, length};
     ghost use Rattle.std.specs.List.{slice_range};
-    ghost use Rattle.maptree.specs.declared.node.Node.{Node};
+    ghost use Rattle.mapnode.specs.declared.node.Node.{Node};
     ghost use Rattle.maptree.specs.Origins.{AreRising};
-    ghost use Rattle.maptree.specs.Cuts.{AreGaps, IsCutting, joined, nodes_of, outside, pieces, pieces_of};
+    ghost use Rattle.mapnode.specs.Slices.{nodes_of, pieces};
+    ghost use Rattle.maptree.specs.Cuts.{AreGaps, IsCutting, joined, outside, pieces_of};
 
     /// The nodes of some ranges of a list, in parts of at most so many.
     pub fn of(

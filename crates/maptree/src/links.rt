@@ -3,7 +3,7 @@
 ghost use Rattle.std.specs.Prelude.{◌≡◌, IfOk};
 ghost use Rattle.maptree.specs.Nodes.{origins_of};
 
-use crate::node::Node;
+use mapnode::Node;
 use space::Place;
 use std::alloc::{AllocError, Global};
 

@@ -1,16 +1,17 @@
 //! A list of nodes: one vector while it is short, blocks once it is long.
 
 ghost use Rattle.std.specs.Prelude.{◌≡◌, ◌≤◌, IfSome};
-ghost use Rattle.maptree.specs.Cuts.{count_of, nodes_of};
+ghost use Rattle.mapnode.specs.Slices.{nodes_of};
+ghost use Rattle.maptree.specs.Cuts.{count_of};
 
 use crate::backward::{self, forward, node_at};
 use crate::blocks::Blocks;
 use crate::cutting::{Cutting, joined};
 use crate::links::linked;
-use crate::node::Node;
+use mapnode::Node;
 use crate::place_map::PlaceMap;
 use crate::scans::outermost;
-use crate::slice::Slice;
+use mapnode::Slice;
 use smallvec::SmallVec;
 use space::Place;
 use std::alloc::{AllocError, Global};
@@ -57,10 +58,11 @@ impl NodeList {
     ghost use Rattle.std.specs.Prelude.{◌≡◌, ◌+◌, ◌<◌, ◌≤◌, ◌^◌, true, [], ◌∷◌, length, take, drop, get_or, set, insert, position, IfOk, IfSome, OnOk, OnErr};
     ghost use Rattle.std.specs.List.{slice_range};
     ghost use Rattle.space.specs.Place.{same_place};
-    ghost use Rattle.maptree.specs.declared.node.Node.{Node};
+    ghost use Rattle.mapnode.specs.declared.node.Node.{Node};
     ghost use Rattle.maptree.specs.Nodes.{are_distinct, is_forest, origins_of, run_len, last_less};
     ghost use Rattle.maptree.specs.Origins.{AreRising, AreOuterRuns};
-    ghost use Rattle.maptree.specs.Cuts.{AreGaps, IsCutting, joined, nodes_of, outside, pieces_of};
+    ghost use Rattle.mapnode.specs.Slices.{nodes_of};
+    ghost use Rattle.maptree.specs.Cuts.{AreGaps, IsCutting, joined, outside, pieces_of};
     ghost use Rattle.maptree.specs.PlaceMaps.{place_for};
     ghost use Rattle.maptree.specs.Renamings.{nodes_renamed};
     ghost use Rattle.maptree.specs.Forms.{in_order};

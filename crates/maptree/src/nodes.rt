@@ -6,7 +6,7 @@ ghost use Rattle.maptree.specs.Nodes.{is_forest, origins_of};
 ghost use Rattle.maptree.specs.Origins.{place_at, HasDepth};
 
 use crate::backward::node_at;
-use crate::node::Node;
+use mapnode::Node;
 use crate::node_list::NodeList;
 use std::marker::Model;
 

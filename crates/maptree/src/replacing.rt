@@ -4,7 +4,7 @@ ghost use Rattle.std.specs.Prelude.{◌≡◌};
 ghost use Rattle.maptree.specs.PlaceMaps.{place_for};
 ghost use Rattle.maptree.specs.Renamings.{nodes_renamed};
 
-use crate::node::Node;
+use mapnode::Node;
 use crate::place_map::PlaceMap;
 
 /// Each node whose place has one in the map gets that.

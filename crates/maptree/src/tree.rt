@@ -7,12 +7,12 @@ ghost use Rattle.maptree.specs.Nodes.{is_forest, are_distinct, origins_of, run_l
 ghost use Rattle.maptree.specs.PlaceMaps.{place_for};
 ghost use Rattle.maptree.specs.Renamings.{nodes_renamed};
 
-use crate::node::Node;
+use mapnode::Node;
 use crate::node_list::NodeList;
 use crate::nodes::Nodes;
 use crate::place_map::PlaceMap;
 use crate::searching::runs_of;
-use crate::slice::Slice;
+use mapnode::Slice;
 use space::{NoMemory, Place};
 use std::alloc::{AllocError, Global};
 use std::collections::BTreeSet;
@@ -58,7 +58,8 @@ impl Tree {
     ghost use Rattle.maptree.specs.Origins.{are_once, OriginsStand, origin_in, place_at, renamed, LeadsTo, HasDepth, IsRun, AreRising, AreOuterRuns, IsOriginAt};
     ghost use Rattle.maptree.specs.PlaceMaps.{place_for};
     ghost use Rattle.maptree.specs.Renamings.{all_renamed, StayApart};
-    ghost use Rattle.maptree.specs.Cuts.{outside, nodes_of, ArePartsOf, IsCut, AreKept};
+    ghost use Rattle.mapnode.specs.Slices.{nodes_of};
+    ghost use Rattle.maptree.specs.Cuts.{outside, ArePartsOf, IsCut, AreKept};
 
     /// A tree of one root. This takes no memory.
     pub fn root(alloc: Global, place: Place) -> Tree

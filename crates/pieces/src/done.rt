@@ -1,6 +1,6 @@
 use crate::piece::Piece;
 use fpage::Rights;
-use maptree::Slice;
+use mapnode::Slice;
 use std::marker::Model;
 use std::snapshot::Snapshot;
 

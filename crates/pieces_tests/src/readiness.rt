@@ -1,7 +1,7 @@
 //! Words and pieces that can be worked, and others that break one rule each.
 
 use fpage::{Access, Rights};
-use maptree::{Node, Slice};
+use mapnode::{Node, Slice};
 use pieces::{Link, Move, Pair, Piece, Store, Strip, Touch, WordAccess, can_be_worked};
 use space::Place;
 use std::alloc::Global;

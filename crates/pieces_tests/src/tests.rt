@@ -3,7 +3,7 @@
 ghost use Rattle.std.specs.Prelude.{◌≡◌, ◌<◌, IfOk};
 
 use fpage::{Access, Rights};
-use maptree::{Node, Slice};
+use mapnode::{Node, Slice};
 use pieces::{
     Done, GatherFault, Pair, Piece, Store, Strip, Touch, WordAccess, are_distinct, gather, links,
     moves, touches,

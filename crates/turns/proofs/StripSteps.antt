@@ -8,7 +8,7 @@ use Rattle.std.proofs.lemmas.List.{take_all}
 use Rattle.std.proofs.lemmas.Grind.{get_or_default_zero}
 use Rattle.fpage.specs.Rights.{no_rights, join}
 use Rattle.fpage.specs.declared.rights.Rights.{Rights}
-use Rattle.maptree.specs.declared.node.Node.{Node}
+use Rattle.mapnode.specs.declared.node.Node.{Node}
 use Rattle.space.specs.Entries.{status_of}
 use Rattle.space.specs.Word.{word_of, entry_of}
 use Rattle.pieces.specs.Contents.{StripContent, IsStrip}

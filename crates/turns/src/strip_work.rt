@@ -3,7 +3,7 @@
 use crate::post::Post;
 use crate::sheet::Sheet;
 use fpage::Rights;
-use maptree::Slice;
+use mapnode::Slice;
 use pieces::steps::{bits, narrowed, remains, status};
 use pieces::{Masks, Strip, move_node};
 use std::snapshot::Snapshot;

@@ -8,7 +8,7 @@ use crate::strip_work::StripWork;
 use crate::touch_work::TouchWork;
 use crate::{link_work, move_work};
 use fpage::Rights;
-use maptree::Slice;
+use mapnode::Slice;
 use pieces::{Link, Move, Piece};
 use std::alloc::{AllocError, Global};
 

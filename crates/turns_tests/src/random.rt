@@ -7,7 +7,7 @@ ghost use Rattle.pieces.specs.Phases.{CanBeWorked};
 use crate::assertions::assert_equal;
 use crate::tests::{last_two, with_last};
 use fpage::{Access, Rights};
-use maptree::{Node, Slice};
+use mapnode::{Node, Slice};
 use pieces::{
     Done, Link, Move, Pair, Piece, Store, Strip, Touch, WordAccess, are_distinct, can_be_worked,
 };

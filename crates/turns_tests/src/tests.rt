@@ -6,7 +6,7 @@ ghost use Rattle.pieces.specs.Phases.{CanBeWorked};
 
 use crate::assertions::assert_equal;
 use fpage::{Access, Rights};
-use maptree::{Node, Slice};
+use mapnode::{Node, Slice};
 use pieces::{Done, Link, Move, Pair, Piece, Store, Strip, Touch, WordAccess};
 use space::{NoMemory, Place};
 use std::alloc::{AllocError, Global};

@@ -7,7 +7,7 @@ ghost use Rattle.pieces.specs.Phases.{CanBeWorked};
 
 use crate::assertions::assert_equal;
 use fpage::Rights;
-use maptree::{Node, Slice};
+use mapnode::{Node, Slice};
 use pieces::{Piece, Strip, are_distinct, can_be_worked};
 use space::{NoMemory, Place};
 use std::alloc::{AllocError, Global};

@@ -13,7 +13,7 @@ use Rattle.space.specs.Place.{same_place}
 use Rattle.space.specs.Shards.{IsPlace, index_of}
 use Rattle.space.proofs.Places.{same_self}
 use Rattle.space.proofs.ShardWords.{places_have_words, words_are_their_own}
-use Rattle.maptree.specs.Cuts.{pieces}
+use Rattle.mapnode.specs.Slices.{pieces}
 use Rattle.pieces.specs.Contents.{puts_of, ends_of}
 use Rattle.pieces.specs.Distinct.{is_none_of, are_distinct}
 use Rattle.pieces.specs.Phases.{CanBeWorked, changes, held, named}

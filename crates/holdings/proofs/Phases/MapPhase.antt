@@ -2,7 +2,7 @@
 use Rattle.std.proofs.Common.{◌≡◌, ℕ, ◌≤◌, true, List, [], length, map, sym, ap, ◌∙◌, subst}
 use Rattle.fpage.specs.declared.rights.Rights.{Rights}
 use Rattle.space.specs.declared.shards.Shards.{Shards}
-use Rattle.maptree.specs.Cuts.{pieces}
+use Rattle.mapnode.specs.Slices.{pieces}
 use Rattle.maptree.specs.Origins.{Shape}
 use Rattle.pieces.specs.Applied.{worked}
 use Rattle.pieces.specs.Contents.{puts_of}

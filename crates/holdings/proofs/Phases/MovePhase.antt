@@ -1,7 +1,7 @@
 -- The phase of a GrantItem.
 use Rattle.std.proofs.Common.{◌≡◌, ℕ, ◌≤◌, true, List, length, map, None, sym, ap, ◌∙◌, subst}
 use Rattle.space.specs.declared.shards.Shards.{Shards}
-use Rattle.maptree.specs.Cuts.{pieces}
+use Rattle.mapnode.specs.Slices.{pieces}
 use Rattle.maptree.specs.Origins.{Shape}
 use Rattle.model.specs.Grant.{renamed}
 use Rattle.pieces.specs.Applied.{worked}

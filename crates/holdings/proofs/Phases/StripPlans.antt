@@ -15,7 +15,7 @@ use Rattle.space.specs.Place.{same_place}
 use Rattle.space.specs.Shards.{IsPlace, index_of, entry_at}
 use Rattle.space.proofs.Places.{same_is, same_self}
 use Rattle.space.proofs.ShardWords.{places_have_words, words_are_their_own}
-use Rattle.maptree.specs.declared.node.Node.{Node}
+use Rattle.mapnode.specs.declared.node.Node.{Node}
 use Rattle.maptree.specs.Origins.{Shape}
 use Rattle.model.specs.Holdings.{PlaceSet}
 use Rattle.model.specs.Lawful.{is_lawful}

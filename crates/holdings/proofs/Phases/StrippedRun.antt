@@ -19,7 +19,7 @@ use Rattle.space.specs.Entries.{status_of, with_status}
 use Rattle.space.specs.Shards.{IsPlace, IsLaidOutAs, index_of, entry_at}
 use Rattle.space.proofs.ShardWords.{words_are_their_own}
 use Rattle.std.proofs.lemmas.Option.{same_Some}
-use Rattle.maptree.specs.declared.node.Node.{Node}
+use Rattle.mapnode.specs.declared.node.Node.{Node}
 use Rattle.maptree.specs.Origins.{Origins, Shape, origin_in, place_at, IsRun}
 use Rattle.model.specs.Strip.{status_over}
 use Rattle.model.proofs.LawfulParts.{lawful_parts}

@@ -14,7 +14,7 @@ use Rattle.space.specs.Place.{same_place}
 use Rattle.space.specs.Word.{entry_of}
 use Rattle.space.specs.Shards.{IsPlace, index_of, entry_at}
 use Rattle.space.proofs.Places.{same_is}
-use Rattle.maptree.specs.declared.node.Node.{Node}
+use Rattle.mapnode.specs.declared.node.Node.{Node}
 use Rattle.maptree.specs.Origins.{Shape}
 use Rattle.model.specs.Holdings.{only}
 use Rattle.model.specs.Lawful.{is_lawful}

@@ -10,7 +10,7 @@ use Rattle.space.specs.declared.place.Place.{Place}
 use Rattle.space.specs.declared.shards.Shards.{Shards}
 use Rattle.space.specs.Place.{same_place}
 use Rattle.space.specs.Shards.{IsPlace, index_of}
-use Rattle.maptree.specs.declared.node.Node.{Node}
+use Rattle.mapnode.specs.declared.node.Node.{Node}
 use Rattle.maptree.specs.Origins.{Origins}
 use Rattle.maptree.proofs.Cuttings.{drop_drop, take_more}
 use Rattle.pieces.specs.Contents.{StripContent, is_fold_apart}

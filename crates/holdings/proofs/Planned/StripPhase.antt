@@ -4,7 +4,8 @@ use Rattle.std.specs.List.{All}
 use Rattle.fpage.specs.Rights.{no_rights}
 use Rattle.fpage.specs.declared.rights.Rights.{Rights}
 use Rattle.space.specs.declared.shards.Shards.{Shards}
-use Rattle.maptree.specs.Cuts.{nodes_of, kept_of}
+use Rattle.mapnode.specs.Slices.{nodes_of}
+use Rattle.maptree.specs.Cuts.{kept_of}
 use Rattle.maptree.specs.Origins.{Shape}
 use Rattle.model.specs.Holdings.{PlaceSet}
 use Rattle.model.specs.Strip.{strip, strip_word}

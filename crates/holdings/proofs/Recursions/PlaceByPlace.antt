@@ -1,7 +1,7 @@
 -- Places, visited one after another.
 use Rattle.std.proofs.Common.{◌≡◌, ℕ, ◌+◌, ◌<◌, ◌≤◌, false, Bool, ◌||◌, List, length, take, get_or, None, is_some, refl, sym, ap, ◌∙◌, subst}
 use Rattle.std.proofs.lemmas.List.{take_more}
-use Rattle.maptree.proofs.Cuttings.{take_all}
+use Rattle.mapnode.proofs.Lists.{take_all}
 use Rattle.fpage.specs.Rights.{no_rights, join}
 use Rattle.fpage.specs.declared.rights.Rights.{Rights}
 use Rattle.fpage.proofs.RightSets.{join_nothing}

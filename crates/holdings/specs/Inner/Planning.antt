@@ -7,7 +7,7 @@ use Rattle.space.specs.declared.place.Place.{Place}
 use Rattle.space.specs.declared.shards.Shards.{Shards}
 use Rattle.space.specs.Place.{same_place}
 use Rattle.space.specs.Shards.{index_of}
-use Rattle.maptree.specs.declared.node.Node.{Node}
+use Rattle.mapnode.specs.declared.node.Node.{Node}
 use Rattle.maptree.specs.Origins.{Shape, IsRun, place_at}
 use Rattle.model.specs.Derived.{is_below}
 use Rattle.model.specs.Holdings.{PlaceSet, is_held}

@@ -8,7 +8,7 @@ use Rattle.space.specs.declared.shards.Shards.{Shards}
 use Rattle.space.specs.Shards.{IsPlace}
 use Rattle.maptree.specs.Origins.{Origins, Shape, AreOuterRuns, AreRising, IsRun, are_once}
 use Rattle.maptree.specs.Cuts.{outside, kept_of}
-use Rattle.maptree.specs.declared.node.Node.{Node}
+use Rattle.mapnode.specs.declared.node.Node.{Node}
 use Rattle.model.specs.Holdings.{PlaceSet}
 use Rattle.pieces.specs.Phases.{IsPiece}
 use Rattle.pieces.specs.declared.piece.Piece.{Piece}

@@ -5,7 +5,8 @@ ghost use Rattle.std.specs.Prelude.{◌≡◌, ◌<◌, ◌+◌, IfOk, length};
 
 use super::assertions::assert_equal;
 use super::{position, put_below};
-use maptree::{Node, Slice, Tree};
+use mapnode::{Node, Slice};
+use maptree::Tree;
 use space::{NoMemory, Place};
 use std::alloc::{AllocError, Global};
 use std::ops::Range;

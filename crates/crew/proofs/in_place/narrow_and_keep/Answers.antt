@@ -3,7 +3,7 @@ use Rattle.std.proofs.Common.{◌+◌, ◌<◌, ◌∙◌, length, sym, ap, subs
 use Rattle.std.specs.Option.{is_some}
 use Rattle.std.proofs.lemmas.List.{length-set}
 use Rattle.fpage.specs.Rights.{no_rights, join}
-use Rattle.maptree.specs.declared.node.Node.{Node}
+use Rattle.mapnode.specs.declared.node.Node.{Node}
 use Rattle.pieces.proofs.AllSteps.{words_none}
 use Rattle.pieces.specs.Steps.{narrowed_by, entry_in}
 use Rattle.space.specs.Entries.{status_of}

@@ -1,6 +1,7 @@
 -- One slice more.
 use Rattle.std.proofs.Common.{◌+◌, take, sym, ap, ◌∙◌}
-use Rattle.maptree.specs.Cuts.{nodes_of, count_of}
+use Rattle.mapnode.specs.Slices.{nodes_of}
+use Rattle.maptree.specs.Cuts.{count_of}
 use Rattle.holdings.proofs.Planned.AllKept.{slices_more}
 use Rattle.holdings.proofs.prune.count_in_slices.Goals as goal
 

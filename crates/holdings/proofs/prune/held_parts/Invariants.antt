@@ -1,6 +1,7 @@
 -- The parts so far.
 use Rattle.std.proofs.Common.{◌≡◌, take}
-use Rattle.maptree.specs.Cuts.{nodes_of, kept_of}
+use Rattle.mapnode.specs.Slices.{nodes_of}
+use Rattle.maptree.specs.Cuts.{kept_of}
 use Rattle.holdings.specs.Inner.Held.{has_entry}
 use Rattle.holdings.proofs.prune.held_parts.Given as goal
 

@@ -1,6 +1,7 @@
 -- One part more.
 use Rattle.std.proofs.Common.{◌≡◌, ◌+◌, suc, length, drop, get_or, ap, rules, arith}
-use Rattle.maptree.specs.Cuts.{nodes_of, count_of}
+use Rattle.mapnode.specs.Slices.{nodes_of}
+use Rattle.maptree.specs.Cuts.{count_of}
 use Rattle.maptree.proofs.Parts.{parts_from}
 use Rattle.maptree.proofs.node_list.kept_up_to.Goals as goal
 

@@ -1,6 +1,7 @@
 -- So many so far.
 use Rattle.std.proofs.Common.{◌≡◌, ◌+◌, ◌≤◌, drop}
-use Rattle.maptree.specs.Cuts.{nodes_of, count_of}
+use Rattle.mapnode.specs.Slices.{nodes_of}
+use Rattle.maptree.specs.Cuts.{count_of}
 use Rattle.maptree.proofs.node_list.kept_up_to.Given as goal
 
 abbrev pub invariant-loop-part : goal.invariant-loop-part

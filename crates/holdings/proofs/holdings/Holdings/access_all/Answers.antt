@@ -4,7 +4,7 @@ use Rattle.std.specs.List.{All}
 use Rattle.std.proofs.lemmas.Bool.{eqb-true}
 use Rattle.fpage.specs.declared.rights.Access.{Access}
 use Rattle.space.specs.declared.place.Place.{Place}
-use Rattle.maptree.specs.Cuts.{pieces}
+use Rattle.mapnode.specs.Slices.{pieces}
 use Rattle.pieces.specs.declared.piece.Piece.{Piece}
 use Rattle.pieces.specs.declared.piece.Piece.TheVariants as piece
 use Rattle.pieces.specs.declared.touch.WordAccess.{WordAccess}

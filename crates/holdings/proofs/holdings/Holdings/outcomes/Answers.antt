@@ -6,7 +6,7 @@ use Rattle.space.specs.declared.shards.Shards.{Shards}
 use Rattle.space.specs.Directory.{pages_of}
 use Rattle.space.specs.Shards.{entry_at}
 use Rattle.maptree.specs.Origins.{Shape}
-use Rattle.maptree.proofs.Cuttings.{take_all}
+use Rattle.mapnode.proofs.Lists.{take_all}
 use Rattle.model.specs.Holdings.{at}
 use Rattle.holdings.specs.Contents.{Contents, IsConsistent}
 use Rattle.holdings.specs.Places.{IsWithin}

@@ -5,9 +5,9 @@ use Rattle.std.proofs.lemmas.Bool.{eqb-true}
 use Rattle.std.proofs.lemmas.List.{with_items_is}
 use Rattle.fpage.specs.declared.rights.Rights.{Rights}
 use Rattle.space.specs.declared.shards.Shards.{Shards}
-use Rattle.maptree.specs.Cuts.{nodes_of}
+use Rattle.mapnode.specs.Slices.{nodes_of}
 use Rattle.maptree.specs.Origins.{Shape}
-use Rattle.maptree.specs.declared.slice.Slice.{Slice}
+use Rattle.mapnode.specs.declared.slice.Slice.{Slice}
 use Rattle.holdings.specs.Contents.{Contents, IsStripped}
 use Rattle.holdings.specs.Places.{any_of}
 use Rattle.holdings.specs.Inner.Held.{contents_of}

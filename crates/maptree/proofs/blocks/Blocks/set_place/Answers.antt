@@ -1,7 +1,7 @@
 -- One node of one block.
 use Rattle.std.proofs.Common.{◌≡◌, ◌<◌, ◌+◌, length, set, get_or, take, ap, arith, ◌∙◌, sym, refl}
 use Rattle.std.proofs.lemmas.List.{length-set}
-use Rattle.maptree.specs.declared.node.Node.{Node}
+use Rattle.mapnode.specs.declared.node.Node.{Node}
 use Rattle.std.specs.List.{slice_index}
 use Rattle.maptree.specs.Blocks.{nodes_in, is_least}
 use Rattle.maptree.proofs.InBlocks.{read_of, as_read, at_seat}
@@ -9,7 +9,7 @@ use Rattle.maptree.proofs.BlockChanges.{set_node, count_set}
 use Rattle.maptree.proofs.Starts.{starts_set}
 use Rattle.maptree.proofs.Depths.{least_set}
 use Rattle.maptree.proofs.Leasts.{least_of_block, leasts_kept}
-use Rattle.maptree.proofs.Origin.{blank}
+use Rattle.mapnode.proofs.Lists.{blank}
 use Rattle.maptree.proofs.blocks.Blocks.set_place.Goals as goal
 
 pub returns-clause-nodes : goal.returns-clause-nodes

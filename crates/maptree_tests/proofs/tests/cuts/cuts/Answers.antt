@@ -3,7 +3,8 @@ use Rattle.std.proofs.Common.{◌≡◌, sym, ◌∙◌, subst, Result, Ok, Err}
 use Rattle.std.specs.Result.{IfOk}
 use Rattle.std.specs.List.{All}
 use Rattle.maptree.specs.Origins.{IsRun, AreOuterRuns}
-use Rattle.maptree.specs.Cuts.{nodes_of, IsCut}
+use Rattle.mapnode.specs.Slices.{nodes_of}
+use Rattle.maptree.specs.Cuts.{IsCut}
 use Rattle.maptree_tests.proofs.tests.cuts.cuts.Goals as goal
 
 -- what holds of an answer

@@ -2,7 +2,8 @@
 use Rattle.std.proofs.Common.{◌≡◌, not, take}
 use Rattle.std.specs.List.{list_any}
 use Rattle.space.specs.Place.{same_place}
-use Rattle.maptree.specs.Cuts.{kept_of, nodes_of}
+use Rattle.mapnode.specs.Slices.{nodes_of}
+use Rattle.maptree.specs.Cuts.{kept_of}
 use Rattle.maptree_tests.proofs.tests.cuts.parts_without.Given as goal
 
 abbrev pub invariant-loop-part : goal.invariant-loop-part

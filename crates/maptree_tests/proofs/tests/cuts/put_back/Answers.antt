@@ -1,10 +1,11 @@
 -- All parts are kept.
 use Rattle.std.proofs.Common.{◌≡◌, true, List, [], ◌∷◌, refl, sym, ap, ◌∙◌}
 use Rattle.std.specs.List.{list_all, filter}
-use Rattle.maptree.specs.declared.node.Node.{Node}
-use Rattle.maptree.specs.declared.slice.Slice.{Slice}
+use Rattle.mapnode.specs.declared.node.Node.{Node}
+use Rattle.mapnode.specs.declared.slice.Slice.{Slice}
 use Rattle.maptree.specs.Origins.{Origins, Shape}
-use Rattle.maptree.specs.Cuts.{nodes_of, kept_of, IsCut, AreKept}
+use Rattle.mapnode.specs.Slices.{nodes_of}
+use Rattle.maptree.specs.Cuts.{kept_of, IsCut, AreKept}
 use Rattle.maptree_tests.proofs.tests.cuts.put_back.Goals as goal
 
 filter_all : {A : Type 0} (xs : List A) → filter (λ _. true) xs ≡ xs

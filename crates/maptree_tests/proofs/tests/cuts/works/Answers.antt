@@ -4,7 +4,8 @@ use Rattle.std.specs.List.{list_all, list_any}
 use Rattle.space.specs.declared.place.Place.{Place}
 use Rattle.space.specs.Place.{same_place}
 use Rattle.maptree.specs.Origins.{origin_in}
-use Rattle.maptree.specs.Cuts.{nodes_of, kept_of}
+use Rattle.mapnode.specs.Slices.{nodes_of}
+use Rattle.maptree.specs.Cuts.{kept_of}
 use Rattle.maptree_tests.proofs.tests.cuts.works.Goals as goal
 
 pub splice-spliced-requires : goal.splice-spliced-requires

@@ -2,7 +2,8 @@
 use Rattle.std.proofs.Common.{not, ap, ◌∙◌}
 use Rattle.std.specs.List.{list_any}
 use Rattle.space.specs.Place.{same_place}
-use Rattle.maptree.specs.Cuts.{nodes_of, kept_of}
+use Rattle.mapnode.specs.Slices.{nodes_of}
+use Rattle.maptree.specs.Cuts.{kept_of}
 use Rattle.maptree_tests.proofs.tests.many.cuts.Goals as goal
 
 pub splice-requires : goal.splice-requires

@@ -5,8 +5,7 @@ use Rattle.pieces.proofs.Keeping.{IsFront}
 use Rattle.turns.specs.Rules.{next_step}
 use Rattle.turns.specs.Sheets.{SheetContent}
 use Rattle.turns.specs.Works.{IsStripWork}
-use Rattle.maptree.proofs.Origin.{blank}
-use Rattle.maptree.proofs.Positions.{read_any}
+use Rattle.mapnode.proofs.Lists.{blank, read_any}
 use Rattle.turns.proofs.StripSteps.{is_within, narrow_next, status_more, node_kept, node_gone}
 use Rattle.turns.proofs.strip_work.StripWork.narrow.Goals as goal
 
