@@ -121,6 +121,11 @@ behind_removed a (suc from) zero ns rising behind = absurd (omega (arith, rising
 behind_removed a (suc from) (suc to) [] rising behind = refl
 behind_removed a (suc from) (suc to) (n ∷ ns) rising behind = least_append a (take from ns) (drop to ns) (least_take a from ns behind) (least_drop a to ns behind)
 
+-- none is less deep than a root
+pub least_zero : (ns : List Node) → is_least 0 ns ≡ true
+least_zero [] = refl
+least_zero (n ∷ ns) = both (nat_le 0 n.depth) (is_least 0 ns) (le-leb 0 n.depth (omega arith)) (least_zero ns)
+
 -- where none behind the first is less deep, the last one that is can be the first alone
 pub first_alone : (depth least k : ℕ) (ns : List Node) → depth ≤ least → is_least least (drop 1 ns) ≡ true → last_less depth (take k ns) ≡ last_less depth (take (min k 1) ns)
 first_alone depth least zero ns low behind = refl

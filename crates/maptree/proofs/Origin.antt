@@ -1,12 +1,14 @@
 -- The origin of a node is the nearest one before it that is less deep.
-use Rattle.std.proofs.Common.{◌≡◌, ℕ, zero, suc, ◌+◌, ◌-◌, ◌<◌, ◌≤◌, true, nat_le, ◌&&◌, nat_lt, List, [], ◌∷◌, length, Option, Some, None, refl, sym, ap, ◌∙◌, subst, arith, ◌⊎◌, inl, inr}
+use Rattle.std.proofs.Common.{◌≡◌, ℕ, zero, suc, ◌+◌, ◌-◌, ◌<◌, ◌≤◌, true, nat_le, ◌&&◌, nat_lt, List, [], ◌∷◌, length, Option, Some, None, refl, sym, ap, ◌∙◌, subst, arith, ◌⊎◌, inl, inr, take, drop, min}
 use Rattle.std.specs.Option.{option_and_then}
 use Rattle.std.proofs.lemmas.Bool.{and_parts, leb-true, lt-ltb}
 use Rattle.space.specs.declared.place.Place.{Place}
 use Rattle.mapnode.specs.declared.node.Node.{Node}
 use Rattle.maptree.specs.Origins.{Origins, origin_in, after_origins, place_at, LeadsTo, HasDepth}
-use Rattle.maptree.specs.Nodes.{are_depths, are_distinct, is_forest, origins_of, run_len}
+use Rattle.maptree.specs.Nodes.{are_depths, are_distinct, is_forest, origins_of, run_len, last_less, one_on}
 use Rattle.maptree.proofs.Runs.{place_of, depth_of, run_at, forest_strict, forest_depth}
+use Rattle.maptree.proofs.Depths.{none_less, least_zero, first_alone}
+use Rattle.maptree.specs.Blocks.{is_least}
 use Rattle.maptree.proofs.Positions.{place_at-links}
 
 -- ---- depths along origins
@@ -129,6 +131,20 @@ first_is_root (n ∷ ns) forest some =
     let depths = (and_parts (are_depths 0 (n ∷ ns)) (are_distinct (n ∷ ns)) forest).0 in
     let low = leb-true n.depth 0 (and_parts (nat_le n.depth 0) (are_depths (n.depth + 1) ns) depths).0 in
     omega (arith, low)
+
+-- none is less deep than a root
+pub none_above_root : (ns : List Node) (depth : ℕ) → depth ≡ 0 → last_less depth ns ≡ None
+none_above_root ns depth root = none_less depth 0 ns (omega (arith, root)) (least_zero ns)
+
+-- where none behind the first is less deep, that is the last one
+pub first_above : (ns : List Node) → is_forest ns ≡ true → (i depth least : ℕ) → i < length ns → depth ≡ depth_of ns i → 0 < depth → depth ≤ least → is_least least (drop 1 ns) ≡ true
+    → last_less depth (take i ns) ≡ Some 0
+first_above [] forest i depth least within is some low behind = absurd (omega (arith, within))
+first_above (n ∷ ns) forest zero depth least within is some low behind = let root = first_is_root (n ∷ ns) forest within in absurd (omega (arith, root, is, some))
+first_above (n ∷ ns) forest (suc i) depth least within is some low behind =
+    let root = first_is_root (n ∷ ns) forest (omega arith) in
+    let one : min (suc i) 1 ≡ suc 0 = omega arith in
+    first_alone depth least (suc i) (n ∷ ns) low behind ∙ ap (λ m. last_less depth (take m (n ∷ ns))) one ∙ ap (λ b. one_on b None) (lt-ltb n.depth depth (omega (arith, root, some)))
 
 -- ---- looking back
 

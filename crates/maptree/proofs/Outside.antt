@@ -3,7 +3,7 @@ use Rattle.std.proofs.Common.{◌≡◌, ℕ, zero, suc, ◌+◌, ◌-◌, ◌�
 use Rattle.std.specs.List.{All, list_any, slice_range}
 use Rattle.std.specs.Option.{option_and_then}
 use Rattle.std.specs.declared.ops.Range.{Range}
-use Rattle.std.proofs.lemmas.Bool.{and_parts, le-leb, lt-ltb, leb-true, ltb-true}
+use Rattle.std.proofs.lemmas.Bool.{and_parts, le-leb, lt-ltb, leb-true, ltb-true, cases_lt}
 use Rattle.std.proofs.lemmas.List.{length-drop, append_assoc, map-append, take-map, drop-map, length-map}
 use Rattle.std.proofs.lemmas.List.Elements.{filter-append, All-nil, All-cons}
 use Rattle.space.specs.declared.place.Place.{Place}
@@ -17,7 +17,7 @@ use Rattle.mapnode.specs.Slices.{pieces, nodes_of}
 use Rattle.maptree.specs.Cuts.{outside, pieces_of, places_of, joined, IsCutting, ArePartsOf, IsCut}
 use Rattle.maptree.proofs.Paths.{HasPlace, new_apart}
 use Rattle.maptree.proofs.Runs.{place_of, depth_of, forest_depth}
-use Rattle.maptree.proofs.Positions.{length-links, place_at-links}
+use Rattle.maptree.proofs.Positions.{length-links, place_at-links, not_behind}
 use Rattle.maptree.proofs.Keeping.{kept, kept_forest}
 use Rattle.maptree.proofs.Cuttings.{split_at}
 
@@ -262,16 +262,20 @@ module _ (ns : List Node) (rs : List (Range ℕ)) where
         by (inl k) rest = has_front p (slice_range ns r.start r.end) (inside rs ns) (run_has r (runs 0 r (omega arith)) k)
         by (inr k) rest = has_back p (slice_range ns r.start r.end) (inside rs ns) (rest k)
 
-  origin_stays : All (IsRun (origins_of ns)) rs → (p o : Place) → origin_in (origins_of ns) p ≡ Some o → stays p ≡ true → stays o ≡ true
-  origin_stays runs p o is here = by (has_any o (inside rs ns)) refl
+  -- what derives from what is cut out is cut out too
+  abbrev TakesAllBelow : Type 0
+  TakesAllBelow = (p o : Place) → origin_in (origins_of ns) p ≡ Some o → HasPlace o (inside rs ns) → HasPlace p (inside rs ns)
+
+  origin_stays : TakesAllBelow → (p o : Place) → origin_in (origins_of ns) p ≡ Some o → stays p ≡ true → stays o ≡ true
+  origin_stays below p o is here = by (has_any o (inside rs ns)) refl
     where
       by : (b : Bool) → has_any o (inside rs ns) ≡ b → not (has_any o (inside rs ns)) ≡ true
-      by true there = let gone = has_any_from p (inside rs ns) (runs_have p o is rs runs (has_from_any o (inside rs ns) there)) in absurd (cc (here, ap not gone))
+      by true there = let gone = has_any_from p (inside rs ns) (below p o is (has_from_any o (inside rs ns) there)) in absurd (cc (here, ap not gone))
       by false there = ap not there
 
-  pub cut_forest : is_forest ns ≡ true → AreRising 0 rs (length ns) → All (IsRun (origins_of ns)) rs
+  below_forest : is_forest ns ≡ true → AreRising 0 rs (length ns) → TakesAllBelow
       → (is_forest (outside 0 rs ns) ≡ true) × (origins_of (outside 0 rs ns) ≡ outside 0 rs (origins_of ns))
-  cut_forest forest rise runs =
+  below_forest forest rise below =
       let parts = and_parts (are_depths 0 ns) (are_distinct ns) forest in
       let out = stays_outside rise parts.1 in
       let size = length-links [] ns in
@@ -279,8 +283,43 @@ module _ (ns : List Node) (rs : List (Range ℕ)) where
       let left : kept stays ns ≡ outside 0 rs ns = filter_outside (λ n. stays n.place) 0 rs ns rise out gone_inside in
       let left_links : filter (λ o. stays o.0) (origins_of ns) ≡ outside 0 rs (origins_of ns) =
       filter_outside (λ o. stays o.0) 0 rs (origins_of ns) (subst (AreRising 0 rs) (sym size) rise) (subst (λ bs. AllAre true (outside 0 rs bs)) (sym same) out) (subst (λ bs. AllAre false (inside rs bs)) (sym same) gone_inside) in
-      let says = kept_forest stays ns forest (origin_stays runs) in
+      let says = kept_forest stays ns forest (origin_stays below) in
       (ap is_forest (sym left) ∙ says.0, ap origins_of (sym left) ∙ says.1 ∙ left_links)
+
+  pub cut_forest : is_forest ns ≡ true → AreRising 0 rs (length ns) → All (IsRun (origins_of ns)) rs
+      → (is_forest (outside 0 rs ns) ≡ true) × (origins_of (outside 0 rs ns) ≡ outside 0 rs (origins_of ns))
+  cut_forest forest rise runs = below_forest forest rise (λ p o is. runs_have p o is rs runs)
+
+-- the end of a run is cut out
+pub end_forest : (ns : List Node) (r : Range ℕ) (from : ℕ) → is_forest ns ≡ true → IsRun (origins_of ns) r → r.start ≤ from → from < r.end → r.end ≤ length ns
+    → (is_forest (outside 0 (record { start = from; end = r.end } ∷ []) ns) ≡ true)
+    × (origins_of (outside 0 (record { start = from; end = r.end } ∷ []) ns) ≡ outside 0 (record { start = from; end = r.end } ∷ []) (origins_of ns))
+end_forest ns r from forest run behind some within =
+    below_forest ns (record { start = from; end = r.end } ∷ []) forest (omega arith, some, within) (λ p o is k. has_front p (slice_range ns from r.end) [] (by p o is (has_append o (slice_range ns from r.end) [] k)))
+  where
+    by : (p o : Place) → origin_in (origins_of ns) p ≡ Some o → HasPlace o (slice_range ns from r.end) ⊎ HasPlace o [] → HasPlace p (slice_range ns from r.end)
+    by p o is (inr k) = absurd k
+    by p o is (inl k) =
+        let size = length-links [] ns in
+        let at_o = slice_has ns from r.end o k in
+        let at_p = placed (origins_of ns) p o p is in
+        let here : place_at (origins_of ns) at_o.0 p ≡ o = place_at-links [] ns at_o.0 p ∙ at_o.4 p in
+        let low = at_o.1 in
+        let in_range : (nat_le r.start at_o.0 && nat_lt at_o.0 r.end) ≡ true = rw (le-leb r.start at_o.0 (omega (arith, low, behind)), lt-ltb at_o.0 r.end at_o.2) refl in
+        let to : LeadsTo (origins_of ns) 0 o (place_at (origins_of ns) r.start p) = subst (λ q. LeadsTo (origins_of ns) 0 q (place_at (origins_of ns) r.start p)) here ((run at_o.0 p (omega (arith, size, at_o.3))).0 in_range) in
+        let further : LeadsTo (origins_of ns) 0 p (place_at (origins_of ns) r.start p) = record { origins = suc to.origins; enough = omega arith; leads = ap (option_and_then (after_origins to.origins (origins_of ns))) is ∙ to.leads } in
+        let there = (run at_p.0 p at_p.1).1 (subst (λ q. LeadsTo (origins_of ns) 0 q (place_at (origins_of ns) r.start p)) (sym at_p.2) further) in
+        let bounds = and_parts (nat_le r.start at_p.0) (nat_lt at_p.0 r.end) there in
+        let within_p : at_p.0 < length ns = omega (arith, size, at_p.1) in
+        let one : LeadsTo (origins_of ns) 1 p o = record { origins = 1; enough = omega arith; leads = ap (option_and_then (after_origins 0 (origins_of ns))) is } in
+        let later : at_o.0 < at_p.0 = by_order at_o.0 at_p.0 (cases_lt at_o.0 at_p.0) (λ upto. (not_behind ns at_o.0 at_p.0 forest at_o.3 within_p upto p).1
+            (subst (λ q. LeadsTo (origins_of ns) 1 q (place_at (origins_of ns) at_o.0 p)) (sym at_p.2) (subst (λ q. LeadsTo (origins_of ns) 1 p q) (sym here) one))) in
+        subst (λ q. HasPlace q (slice_range ns from r.end)) (sym (place_at-links [] ns at_p.0 p) ∙ at_p.2)
+        (has_slice ns from r.end at_p.0 p (omega (arith, low, later)) (ltb-true at_p.0 r.end bounds.1) within_p)
+      where
+        by_order : (a b : ℕ) → (a < b) ⊎ (b ≤ a) → (b ≤ a → false ≡ true) → a < b
+        by_order a b (inl less) never = less
+        by_order a b (inr upto) never = absurd (cc (never upto))
 
 -- ---- the parts of a cut
 

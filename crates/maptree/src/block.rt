@@ -234,14 +234,14 @@ impl Block {
 }
 
 /// Some nodes without the first.
-fn behind_first(nodes: &[Node]) -> &[Node]
+pub fn behind_first(nodes: &[Node]) -> &[Node]
     ensures { result.now ≡ drop 1 nodes.now }
 {
     if nodes.is_empty() { nodes } else { &nodes[1..] }
 }
 
 /// The least depth of some nodes.
-fn least_of(nodes: &[Node]) -> usize
+pub fn least_of(nodes: &[Node]) -> usize
     ensures { is_least result nodes.now ≡ true }
 {
     let mut least = usize::MAX;

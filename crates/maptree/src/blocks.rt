@@ -5,7 +5,7 @@ ghost use Rattle.maptree.specs.Blocks.{AreLeasts, AreStarts, block_size, nodes_i
 ghost use Rattle.maptree.specs.PlaceMaps.{place_for};
 ghost use Rattle.maptree.specs.Renamings.{nodes_renamed};
 
-use crate::block::{BLOCK_SIZE, Block};
+use crate::block::{BLOCK_SIZE, Block, behind_first, least_of};
 use crate::block_leasts::Leasts;
 use crate::block_starts::Starts;
 use crate::hints::Hints;
@@ -53,20 +53,22 @@ pub struct Blocks {
     room: usize,
     /// How many nodes there are.
     len: usize,
+    /// None of the nodes but the first is less deep than this.
+    behind: usize,
     /// How often a block came to have few nodes, or none, since such blocks were joined. No clause rests on it.
     thinned: usize,
     hints: Hints,
 }
 
 impl Model for Blocks {
-    ghost use Rattle.std.specs.Prelude.{◌≡◌, ◌<◌, ◌≤◌, ◌+◌, ◌^◌, length, vec_capacity, vec_len};
-    ghost use Rattle.maptree.specs.Blocks.{AreLeasts, AreStarts, Blocked, nodes_in};
+    ghost use Rattle.std.specs.Prelude.{◌≡◌, ◌<◌, ◌≤◌, ◌+◌, ◌^◌, true, length, drop, vec_capacity, vec_len};
+    ghost use Rattle.maptree.specs.Blocks.{AreLeasts, AreStarts, Blocked, is_least, nodes_in};
 
     ghost Value = { Blocked };
 
     ghost view = { λ b. record { blocks = b.blocks.items; room = b.room } };
 
-    ghost invariant = { λ b. (b.len ≡ length (nodes_in b.blocks.items)) × (0 < length b.blocks.items) × (b.room ≤ length b.spare.items) × (length b.blocks.items + b.room ≤ vec_capacity b.blocks) × (b.len + b.room < 2 ^ 64) × AreStarts b.blocks.items b.starts × (length b.blocks.items + b.room ≤ b.starts.capacity) × AreLeasts b.blocks.items b.leasts.leasts × (length b.blocks.items + b.room ≤ b.leasts.capacity) };
+    ghost invariant = { λ b. (b.len ≡ length (nodes_in b.blocks.items)) × (0 < length b.blocks.items) × (b.room ≤ length b.spare.items) × (length b.blocks.items + b.room ≤ vec_capacity b.blocks) × (b.len + b.room < 2 ^ 64) × AreStarts b.blocks.items b.starts × (length b.blocks.items + b.room ≤ b.starts.capacity) × AreLeasts b.blocks.items b.leasts.leasts × (length b.blocks.items + b.room ≤ b.leasts.capacity) × (is_least b.behind (drop 1 (nodes_in b.blocks.items)) ≡ true) };
 }
 
 impl Blocks {
@@ -75,7 +77,7 @@ impl Blocks {
     ghost use Rattle.space.specs.Place.{same_place};
     ghost use Rattle.mapnode.specs.declared.node.Node.{Node};
     ghost use Rattle.maptree.specs.Blocks.{block_size, nodes_in, IsSeat, split_block};
-    ghost use Rattle.maptree.specs.Nodes.{are_distinct, run_len, last_less};
+    ghost use Rattle.maptree.specs.Nodes.{are_distinct, is_forest, run_len, last_less};
     ghost use Rattle.maptree.specs.Origins.{AreRising};
     ghost use Rattle.mapnode.specs.Slices.{nodes_of};
     ghost use Rattle.maptree.specs.Cuts.{AreGaps, count_of, joined, outside};
@@ -215,13 +217,18 @@ impl Blocks {
 
     /// The node at a position, and the position of the last node before it that is less deep than it is.
     pub fn origin_of(&self, i: usize) -> (Node, Option<usize>)
-        requires { i < length (nodes_in self.now.blocks) }
+        requires within { i < length (nodes_in self.now.blocks) }
+        requires forest { is_forest (nodes_in self.now.blocks) ≡ true }
         ensures node { result.0 ≡ get_or (nodes_in self.now.blocks) i result.0 }
         ensures origin { result.1 ≡ last_less result.0.depth (take i (nodes_in self.now.blocks)) }
     {
         let seat = self.seat_of(i);
         let block = &self.blocks[seat.block];
         let node = block.get(seat.offset);
+        // As in a fan: only the first of all nodes, a root, can be less deep.
+        if node.depth <= self.behind {
+            return (node, if node.depth == 0 { None } else { Some(0) });
+        }
         let before = i - seat.offset;
         if let Some(r) = block.last_above(seat.offset, node.depth) {
             return (node, Some(before + r));
@@ -273,6 +280,11 @@ impl Blocks {
         block.insert(seat.offset, node);
         let number = block.number();
         self.leasts.set(seat.block, block.least());
+        self.behind = if i == 0 {
+            0
+        } else {
+            self.behind.min(node.depth)
+        };
         self.len += 1;
         self.starts.add(seat.block, 1);
         self.hints.put(node.place, number, seat.offset);
@@ -386,6 +398,7 @@ impl Blocks {
             spare: Vec::new(alloc),
             room: 0,
             len: nodes.len(),
+            behind: least_of(behind_first(nodes)),
             thinned: 0,
             hints,
         })

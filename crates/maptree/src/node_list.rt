@@ -145,7 +145,8 @@ impl NodeList {
 
     /// The node at a position, and the position of the last node before it that is less deep than it is.
     pub fn origin_of(&self, i: usize) -> (Node, Option<usize>)
-        requires { i < length self.now.nodes }
+        requires within { i < length self.now.nodes }
+        requires forest { is_forest self.now.nodes ≡ true }
         ensures node { result.0 ≡ get_or self.now.nodes i result.0 }
         ensures origin { result.1 ≡ last_less result.0.depth (take i self.now.nodes) }
     {

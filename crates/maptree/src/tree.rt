@@ -271,6 +271,18 @@ impl Tree {
         self.nodes.remove_all(ranges);
     }
 
+    /// Takes the places of a run from a position on out of the tree for good. This takes no memory.
+    pub fn remove_end(&mut self, run: &Range<usize>, from: usize)
+        requires run { IsRun self.old.links run.now }
+        requires behind { run.now.start ≤ from }
+        requires some { from < run.now.end }
+        requires within { run.now.end ≤ length self.old.links }
+        ensures links { self.new.links ≡ outside 0 (record { start = from; end = run.now.end } ∷ []) self.old.links }
+        ensures room { self.new.room ≡ self.old.room }
+    {
+        self.nodes.remove_all(&[from..run.end]);
+    }
+
     /// Another place for a node; its depth and what derives from it stay.
     pub fn rename(&mut self, i: usize, place: Place)
         requires within { i < length self.old.links }

@@ -1,14 +1,16 @@
 -- One node more in one block.
-use Rattle.std.proofs.Common.{◌≡◌, ◌<◌, length, set, ap, sym, subst, rules, arith, ◌∙◌}
+use Rattle.std.proofs.Common.{◌≡◌, ◌<◌, length, set, ap, sym, subst, rules, arith, ◌∙◌, drop, true, ◌≤◌}
 use Rattle.std.specs.Prelude.{insert}
 use Rattle.std.proofs.lemmas.List.{length-set}
 use Rattle.std.proofs.lemmas.List.Edits.{length-insert}
-use Rattle.maptree.specs.Blocks.{nodes_in}
+use Rattle.maptree.specs.Blocks.{nodes_in, is_least}
 use Rattle.maptree.specs.Blocks.{AreLeasts, AreStarts}
 use Rattle.maptree.proofs.InBlocks.{read_of, as_read}
 use Rattle.maptree.proofs.Starts.{starts_set, before_all}
 use Rattle.maptree.proofs.Leasts.{leasts_set}
 use Rattle.maptree.proofs.BlockChanges.{insert_node, count_set}
+use Rattle.maptree.proofs.Depths.{behind_insert, least_zero}
+use Rattle.maptree.proofs.blocks.Blocks.insert.Goals.{then-i-eq0, else-i-eq0}
 use Rattle.maptree.proofs.blocks.Blocks.insert.Goals as goal
 
 pub returns-clause-nodes : goal.returns-clause-nodes
@@ -62,6 +64,25 @@ invariant_of-self c =
     let more = ap length c.insert.ensures ∙ length-insert block seat.offset c.args.node (omega (arith, there, upto)) in
     let counted = count_set items seat.block new within in
     let size = length-set items seat.block new in
+    let here = as_read bs seat.block block in_bs (read_of items bs seat.block block same c.index_mut-block.ensures.value) in
+    let nodes : nodes_in (set items seat.block new) ≡ insert (nodes_in bs) c.args.i c.args.node =
+    ap (λ b. nodes_in (set items seat.block b)) c.insert.ensures
+    ∙ ap (λ l. nodes_in (set l seat.block (insert block seat.offset c.args.node))) same
+    ∙ insert_node bs seat.block block seat.offset c.args.node in_bs here (omega (arith, there, upto))
+    ∙ ap (λ i. insert (nodes_in bs) i c.args.node) is.before in
+    let old : is_least c.self.inside.behind (drop 1 (nodes_in bs)) ≡ true = subst (λ l. is_least c.self.inside.behind (drop 1 (nodes_in l)) ≡ true) same c.self.invariant.9 in
+    let upto_all : c.args.i ≤ length (nodes_in bs) = let l = ap length c.seat_with_room-seat.ensures.nodes in omega (arith, l, c.requires.within) in
+    let behind : is_least c.if-i-eq0.self (drop 1 (insert (nodes_in bs) c.args.i c.args.node)) ≡ true =
+    elim c.if-i-eq0.branch [
+      | then-i-eq0 w ↦ ap (λ a. is_least a (drop 1 (insert (nodes_in bs) c.args.i c.args.node))) w.self-is ∙ least_zero (drop 1 (insert (nodes_in bs) c.args.i c.args.node))
+      | else-i-eq0 w ↦
+          let least = w.min-self-inside.result in
+          let low : least ≤ c.self.inside.behind = search (rules, arith) in
+          let first : least ≤ c.args.node.depth = search (rules, arith) in
+          let some : 0 < c.args.i = search (rules, arith) in
+          ap (λ a. is_least a (drop 1 (insert (nodes_in bs) c.args.i c.args.node))) w.self-is
+          ∙ behind_insert least c.self.inside.behind c.args.i c.args.node (nodes_in bs) some upto_all low first old
+    ] in
     let kept : c.self.inside.room ≡ c.seat_with_room-seat.new.self.room = search rules in
     let inv = c.self.invariant in
     let starts = c.self.inside.starts in
@@ -76,4 +97,5 @@ invariant_of-self c =
       search (rules, arith, size, inv.6),
       subst (AreLeasts (set items seat.block new)) (sym c.set.ensures.leasts) (leasts_set items seat.block new c.self.inside.leasts.leasts c.least.result within inv.7 c.least.ensures),
       search (rules, arith, size, inv.8),
+      ap (λ ns. is_least c.if-i-eq0.self (drop 1 ns)) nodes ∙ behind,
     )

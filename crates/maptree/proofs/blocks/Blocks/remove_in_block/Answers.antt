@@ -1,14 +1,14 @@
 -- One block has fewer nodes.
-use Rattle.std.proofs.Common.{◌≡◌, ◌<◌, ◌-◌, [], length, get_or, set, take, drop, ap, rules, arith, ◌∙◌}
+use Rattle.std.proofs.Common.{◌≡◌, ◌<◌, ◌-◌, [], length, get_or, set, take, drop, ap, rules, arith, ◌∙◌, ◌++◌, ◌+◌}
 use Rattle.std.proofs.lemmas.List.{length-set, length-append, length-take-le, length-drop}
 use Rattle.maptree.specs.Blocks.{nodes_in}
 use Rattle.maptree.proofs.InBlocks.{read_of, as_read, counts}
 use Rattle.maptree.proofs.Starts.{starts_set, has_nodes}
 use Rattle.std.specs.List.{slice_index}
 use Rattle.maptree.specs.Blocks.{AreStarts, is_least}
-use Rattle.maptree.proofs.Depths.{least_append, least_take, least_drop}
+use Rattle.maptree.proofs.Depths.{least_append, least_take, least_drop, behind_removed}
 use Rattle.maptree.proofs.Leasts.{least_of_block, leasts_kept}
-use Rattle.maptree.proofs.BlockChanges.{count_set}
+use Rattle.maptree.proofs.BlockChanges.{count_set, cut_nodes}
 use Rattle.maptree.proofs.blocks.Blocks.remove_in_block.Goals as goal
 
 pub overflow_sub-self-2 : goal.overflow_sub-self-2
@@ -73,4 +73,7 @@ invariant_of-self c =
       search (rules, arith, size, inv.6),
       same_leasts,
       search (rules, arith, size, inv.8),
+      ap (λ b. is_least c.self.inside.behind (drop 1 (nodes_in (set items c.args.block b)))) (c.remove.ensures ∙ ap (λ b. take c.args.from b ++ drop c.args.to b) (as_read items c.args.block block within c.index_mut-removed.ensures.value))
+          ∙ ap (λ ns. is_least c.self.inside.behind (drop 1 ns)) (cut_nodes items c.args.block c.args.from c.args.to within rising (omega (arith, there, in_block)))
+          ∙ behind_removed c.self.inside.behind (length (nodes_in (take c.args.block items)) + c.args.from) (length (nodes_in (take c.args.block items)) + c.args.to) (nodes_in items) (omega (arith, rising)) inv.9,
     )

@@ -1,13 +1,14 @@
 -- Each block has its new places.
-use Rattle.std.proofs.Common.{◌≡◌, length, map, ap, sym, subst, ◌∙◌, arith, rules}
+use Rattle.std.proofs.Common.{◌≡◌, length, map, ap, sym, subst, ◌∙◌, arith, rules, drop}
 use Rattle.std.proofs.lemmas.List.{length-map, with_items_is}
 use Rattle.maptree.specs.PlaceMaps.{place_for}
 use Rattle.maptree.specs.Renamings.{nodes_renamed}
-use Rattle.maptree.specs.Blocks.{nodes_in}
+use Rattle.maptree.specs.Blocks.{nodes_in, is_least}
 use Rattle.maptree.specs.Blocks.{AreLeasts, AreStarts}
 use Rattle.maptree.proofs.BlockChanges.{renamed_in}
 use Rattle.maptree.proofs.Starts.{starts_same, renamed_before}
 use Rattle.maptree.proofs.Leasts.{leasts_renamed}
+use Rattle.maptree.proofs.Depths.{behind_renamed}
 use Rattle.maptree.proofs.blocks.Blocks.rename_all.Goals as goal
 
 pub invariant_of-self : goal.invariant_of-self
@@ -32,6 +33,7 @@ invariant_of-self c =
       search (rules, arith, inv.6, count, size),
       subst (λ l. AreLeasts l c.self.inside.leasts.leasts) (sym (now ∙ is)) (leasts_renamed (place_for c.args.new.now) items c.self.inside.leasts.leasts inv.7),
       search (rules, arith, inv.8, count, size),
+      ap (λ ns. is_least c.self.inside.behind (drop 1 ns)) (ap nodes_in (now ∙ is) ∙ renamed_in (place_for c.args.new.now) items) ∙ behind_renamed (place_for c.args.new.now) c.self.inside.behind (nodes_in items) ∙ inv.9,
     )
 
 pub returns-clause-nodes : goal.returns-clause-nodes

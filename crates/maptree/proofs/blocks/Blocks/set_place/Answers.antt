@@ -1,5 +1,5 @@
 -- One node of one block.
-use Rattle.std.proofs.Common.{◌≡◌, ◌<◌, ◌+◌, length, set, get_or, take, ap, arith, ◌∙◌, sym, refl}
+use Rattle.std.proofs.Common.{◌≡◌, ◌<◌, ◌+◌, length, set, get_or, take, ap, arith, ◌∙◌, sym, refl, drop, true, subst}
 use Rattle.std.proofs.lemmas.List.{length-set}
 use Rattle.mapnode.specs.declared.node.Node.{Node}
 use Rattle.std.specs.List.{slice_index}
@@ -7,7 +7,7 @@ use Rattle.maptree.specs.Blocks.{nodes_in, is_least}
 use Rattle.maptree.proofs.InBlocks.{read_of, as_read, at_seat}
 use Rattle.maptree.proofs.BlockChanges.{set_node, count_set}
 use Rattle.maptree.proofs.Starts.{starts_set}
-use Rattle.maptree.proofs.Depths.{least_set}
+use Rattle.maptree.proofs.Depths.{least_set, behind_set}
 use Rattle.maptree.proofs.Leasts.{least_of_block, leasts_kept}
 use Rattle.mapnode.proofs.Lists.{blank}
 use Rattle.maptree.proofs.blocks.Blocks.set_place.Goals as goal
@@ -52,6 +52,18 @@ invariant_of-self c =
     let least = least_of_block items ls seat.block block is.7 within c.index_mut-block.ensures.value in
     let inside = c.seat_of-seat.ensures.inside in
     let there = ap length (as_read bs seat.block block in_bs (read_of items bs seat.block block same c.index_mut-block.ensures.value)) in
+    let here = as_read bs seat.block block in_bs (read_of items bs seat.block block same c.index_mut-block.ensures.value) in
+    let at : get_or (nodes_in bs) (length (nodes_in (take seat.block bs)) + seat.offset) blank ≡ get_or block seat.offset blank =
+    at_seat bs seat.block seat.offset blank in_bs inside ∙ ap (λ b. get_or b seat.offset blank) (sym here) in
+    let nodes : nodes_in (set items seat.block new) ≡ set (nodes_in bs) c.args.i (record { place = c.args.place; depth = (get_or (nodes_in bs) c.args.i blank).depth }) =
+    ap (λ b. nodes_in (set items seat.block b)) (c.set_place.ensures blank)
+    ∙ ap (λ l. nodes_in (set l seat.block (set block seat.offset (record { place = c.args.place; depth = (get_or block seat.offset blank).depth })))) same
+    ∙ set_node bs seat.block block seat.offset (record { place = c.args.place; depth = (get_or block seat.offset blank).depth }) in_bs here (omega (arith, there, inside))
+    ∙ ap (λ (n : Node). set (nodes_in bs) (length (nodes_in (take seat.block bs)) + seat.offset) (record { place = c.args.place; depth = n.depth })) (sym at)
+    ∙ ap (λ i. set (nodes_in bs) i (record { place = c.args.place; depth = (get_or (nodes_in bs) i blank).depth })) c.seat_of-seat.ensures.seat.before in
+    let behind : is_least c.self.inside.behind (drop 1 (nodes_in (set items seat.block new))) ≡ true =
+    ap (λ ns. is_least c.self.inside.behind (drop 1 ns)) nodes
+    ∙ behind_set c.self.inside.behind c.args.i c.args.place blank (nodes_in bs) c.requires (subst (λ l. is_least c.self.inside.behind (drop 1 (nodes_in l)) ≡ true) same is.9) in
     let same_leasts = leasts_kept items seat.block new ls within is.7
     (ap (is_least (slice_index ls seat.block)) (c.set_place.ensures blank) ∙ least_set (slice_index ls seat.block) seat.offset c.args.place blank block (omega (arith, there, inside)) least) in
-    (omega (arith, is.0, counted, read, kept), omega (arith, is.1, size), is.2, omega (arith, is.3, size), is.4, same_starts, omega (arith, is.6, size), same_leasts, omega (arith, is.8, size))
+    (omega (arith, is.0, counted, read, kept), omega (arith, is.1, size), is.2, omega (arith, is.3, size), is.4, same_starts, omega (arith, is.6, size), same_leasts, omega (arith, is.8, size), behind)
