@@ -191,10 +191,7 @@ fn strip_run(
         Order::Recursion => {
             let status = visit(alloc, shards, trees, frame, run, revoked, flush)?;
             // The recursion keeps no account of what it leaves.
-            let left = Left {
-                all_held: false,
-                all_gone: false,
-            };
+            let left = Left::unknown(run.start);
             Ok(Stripped { status, left })
         }
         Order::List => Ok(walk(shards, trees, frame, run, revoked, flush)),
@@ -226,19 +223,16 @@ fn walk(
     let mut nodes = tree.nodes();
     let first = nodes.at(run.start).place;
     let mut status = Status::none();
-    let mut all_held = true;
-    let mut all_gone = true;
+    let mut left = Left::of_none(run.start);
     for i in run.start..run.end {
         let node = nodes.at(i);
         let narrowed = take(shards, node.place, first, revoked, flush);
         status = status.join(narrowed.status);
-        all_held &= narrowed.held;
-        all_gone &= !narrowed.held;
+        left = left.with_next(i, narrowed.held);
     }
     let status = status.rights();
     if let Some(origin) = tree.origin_of(run.start) {
         shards.add_status(nodes.at(origin).place, status);
     }
-    let left = Left { all_held, all_gone };
     Stripped { status, left }
 }

@@ -53,14 +53,57 @@ ghost use Rattle.holdings.specs.Inner.Stripping.{IsLeft};
 /// What is known to be left of the places of a run.
 #[derive(Clone, Copy)]
 pub struct Left {
-    /// Each of them has an entry.
-    pub all_held: bool,
-    /// None of them has one.
-    pub all_gone: bool,
+    /// Each of them before this position of the tree has an entry.
+    pub held_to: usize,
+    /// None of the others has one.
+    pub rest_gone: bool,
 }
 
-/// The same as `prune` for one run, of which so much is known: where each of its places has an entry, or none has, no entry is
-/// read.
+impl Left {
+    ghost use Rattle.std.specs.Prelude.{◌≡◌, ◌+◌, ◌<◌, ◌^◌, false, true};
+    ghost use Rattle.holdings.specs.Inner.Stripping.{with_next};
+
+    /// Of places that begin at a position nothing is known.
+    pub fn unknown(start: usize) -> Left
+        ensures { result ≡ record { held_to = start; rest_gone = false } }
+    {
+        Left {
+            held_to: start,
+            rest_gone: false,
+        }
+    }
+
+    /// The same of no places.
+    pub fn of_none(start: usize) -> Left
+        ensures { result ≡ record { held_to = start; rest_gone = true } }
+    {
+        Left {
+            held_to: start,
+            rest_gone: true,
+        }
+    }
+
+    /// The same of one place more, that at position `i`, which has an entry or none.
+    pub fn with_next(self, i: usize, held: bool) -> Left
+        requires { i + 1 < 2 ^ 64 }
+        ensures { result ≡ with_next self i held }
+    {
+        if self.held_to == i && held {
+            Left {
+                held_to: i + 1,
+                rest_gone: self.rest_gone,
+            }
+        } else {
+            Left {
+                held_to: self.held_to,
+                rest_gone: self.rest_gone && !held,
+            }
+        }
+    }
+}
+
+/// The same as `prune` for one run, of which so much is known: where its places in front have an entry and the others have none, no
+/// entry is read, and no memory is taken.
 ///
 /// Refused, where memory is: `NoMemory`.
 pub fn prune_run(
@@ -79,11 +122,11 @@ pub fn prune_run(
     requires left { IsLeft shards.now tree.old.links run left }
     ensures { OnOk result (tree.new.links ≡ pruned shards.now tree.old.links) }
 {
-    if left.all_held {
+    if left.held_to == run.end {
         return Ok(());
     }
-    if left.all_gone {
-        tree.remove(&[run]);
+    if left.rest_gone {
+        tree.remove_end(&run, left.held_to);
         return Ok(());
     }
     prune(alloc, shards, tree, &[run])

@@ -15,6 +15,7 @@ use Rattle.maptree.specs.Origins.{Origins, Shape, place_at, AreRising}
 use Rattle.mapnode.specs.Slices.{pieces, nodes_of}
 use Rattle.maptree.specs.Cuts.{outside, pieces_of, places_of, kept_of, IsCut, AreKept}
 use Rattle.holdings.specs.Inner.Held.{has_entry}
+use Rattle.maptree.proofs.Cuttings.{take_more as take_further}
 use Rattle.holdings.specs.Inner.Stripping.{OriginsHaveEntries}
 
 -- one element more of those that pass a test
@@ -158,3 +159,13 @@ all_gone test os from (r ∷ rs) rise inside out =
     ∙ filter-append (λ o. test o.0) (slice_range os r.start r.end) (drop r.end os)
     ∙ ap (λ xs. xs ++ filter (λ o. test o.0) (drop r.end os)) (none_pass (λ o. test o.0) (slice_range os r.start r.end) within.0)
     ∙ all_gone test os r.end rs rise.2 within.1 before.1)
+
+-- where all outside a run pass, and some in front of it, all outside of what is behind these pass
+pub outside_end : {A : Type 0} (test : A → Bool) (os : List A) (r : Range ℕ) (at : ℕ) → r.start ≤ at → list_all test (outside 0 (r ∷ []) os) ≡ true → list_all test (slice_range os r.start at) ≡ true
+    → list_all test (outside 0 (record { start = at; end = r.end } ∷ []) os) ≡ true
+outside_end test os r at from out held =
+    let parts = and_parts _ _ (sym (list_all-append test (slice_range os 0 r.start) (drop r.end os)) ∙ out) in
+    let whole : at - 0 ≡ at = omega arith in
+    let first : r.start ≡ r.start - 0 = omega arith in
+    let front : slice_range os 0 at ≡ slice_range os 0 r.start ++ slice_range os r.start at = ap (λ n. take n os) whole ∙ take_further r.start at os from ∙ ap (λ n. take n os ++ slice_range os r.start at) first in
+    list_all-append test (slice_range os 0 at) (drop r.end os) ∙ and_from _ _ (ap (list_all test) front ∙ list_all-append test (slice_range os 0 r.start) (slice_range os r.start at) ∙ and_from _ _ parts.0 held) parts.1

@@ -1,6 +1,6 @@
 -- The pages that are stripped, and a tree of which some are gone.
 use Rattle.std.specs.List.{list_any, list_all, slice_range, All}
-use Rattle.std.specs.Prelude.{◌≡◌, ℕ, true, not, List, Some, ◌&&◌, map, filter}
+use Rattle.std.specs.Prelude.{◌≡◌, ℕ, ◌+◌, ◌≤◌, ◌==◌, Bool, true, not, List, Some, ◌&&◌, map, filter, if◌then◌else◌}
 use Rattle.std.specs.declared.ops.Range.{Range}
 use Rattle.space.specs.Place.{same_place}
 use Rattle.space.specs.Shards.{entry_at}
@@ -47,7 +47,15 @@ OriginsHaveEntries shards os = (p o : Place) → origin_in os p ≡ Some o → h
 abbrev pub pruned : Shards → Origins → Origins
 pruned shards os = filter (λ o. has_entry shards o.0) os
 
+-- what is known to be left of one place more, at a position
+abbrev pub with_next : Left → ℕ → Bool → Left
+with_next left i held =
+    if left.held_to == i && held then record { held_to = i + 1; rest_gone = left.rest_gone }
+    else record { held_to = left.held_to; rest_gone = left.rest_gone && not held }
+
 -- what is known to be left of the places in a run of a tree is so
 pub record IsLeft (shards : Shards) (os : Origins) (run : Range ℕ) (left : Left) : Type 0 where
-  pub held : left.all_held ≡ true → list_all (λ o. has_entry shards o.0) (slice_range os run.start run.end) ≡ true
-  pub gone : left.all_gone ≡ true → list_all (λ o. not (has_entry shards o.0)) (slice_range os run.start run.end) ≡ true
+  pub from : run.start ≤ left.held_to
+  pub upto : left.held_to ≤ run.end
+  pub held : list_all (λ o. has_entry shards o.0) (slice_range os run.start left.held_to) ≡ true
+  pub gone : left.rest_gone ≡ true → list_all (λ o. not (has_entry shards o.0)) (slice_range os left.held_to run.end) ≡ true

@@ -6,7 +6,7 @@ use Rattle.maptree.specs.Origins.{origin_in, place_at}
 use Rattle.holdings.specs.Inner.Held.{links_in}
 use Rattle.holdings.proofs.Contents.Holders.{links_read}
 use Rattle.holdings.proofs.Stripping.Walks.{IsWalked, IsStripped, walk_begins, walk_goes, place_any, listed_place, run_without_origin, run_with_origin}
-use Rattle.holdings.proofs.Stripping.LeftOfRuns.{IsSeen, places_now, seen_more, seen_kept, run_left}
+use Rattle.holdings.proofs.Stripping.LeftOfRuns.{IsSeen, places_now, seen_more, seen_kept, run_left, none_seen}
 use Rattle.holdings.proofs.one_by_one.walk.Goals.{After-add_status, In_default}
 use Rattle.holdings.proofs.Contents.WordChanges.{place_kept}
 use Rattle.holdings.proofs.one_by_one.walk.Goals as goal
@@ -23,8 +23,7 @@ loop-i-init c = record {
   walked =
       subst (λ r. IsWalked c.args.shards.now c.args.trees.now c.args.frame c.args.run.now.start c.at.result.place c.args.revoked c.args.flush c.args.run.now.start c.args.shards.now r) (sym c.none-status.ensures)
       (walk_begins c.args.shards.now c.args.trees.now c.requires.loose c.args.frame c.args.run.now.start c.at.result.place c.args.revoked c.args.flush);
-  held = λ _ j less d least. absurd (omega (arith, less, least));
-  gone = λ _ j less d least. absurd (omega (arith, less, least));
+  seen = subst (λ l. IsSeen l c.args.shards.now (links_in c.args.trees.now c.args.frame) c.args.run.now.start c.args.run.now.start) (sym c.of_none-left.ensures) (none_seen c.args.shards.now (links_in c.args.trees.now c.args.frame) c.args.run.now.start);
 }
 
 pub at-node-requires : goal.at-node-requires
@@ -56,10 +55,9 @@ loop-i-preserved c =
           (walk_goes c.args.shards.now c.args.trees.now c.requires.loose c.args.frame c.args.run.now.start c.at.result.place c.args.revoked c.args.flush c.loop-i.i c.loop-i.shards narrowed.new.shards
           c.loop-i.status narrowed.result.status c.at-node.result.place (c.args.flush || not (same_place c.at-node.result.place c.at.result.place)) c.loop-i.invariant.walked
           c.loop-i.auto.i within at only_there refl narrowed.ensures.status narrowed.ensures.set narrowed.ensures.present narrowed.ensures.layout);
-      held = seen_more (λ b. b) (links_in c.args.trees.now c.args.frame) c.args.run.now.start c.loop-i.i c.loop-i.shards narrowed.new.shards c.at-node.result.place _ narrowed.ensures.set
-          places within at only_there c.loop-i.all_held narrowed.result.held narrowed.ensures.held c.loop-i.invariant.held;
-      gone = seen_more not (links_in c.args.trees.now c.args.frame) c.args.run.now.start c.loop-i.i c.loop-i.shards narrowed.new.shards c.at-node.result.place _ narrowed.ensures.set
-          places within at only_there c.loop-i.all_gone narrowed.result.held narrowed.ensures.held c.loop-i.invariant.gone;
+      seen = subst (λ l. IsSeen l narrowed.new.shards (links_in c.args.trees.now c.args.frame) c.args.run.now.start (c.loop-i.i + 1)) (sym c.with_next-left.ensures)
+          (seen_more (links_in c.args.trees.now c.args.frame) c.args.run.now.start c.loop-i.i c.loop-i.shards narrowed.new.shards c.at-node.result.place _ narrowed.ensures.set
+          places within at only_there c.loop-i.left narrowed.result.held narrowed.ensures.held c.loop-i.invariant.seen);
     }
 
 pub origin_of-requires : goal.origin_of-requires
@@ -157,15 +155,12 @@ returns-in-Some-clause-run_left c =
     let links = links_in c.args.trees.now c.args.frame in
     let end : c.loop-i.i ≡ c.args.run.now.end = omega (arith, c.loop-i-test.false, c.loop-i.auto) in
     let places = places_now c.args.shards.now c.args.trees.now c.args.frame c.requires.loose c.loop-i.shards c.loop-i.invariant.walked.layout in
-    let kept = seen_kept c.loop-i.shards c.add_status.new.self c.at-in-Some.result.place c.rights-status.result c.add_status.ensures.set in
-    run_left c.add_status.new.self links c.args.run.now (record { all_held = c.loop-i.all_held; all_gone = c.loop-i.all_gone })
-    (kept (λ b. b) c.loop-i.all_held links c.args.run.now.start c.args.run.now.end places c.requires.within (subst (IsSeen (λ b. b) c.loop-i.all_held c.loop-i.shards links c.args.run.now.start) end c.loop-i.invariant.held))
-    (kept not c.loop-i.all_gone links c.args.run.now.start c.args.run.now.end places c.requires.within (subst (IsSeen not c.loop-i.all_gone c.loop-i.shards links c.args.run.now.start) end c.loop-i.invariant.gone))
+    run_left c.add_status.new.self links c.args.run.now c.loop-i.left
+    (seen_kept c.loop-i.shards c.add_status.new.self c.at-in-Some.result.place c.rights-status.result c.add_status.ensures.set c.loop-i.left links c.args.run.now.start c.args.run.now.end places c.requires.within
+    (subst (IsSeen c.loop-i.left c.loop-i.shards links c.args.run.now.start) end c.loop-i.invariant.seen))
 
 pub returns-in_default-clause-run_left : goal.returns-in_default-clause-run_left
 returns-in_default-clause-run_left c =
     let links = links_in c.args.trees.now c.args.frame in
     let end : c.loop-i.i ≡ c.args.run.now.end = omega (arith, c.loop-i-test.false, c.loop-i.auto) in
-    run_left c.loop-i.shards links c.args.run.now (record { all_held = c.loop-i.all_held; all_gone = c.loop-i.all_gone })
-    (subst (IsSeen (λ b. b) c.loop-i.all_held c.loop-i.shards links c.args.run.now.start) end c.loop-i.invariant.held)
-    (subst (IsSeen not c.loop-i.all_gone c.loop-i.shards links c.args.run.now.start) end c.loop-i.invariant.gone)
+    run_left c.loop-i.shards links c.args.run.now c.loop-i.left (subst (IsSeen c.loop-i.left c.loop-i.shards links c.args.run.now.start) end c.loop-i.invariant.seen)
