@@ -4,14 +4,9 @@
 ghost use Rattle.std.specs.Prelude.{IfOk};
 ghost use Rattle.replay.specs.Options.{AreServed};
 
-mod command_line;
-mod error;
 mod progress;
-#[cfg(test)]
-mod tests;
 
-use command_line::{OptionsError, parse};
-use error::{status, tell};
+use cli::{OptionsError, parse, status, tell};
 use progress::Progress;
 use replay::{Options, RunError, Watch, run};
 use std::alloc::{AllocError, Global};

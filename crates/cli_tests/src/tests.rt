@@ -1,7 +1,6 @@
 //! The command line, and what is told of errors.
 
-use crate::command_line::{OptionsError, parse};
-use crate::error::{status, tell};
+use cli::{OptionsError, parse, status, tell};
 use replay::{Options, RunError};
 use std::test::Fail;
 use trace::Std;

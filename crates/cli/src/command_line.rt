@@ -72,7 +72,7 @@ fn command<'a>(alloc: Global) -> Result<Command<'a>, AllocError> {
         .arg(plain)
 }
 
-/// Reads a command line, the program's name first.
+/// Reads a command line, the program's name first. Where help or the version is asked for, its text is the error.
 pub fn parse<'a>(alloc: Global, words: &'a [&'a str]) -> Result<Options, OptionsError>
     ensures { IfOk result AreServed }
 {

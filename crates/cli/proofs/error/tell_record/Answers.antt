@@ -2,8 +2,8 @@
 use Rattle.std.proofs.Common.{◌++◌, codes}
 use Rattle.std.specs.Fmt.{decimal}
 use Rattle.std.proofs.KnownBytes.{Appends-trans}
-use Rattle.l4map.proofs.Streams.{on_ok}
-use Rattle.l4map.proofs.error.tell_record.Goals as goal
+use Rattle.cli.proofs.Streams.{on_ok}
+use Rattle.cli.proofs.error.tell_record.Goals as goal
 
 pub returns-clause-line : goal.returns-clause-line
 returns-clause-line g c =

@@ -2,13 +2,13 @@
 
 ghost use Rattle.std.specs.Prelude.{◌≡◌, OnOk, OnErr, true};
 ghost use Rattle.std.specs.Io.KnownBytes.{Appends};
-ghost use Rattle.l4map.specs.Error.{status_of, error_line, record_line};
+ghost use Rattle.cli.specs.Error.{status_of, error_line, record_line};
 
 use itoa::Buffer;
 use replay::RunError;
 use trace::{Failed, Sink};
 
-/// The exit status of the program.
+/// The exit status of a run that ended with this error.
 pub fn status(error: RunError) -> u8
     ensures { result ≡ status_of error }
 {
@@ -19,7 +19,7 @@ pub fn status(error: RunError) -> u8
     }
 }
 
-/// Writes the line that tells of an error. It allocates nothing beyond what the writer allocates.
+/// Writes the line that tells of an error, and fails only where a write does. It allocates nothing beyond what the writer allocates.
 pub fn tell<W: Sink>(error: RunError, writer: &mut W) -> Result<(), Failed>
     ensures line { OnOk result (Appends (W.contents writer.old) (W.contents writer.new) (error_line error)) }
     ensures ok { OnOk result (W.failed writer.new ≡ W.failed writer.old) }
