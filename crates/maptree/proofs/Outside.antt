@@ -313,7 +313,7 @@ end_forest ns r from forest run behind some within =
         let within_p : at_p.0 < length ns = omega (arith, size, at_p.1) in
         let one : LeadsTo (origins_of ns) 1 p o = record { origins = 1; enough = omega arith; leads = ap (option_and_then (after_origins 0 (origins_of ns))) is } in
         let later : at_o.0 < at_p.0 = by_order at_o.0 at_p.0 (cases_lt at_o.0 at_p.0) (λ upto. (not_behind ns at_o.0 at_p.0 forest at_o.3 within_p upto p).1
-            (subst (λ q. LeadsTo (origins_of ns) 1 q (place_at (origins_of ns) at_o.0 p)) (sym at_p.2) (subst (λ q. LeadsTo (origins_of ns) 1 p q) (sym here) one))) in
+        (subst (λ q. LeadsTo (origins_of ns) 1 q (place_at (origins_of ns) at_o.0 p)) (sym at_p.2) (subst (λ q. LeadsTo (origins_of ns) 1 p q) (sym here) one))) in
         subst (λ q. HasPlace q (slice_range ns from r.end)) (sym (place_at-links [] ns at_p.0 p) ∙ at_p.2)
         (has_slice ns from r.end at_p.0 p (omega (arith, low, later)) (ltb-true at_p.0 r.end bounds.1) within_p)
       where

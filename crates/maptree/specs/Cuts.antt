@@ -1,5 +1,5 @@
 -- Runs cut out of a derivation tree in parts, and what is kept of the parts put back.
-use Rattle.std.specs.Prelude.{◌≡◌, ℕ, zero, suc, ◌+◌, ◌≤◌, true, Bool, List, [], ◌∷◌, ◌++◌, length, take, drop, map, filter, Some}
+use Rattle.std.specs.Prelude.{◌≡◌, ℕ, ◌+◌, ◌≤◌, true, Bool, List, [], ◌∷◌, ◌++◌, length, drop, map, filter, Some}
 use Rattle.std.specs.List.{All, list_all, slice_range}
 use Rattle.std.specs.declared.ops.Range.{Range}
 use Rattle.space.specs.declared.place.Place.{Place}

@@ -13,10 +13,10 @@ ghost use Rattle.maptree.specs.Origins.{AreRising};
 ghost use Rattle.maptree.specs.PlaceMaps.{place_for};
 ghost use Rattle.maptree.specs.Renamings.{nodes_renamed};
 
-use mapnode::Node;
 use crate::place_map::PlaceMap;
 use crate::replacing::replace_places;
 use crate::shifts::{close_gaps, shift_in};
+use mapnode::Node;
 use smallvec::SmallVec;
 use space::Place;
 use std::alloc::{AllocError, Global};

@@ -3,11 +3,11 @@
 ghost use Rattle.std.specs.Prelude.{◌≡◌, true, drop};
 ghost use Rattle.maptree.specs.Blocks.{is_least};
 
-use mapnode::Node;
 use crate::place_map::PlaceMap;
 use crate::replacing::replace_places;
 use crate::scans::{deeper, last_above, placed};
 use crate::shifts::shift_in;
+use mapnode::Node;
 use space::Place;
 use std::alloc::{AllocError, Global};
 use std::marker::Model;

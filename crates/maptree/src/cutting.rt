@@ -5,9 +5,8 @@ ghost use Rattle.maptree.specs.Origins.{AreRising};
 ghost use Rattle.mapnode.specs.Slices.{nodes_of};
 ghost use Rattle.maptree.specs.Cuts.{AreGaps, joined, outside};
 
-use mapnode::Node;
 use crate::node_list::NodeList;
-use mapnode::Slice;
+use mapnode::{Node, Slice};
 use std::alloc::{AllocError, Global};
 use std::ops::Range;
 

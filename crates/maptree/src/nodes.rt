@@ -6,8 +6,8 @@ ghost use Rattle.maptree.specs.Nodes.{is_forest, origins_of};
 ghost use Rattle.maptree.specs.Origins.{place_at, HasDepth};
 
 use crate::backward::node_at;
-use mapnode::Node;
 use crate::node_list::NodeList;
+use mapnode::Node;
 use std::marker::Model;
 
 /// Reads nodes of a tree. One that stands near the one that was read before is read without a search for it. A contract

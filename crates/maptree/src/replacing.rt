@@ -4,8 +4,8 @@ ghost use Rattle.std.specs.Prelude.{◌≡◌};
 ghost use Rattle.maptree.specs.PlaceMaps.{place_for};
 ghost use Rattle.maptree.specs.Renamings.{nodes_renamed};
 
-use mapnode::Node;
 use crate::place_map::PlaceMap;
+use mapnode::Node;
 
 /// Each node whose place has one in the map gets that.
 pub fn replace_places(nodes: &mut [Node], new: &PlaceMap)

@@ -7,12 +7,11 @@ ghost use Rattle.maptree.specs.Nodes.{is_forest, are_distinct, origins_of, run_l
 ghost use Rattle.maptree.specs.PlaceMaps.{place_for};
 ghost use Rattle.maptree.specs.Renamings.{nodes_renamed};
 
-use mapnode::Node;
 use crate::node_list::NodeList;
 use crate::nodes::Nodes;
 use crate::place_map::PlaceMap;
 use crate::searching::runs_of;
-use mapnode::Slice;
+use mapnode::{Node, Slice};
 use space::{NoMemory, Place};
 use std::alloc::{AllocError, Global};
 use std::collections::BTreeSet;

@@ -1,5 +1,5 @@
 -- A tree of which nothing is gone stays, and a run of which all behind some in front is gone loses that.
-use Rattle.std.proofs.Common.{◌≡◌, ◌≤◌, ◌<◌, true, [], ◌∷◌, length, refl, sym, ap, ◌∙◌, arith, ◌⊎◌, inl, inr}
+use Rattle.std.proofs.Common.{◌≡◌, ◌<◌, true, [], ◌∷◌, refl, sym, ap, ◌∙◌, arith}
 use Rattle.std.specs.List.{list_all, slice_range}
 use Rattle.std.proofs.lemmas.Bool.{and_from}
 use Rattle.holdings.specs.Inner.Held.{has_entry}
