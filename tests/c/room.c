@@ -88,14 +88,24 @@ static void send_along(void) {
     send(0, 5, words, 62);
 }
 
+/* Sends one page to three spaces, to the second to be read alone. */
+static void send_to_three(void) {
+    send(0, 6, (const uint32_t[]){0x1008, 0x10c7}, 2);
+    send(0, 7, (const uint32_t[]){0x1008, 0x10c4}, 2);
+    send(0, 8, (const uint32_t[]){0x1008, 0x10c7}, 2);
+}
+
 static void send_in_all_ways(void) {
     send_all();
     send_along();
+    send_to_three();
 }
 
+/* The first takes back what is to be read alone, between what stays. */
 static void unmap_in_all_ways(void) {
-    uint32_t words[64], one = 0xc2;
+    uint32_t words[64], between = 0x10c4, one = 0xc2;
     size_t i;
+    must(l4map_unmap(&db, 0, 0, &between, 1), "an unmap");
     for (i = 0; i < 64; i++) {
         words[i] = COMPLETE - 3;
     }
