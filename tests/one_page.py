@@ -35,31 +35,33 @@ KINDS = {
 
 FEW, MANY = 100, 1_000
 
+WORKERS = ("1", "4")
+
 # How many more allocations the longer trace may make: its text is ten times as long, and a buffer doubles.
 MORE = 12
 
 
-def allocations(program, library, trace, records):
+def allocations(words, library, trace, records):
     """How many allocations a run makes, and what is wrong with how it ends, or an empty text."""
     none_refused, refused = MOST, 0
-    ended = run_refusing([program, "--workers", "1"], trace, library, "allocation", none_refused, False)
+    ended = run_refusing(words, trace, library, "allocation", none_refused, False)
     if ended.was_refused or ended.got.status or not ended.got.stdout.endswith(b"\nend %d 0\n" % records):
         return none_refused, f"of {records} records: it ended with {ended.got.status} and {ended.got.stdout[-80:]!r}"
     while refused + 1 < none_refused:
         at = (refused + none_refused) // 2
-        if run_refusing([program, "--workers", "1"], trace, library, "allocation", at, False).was_refused:
+        if run_refusing(words, trace, library, "allocation", at, False).was_refused:
             refused = at
         else:
             none_refused = at
     return refused, ""
 
 
-def check_kind(program, library, once, again):
+def check_kind(words, library, once, again):
     """What is wrong with the allocations of a kind of records, or an empty text."""
     counts = []
     for rounds in (FEW, MANY):
         trace = HEADER + once + again * rounds
-        count, why = allocations(program, library, trace, trace.count(b"\n") - 1)
+        count, why = allocations(words, library, trace, trace.count(b"\n") - 1)
         if why:
             return why
         counts.append(count)
@@ -71,8 +73,11 @@ def main():
     program, cases = program_path(), Cases()
     with tempfile.TemporaryDirectory() as room:
         library = build_library("fail_alloc.c", room)
-        for name, (once, again) in KINDS.items():
-            cases.check(f"{name}: no allocation for each call", check_kind(program, library, once, again))
+        for workers in WORKERS:
+            words = [program, "--workers", workers]
+            for name, (once, again) in KINDS.items():
+                why = check_kind(words, library, once, again)
+                cases.check(f"{name}: no allocation for each call, --workers {workers}", why)
     cases.end()
 
 
