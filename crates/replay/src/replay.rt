@@ -8,8 +8,8 @@ ghost use Rattle.holdings.specs.Meaning.{limits_of};
 ghost use Rattle.trace.specs.Meaning.{reply_of};
 ghost use Rattle.trace.specs.Stream.{TellsFailure};
 ghost use Rattle.replay.specs.Options.{AreServed};
-ghost use Rattle.replay.specs.Run.{WritesText, WritesReplay, EndsEarly, WritesNothing, TellsStreams};
-ghost use Rattle.replay.specs.Steps.{replies_of, told_of, PassesOn, StopsAt, StopsAmong, StopsEarly, IsStarted, StartsNot};
+ghost use Rattle.replay.specs.Run.{WritesReplay, EndsEarly, WritesNothing, TellsStreams};
+ghost use Rattle.replay.specs.Steps.{replies_of, PassesOn, StopsAt, StopsAmong, IsStarted, StartsNot};
 ghost use Rattle.replay.specs.Steps.{ReplaysTrace, StopsTrace};
 
 use crate::answer::{Replies, answer_first};
@@ -198,7 +198,21 @@ fn read_input<R: Source>(alloc: Global, reader: &mut R) -> Result<Vec<u8>, ReadE
     read_to_end(alloc, reader)
 }
 
-/// Replays a trace whose header was read, on a database with its limits.
+/// A database at the start.
+fn start(alloc: Global, limits: &Limits) -> Result<Database, RunError>
+    ensures ok { IfOk result (IsStarted (limits_of limits.now)) }
+    ensures err { IfErr result (StartsNot (limits_of limits.now)) }
+{
+    match Database::new(alloc, limits.spaces, limits.bits, limits.frames) {
+        Ok(database) => Ok(database),
+        Err(DbError::BadLimits) => Err(RunError::BadLimits),
+        Err(_) => Err(RunError::NoMemory(0)),
+    }
+}
+
+/// Replays a trace whose header was read, on a database with its limits: answers its records in order, writes their reply lines, the
+/// audit lines and the end line, and flushes them. Where a record cannot be answered for want of memory or of a worker, the reply lines
+/// before it are flushed.
 fn replay_trace<T: AllocGlobal + Threads + Sync, W: Sink, C: Workers, V: Watch>(
     rt: &T,
     trace: &mut TraceReader<'_>,
@@ -212,49 +226,22 @@ fn replay_trace<T: AllocGlobal + Threads + Sync, W: Sink, C: Workers, V: Watch>(
     ensures works { OnOk result (W.failed writer.new ≡ W.failed writer.old) }
     ensures err { IfErr result (StopsTrace trace.old (W.contents writer.old) (W.contents writer.new) (W.failed writer.old) (W.failed writer.new)) }
 {
-    let mut database = start(rt.alloc(), &trace.limits())?;
-    replay_records(rt, &mut database, trace, workers, plain, writer, watch)
-}
-
-/// A database at the start.
-fn start(alloc: Global, limits: &Limits) -> Result<Database, RunError>
-    ensures ok { IfOk result (IsStarted (limits_of limits.now)) }
-    ensures err { IfErr result (StartsNot (limits_of limits.now)) }
-{
-    match Database::new(alloc, limits.spaces, limits.bits, limits.frames) {
-        Ok(database) => Ok(database),
-        Err(DbError::BadLimits) => Err(RunError::BadLimits),
-        Err(_) => Err(RunError::NoMemory(0)),
-    }
-}
-
-/// Replays the records of a trace: answers them in order, writes their reply lines, the audit lines and the end line, and
-/// flushes them. Where a record cannot be answered for want of memory or of a worker, the reply lines before it are flushed.
-pub fn replay_records<W: Sink, C: Workers, V: Watch>(
-    rt: &(impl AllocGlobal + Threads + Sync),
-    database: &mut Database,
-    trace: &mut TraceReader<'_>,
-    workers: &C,
-    plain: bool,
-    writer: &mut W,
-    watch: &mut V,
-) -> Result<Summary, RunError>
-    requires running { database.old.is_halted ≡ false }
-    requires first { trace.old.number ≡ 1 }
-    ensures ok { IfOk result (WritesText (told_of database.old.limits trace.old.records database.old.holdings)
-        (W.contents writer.old) (W.contents writer.new)) }
-    ensures works { OnOk result (W.failed writer.new ≡ W.failed writer.old) }
-    ensures err { IfErr result (StopsEarly (told_of database.old.limits trace.old.records database.old.holdings)
-        (W.contents writer.old) (W.contents writer.new) (W.failed writer.old) (W.failed writer.new)) }
-{
     let alloc = rt.alloc();
+    let mut database = start(alloc, &trace.limits())?;
     let mut lines = Lines::new(alloc, watch.block());
     let mut buffers = Buffers::new(alloc);
     let mut number = trace.number();
     let mut refused = 0;
     while !trace.is_at_end() {
         watch.hear(number);
-        let replies = match answer_first(alloc, database, trace, workers, plain, &mut buffers) {
+        let replies = match answer_first(
+            alloc,
+            &mut database,
+            trace,
+            workers,
+            plain,
+            &mut buffers,
+        ) {
             Ok(replies) => replies,
             Err(why) => return Err(stop_at(writer, &mut lines, number, why)),
         };
@@ -264,7 +251,7 @@ pub fn replay_records<W: Sink, C: Workers, V: Watch>(
         refused += refusals;
         number = next;
     }
-    write_closing(rt, database, &mut lines, number - 1, refused, writer)
+    write_closing(rt, &database, &mut lines, number - 1, refused, writer)
 }
 
 /// Writes the lines that are left, the audit lines and the end line, and flushes them.

@@ -7,7 +7,7 @@ use Rattle.std.proofs.lemmas.Nat.{mul-add-lt, same_from_place, shl_whole}
 use Rattle.std.proofs.lemmas.List.FromFn.{get_or-range_with_len, length-range_with_len}
 use Rattle.std.proofs.lemmas.List.Edits.{Swapped, swapped_from_swap, length-swap}
 use Rattle.space.specs.declared.place.Place.{Place}
-use Rattle.space.specs.Directory.{pages_of, shards_of, shard_of, position_of, owner_of, place_index, words_in, AreLimits, IsDirectory}
+use Rattle.space.specs.Directory.{pages_of, shards_of, shard_of, position_of, owner_of, offset_of, place_index, words_in, AreLimits, IsDirectory}
 
 -- 64 pages of 4096 bytes are 2^18 bytes
 pages_are : (bits : ℕ) → 18 ≤ bits → pages_of bits ≡ 64 * shards_of bits
@@ -22,12 +22,12 @@ module _ (bits : ℕ) (low : 18 ≤ bits) (p : Place) (page : p.page < pages_of 
   shard_found spaces space = omega (arith, mul-add-lt p.space (shards_of bits) (p.page / 64) spaces space shard_in_space)
 
 module _ (bits : ℕ) (low : 18 ≤ bits) (p q : Place) (p_page : p.page < pages_of bits) (q_page : q.page < pages_of bits) where
-  -- places of one shard, and of one page in it, are one
-  same_shard : shard_of bits p ≡ shard_of bits q → p.page % 64 ≡ q.page % 64 → p ≡ q
+  -- places of one shard, whose words stand at one place in it, are one
+  same_shard : shard_of bits p ≡ shard_of bits q → offset_of p ≡ offset_of q → p ≡ q
   same_shard shard rest =
       let parts = same_from_place p.space (p.page / 64) q.space (q.page / 64) (shards_of bits) (shard_in_space bits low p p_page) (shard_in_space bits low q q_page) shard in
       let block : p.page / 64 ≡ q.page / 64 = parts.1 in
-      let page : p.page ≡ q.page = omega arith in
+      let page : p.page ≡ q.page = omega (arith, parts.0, block, rest) in
       λ i. record { space = parts.0 i; page = page i }
 
 module _ (spaces bits : ℕ) (directory owners : List ℕ) (limits : AreLimits spaces bits) (found : IsDirectory spaces bits directory owners) where
@@ -55,7 +55,7 @@ module _ (spaces bits : ℕ) (directory owners : List ℕ) (limits : AreLimits s
       let at_p = shard_of bits p in
       let at_q = shard_of bits q in
       let position : position_of directory at_p ≡ position_of directory at_q = omega arith in
-      let rest : p.page % 64 ≡ q.page % 64 = omega arith in
+      let rest : offset_of p ≡ offset_of q = omega arith in
       same_shard bits limits.low p q p_page q_page
       (distinct at_p at_q (shard_is p p_space p_page) (shard_is q q_space q_page) position) rest
 

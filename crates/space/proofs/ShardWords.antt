@@ -1,5 +1,5 @@
 -- The words of shards, by place.
-use Rattle.std.proofs.Common.{◌≡◌, refl, sym, ◌∙◌, ap, arith, subst, nat_lt, ℕ, ◌+◌, ◌-◌, ◌*◌, ◌%◌, ◌<◌, ◌≤◌, Bool, ◌⊎◌, inl, inr, List, [], length, Option, Some, None, IsTrue, true, false, Vec, Global, slice_index, slice_set, vec_capacity, get_or}
+use Rattle.std.proofs.Common.{◌≡◌, refl, sym, ◌∙◌, ap, arith, subst, nat_lt, ℕ, ◌+◌, ◌-◌, ◌*◌, ◌<◌, ◌≤◌, Bool, ◌⊎◌, inl, inr, List, [], length, Option, Some, None, IsTrue, true, false, Vec, Global, slice_index, slice_set, vec_capacity, get_or}
 use Rattle.std.specs.Option.{option_map_or}
 use Rattle.std.specs.Prelude.{replicate}
 use Rattle.std.specs.List.{AllPass, swap}
@@ -15,7 +15,7 @@ use Rattle.space.specs.declared.place.Place.{Place}
 use Rattle.space.specs.declared.place.Entry.{Entry}
 use Rattle.space.specs.declared.shards.Shards.{Shards}
 use Rattle.space.specs.Word.{word_of, entry_of, is_pack, FrameFits}
-use Rattle.space.specs.Directory.{shards_of, shard_of, position_of, owner_of, IsDirectory, place_index, words_in, filled, AreWords}
+use Rattle.space.specs.Directory.{shards_of, shard_of, position_of, owner_of, offset_of, IsDirectory, place_index, words_in, filled, AreWords}
 use Rattle.space.specs.Shards.{IsPlace, shard_count, index_of, word_count, words_of, shards_in_use, entry_at}
 use Rattle.space.specs.ShardLaws.{PlacesHaveWords, WordsAreTheirOwn, EntriesFit, AreAllWords, IsWithWords, ShardsHaveWords, WordsHaveShards}
 use Rattle.space.proofs.Words.{pack_gives_back, unpack_gives_back, unpacked_fits}
@@ -94,8 +94,8 @@ words_kept directory after words same are = record {
 
 module _ (words : List ℕ) (bits : ℕ) (directory after : List ℕ) (a b : ℕ) (a_low : a < length directory) (b_low : b < length directory) (is : after ≡ swap directory a b) where
   -- the words of the one stand where those of the other stood
-  pub exchanged_index : (p : Place) → shard_of bits p ≡ a → place_index bits after p ≡ position_of directory b * 64 + p.page % 64
-  exchanged_index p at = ap (λ k. position_of after k * 64 + p.page % 64) at ∙ ap (λ n. n * 64 + p.page % 64) (swapped_from_swap directory after a b 0 a_low b_low is).0
+  pub exchanged_index : (p : Place) → shard_of bits p ≡ a → place_index bits after p ≡ position_of directory b * 64 + offset_of p
+  exchanged_index p at = ap (λ k. position_of after k * 64 + offset_of p) at ∙ ap (λ n. n * 64 + offset_of p) (swapped_from_swap directory after a b 0 a_low b_low is).0
 
   -- if both stand behind all words, each place reads what it read
   pub exchanged_read : length words ≤ position_of directory a * 64 → length words ≤ position_of directory b * 64
@@ -103,8 +103,8 @@ module _ (words : List ℕ) (bits : ℕ) (directory after : List ℕ) (a b : ℕ
   exchanged_read a_past b_past p =
       let shard = shard_of bits p in
       let swapped = swapped_from_swap directory after a b 0 a_low b_low is in
-      let past : (n : ℕ) → length words ≤ n * 64 → (m : ℕ) → m ≡ n → slice_index words (m * 64 + p.page % 64) ≡ 0 =
-      λ n n_past m same. get_or_past words (m * 64 + p.page % 64) 0 (omega (arith, n_past, same)) in
+      let past : (n : ℕ) → length words ≤ n * 64 → (m : ℕ) → m ≡ n → slice_index words (m * 64 + offset_of p) ≡ 0 =
+      λ n n_past m same. get_or_past words (m * 64 + offset_of p) 0 (omega (arith, n_past, same)) in
       elim (same_or_not shard a) as (λ _. slice_index words (place_index bits after p) ≡ slice_index words (place_index bits directory p)) [
         | inl at_a ↦
             past (position_of directory b) b_past (position_of after shard) (ap (position_of after) at_a ∙ swapped.0)
@@ -113,7 +113,7 @@ module _ (words : List ℕ) (bits : ℕ) (directory after : List ℕ) (a b : ℕ
           | inl at_b ↦
               past (position_of directory a) a_past (position_of after shard) (ap (position_of after) at_b ∙ swapped.1)
               ∙ sym (past (position_of directory b) b_past (position_of directory shard) (ap (position_of directory) at_b))
-          | inr not_b ↦ ap (λ n. slice_index words (n * 64 + p.page % 64)) (swapped.2 shard not_a not_b)
+          | inr not_b ↦ ap (λ n. slice_index words (n * 64 + offset_of p)) (swapped.2 shard not_a not_b)
         ]
       ]
 

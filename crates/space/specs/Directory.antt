@@ -27,9 +27,13 @@ position_of directory shard = slice_index directory shard
 abbrev pub owner_of : List ℕ → ℕ → ℕ
 owner_of owners position = slice_index owners position
 
+-- where in its shard the word of a place stands: from one space to the next 8 words farther on, and round to the front
+abbrev pub offset_of : Place → ℕ
+offset_of p = (p.page + p.space * 8) % 64
+
 -- which word is a place's
 abbrev pub place_index : ℕ → List ℕ → Place → ℕ
-place_index bits directory p = position_of directory (shard_of bits p) * 64 + p.page % 64
+place_index bits directory p = position_of directory (shard_of bits p) * 64 + offset_of p
 
 -- how many words a directory finds
 abbrev pub words_in : List ℕ → ℕ

@@ -1,7 +1,7 @@
-ghost use Rattle.std.specs.Prelude.{◌≡◌, ◌≤◌, IfOk, vec_capacity};
+ghost use Rattle.std.specs.Prelude.{◌≡◌, ◌<◌, ◌≤◌, IfOk, vec_capacity};
 ghost use Rattle.std.specs.List.{range_with_len};
 ghost use Rattle.std.specs.Option.{ForSome};
-ghost use Rattle.space.specs.Directory.{AreLimits, IsDirectory, AreWords, filled};
+ghost use Rattle.space.specs.Directory.{AreLimits, IsDirectory, AreWords, filled, offset_of};
 
 use crate::error::NoMemory;
 use crate::place::{Entry, Place};
@@ -15,6 +15,9 @@ const SHARD_BITS: u32 = 18;
 
 /// How many pages, of one space, have their words in one shard.
 const SHARD_PAGES: usize = 64;
+
+/// How many words stand in a line of a cache.
+const LINE_WORDS: usize = 8;
 
 /// What became of a page from which rights were withheld.
 #[derive(Clone, Copy)]
@@ -103,7 +106,7 @@ impl Shards {
         ensures distinct { (q : Place) → IsPlace self.now q → index_of self.now q ≡ result → q ≡ place }
     {
         let position = self.directory[self.shard(place)];
-        position as usize * SHARD_PAGES + place.page as usize % SHARD_PAGES
+        position as usize * SHARD_PAGES + offset(place)
     }
 
     /// Which shard has the word of a place.
@@ -318,6 +321,15 @@ impl Shards {
     {
         self.words = Some(words);
     }
+}
+
+/// Where in its shard the word of a place stands: from one space to the next a line farther on, and round to the front. So the words
+/// of one page in many spaces do not all stand a power of two of bytes apart, and crowd into few lines of a cache.
+fn offset(place: Place) -> usize
+    ensures offset { result ≡ offset_of place }
+    ensures in_range { result < 64 }
+{
+    (place.page as usize + usize::from(place.space) * LINE_WORDS) % SHARD_PAGES
 }
 
 /// Adds words of absent pages up to this length, if there are fewer. There is room for them, so that this takes no memory.

@@ -152,7 +152,8 @@ fn shards_stand_in_the_order_of_their_first_use(rt: HostRuntime) -> Result<(), F
     shards.make(first);
     assert_eq!(rt; shards.get(last), entry);
     assert_eq!(rt; shards.get(first), entry);
-    assert_eq!(rt; shards.index(last), 63);
+    // The last page of the first shard, in a space whose words are turned by 511 lines of eight: 7 beyond whole shards.
+    assert_eq!(rt; shards.index(last), 63 + 7 * 8 - 64);
     assert_eq!(rt; shards.index(first), 64);
     Ok(())
 }

@@ -11,6 +11,12 @@ ghost use Rattle.turns.specs.Tables.{indexes_of};
 use pieces::{Piece, Strip, Touch, changed_indexes, changed_words};
 use std::alloc::{AllocError, Global};
 
+/// The ends of words side by side may stand so much farther apart than these have room: entry words are turned within a shard (`space`).
+const TURNED: usize = 64;
+
+/// Of more pieces than this not all are looked at: where the ends of a piece stand is in no cache near.
+const LOOKED_AT: usize = 64;
+
 /// Which words of a phase are shared.
 #[derive(Drop)]
 pub enum Indexes {
@@ -56,22 +62,23 @@ pub(crate) fn shared_indexes(
     Ok((Indexes::Listed(at), own))
 }
 
-/// Whether pieces that change words side by side change at least half of these.
+/// Whether pieces that change words side by side change at least half of these, as far as some of the pieces tell.
 fn are_most_changed(words: &[u64], pieces: &[Piece]) -> bool {
-    let mut count: usize = 0;
-    for piece in pieces {
+    let step = (pieces.len() / LOOKED_AT).max(1);
+    let mut wanting = words.len() / 2 / step;
+    for piece in pieces.iter().step_by(step) {
         if is_side_by_side(piece) {
-            count = count.saturating_add(changed_words(piece));
+            wanting = wanting.saturating_sub(changed_words(piece));
         }
     }
-    count >= words.len() / 2
+    wanting == 0
 }
 
 /// Whether the words that a piece changes stand side by side, as far as the first and the last of them tell.
 fn is_side_by_side(piece: &Piece) -> bool {
     match ends(piece) {
         Some((first, last)) => {
-            first.saturating_add(changed_words(piece)) == last.saturating_add(1)
+            first.abs_diff(last) < changed_words(piece).saturating_add(TURNED)
         }
         None => false,
     }

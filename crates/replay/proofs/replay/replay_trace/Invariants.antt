@@ -1,16 +1,19 @@
 -- Replies are written or left, and those to the records that are left follow.
-use Rattle.std.proofs.Common.{◌≡◌, length}
-use Rattle.mapdb.specs.State.{left_with}
+use Rattle.std.proofs.Common.{◌≡◌, true, length}
+use Rattle.model.specs.Records.{are_limits}
+use Rattle.model.specs.Replay.{start}
+use Rattle.mapdb.specs.State.{left_with, new_state}
 use Rattle.replay.specs.Steps.{told_of}
 use Rattle.replay.proofs.Steps.{SoFar}
-use Rattle.replay.proofs.replay.replay_records.Given as goal
+use Rattle.replay.proofs.replay.replay_trace.Given as goal
 
 abbrev pub invariant-loop-alloc : goal.invariant-loop-alloc
 invariant-loop-alloc g l = record {
-  so_far : SoFar (told_of l.fn.database.limits l.fn.trace.records l.fn.database.holdings) l.fn.database.limits l.trace.records l.database.holdings l.number
+  served : are_limits l.fn.trace.limits ≡ true;
+  so_far : SoFar (told_of l.fn.trace.limits l.fn.trace.records (start l.fn.trace.limits)) l.fn.trace.limits l.trace.records l.database.holdings l.number
       (g.W.Sink.contents l.fn.writer) (g.W.Sink.contents l.writer) l.lines l.refused;
   works : g.W.Sink.failed l.writer ≡ g.W.Sink.failed l.fn.writer;
-  keeps : l.database ≡ left_with l.fn.database l.database.holdings;
+  keeps : l.database ≡ left_with (new_state l.fn.trace.limits) l.database.holdings;
   number : l.number ≡ l.trace.number;
 }
 
