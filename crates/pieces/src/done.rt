@@ -15,6 +15,8 @@ pub struct Done {
     answers: Vec<bool>,
     of: Snapshot<Piece>,
     words: Snapshot<Vec<u64>>,
+    /// The indexes that the piece had, if they were handed back.
+    indexes: Option<Vec<usize>>,
 }
 
 impl Model for Done {
@@ -53,7 +55,17 @@ impl Done {
             answers,
             of,
             words,
+            indexes: None,
         }
+    }
+
+    /// The same, with the indexes that the piece had, if it had some. So they go back to the caller, who frees them with the nodes that
+    /// stand beside them in memory: no worker has to.
+    pub fn with_indexes(mut self, indexes: Option<Vec<usize>>) -> Done
+        ensures { result ≡ self }
+    {
+        self.indexes = indexes;
+        self
     }
 
     /// The number of the piece.
@@ -89,6 +101,7 @@ impl Done {
             answers: _,
             of: _,
             words: _,
+            indexes: _,
         } = self;
         kept
     }

@@ -61,15 +61,15 @@ impl StripWork {
         self.indexes.len() + folds
     }
 
-    /// What it found out, when all its steps were done: the nodes that are kept, and their status.
-    pub(crate) fn into_found(self) -> (Slice, Rights)
+    /// What it found out, when all its steps were done: the nodes that are kept, and their status. Its indexes come with it.
+    pub(crate) fn into_found(self) -> (Slice, Rights, Vec<usize>)
         ensures kept { (w : List ℕ) (k : ℕ) → IsStripWork w self k → length self.of.value.nodes ≤ k → result.0.nodes.items ≡ kept_nodes w self.of.value }
         ensures status { (w : List ℕ) (k : ℕ) → IsStripWork w self k → length self.of.value.nodes ≤ k → result.1 ≡ status_in w self.of.value.indexes }
     {
         let StripWork {
             mut slice,
             masks: _,
-            indexes: _,
+            indexes,
             fold: _,
             kept,
             status,
@@ -77,7 +77,7 @@ impl StripWork {
             of: _,
         } = self;
         slice.nodes.truncate(kept);
-        (slice, status)
+        (slice, status, indexes)
     }
 
     /// The next step: a word loses rights; behind the last, the fold word gains the status that was found.

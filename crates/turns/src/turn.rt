@@ -113,9 +113,9 @@ impl Turn {
         if !ended {
             return (seat, None);
         }
-        let (kept, status, answers) = work.into_found(alloc);
+        let (kept, status, answers, indexes) = work.into_found(alloc);
         let done = Done::new(number, kept, status, answers, of, sheet.opening());
-        (seat, Some(done))
+        (seat, Some(done.with_indexes(indexes)))
     }
 
     /// Whether all steps of its piece were done.
