@@ -113,6 +113,7 @@ fn works<T: Tree>(form: Form, count: u32) {
     let named: Vec<Place> = (1..count / 10).map(|n| nth_place(n * 10)).collect();
     times("find", CALLS, |n| tree.find(nth_old(n)).map_or(0, |node| number_of(tree.place(node))));
     times("run_of", CALLS, |n| tree.run_len(nth_node(n)));
+    times("place_of_origin", CALLS, |n| tree.origin(nth_node(n)).map_or(0, |node| number_of(tree.place(node))));
     times("origin_of", CALLS, |n| tree.origin(nth_node(n)).map_or(0, |node| number_of(tree.place(node))));
     times("is_origin", CALLS, |n| usize::from(tree.is_origin(nth_node(n), nth_node(n.wrapping_mul(31)))));
     times("outer_runs", PASSES, |_| tree.outer_runs(&named).len());

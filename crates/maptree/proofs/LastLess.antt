@@ -1,6 +1,7 @@
 -- The last node that is less deep than a number.
-use Rattle.std.proofs.Common.{◌≡◌, ℕ, zero, suc, ◌+◌, ◌<◌, ◌≤◌, true, false, Bool, nat_lt, List, [], ◌∷◌, ◌++◌, length, drop, get_or, Option, Some, None, refl, ap, ◌∙◌, subst, arith}
+use Rattle.std.proofs.Common.{◌≡◌, ℕ, zero, suc, ◌+◌, ◌<◌, ◌≤◌, true, false, Bool, nat_lt, List, [], ◌∷◌, ◌++◌, length, take, drop, get_or, Option, Some, None, refl, ap, ◌∙◌, subst, arith}
 use Rattle.std.proofs.lemmas.Bool.{lt-ltb, le-ltb, ltb-true, ltb-false}
+use Rattle.std.proofs.lemmas.List.{take_more, length-take-le}
 use Rattle.mapnode.specs.declared.node.Node.{Node}
 use Rattle.maptree.specs.Nodes.{last_less, one_on}
 use Rattle.maptree.proofs.Runs.{depth_of}
@@ -92,3 +93,16 @@ some_says depth (n ∷ ns) r is = by (last_less depth ns) refl (some_says depth 
     by : (rest : Option ℕ) → last_less depth ns ≡ rest → ((q : ℕ) → last_less depth ns ≡ Some q → IsLastLess depth ns q) → one_on (nat_lt n.depth depth) rest ≡ Some r → IsLastLess depth (n ∷ ns) r
     by None same says is = here (nat_lt n.depth depth) refl is same
     by (Some q) same says is = let one : suc q ≡ r = cc is in subst (IsLastLess depth (n ∷ ns)) one (next q (says q same))
+
+-- ---- one node more
+
+pub last_more_low : (depth : ℕ) (ns : List Node) (i : ℕ) (d : Node) → i < length ns → (get_or ns i d).depth < depth → last_less depth (take (i + 1) ns) ≡ Some i
+last_more_low depth ns i d within low =
+    let size : length (take i ns) + 0 ≡ i = let l = length-take-le i ns (omega (arith, within)) in omega (arith, l) in
+    ap (last_less depth) (take_more ns i d within) ∙ last_append depth (take i ns) (get_or ns i d ∷ [])
+    ∙ ap (λ b. later (length (take i ns)) (one_on b None) (last_less depth (take i ns))) (lt-ltb (get_or ns i d).depth depth low) ∙ ap Some size
+
+pub last_more_deep : (depth : ℕ) (ns : List Node) (i : ℕ) (d : Node) → i < length ns → depth ≤ (get_or ns i d).depth → last_less depth (take (i + 1) ns) ≡ last_less depth (take i ns)
+last_more_deep depth ns i d within deep =
+    ap (last_less depth) (take_more ns i d within) ∙ last_append depth (take i ns) (get_or ns i d ∷ [])
+    ∙ ap (λ b. later (length (take i ns)) (one_on b None) (last_less depth (take i ns))) (le-ltb (get_or ns i d).depth depth deep)

@@ -9,6 +9,7 @@ pub mod AtSeat
 pub mod Searches
 pub mod LastLess
 pub mod Depths
+pub mod Deepest
 pub mod Paths
 pub mod Runs
 pub mod Positions

@@ -1,13 +1,18 @@
 -- The last node before a node that is less deep is its origin.
-use Rattle.std.proofs.Common.{◌≡◌, ℕ, zero, suc, ◌<◌, ◌≤◌, true, List, [], ◌∷◌, length, take, get_or, Option, Some, None, option_map, refl, sym, ap, ◌∙◌, arith, rules, IfSome}
+use Rattle.std.proofs.Common.{◌≡◌, ℕ, zero, suc, ◌<◌, ◌≤◌, true, List, [], ◌∷◌, length, take, get_or, Option, Some, None, option_map, refl, sym, ap, ◌∙◌, subst, arith, rules, IfSome}
 use Rattle.std.proofs.Math.Nat.{min-le_left}
-use Rattle.std.proofs.lemmas.List.{length-take, length-take-le}
+use Rattle.std.proofs.lemmas.List.{length-take, length-take-le, get_or_default}
+use Rattle.std.proofs.lemmas.Option.{same_Some}
+use Rattle.std.specs.List.{list_any}
 use Rattle.space.specs.declared.place.Place.{Place}
 use Rattle.mapnode.specs.declared.node.Node.{Node}
-use Rattle.maptree.specs.Origins.{origin_in, place_at}
-use Rattle.maptree.specs.Nodes.{is_forest, origins_of, last_less}
+use Rattle.space.specs.Place.{same_place}
+use Rattle.mapnode.proofs.Lists.{blank}
+use Rattle.maptree.specs.Origins.{origin_in, place_at, IsOriginAt}
+use Rattle.maptree.specs.Nodes.{is_forest, origins_of, origin_at, last_less}
+use Rattle.maptree.proofs.Listed.{listed_at}
 use Rattle.maptree.proofs.Runs.{depth_of}
-use Rattle.maptree.proofs.Positions.{depth_of_read}
+use Rattle.maptree.proofs.Positions.{depth_of_read, length-links, node_place}
 use Rattle.maptree.proofs.Origin.{nearest_is_origin, root_has_none, never}
 use Rattle.maptree.proofs.LastLess.{some_says, none_says}
 
@@ -58,3 +63,28 @@ nearest_says ns forest i n within read o is d = by o is
         let there = depth_before ns i r less in
         nearest_is_origin ns forest r i n.depth less within (sym here) (omega (arith, low, there))
         (λ k more upto. let e = last.behind k more (omega (arith, size, upto)) in let same = depth_before ns i k upto in omega (arith, e, same)) d
+
+-- the place of the node that is nearest is the origin
+pub nearest_place : (ns : List Node) → is_forest ns ≡ true → (i : ℕ) → i < length ns → (p : Option Place) → p ≡ option_map (λ r. (get_or ns r blank).place) (origin_at ns i blank) → IsOriginAt (origins_of ns) i p
+nearest_place ns forest i within p is = by (origin_at ns i blank) refl is
+  where
+    n : Node
+    n = get_or ns i blank
+
+    read : n ≡ get_or ns i n
+    read = get_or_default ns i blank n within
+
+    by : (o : Option ℕ) → o ≡ origin_at ns i blank → p ≡ option_map (λ r. (get_or ns r blank).place) o → IsOriginAt (origins_of ns) i p
+    by None same none = record {
+      is = λ d. nearest_says ns forest i n within read None same d ∙ sym none;
+      stands = λ q is. let wrong : None ≡ Some q = sym none ∙ is in absurd (cc wrong);
+    }
+    by (Some r) same some =
+        let before = nearest_before ns i n.depth (Some r) same in
+        let inside : r < length ns = omega (arith, before, within) in
+        let at : (d : Place) → (get_or ns r blank).place ≡ place_at (origins_of ns) r d = λ d. node_place ns r (get_or ns r blank) inside (get_or_default ns r blank (get_or ns r blank) inside) d in
+        let size = length-links [] ns in
+        record {
+          is = λ d. nearest_says ns forest i n within read (Some r) same d ∙ ap Some (sym (at d)) ∙ sym some;
+          stands = λ q is. subst (λ x. list_any (λ o. same_place x o.0) (origins_of ns) ≡ true) (sym (at q) ∙ same_Some (get_or ns r blank).place q (sym some ∙ is)) (listed_at (origins_of ns) r q (omega (arith, size, inside)));
+        }

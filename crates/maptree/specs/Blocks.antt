@@ -1,8 +1,9 @@
 -- A list of nodes in blocks.
-use Rattle.std.specs.Prelude.{◌≡◌, ℕ, ◌+◌, ◌*◌, ◌/◌, ◌^◌, ◌<◌, ◌≤◌, nat_le, ◌&&◌, Bool, true, List, [], ◌∷◌, length, take, drop, get_or, set, insert, slice_index}
+use Rattle.std.specs.Prelude.{◌≡◌, ℕ, ◌+◌, ◌*◌, ◌/◌, ◌^◌, ◌<◌, ◌≤◌, nat_le, ◌&&◌, Bool, true, List, [], ◌∷◌, length, take, drop, get_or, set, insert, slice_index, Some}
 use Rattle.std.specs.List.{flat_map}
 use Rattle.mapnode.specs.declared.node.Node.{Node}
 use Rattle.maptree.specs.declared.blocks.Seat.{Seat}
+use Rattle.maptree.specs.Nodes.{is_forest, origin_at}
 
 -- how many nodes a block has at most
 abbrev pub block_size : ℕ
@@ -13,6 +14,11 @@ abbrev pub is_least : ℕ → List Node → Bool
 is_least least [] = true
 is_least least (n ∷ ns) = nat_le least n.depth && is_least least ns
 
+-- no node is deeper than this
+abbrev pub is_most : ℕ → List Node → Bool
+is_most most [] = true
+is_most most (n ∷ ns) = nat_le n.depth most && is_most most ns
+
 -- the nodes of all blocks, in their order
 abbrev pub nodes_in : List (List Node) → List Node
 nodes_in bs = flat_map (λ b. b) bs
@@ -22,6 +28,19 @@ pub record IsSeat (bs : List (List Node)) (i : ℕ) (seat : Seat) : Type 0 where
   pub within : seat.block < length bs
   pub upto : seat.offset ≤ length (get_or bs seat.block [])
   pub before : length (nodes_in (take seat.block bs)) + seat.offset ≡ i
+
+-- how many nodes stand before a seat
+abbrev pub nodes_before : List (List Node) → Seat → ℕ
+nodes_before bs seat = length (nodes_in (take seat.block bs)) + seat.offset
+
+-- a node stands at a seat
+pub record HasNode (bs : List (List Node)) (seat : Seat) : Type 0 where
+  pub within : seat.block < length bs
+  pub inside : seat.offset < length (get_or bs seat.block [])
+
+-- each node but the first has that as its origin
+abbrev pub IsFan : List Node → Type 0
+IsFan ns = is_forest ns ≡ true → (i : ℕ) (d : Node) → 0 < i → i < length ns → origin_at ns i d ≡ Some 0
 
 -- the blocks with the nodes of one from a position on in a block of their own behind it
 abbrev pub split_block : ℕ → List (List Node) → ℕ → List (List Node)

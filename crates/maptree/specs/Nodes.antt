@@ -1,6 +1,6 @@
 -- A derivation tree as a list of nodes in preorder, each with its depth: a node derives from the nearest one before it
 -- that is one less deep.
-use Rattle.std.specs.Prelude.{ℕ, suc, ◌+◌, ◌-◌, nat_le, nat_lt, Bool, true, ◌&&◌, not, List, [], ◌∷◌, length, drop, Option, Some, None, if◌then◌else◌}
+use Rattle.std.specs.Prelude.{ℕ, suc, ◌+◌, ◌-◌, nat_le, nat_lt, Bool, true, ◌&&◌, not, List, [], ◌∷◌, length, take, drop, get_or, Option, Some, None, if◌then◌else◌}
 use Rattle.std.specs.List.{list_all, prefix_len}
 use Rattle.space.specs.declared.place.Place.{Place}
 use Rattle.space.specs.Place.{same_place}
@@ -56,3 +56,7 @@ one_on here None = if here then Some 0 else None
 abbrev pub last_less : ℕ → List Node → Option ℕ
 last_less depth [] = None
 last_less depth (n ∷ ns) = one_on (nat_lt n.depth depth) (last_less depth ns)
+
+-- the position of the origin of the node at a position: of the last node before it that is less deep
+abbrev pub origin_at : List Node → ℕ → Node → Option ℕ
+origin_at ns i d = last_less (get_or ns i d).depth (take i ns)

@@ -1,7 +1,7 @@
 //! A block of a list of nodes.
 
 ghost use Rattle.std.specs.Prelude.{◌≡◌, true, drop};
-ghost use Rattle.maptree.specs.Blocks.{is_least};
+ghost use Rattle.maptree.specs.Blocks.{is_least, is_most};
 
 use crate::place_map::PlaceMap;
 use crate::replacing::replace_places;
@@ -110,8 +110,32 @@ impl Block {
         placed(&self.nodes, place)
     }
 
+    /// A position where a place stands, if it stands here. Two are looked at first: the one with so many nodes before it, and the
+    /// one with so many from it on.
+    pub fn find_from(&self, place: Place, before: usize, from: usize) -> Option<usize>
+        ensures within { IfSome result (λ i. i < length self.now) }
+        ensures there { (d : Node) → IfSome result (λ i. same_place place (get_or self.now i d).place ≡ true) }
+    {
+        if self.has_at(place, before) {
+            return Some(before);
+        }
+        let behind = self.nodes.len().wrapping_sub(from);
+        if self.has_at(place, behind) {
+            return Some(behind);
+        }
+        self.look_from(place, before)
+    }
+
+    /// Whether a place stands at a position, which need not be one of the block.
+    fn has_at(&self, place: Place, i: usize) -> bool
+        ensures within { result ≡ true → i < length self.now }
+        ensures there { (d : Node) → result ≡ true → same_place place (get_or self.now i d).place ≡ true }
+    {
+        i < self.nodes.len() && place == self.nodes[i].place
+    }
+
     /// A position where a place stands, if it stands here. It is looked for from this position on first.
-    pub fn find_from(&self, place: Place, from: usize) -> Option<usize>
+    fn look_from(&self, place: Place, from: usize) -> Option<usize>
         ensures within { IfSome result (λ i. i < length self.now) }
         ensures there { (d : Node) → IfSome result (λ i. same_place place (get_or self.now i d).place ≡ true) }
     {
@@ -147,6 +171,14 @@ impl Block {
         } else {
             end
         };
+        self.last_above_here(end, depth)
+    }
+
+    /// The same by the nodes alone, for where one near the end is likely to be less deep.
+    pub fn last_above_here(&self, end: usize, depth: usize) -> Option<usize>
+        requires { end ≤ length self.now }
+        ensures { result ≡ last_less depth (take end self.now) }
+    {
         last_above(&self.nodes[..end], depth)
     }
 
@@ -249,4 +281,15 @@ pub fn least_of(nodes: &[Node]) -> usize
         least = least.min(node.depth);
     }
     least
+}
+
+/// The greatest depth of some nodes.
+pub fn most_of(nodes: &[Node]) -> usize
+    ensures { is_most result nodes.now ≡ true }
+{
+    let mut most = 0;
+    for node in nodes {
+        most = most.max(node.depth);
+    }
+    most
 }

@@ -16,8 +16,6 @@ pub struct Starts {
     inside: Vec<usize>,
     /// For each group, how many nodes stand before it.
     groups: Vec<usize>,
-    /// How many blocks 2^32 nodes had, when they were counted: searches begin by it. No clause rests on it.
-    density: usize,
 }
 
 impl Model for Starts {
@@ -42,11 +40,7 @@ impl Starts {
     {
         let inside = Vec::with_capacity(alloc, blocks)?;
         let groups = Vec::with_capacity(alloc, blocks / GROUP + 1)?;
-        Ok(Starts {
-            inside,
-            groups,
-            density: 0,
-        })
+        Ok(Starts { inside, groups })
     }
 
     /// Memory for so many more blocks.
@@ -69,32 +63,27 @@ impl Starts {
         self.groups[block / GROUP] + self.inside[block]
     }
 
-    /// The last block before which fewer nodes stand than so many; the first one, if there is none.
-    pub fn last_below(&self, n: usize) -> usize
+    /// The last block before which fewer nodes stand than so many, and how many stand before it; of the first one, if there is none.
+    /// It is looked for from a block on, block by block.
+    pub fn last_below(&self, n: usize, near: usize) -> (usize, usize)
         requires { 0 < length self.now.inside }
-        ensures within { result < length self.now.inside }
-        ensures below { 0 < result → number_at self.now result < n }
-        ensures next { result + 1 < length self.now.inside → n ≤ number_at self.now (result + 1) }
+        ensures within { result.0 < length self.now.inside }
+        ensures before { result.1 ≡ number_at self.now result.0 }
+        ensures below { 0 < result.0 → number_at self.now result.0 < n }
+        ensures next { result.0 + 1 < length self.now.inside → n ≤ number_at self.now (result.0 + 1) }
     {
-        let near = self.blocks_of(n) / GROUP;
-        let group = last_less(&self.groups, 0, self.groups.len(), near, n);
-        let left = n.saturating_sub(self.groups[group]);
-        let first = group * GROUP;
-        let end = first + GROUP.min(self.inside.len() - first);
-        let near = first.wrapping_add(self.blocks_of(left));
-        last_less(&self.inside, first, end, near, left)
-    }
-
-    /// About how many blocks so many nodes have.
-    fn blocks_of(&self, nodes: usize) -> usize {
-        nodes.wrapping_mul(self.density) >> 32
-    }
-
-    /// All blocks together have so many nodes: later searches begin by that.
-    pub fn set_nodes(&mut self, nodes: usize)
-        ensures { self.new ≡ self.old }
-    {
-        self.density = self.inside.len().wrapping_mul(1 << 32) / nodes.max(1);
+        let last = self.inside.len() - 1;
+        let mut at = near.min(last);
+        let mut before = self.get(at);
+        while at > 0 && n <= before {
+            at -= 1;
+            before = self.get(at);
+        }
+        while at < last && self.get(at + 1) < n {
+            at += 1;
+            before = self.get(at);
+        }
+        (at, before)
     }
 
     /// No blocks.
@@ -155,26 +144,6 @@ impl Starts {
         let groups = self.groups.len();
         subtract_from(&mut self.groups, block / GROUP + 1, groups, n);
     }
-}
-
-/// Of numbers that do not fall from a position to another, the last one that is less than this; the first one, if none is. It is
-/// looked for from a position on, number by number.
-fn last_less(numbers: &[usize], from: usize, to: usize, near: usize, bound: usize) -> usize
-    requires some { from < to }
-    requires within { to ≤ length numbers.now }
-    ensures from { from ≤ result }
-    ensures to { result < to }
-    ensures less { from < result → slice_index numbers.now result < bound }
-    ensures next { result + 1 < to → bound ≤ slice_index numbers.now (result + 1) }
-{
-    let mut at = near.max(from).min(to - 1);
-    while at > from && bound <= numbers[at] {
-        at -= 1;
-    }
-    while at + 1 < to && numbers[at + 1] < bound {
-        at += 1;
-    }
-    at
 }
 
 /// Adds a number to those from a position to another.

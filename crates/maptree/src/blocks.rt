@@ -5,10 +5,11 @@ ghost use Rattle.maptree.specs.Blocks.{AreLeasts, AreStarts, block_size, nodes_i
 ghost use Rattle.maptree.specs.PlaceMaps.{place_for};
 ghost use Rattle.maptree.specs.Renamings.{nodes_renamed};
 
-use crate::block::{BLOCK_SIZE, Block, behind_first, least_of};
+use crate::block::{BLOCK_SIZE, Block, behind_first, least_of, most_of};
 use crate::block_leasts::Leasts;
 use crate::block_starts::Starts;
 use crate::hints::Hints;
+use crate::notes::Notes;
 use crate::place_map::PlaceMap;
 use mapnode::{Node, Slice};
 use space::Place;
@@ -54,20 +55,23 @@ pub struct Blocks {
     len: usize,
     /// None of the nodes but the first is less deep than this.
     behind: usize,
+    /// None of the nodes is deeper than this.
+    deepest: usize,
     /// How often a block came to have few nodes, or none, since such blocks were joined. No clause rests on it.
     thinned: usize,
     hints: Hints,
+    notes: Notes,
 }
 
 impl Model for Blocks {
     ghost use Rattle.std.specs.Prelude.{◌≡◌, ◌<◌, ◌≤◌, ◌+◌, ◌^◌, true, length, drop, vec_capacity, vec_len};
-    ghost use Rattle.maptree.specs.Blocks.{AreLeasts, AreStarts, Blocked, is_least, nodes_in};
+    ghost use Rattle.maptree.specs.Blocks.{AreLeasts, AreStarts, Blocked, is_least, is_most, nodes_in};
 
     ghost Value = { Blocked };
 
     ghost view = { λ b. record { blocks = b.blocks.items; room = b.room } };
 
-    ghost invariant = { λ b. (b.len ≡ length (nodes_in b.blocks.items)) × (0 < length b.blocks.items) × (b.room ≤ length b.spare.items) × (length b.blocks.items + b.room ≤ vec_capacity b.blocks) × (b.len + b.room < 2 ^ 64) × AreStarts b.blocks.items b.starts × (length b.blocks.items + b.room ≤ b.starts.capacity) × AreLeasts b.blocks.items b.leasts.leasts × (length b.blocks.items + b.room ≤ b.leasts.capacity) × (is_least b.behind (drop 1 (nodes_in b.blocks.items)) ≡ true) };
+    ghost invariant = { λ b. (b.len ≡ length (nodes_in b.blocks.items)) × (0 < length b.blocks.items) × (b.room ≤ length b.spare.items) × (length b.blocks.items + b.room ≤ vec_capacity b.blocks) × (b.len + b.room < 2 ^ 64) × AreStarts b.blocks.items b.starts × (length b.blocks.items + b.room ≤ b.starts.capacity) × AreLeasts b.blocks.items b.leasts.leasts × (length b.blocks.items + b.room ≤ b.leasts.capacity) × (is_least b.behind (drop 1 (nodes_in b.blocks.items)) ≡ true) × (is_most b.deepest (nodes_in b.blocks.items) ≡ true) };
 }
 
 impl Blocks {
@@ -75,8 +79,10 @@ impl Blocks {
     ghost use Rattle.std.specs.List.{slice_range};
     ghost use Rattle.space.specs.Place.{same_place};
     ghost use Rattle.mapnode.specs.declared.node.Node.{Node};
-    ghost use Rattle.maptree.specs.Blocks.{block_size, nodes_in, IsSeat, split_block};
-    ghost use Rattle.maptree.specs.Nodes.{are_distinct, is_forest, run_len, last_less};
+    ghost use Rattle.std.specs.Prelude.{option_map, IfSome};
+    ghost use Rattle.space.specs.declared.place.Place.{Place};
+    ghost use Rattle.maptree.specs.Blocks.{block_size, nodes_in, HasNode, IsFan, IsSeat, nodes_before, split_block};
+    ghost use Rattle.maptree.specs.Nodes.{are_distinct, is_forest, origin_at, run_len, last_less};
     ghost use Rattle.maptree.specs.Origins.{AreRising};
     ghost use Rattle.mapnode.specs.Slices.{nodes_of};
     ghost use Rattle.maptree.specs.Cuts.{AreGaps, count_of, joined, outside};
@@ -104,10 +110,10 @@ impl Blocks {
         ensures seat { IsSeat self.now.blocks i result }
         ensures behind { 0 < i → 0 < result.offset }
     {
-        let block = self.starts.last_below(i);
+        let (block, before) = self.starts.last_below(i, self.notes.block_at(i));
         Seat {
             block,
-            offset: i - self.starts.get(block),
+            offset: i - before,
         }
     }
 
@@ -156,7 +162,11 @@ impl Blocks {
             if let Some(hint) = self.hints.get(place, turn) {
                 let block = hint.block;
                 if block < self.blocks.len() {
-                    if let Some(offset) = self.blocks[block].find_from(place, hint.offset) {
+                    if let Some(offset) = self.blocks[block].find_from(
+                        place,
+                        hint.before,
+                        hint.from,
+                    ) {
                         return Some(self.starts.get(block) + offset);
                     }
                 }
@@ -214,38 +224,78 @@ impl Blocks {
         self.len
     }
 
-    /// The node at a position, and the position of the last node before it that is less deep than it is.
-    pub fn origin_of(&self, i: usize) -> (Node, Option<usize>)
+    /// Whether each node but the first has that as its origin, as far as the bounds of depths tell.
+    fn is_fan(&self) -> bool
+        ensures { result ≡ true → IsFan (nodes_in self.now.blocks) }
+    {
+        0 < self.behind && self.deepest <= self.behind
+    }
+
+    /// The position of the last node before a position that is less deep than the one there.
+    pub fn origin_of(&self, i: usize) -> Option<usize>
         requires within { i < length (nodes_in self.now.blocks) }
         requires forest { is_forest (nodes_in self.now.blocks) ≡ true }
-        ensures node { result.0 ≡ get_or (nodes_in self.now.blocks) i result.0 }
-        ensures origin { result.1 ≡ last_less result.0.depth (take i (nodes_in self.now.blocks)) }
+        ensures { (d : Node) → result ≡ origin_at (nodes_in self.now.blocks) i d }
+    {
+        if i > 0 && self.is_fan() {
+            return Some(0);
+        }
+        let seat = self.origin_seat(i)?;
+        Some(self.starts.get(seat.block) + seat.offset)
+    }
+
+    /// The place of that node.
+    pub fn place_of_origin(&self, i: usize) -> Option<Place>
+        requires within { i < length (nodes_in self.now.blocks) }
+        requires forest { is_forest (nodes_in self.now.blocks) ≡ true }
+        ensures { (d : Node) → result ≡ option_map (λ r. (get_or (nodes_in self.now.blocks) r d).place) (origin_at (nodes_in self.now.blocks) i d) }
+    {
+        if i > 0 && self.is_fan() {
+            return Some(self.get(0).place);
+        }
+        let seat = self.origin_seat(i)?;
+        Some(self.blocks[seat.block].get(seat.offset).place)
+    }
+
+    /// The seat of that node.
+    fn origin_seat(&self, i: usize) -> Option<Seat>
+        requires within { i < length (nodes_in self.now.blocks) }
+        requires forest { is_forest (nodes_in self.now.blocks) ≡ true }
+        ensures origin { (d : Node) → option_map (nodes_before self.now.blocks) result ≡ origin_at (nodes_in self.now.blocks) i d }
+        ensures inside { IfSome result (HasNode self.now.blocks) }
     {
         let seat = self.seat_of(i);
         let block = &self.blocks[seat.block];
         let node = block.get(seat.offset);
         // As in a fan: only the first of all nodes, a root, can be less deep.
         if node.depth <= self.behind {
-            return (node, if node.depth == 0 { None } else { Some(0) });
+            return if node.depth == 0 {
+                None
+            } else {
+                Some(self.seat_of(0))
+            };
         }
-        let before = i - seat.offset;
-        if let Some(r) = block.last_above(seat.offset, node.depth) {
-            return (node, Some(before + r));
+        if let Some(offset) = block.last_above_here(seat.offset, node.depth) {
+            return Some(Seat {
+                block: seat.block,
+                offset,
+            });
         }
-        (node, self.last_before(seat.block, node.depth))
+        self.last_before(seat.block, node.depth)
     }
 
-    /// The same of the nodes before a block.
-    fn last_before(&self, block: usize, depth: usize) -> Option<usize>
+    /// The seat of the last of the nodes before a block that is less deep than this.
+    fn last_before(&self, block: usize, depth: usize) -> Option<Seat>
         requires { block ≤ length self.now.blocks }
-        ensures { result ≡ last_less depth (nodes_in (take block self.now.blocks)) }
+        ensures last { option_map (nodes_before self.now.blocks) result ≡ last_less depth (nodes_in (take block self.now.blocks)) }
+        ensures inside { IfSome result (HasNode self.now.blocks) }
     {
         let end = self.leasts.pass_back(block, depth);
         for k in (0..end).rev() {
             if (self.leasts.get(k) as usize) < depth {
                 let block = &self.blocks[k];
-                if let Some(r) = block.last_above(block.len(), depth) {
-                    return Some(self.starts.get(k) + r);
+                if let Some(offset) = block.last_above(block.len(), depth) {
+                    return Some(Seat { block: k, offset });
                 }
             }
         }
@@ -262,9 +312,9 @@ impl Blocks {
         let block = &mut self.blocks[seat.block];
         let old = block.get(seat.offset).place;
         block.set_place(seat.offset, place);
-        let number = block.number();
+        let (number, len) = (block.number(), block.len());
         self.hints.remove(old);
-        self.hints.put(place, number, seat.offset);
+        self.hints.put(place, number, seat.offset, len);
     }
 
     /// Puts a node at a position. This takes no memory.
@@ -277,16 +327,18 @@ impl Blocks {
         let seat = self.seat_with_room(i);
         let block = &mut self.blocks[seat.block];
         block.insert(seat.offset, node);
-        let number = block.number();
+        let (number, len) = (block.number(), block.len());
         self.leasts.set(seat.block, block.least());
         self.behind = if i == 0 {
             0
         } else {
             self.behind.min(node.depth)
         };
+        self.deepest = self.deepest.max(node.depth);
         self.len += 1;
         self.starts.add(seat.block, 1);
-        self.hints.put(node.place, number, seat.offset);
+        self.hints.put(node.place, number, seat.offset, len);
+        self.renew_notes(1);
     }
 
     /// A seat behind so many nodes in a block that has room for one more; a full block is split. One insertion less is
@@ -353,6 +405,7 @@ impl Blocks {
         self.starts.reserve(n)?;
         self.leasts.reserve(n)?;
         self.hints.reserve(n)?;
+        self.notes.reserve(n)?;
         fill(&mut self.spare, n)?;
         self.room = n;
         Ok(())
@@ -388,6 +441,9 @@ impl Blocks {
         hint_blocks(&mut hints, &blocks, 0);
         let mut starts = Starts::with_capacity(alloc, blocks.len())?;
         count(&mut starts, &blocks);
+        let mut notes = Notes::none(alloc);
+        notes.reserve(nodes.len())?;
+        note_blocks(&mut notes, &blocks);
         let mut leasts = Leasts::with_capacity(alloc, blocks.len())?;
         list_leasts(&mut leasts, &blocks);
         Ok(Blocks {
@@ -398,8 +454,10 @@ impl Blocks {
             room: 0,
             len: nodes.len(),
             behind: least_of(behind_first(nodes)),
+            deepest: most_of(nodes),
             thinned: 0,
             hints,
+            notes,
         })
     }
 
@@ -477,19 +535,20 @@ impl Blocks {
             self.remove(range.start - gone, range.end - gone);
             gone += range.end - range.start;
         }
-        self.renew_density(gone);
+        self.renew_notes(gone);
         // To close up is a pass over all blocks, so many blocks wait for it where there are many.
         if self.thinned > self.blocks.len() / THIN {
             self.close_up();
         }
     }
 
-    /// So many nodes went: searches are told of how many are left, if there are so many fewer.
-    fn renew_density(&mut self, gone: usize)
+    /// So many nodes came or went. Where that was much, it is noted anew which blocks have which positions.
+    fn renew_notes(&mut self, moved: usize)
         ensures { self.new ≡ self.old }
     {
-        if self.len % SPARSE < gone {
-            self.starts.set_nodes(self.len);
+        self.notes.tell(moved);
+        if self.notes.are_old(self.len) {
+            note_blocks(&mut self.notes, &self.blocks);
         }
     }
 
@@ -506,6 +565,7 @@ impl Blocks {
         free_empty(&mut self.hints, &self.blocks);
         self.blocks.retain(|block| !block.nodes().is_empty());
         count(&mut self.starts, &self.blocks);
+        note_blocks(&mut self.notes, &self.blocks);
         list_leasts(&mut self.leasts, &self.blocks);
         hint_blocks(&mut self.hints, &self.blocks, 0);
     }
@@ -550,7 +610,6 @@ fn count(starts: &mut Starts, blocks: &[Block])
         starts.push(before);
         before += block.len();
     }
-    starts.set_nodes(before);
 }
 
 /// For each of some blocks a depth that none of its nodes goes below. This takes no memory.
@@ -640,7 +699,7 @@ fn rename_blocks(blocks: &mut [Block], hints: &mut Hints, new: &PlaceMap)
 }
 
 /// A number for each of the two blocks that one became: the one with fewer nodes gets a new one, since that is noted for each of
-/// its nodes. Those of the back stand elsewhere in their block now, which is noted too.
+/// its nodes. Those of the other have as many before them as they had, or from them on.
 fn number_parts(hints: &mut Hints, front: &mut Block, back: &mut Block)
     ensures front { front.new ≡ front.old }
     ensures back { back.new ≡ back.old }
@@ -653,7 +712,6 @@ fn number_parts(hints: &mut Hints, front: &mut Block, back: &mut Block)
         back.set_number(front.number());
         front.set_number(number);
         hint_nodes(hints, front);
-        hint_nodes(hints, back);
     }
 }
 
@@ -678,7 +736,17 @@ fn hint_nodes(hints: &mut Hints, block: &Block) {
     let number = block.number();
     let nodes = block.nodes();
     for i in 0..nodes.len() {
-        hints.put(nodes[i].place, number, i);
+        hints.put(nodes[i].place, number, i, nodes.len());
+    }
+}
+
+/// Which blocks have which positions.
+fn note_blocks(notes: &mut Notes, blocks: &[Block]) {
+    notes.clear();
+    let mut end = 0_usize;
+    for k in 0..blocks.len() {
+        end = end.saturating_add(blocks[k].len());
+        notes.put(end, k);
     }
 }
 

@@ -28,8 +28,10 @@ struct Slot {
     key: u32,
     /// The number of a block, up to multiples of `NUMBERS`; or `NUMBERS`, if the slot is free.
     number: u16,
-    /// The position in that block, when it was noted.
-    offset: u8,
+    /// How many nodes of that block stood before it, when it was noted.
+    before: u8,
+    /// How many stood from it on, itself with them.
+    from: u8,
 }
 
 /// How many numbers of blocks a slot can tell from one another.
@@ -41,7 +43,8 @@ const STEPS: usize = 256;
 const FREE: Slot = Slot {
     key: 0,
     number: NUMBERS,
-    offset: 0,
+    before: 0,
+    from: 0,
 };
 
 impl Slot {
@@ -55,8 +58,10 @@ impl Slot {
 pub struct Hint {
     /// Where the block stands.
     pub block: usize,
-    /// The position in the block, when it was noted. Since then nodes may have come or gone before it.
-    pub offset: usize,
+    /// How many nodes of the block stood before it, when it was noted. Since then nodes may have come or gone there.
+    pub before: usize,
+    /// How many stood from it on, itself with them. Where nodes come and go before it alone, this stays so.
+    pub from: usize,
 }
 
 impl Hints {
@@ -113,16 +118,18 @@ impl Hints {
         let block = *self.blocks.get(number)?;
         Some(Hint {
             block: block as usize,
-            offset: slot.offset as usize,
+            before: slot.before as usize,
+            from: slot.from as usize,
         })
     }
 
-    /// The place stands in the block with this number, at this position. Where no slot is free there is no hint.
-    pub fn put(&mut self, place: Place, number: u32, offset: usize) {
+    /// The place stands in the block with this number, at this position of so many. Where no slot is free there is no hint.
+    pub fn put(&mut self, place: Place, number: u32, offset: usize, len: usize) {
         self.note(Slot {
             key: key_of(place),
             number: (number % NUMBERS as u32) as u16,
-            offset: (offset % 256) as u8,
+            before: (offset % 256) as u8,
+            from: (len.wrapping_sub(offset) % 256) as u8,
         });
     }
 

@@ -11,6 +11,7 @@ mod hints;
 mod links;
 mod node_list;
 mod nodes;
+mod notes;
 mod origins;
 mod place_map;
 mod replacing;

@@ -58,7 +58,9 @@ impl NodeList {
     ghost use Rattle.std.specs.List.{slice_range};
     ghost use Rattle.space.specs.Place.{same_place};
     ghost use Rattle.mapnode.specs.declared.node.Node.{Node};
-    ghost use Rattle.maptree.specs.Nodes.{are_distinct, is_forest, origins_of, run_len, last_less};
+    ghost use Rattle.std.specs.Prelude.{option_map};
+    ghost use Rattle.space.specs.declared.place.Place.{Place};
+    ghost use Rattle.maptree.specs.Nodes.{are_distinct, is_forest, origin_at, origins_of, run_len, last_less};
     ghost use Rattle.maptree.specs.Origins.{AreRising, AreOuterRuns};
     ghost use Rattle.mapnode.specs.Slices.{nodes_of};
     ghost use Rattle.maptree.specs.Cuts.{AreGaps, IsCutting, joined, outside, pieces_of};
@@ -142,20 +144,29 @@ impl NodeList {
         }
     }
 
-    /// The node at a position, and the position of the last node before it that is less deep than it is.
-    pub fn origin_of(&self, i: usize) -> (Node, Option<usize>)
+    /// The position of the last node before a position that is less deep than the one there.
+    pub fn origin_of(&self, i: usize) -> Option<usize>
         requires within { i < length self.now.nodes }
         requires forest { is_forest self.now.nodes ≡ true }
-        ensures node { result.0 ≡ get_or self.now.nodes i result.0 }
-        ensures origin { result.1 ≡ last_less result.0.depth (take i self.now.nodes) }
+        ensures { (d : Node) → result ≡ origin_at self.now.nodes i d }
     {
         match &self.form {
-            Form::Few(nodes) => {
-                let node = node_at(nodes, i);
-                (node, backward::last_above(nodes, i, node.depth))
-            }
+            Form::Few(nodes) => backward::last_above(nodes, i, node_at(nodes, i).depth),
             Form::Many(blocks) => blocks.origin_of(i),
         }
+    }
+
+    /// The place of that node.
+    pub fn place_of_origin(&self, i: usize) -> Option<Place>
+        requires within { i < length self.now.nodes }
+        requires forest { is_forest self.now.nodes ≡ true }
+        ensures { (d : Node) → result ≡ option_map (λ r. (get_or self.now.nodes r d).place) (origin_at self.now.nodes i d) }
+    {
+        if let Form::Many(blocks) = &self.form {
+            return blocks.place_of_origin(i);
+        }
+        let origin = self.origin_of(i)?;
+        Some(self.get(origin).place)
     }
 
     /// Another place for the node at a position.

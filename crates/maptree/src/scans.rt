@@ -1,6 +1,6 @@
 //! What is asked of a list of nodes by their depths and places.
 
-ghost use Rattle.std.specs.Prelude.{◌≡◌, true, position, IfOk};
+ghost use Rattle.std.specs.Prelude.{◌≡◌, true, length, position, IfOk};
 ghost use Rattle.space.specs.Place.{same_place};
 ghost use Rattle.maptree.specs.Nodes.{is_forest, origins_of, run_len, last_less};
 ghost use Rattle.maptree.specs.Origins.{AreOuterRuns};
@@ -10,6 +10,9 @@ use space::Place;
 use std::alloc::{AllocError, Global};
 use std::collections::BTreeSet;
 use std::ops::Range;
+
+/// How many of the last nodes are looked at together.
+const NEAR: usize = 4;
 
 /// How many nodes from the front on are deeper than this.
 pub fn deeper(nodes: &[Node], depth: usize) -> usize
@@ -25,6 +28,35 @@ pub fn deeper(nodes: &[Node], depth: usize) -> usize
 
 /// The position of the last node that is less deep than this.
 pub fn last_above(nodes: &[Node], depth: usize) -> Option<usize>
+    ensures { result ≡ last_less depth nodes.now }
+{
+    if nodes.len() < NEAR {
+        return last_of_many(nodes, depth);
+    }
+    // Mostly it is one of the last few, and no branch predictor knows which.
+    let (far, near) = nodes.split_at(nodes.len() - NEAR);
+    if let Some(i) = last_of_four(near, depth) {
+        return Some(far.len() + i);
+    }
+    last_of_many(far, depth)
+}
+
+/// The same of four nodes. All of them are looked at, with no branch that depends on their depths.
+fn last_of_four(nodes: &[Node], depth: usize) -> Option<usize>
+    requires { length nodes.now ≡ 4 }
+    ensures { result ≡ last_less depth nodes.now }
+{
+    let mut last = None;
+    for i in 0..NEAR {
+        if nodes[i].depth < depth {
+            last = Some(i);
+        }
+    }
+    last
+}
+
+/// The same of many nodes, from the last one on.
+fn last_of_many(nodes: &[Node], depth: usize) -> Option<usize>
     ensures { result ≡ last_less depth nodes.now }
 {
     for i in (0..nodes.len()).rev() {

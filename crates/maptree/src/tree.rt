@@ -131,8 +131,7 @@ impl Tree {
         ensures origin { (d : Place) → origin_in self.now.links (place_at self.now.links i d)
             ≡ option_map (λ r. place_at self.now.links r d) result }
     {
-        let (_, origin) = self.nodes.origin_of(i);
-        origin
+        self.nodes.origin_of(i)
     }
 
     /// The place from which the node at a position derives; none for a root.
@@ -140,8 +139,7 @@ impl Tree {
         requires { i < length self.now.links }
         ensures { IsOriginAt self.now.links i result }
     {
-        let origin = self.origin_of(i)?;
-        Some(self.node(origin).place)
+        self.nodes.place_of_origin(i)
     }
 
     /// Whether a node is an origin of another, at any distance.

@@ -179,10 +179,11 @@ fn every_tenth(alloc: Global, nodes: u32) -> Result<Vec<Place>, NoMemory> {
 }
 
 /// The calls that are made on a tree, in this order.
-const MADE: [&str; 12] = [
+const MADE: [&str; 13] = [
     "make",
     "find",
     "run_of",
+    "place_of_origin",
     "origin_of",
     "is_origin",
     "outer_runs",
@@ -234,6 +235,18 @@ fn times_run_of(rt: &impl Runtime, made: &Numbered) -> io::Result<Told> {
 }
 
 /// The numbers of the origins' places.
+fn times_place_of_origin(rt: &impl Runtime, made: &Numbered) -> io::Result<Told> {
+    let mut sum = 0_usize;
+    let start = Instant::now(rt)?;
+    for n in 0..CALLS {
+        if let Some(place) = made.tree.place_of_origin(made.position(n)) {
+            sum = sum.wrapping_add(number_of(place));
+        }
+    }
+    Told::since(rt, start, CALLS, sum)
+}
+
+/// The same, where the position of the origin is asked for, and then the node there.
 fn times_origin_of(rt: &impl Runtime, made: &Numbered) -> io::Result<Told> {
     let mut sum = 0_usize;
     let start = Instant::now(rt)?;
@@ -385,10 +398,11 @@ fn asks(
     made: &Numbered,
     nodes: u32,
     named: &[Place],
-) -> Result<[Told; 5], Fail> {
+) -> Result<[Told; 6], Fail> {
     Ok([
         times_find(rt, made, nodes)?,
         times_run_of(rt, made)?,
+        times_place_of_origin(rt, made)?,
         times_origin_of(rt, made)?,
         times_is_origin(rt, made)?,
         times_outer_runs(rt, alloc, made, named)?,
@@ -436,10 +450,17 @@ fn works(
     alloc: Global,
     form: Form,
     nodes: u32,
-) -> Result<[Told; 12], Fail> {
+) -> Result<[Told; 13], Fail> {
     let (mut made, make) = times_make(rt, alloc, form, nodes)?;
     let named = every_tenth(alloc, nodes)?;
-    let [find, run_of, origin_of, is_origin, outer_runs] = asks(rt, alloc, &made, nodes, &named)?;
+    let [
+        find,
+        run_of,
+        place_of_origin,
+        origin_of,
+        is_origin,
+        outer_runs,
+    ] = asks(rt, alloc, &made, nodes, &named)?;
     let cut = times_cut_and_splice(rt, alloc, &mut made.tree, &named)?;
     let ([rename, insert], first) = changes(rt, &mut made, nodes)?;
     let Numbered { mut tree, .. } = made;
@@ -448,6 +469,7 @@ fn works(
         make,
         find,
         run_of,
+        place_of_origin,
         origin_of,
         is_origin,
         outer_runs,
@@ -506,12 +528,13 @@ fn has_sums(
         (1, 499_500),
         (2, run_of),
         (3, origin_of),
-        (5, outer_runs),
-        (6, cut),
-        (7, 1_000),
+        (4, origin_of),
+        (6, outer_runs),
+        (7, cut),
         (8, 1_000),
         (9, 1_000),
         (10, 1_000),
+        (11, 1_000),
     ] {
         assert_equal(rt, (n, sum_of(rt, &told, n)), (n, sum), form.name());
     }

@@ -1,6 +1,5 @@
 -- One block more is counted.
-use Rattle.std.proofs.Common.{get_or, take, sym, subst, rules, arith}
-use Rattle.maptree.specs.Blocks.{AreStarts}
+use Rattle.std.proofs.Common.{get_or, take, rules, arith}
 use Rattle.maptree.proofs.InBlocks.{Counts, counts}
 use Rattle.maptree.proofs.Starts.{starts_more, starts_all, none_above}
 use Rattle.maptree.proofs.blocks.count.Goals as goal
@@ -24,4 +23,4 @@ loop-block-preserved c =
     }
 
 pub returns-clause-starts : goal.returns-clause-starts
-returns-clause-starts c = subst (AreStarts c.args.blocks.now) (sym c.set_nodes.ensures) (starts_all c.args.blocks.now c.loop-block.block-index c.loop-block.starts (search (rules, arith)) c.loop-block.invariant.so_far)
+returns-clause-starts c = starts_all c.args.blocks.now c.loop-block.block-index c.loop-block.starts (search (rules, arith)) c.loop-block.invariant.so_far

@@ -1,25 +1,38 @@
--- The search ends at a node that is less deep, and goes on at another.
-use Rattle.std.proofs.Common.{◌≡◌, ℕ, ◌<◌, ◌≤◌, ◌-◌, suc, length, sym, ap, ◌∙◌, drop, arith}
+-- Of the last few, or of those before.
+use Rattle.std.proofs.Common.{◌≡◌, ◌++◌, List, length, take, drop, sym, ap, ◌∙◌, rules, arith, Some, None}
+use Rattle.std.proofs.lemmas.List.{take-append-drop, length-append}
+use Rattle.mapnode.specs.declared.node.Node.{Node}
 use Rattle.maptree.specs.Nodes.{last_less}
-use Rattle.maptree.proofs.LastLess.{last_at, last_on, last_of_none}
+use Rattle.maptree.proofs.LastLess.{later, last_append, some_says}
 use Rattle.maptree.proofs.scans.last_above.Goals as goal
 
-pub loop-i-init : goal.loop-i-init
-loop-i-init c = last_of_none c.args.depth c.args.nodes.now _ (omega arith)
+-- two parts of a list
+parts : {far near nodes : List Node} (m : _) → far ≡ take m nodes → near ≡ drop m nodes → nodes ≡ far ++ near
+parts {far} {near} {nodes} m front back = sym (take-append-drop m nodes) ∙ ap (λ x. x ++ drop m nodes) (sym front) ∙ ap (λ y. far ++ y) (sym back)
 
-one : (i : ℕ) → 0 < i → suc (i - 1) ≡ i
-one i some = omega (arith, some)
+pub overflow_add-result : goal.overflow_add-result
+overflow_add-result c =
+    let far = c.split_at.result.0.now in
+    let near = c.split_at.result.1.now in
+    let whole : c.args.nodes.now ≡ far ++ near = parts _ c.split_at.ensures.front c.split_at.ensures.back in
+    let size = ap length whole ∙ length-append far near in
+    let inside = (some_says c.args.depth near c.in-Some.i (sym c.last_of_four.ensures ∙ c.in-Some.is)).within in
+    search (rules, arith, size, inside)
 
-pub returns-then-nodes-i : goal.returns-then-nodes-i
-returns-then-nodes-i c =
-    let nodes = c.args.nodes.now in
-    let next = one c.loop-i.i c.loop-i-test.true in
-    let upto : c.loop-i.i ≤ length nodes = c.loop-i.auto.i in
-    sym (last_at c.args.depth nodes (c.loop-i.i - 1) _ (omega (arith, upto, c.loop-i-test.true)) c.if-nodes-i.true (ap (λ k. last_less c.args.depth (drop k nodes)) next ∙ c.loop-i.invariant))
+pub returns-in-Some : goal.returns-in-Some
+returns-in-Some c =
+    let depth = c.args.depth in
+    let far = c.split_at.result.0.now in
+    let near = c.split_at.result.1.now in
+    let whole : c.args.nodes.now ≡ far ++ near = parts _ c.split_at.ensures.front c.split_at.ensures.back in
+    let here : last_less depth near ≡ Some c.in-Some.i = sym c.last_of_four.ensures ∙ c.in-Some.is in
+    sym (ap (last_less depth) whole ∙ last_append depth far near ∙ ap (λ o. later (length far) o (last_less depth far)) here)
 
-pub loop-i-preserved : goal.loop-i-preserved
-loop-i-preserved c =
-    let nodes = c.args.nodes.now in
-    let next = one c.loop-i.i c.loop-i-test.true in
-    let upto : c.loop-i.i ≤ length nodes = c.loop-i.auto.i in
-    last_on c.args.depth nodes (c.loop-i.i - 1) _ (omega (arith, upto, c.loop-i-test.true)) c.if-nodes-i.false (ap (λ k. last_less c.args.depth (drop k nodes)) next ∙ c.loop-i.invariant)
+pub returns : goal.returns
+returns c =
+    let depth = c.args.depth in
+    let far = c.split_at.result.0.now in
+    let near = c.split_at.result.1.now in
+    let whole : c.args.nodes.now ≡ far ++ near = parts _ c.split_at.ensures.front c.split_at.ensures.back in
+    let here : last_less depth near ≡ None = sym c.last_of_four.ensures ∙ search rules in
+    c.last_of_many-2.ensures ∙ sym (ap (last_less depth) whole ∙ last_append depth far near ∙ ap (λ o. later (length far) o (last_less depth far)) here)

@@ -15,7 +15,7 @@ pub returns : goal.returns
 returns c =
     let nodes = c.self.inside.nodes.items in
     let depth = c.args.depth in
-    let same : c.last_above.result ≡ last_less depth (take c.if-depth-self-2.end nodes) = c.last_above.ensures ∙ ap (λ ns. last_less depth (take c.if-depth-self-2.end ns)) c.deref.ensures.value in
+    let same : c.last_above_here.result ≡ last_less depth (take c.if-depth-self-2.end nodes) = c.last_above_here.ensures ∙ ap (λ ns. last_less depth (take c.if-depth-self-2.end ns)) (sym c.self.view_is) in
     let whole = ap (λ ns. last_less depth (take c.args.end ns)) c.self.view_is in
     elim c.if-depth-self-2.branch [
       | then-depth-self-2 w ↦ same ∙ ap (λ m. last_less depth (take m nodes)) (w.end-is ∙ w.min-end.ensures) ∙ sym (first_alone depth c.self.inside.behind c.args.end nodes w.if-depth-self-2.true c.self.invariant.3) ∙ whole

@@ -3,13 +3,14 @@ use Rattle.std.proofs.Common.{◌≡◌, ◌<◌, length, set, ap, sym, subst, r
 use Rattle.std.specs.Prelude.{insert}
 use Rattle.std.proofs.lemmas.List.{length-set}
 use Rattle.std.proofs.lemmas.List.Edits.{length-insert}
-use Rattle.maptree.specs.Blocks.{nodes_in, is_least}
+use Rattle.maptree.specs.Blocks.{nodes_in, is_least, is_most}
 use Rattle.maptree.specs.Blocks.{AreLeasts, AreStarts}
 use Rattle.maptree.proofs.InBlocks.{read_of, as_read}
 use Rattle.maptree.proofs.Starts.{starts_set, before_all}
 use Rattle.maptree.proofs.Leasts.{leasts_set}
 use Rattle.maptree.proofs.BlockChanges.{insert_node, count_set}
 use Rattle.maptree.proofs.Depths.{behind_insert, least_zero}
+use Rattle.maptree.proofs.Deepest.{most_insert, most_more}
 use Rattle.maptree.proofs.blocks.Blocks.insert.Goals.{then-i-eq0, else-i-eq0}
 use Rattle.maptree.proofs.blocks.Blocks.insert.Goals as goal
 
@@ -24,7 +25,8 @@ returns-clause-nodes c =
     let read = as_read bs seat.block block is.within (read_of items bs seat.block block same c.index_mut-block.ensures.value) in
     let size = ap length read in
     let upto = is.upto in
-    ap (λ b. nodes_in (set items seat.block b)) c.insert.ensures
+    ap (λ v. nodes_in v.blocks) c.renew_notes.ensures
+    ∙ ap (λ b. nodes_in (set items seat.block b)) c.insert.ensures
     ∙ ap (λ l. nodes_in (set l seat.block (insert block seat.offset c.args.node))) same
     ∙ insert_node bs seat.block block seat.offset c.args.node is.within read (omega (arith, size, upto))
     ∙ ap (λ i. insert (nodes_in bs) i c.args.node) is.before
@@ -83,6 +85,9 @@ invariant_of-self c =
           ap (λ a. is_least a (drop 1 (insert (nodes_in bs) c.args.i c.args.node))) w.self-is
           ∙ behind_insert least c.self.inside.behind c.args.i c.args.node (nodes_in bs) some upto_all low first old
     ] in
+    let most = c.max-self-inside.result in
+    let greater : c.self.inside.deepest ≤ most = search (rules, arith) in
+    let shallow : c.args.node.depth ≤ most = search (rules, arith) in
     let kept : c.self.inside.room ≡ c.seat_with_room-seat.new.self.room = search rules in
     let inv = c.self.invariant in
     let starts = c.self.inside.starts in
@@ -98,4 +103,5 @@ invariant_of-self c =
       subst (AreLeasts (set items seat.block new)) (sym c.set.ensures.leasts) (leasts_set items seat.block new c.self.inside.leasts.leasts c.least.result within inv.7 c.least.ensures),
       search (rules, arith, size, inv.8),
       ap (λ ns. is_least c.if-i-eq0.self (drop 1 ns)) nodes ∙ behind,
+      ap (is_most most) nodes ∙ most_insert most c.args.i c.args.node (nodes_in bs) shallow (most_more c.self.inside.deepest most (nodes_in bs) greater (subst (λ l. is_most c.self.inside.deepest (nodes_in l) ≡ true) same c.self.invariant.10)),
     )

@@ -4,8 +4,7 @@ use Rattle.std.proofs.lemmas.List.{take_all}
 use Rattle.maptree.specs.Nodes.{last_less}
 use Rattle.maptree.specs.Blocks.{nodes_in, AreLeasts}
 use Rattle.maptree.proofs.LastLess.{later}
-use Rattle.maptree.proofs.InBlocks.{read_of, last_within, one_back}
-use Rattle.maptree.proofs.Starts.{start_read}
+use Rattle.maptree.proofs.InBlocks.{as_read, read_of, last_within, one_back}
 use Rattle.maptree.proofs.Leasts.{block_not_above, blocks_not_above}
 use Rattle.maptree.proofs.blocks.Blocks.last_before.Goals as goal
 
@@ -23,24 +22,22 @@ loop-k-init c =
     ap (λ k. last_less c.args.depth (nodes_in (take k bs))) (sym end)
     ∙ blocks_not_above bs ls leasts c.args.depth from (c.args.block - from) (omega (arith, end, within)) (λ k under less. low k under (omega (arith, less, end)))
 
-pub overflow_add-result : goal.overflow_add-result
-overflow_add-result c =
+pub returns-in-Some-clause-inside : goal.returns-in-Some-clause-inside
+returns-in-Some-clause-inside c =
     let bs = c.args.self.now.blocks in
     let items = c.self.inside.blocks.items in
     let block = c.index-block.result.now in
     let same : items ≡ bs = ap (λ v. v.blocks) c.self.view_is in
-    let within : c.loop-k.k ≤ length bs = search (rules, arith) in
-    let back = one_back bs c.loop-k.k block c.loop-k-test.true within (read_of items bs (c.loop-k.k - 1) block same c.index-block.ensures) in
-    let counted = back.counted in
-    let size = ap (λ l. length (nodes_in l)) same in
-    let upto = back.upto in
+    let some = c.loop-k-test.true in
+    let upto : c.loop-k.k ≤ length bs = search (rules, arith) in
+    let within : c.loop-k.k - 1 < length bs = omega (arith, some, upto) in
+    let read = ap length (as_read bs (c.loop-k.k - 1) block within (read_of items bs (c.loop-k.k - 1) block same c.index-block.ensures)) in
     let all : take c.len.result block ≡ block = take_all c.len.result block (search (rules, arith)) in
-    let inside = last_within c.args.depth block c.in-Some.r (sym (ap (last_less c.args.depth) all) ∙ sym c.last_above.ensures ∙ c.in-Some.is) in
-    let before = start_read items bs c.self.inside.starts (c.loop-k.k - 1) c.get-in-Some.result same c.self.invariant.5 (search (rules, arith)) c.get-in-Some.ensures in
-    search (rules, arith, counted, size, upto, inside, before)
+    let inside = last_within c.args.depth block c.in-Some.offset (sym (ap (last_less c.args.depth) all) ∙ sym c.last_above.ensures ∙ c.in-Some.is) in
+    record { within = within; inside = omega (arith, inside, read) }
 
-pub returns-in-Some : goal.returns-in-Some
-returns-in-Some c =
+pub returns-in-Some-clause-last : goal.returns-in-Some-clause-last
+returns-in-Some-clause-last c =
     let bs = c.args.self.now.blocks in
     let items = c.self.inside.blocks.items in
     let block = c.index-block.result.now in
@@ -48,10 +45,8 @@ returns-in-Some c =
     let within : c.loop-k.k ≤ length bs = search (rules, arith) in
     let back = one_back bs c.loop-k.k block c.loop-k-test.true within (read_of items bs (c.loop-k.k - 1) block same c.index-block.ensures) in
     let all : take c.len.result block ≡ block = take_all c.len.result block (search (rules, arith)) in
-    let here : last_less c.args.depth block ≡ Some c.in-Some.r = sym (ap (last_less c.args.depth) all) ∙ sym c.last_above.ensures ∙ c.in-Some.is in
-    let before = start_read items bs c.self.inside.starts (c.loop-k.k - 1) c.get-in-Some.result same c.self.invariant.5 (search (rules, arith)) c.get-in-Some.ensures in
-    ap (λ n. Some (n + c.in-Some.r)) before
-    ∙ sym (c.loop-k.invariant ∙ back.last c.args.depth ∙ ap (λ o. later (length (nodes_in (take (c.loop-k.k - 1) bs))) o (last_less c.args.depth (nodes_in (take (c.loop-k.k - 1) bs)))) here)
+    let here : last_less c.args.depth block ≡ Some c.in-Some.offset = sym (ap (last_less c.args.depth) all) ∙ sym c.last_above.ensures ∙ c.in-Some.is in
+    sym (c.loop-k.invariant ∙ back.last c.args.depth ∙ ap (λ o. later (length (nodes_in (take (c.loop-k.k - 1) bs))) o (last_less c.args.depth (nodes_in (take (c.loop-k.k - 1) bs)))) here)
 
 pub loop-k-preserved-in_default : goal.loop-k-preserved-in_default
 loop-k-preserved-in_default c =

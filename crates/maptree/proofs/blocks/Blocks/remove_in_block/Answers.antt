@@ -5,8 +5,9 @@ use Rattle.maptree.specs.Blocks.{nodes_in}
 use Rattle.maptree.proofs.InBlocks.{read_of, as_read, counts}
 use Rattle.maptree.proofs.Starts.{starts_set, has_nodes}
 use Rattle.std.specs.List.{slice_index}
-use Rattle.maptree.specs.Blocks.{AreStarts, is_least}
+use Rattle.maptree.specs.Blocks.{AreStarts, is_least, is_most}
 use Rattle.maptree.proofs.Depths.{least_append, least_take, least_drop, behind_removed}
+use Rattle.maptree.proofs.Deepest.{most_removed}
 use Rattle.maptree.proofs.Leasts.{least_of_block, leasts_kept}
 use Rattle.maptree.proofs.BlockChanges.{count_set, cut_nodes}
 use Rattle.maptree.proofs.blocks.Blocks.remove_in_block.Goals as goal
@@ -76,4 +77,7 @@ invariant_of-self c =
       ap (λ b. is_least c.self.inside.behind (drop 1 (nodes_in (set items c.args.block b)))) (c.remove.ensures ∙ ap (λ b. take c.args.from b ++ drop c.args.to b) (as_read items c.args.block block within c.index_mut-removed.ensures.value))
           ∙ ap (λ ns. is_least c.self.inside.behind (drop 1 ns)) (cut_nodes items c.args.block c.args.from c.args.to within rising (omega (arith, there, in_block)))
           ∙ behind_removed c.self.inside.behind (length (nodes_in (take c.args.block items)) + c.args.from) (length (nodes_in (take c.args.block items)) + c.args.to) (nodes_in items) (omega (arith, rising)) inv.9,
+      ap (λ b. is_most c.self.inside.deepest (nodes_in (set items c.args.block b))) (c.remove.ensures ∙ ap (λ b. take c.args.from b ++ drop c.args.to b) (as_read items c.args.block block within c.index_mut-removed.ensures.value))
+          ∙ ap (is_most c.self.inside.deepest) (cut_nodes items c.args.block c.args.from c.args.to within rising (omega (arith, there, in_block)))
+          ∙ most_removed c.self.inside.deepest (length (nodes_in (take c.args.block items)) + c.args.from) (length (nodes_in (take c.args.block items)) + c.args.to) (nodes_in items) inv.10,
     )

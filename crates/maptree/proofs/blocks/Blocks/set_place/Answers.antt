@@ -3,11 +3,12 @@ use Rattle.std.proofs.Common.{◌≡◌, ◌<◌, ◌+◌, length, set, get_or, 
 use Rattle.std.proofs.lemmas.List.{length-set}
 use Rattle.mapnode.specs.declared.node.Node.{Node}
 use Rattle.std.specs.List.{slice_index}
-use Rattle.maptree.specs.Blocks.{nodes_in, is_least}
+use Rattle.maptree.specs.Blocks.{nodes_in, is_least, is_most}
 use Rattle.maptree.proofs.InBlocks.{read_of, as_read, at_seat}
 use Rattle.maptree.proofs.BlockChanges.{set_node, count_set}
 use Rattle.maptree.proofs.Starts.{starts_set}
 use Rattle.maptree.proofs.Depths.{least_set, behind_set}
+use Rattle.maptree.proofs.Deepest.{most_set}
 use Rattle.maptree.proofs.Leasts.{least_of_block, leasts_kept}
 use Rattle.mapnode.proofs.Lists.{blank}
 use Rattle.maptree.proofs.blocks.Blocks.set_place.Goals as goal
@@ -65,5 +66,16 @@ invariant_of-self c =
     ap (λ ns. is_least c.self.inside.behind (drop 1 ns)) nodes
     ∙ behind_set c.self.inside.behind c.args.i c.args.place blank (nodes_in bs) c.requires (subst (λ l. is_least c.self.inside.behind (drop 1 (nodes_in l)) ≡ true) same is.9) in
     let same_leasts = leasts_kept items seat.block new ls within is.7
-    (ap (is_least (slice_index ls seat.block)) (c.set_place.ensures blank) ∙ least_set (slice_index ls seat.block) seat.offset c.args.place blank block (omega (arith, there, inside)) least) in
-    (omega (arith, is.0, counted, read, kept), omega (arith, is.1, size), is.2, omega (arith, is.3, size), is.4, same_starts, omega (arith, is.6, size), same_leasts, omega (arith, is.8, size), behind)
+    (ap (is_least (slice_index ls seat.block)) (c.set_place.ensures blank) ∙ least_set (slice_index ls seat.block) seat.offset c.args.place blank block (omega (arith, there, inside)) least) in (
+      omega (arith, is.0, counted, read, kept),
+      omega (arith, is.1, size),
+      is.2,
+      omega (arith, is.3, size),
+      is.4,
+      same_starts,
+      omega (arith, is.6, size),
+      same_leasts,
+      omega (arith, is.8, size),
+      behind,
+      ap (is_most c.self.inside.deepest) nodes ∙ most_set c.self.inside.deepest c.args.i c.args.place blank (nodes_in bs) c.requires (subst (λ l. is_most c.self.inside.deepest (nodes_in l) ≡ true) same is.10),
+    )

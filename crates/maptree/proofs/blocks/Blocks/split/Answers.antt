@@ -3,7 +3,7 @@ use Rattle.std.proofs.Common.{◌≡◌, ℕ, List, ◌<◌, ◌≤◌, ◌+◌,
 use Rattle.std.specs.Prelude.{insert}
 use Rattle.mapnode.specs.declared.node.Node.{Node}
 use Rattle.maptree.proofs.InBlocks.{as_read}
-use Rattle.maptree.specs.Blocks.{nodes_in, split_block, is_least}
+use Rattle.maptree.specs.Blocks.{nodes_in, split_block, is_least, is_most}
 use Rattle.maptree.proofs.BlockChanges.{split_nodes, split_length}
 use Rattle.maptree.proofs.blocks.Blocks.split.Goals as goal
 
@@ -51,4 +51,4 @@ invariant_of-self c =
     let room : length items + c.self.inside.room ≤ vec_capacity new = search (rules, arith) in
     let starts : length items + c.self.inside.room ≤ c.count.new.starts.capacity = search (rules, arith, inv.6) in
     let leasts : length items + c.self.inside.room ≤ c.list_leasts.new.leasts.capacity = search (rules, arith, inv.8) in
-    (omega (arith, inv.0, all), omega (arith, size), spare, omega (arith, size, room, some), omega (arith, inv.4), search rules, omega (arith, size, starts, some), search rules, omega (arith, size, leasts, some), ap (λ ns. is_least c.self.inside.behind (drop 1 ns)) (ap nodes_in is ∙ split_nodes items c.args.block c.args.at within) ∙ inv.9)
+    (omega (arith, inv.0, all), omega (arith, size), spare, omega (arith, size, room, some), omega (arith, inv.4), search rules, omega (arith, size, starts, some), search rules, omega (arith, size, leasts, some), ap (λ ns. is_least c.self.inside.behind (drop 1 ns)) (ap nodes_in is ∙ split_nodes items c.args.block c.args.at within) ∙ inv.9, ap (is_most c.self.inside.deepest) (ap nodes_in is ∙ split_nodes items c.args.block c.args.at within) ∙ inv.10)

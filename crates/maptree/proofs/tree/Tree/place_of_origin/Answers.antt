@@ -1,17 +1,14 @@
--- The origin is read at its position.
-use Rattle.std.proofs.Common.{◌≡◌, ◌<◌, true, length, Some, sym, ap, ◌∙◌, subst, arith}
-use Rattle.std.specs.List.{list_any}
-use Rattle.std.proofs.lemmas.Option.{same_Some}
-use Rattle.space.specs.Place.{same_place}
-use Rattle.maptree.proofs.Listed.{listed_at}
+-- The place of the nearest node that is less deep.
+use Rattle.std.proofs.Common.{◌≡◌, length, [], subst, sym, ap, ◌∙◌, arith}
+use Rattle.mapnode.proofs.Lists.{blank}
+use Rattle.maptree.specs.Origins.{Shape, IsOriginAt}
+use Rattle.maptree.proofs.Positions.{length-links}
+use Rattle.maptree.proofs.Nearest.{nearest_place}
 use Rattle.maptree.proofs.tree.Tree.place_of_origin.Goals as goal
 
 pub returns : goal.returns
 returns c =
-    let links = c.args.self.now.links in
-    let before = c.in_ok-origin.ensures.before in
-    let within : c.in_ok-origin.origin < length links = omega (arith, before, c.requires) in
-    record {
-      is = λ d. c.in_ok-origin.ensures.origin d ∙ ap Some (sym (c.node.ensures.place d));
-      stands = λ q is. subst (λ x. list_any (λ o. same_place x o.0) links ≡ true) (sym (c.node.ensures.place q) ∙ same_Some c.node.result.place q is) (listed_at links c.in_ok-origin.origin q within);
-    }
+    let nodes = c.self.inside.nodes.nodes in
+    let size : length c.args.self.now.links ≡ length nodes = ap (λ (s : Shape). length s.links) (sym c.self.view_is) ∙ length-links [] nodes in
+    subst (λ (s : Shape). IsOriginAt s.links c.args.i c.place_of_origin.result) c.self.view_is
+    (nearest_place nodes c.self.invariant c.args.i (omega (arith, size, c.requires)) c.place_of_origin.result (c.place_of_origin.ensures blank))
