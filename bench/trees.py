@@ -23,6 +23,8 @@ MOST_OF_VECTOR = 100_000
 RUNS = 3
 LIMIT = 600
 KINDS = ["maptree", "vector", "pointers"]
+# Two calls about the same node, of which the sum is told too.
+PAIR = ("run_of", "origin_of")
 
 
 def measured(words):
@@ -72,6 +74,17 @@ def check_answers(nodes, of_kinds):
             other = of_kinds[kind].get((form, call), (0, answers))[1]
             if other != answers:
                 sys.exit(f"trees.py: {form} {nodes} {call}: the sum of {kind} is {other}, that of pointers {answers}")
+
+
+def with_pair(of_kind):
+    """The same with a line for the two calls of a pair together, behind the second of them."""
+    told = {}
+    for (form, call), (nanos, answers) in of_kind.items():
+        told[form, call] = (nanos, answers)
+        if call == PAIR[1]:
+            first = of_kind[form, PAIR[0]]
+            told[form, "+".join(PAIR)] = (first[0] + nanos, first[1] + answers)
+    return told
 
 
 def shown(nanos):
@@ -124,6 +137,7 @@ def main():
                 "pointers": measured([pointers, str(nodes)]),
             }
             check_answers(nodes, results[nodes])
+            results[nodes] = {kind: with_pair(told) for kind, told in results[nodes].items()}
     report(sizes, results)
 
 
