@@ -18,7 +18,10 @@ use std::marker::Model;
 use std::ops::Range;
 
 /// How many nodes a block is given where many are made at once.
-const FILLED: usize = 96;
+const FILLED: usize = 120;
+
+/// How many nodes a block has at most when it was joined from two.
+const JOINED: usize = 96;
 
 /// A block of fewer nodes is joined to one beside it, if that has room for them.
 const SPARSE: usize = 32;
@@ -645,14 +648,14 @@ fn front_of_split(offset: usize) -> usize
     }
 }
 
-/// Joins blocks that stand side by side, where they have no more nodes together than a block is given.
+/// Joins blocks that stand side by side, where they have few enough nodes together.
 fn join_sparse(blocks: &mut Vec<Block>, hints: &mut Hints)
     ensures nodes { nodes_in blocks.new.items ≡ nodes_in blocks.old.items }
     ensures fewer { length blocks.new.items ≤ length blocks.old.items }
     ensures capacity { vec_capacity blocks.old ≤ vec_capacity blocks.new }
 {
     for k in (1..blocks.len()).rev() {
-        if blocks[k - 1].len() + blocks[k].len() <= FILLED {
+        if blocks[k - 1].len() + blocks[k].len() <= JOINED {
             join(blocks, hints, k);
         }
     }
