@@ -1,49 +1,18 @@
 //! What a C program calls.
 
-ghost use Rattle.std.specs.Prelude.{◌≡◌, Option, Some, None, option_map};
-ghost use Rattle.mapdb.specs.State.{State};
-ghost use Rattle.capi.specs.Boxed.{value_of};
-ghost use Rattle.capi.specs.New.{IsMade};
-ghost use Rattle.capi.specs.Look.{held_code, held_entry, held_origin};
-ghost use Rattle.capi.specs.Asked.{send_asked, unmap_asked, access_asked};
-ghost use Rattle.capi.specs.Called.{IsCalledOf};
-ghost use Rattle.capi.specs.Replied.{counts_told, words_told, made_told};
-ghost use Rattle.capi.specs.Listed.{listed_of};
+ghost use Rattle.std.specs.Prelude.{◌≡◌, None};
+ghost use Rattle.handles.specs.New.{IsMade};
+ghost use Rattle.handles.specs.Look.{held_code, held_entry, held_origin};
+ghost use Rattle.handles.specs.Asked.{send_asked, unmap_asked, access_asked};
+ghost use Rattle.handles.specs.Called.{IsCalledOf};
+ghost use Rattle.handles.specs.Replied.{counts_told, words_told, made_told};
+ghost use Rattle.handles.specs.Listed.{listed_of};
 
-use crate::access::access;
-use crate::code::{BAD_LIMITS, DONE, EMPTY, HOLDS_ONE, NO_MEMORY};
-use crate::error::result_code;
-use crate::handle::Handle;
-use crate::look::{EntryReply, OriginReply, entry, origin};
-use crate::mappings::{MappingReply, list};
-use crate::send::{SendReply, send};
-use crate::unmap::unmap;
-use mapdb::{Database, DbError};
-use raw_box::RawBox;
+use handles::{EntryReply, Handle, MappingReply, OriginReply, SendReply};
 use std::alloc::Global;
-use std::mem;
 
 /// The version of the interface.
 const VERSION: u32 = 1;
-
-/// Takes the database out of a handle, which is then empty.
-fn take(db: &mut Handle, alloc: Global) -> Option<Box<Database>>
-    ensures taken { option_map value_of result ≡ db.old.held }
-    ensures empty { db.new.held ≡ None }
-{
-    let raw = mem::replace(db, Handle::empty()).into_raw_box(alloc)?;
-    Some(raw.into_box())
-}
-
-/// Puts a database in place of what a handle holds.
-fn put(db: &mut Handle, alloc: Global, whole: Box<Database>)
-    ensures { db.new.held ≡ Some whole.value }
-{
-    let before = mem::replace(db, Handle::holding(RawBox::of(whole)));
-    if let Some(raw) = before.into_raw_box(alloc) {
-        drop(raw.into_box());
-    }
-}
 
 /// The version of the interface: 1.
 #[unsafe(no_mangle)]
@@ -64,22 +33,7 @@ pub extern "C" fn l4map_new(
 ) -> u32
     ensures { IsMade db.old.held (record { spaces = spaces; bits = bits; frames = frames }) result db.new.held }
 {
-    if let Some(whole) = take(db, alloc) {
-        put(db, alloc, whole);
-        return HOLDS_ONE;
-    }
-    let made = match Database::new(alloc, spaces, bits, frames) {
-        Ok(made) => made,
-        Err(DbError::BadLimits) => return BAD_LIMITS,
-        Err(_) => return NO_MEMORY,
-    };
-    match Box::new(alloc, made) {
-        Ok(whole) => {
-            put(db, alloc, whole);
-            DONE
-        }
-        Err(_) => NO_MEMORY,
-    }
+    db.make(alloc, spaces, bits, frames)
 }
 
 /// Gives all memory of a database back.
@@ -87,9 +41,7 @@ pub extern "C" fn l4map_new(
 pub extern "C" fn l4map_free(alloc: Global, db: &mut Handle)
     ensures { db.new.held ≡ None }
 {
-    if let Some(whole) = take(db, alloc) {
-        drop(whole);
-    }
+    db.clear(alloc);
 }
 
 /// Maps or grants the pages that items name.
@@ -106,12 +58,7 @@ pub extern "C" fn l4map_send(
     ensures { IsCalledOf counts_told (send_asked from to window words.now) db.old.held reply.old
         (record { code = result; held = db.new.held; lent = reply.new }) }
 {
-    let Some(mut whole) = take(db, alloc) else {
-        return EMPTY;
-    };
-    let sent = send(alloc, &mut whole, from, to, window, words, reply);
-    put(db, alloc, whole);
-    result_code(sent)
+    db.send(alloc, from, to, window, words, reply)
 }
 
 /// Takes rights from the pages that words name, and from all that derives from them.
@@ -126,12 +73,7 @@ pub extern "C" fn l4map_unmap(
     ensures { IsCalledOf words_told (unmap_asked space control words.old) db.old.held words.old
         (record { code = result; held = db.new.held; lent = words.new }) }
 {
-    let Some(mut whole) = take(db, alloc) else {
-        return EMPTY;
-    };
-    let unmapped = unmap(alloc, &mut whole, space, control, words);
-    put(db, alloc, whole);
-    result_code(unmapped)
+    db.unmap(alloc, space, control, words)
 }
 
 /// Accesses the page of an address.
@@ -147,12 +89,7 @@ pub extern "C" fn l4map_access(
     ensures { IsCalledOf made_told (access_asked space address kind) db.old.held made.old
         (record { code = result; held = db.new.held; lent = made.new }) }
 {
-    let Some(mut whole) = take(db, alloc) else {
-        return EMPTY;
-    };
-    let accessed = access(alloc, &mut whole, space, address, kind, made);
-    put(db, alloc, whole);
-    result_code(accessed)
+    db.access(alloc, space, address, kind, made)
 }
 
 /// What a page holds.
@@ -168,12 +105,7 @@ pub extern "C" fn l4map_entry(
     ensures reply { reply.new ≡ held_entry db.old.held space page reply.old }
     ensures held { db.new.held ≡ db.old.held }
 {
-    let Some(whole) = take(db, alloc) else {
-        return EMPTY;
-    };
-    let code = entry(&whole, space, page, reply);
-    put(db, alloc, whole);
-    code
+    db.entry(alloc, space, page, reply)
 }
 
 /// From where a page came.
@@ -189,12 +121,7 @@ pub extern "C" fn l4map_origin(
     ensures reply { reply.new ≡ held_origin db.old.held space page reply.old }
     ensures held { db.new.held ≡ db.old.held }
 {
-    let Some(whole) = take(db, alloc) else {
-        return EMPTY;
-    };
-    let code = origin(&whole, space, page, reply);
-    put(db, alloc, whole);
-    code
+    db.origin(alloc, space, page, reply)
 }
 
 /// The first mappings at or behind a page of a space.
@@ -210,10 +137,5 @@ pub extern "C" fn l4map_mappings(
     ensures { record { code = result; held = db.new.held; mappings = mappings.new; count = count.new }
         ≡ listed_of db.old.held space page mappings.old count.old }
 {
-    let Some(whole) = take(db, alloc) else {
-        return EMPTY;
-    };
-    let code = list(&whole, space, page, mappings, count);
-    put(db, alloc, whole);
-    code
+    db.mappings(alloc, space, page, mappings, count)
 }

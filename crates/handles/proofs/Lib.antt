@@ -1,0 +1,10 @@
+mod Steps
+mod Buffers
+mod Calling
+mod Listings
+mod Found
+mod Pages
+mod Requests
+mod Served
+mod Statuses
+mod Totals
