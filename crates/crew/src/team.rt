@@ -1,6 +1,6 @@
 //! The threads of the workers of a phase.
 
-ghost use Rattle.std.specs.Prelude.{◌≡◌, ◌+◌, ◌++◌, ◌∷◌, [], length, IfOk, OnOk};
+ghost use Rattle.std.specs.Prelude.{◌≡◌, ◌<◌, ◌+◌, ◌++◌, ◌∷◌, ℕ, [], get_or, length, IfOk, OnOk};
 ghost use Rattle.crew.specs.Crews.{ArePlacedFrom};
 
 use crate::bench::Bench;
@@ -24,12 +24,15 @@ impl<N: Which, M: Crewed> Promise<Result<Emptied<N, M>, AllocError>> for OfPlace
     ghost kept_by = { λ p r. IfOk r (λ e. e.own.place ≡ p.0) };
 }
 
+/// A worker that was started, and whose place is known.
+type Started<N, M> = PromisedHandle<Result<Emptied<N, M>, AllocError>, OfPlace>;
+
 /// Starts a worker on a thread of its own.
 fn start<'s, 'e, N: Which + Send + Sync + 'e, M: Crewed + Send + Sync + 'e, G: Gate + 'e>(
     scope: &'s Scope<'s, &'e ()>,
     bench: &'e Bench<'e, N, M, G>,
     lot: Lot<N, M>,
-) -> Result<PromisedHandle<Result<Emptied<N, M>, AllocError>, OfPlace>, CrewError>
+) -> Result<Started<N, M>, CrewError>
     ensures { IfOk result (λ h. h.promise.0 ≡ lot.own.place) }
 {
     let promise = OfPlace(lot.place());
@@ -89,15 +92,45 @@ fn work_in<
     ensures { IfOk result (λ lots. ArePlacedFrom 0 lots.items × (length lots.items ≡ length others.items + 1)) }
 {
     let mut lots = Vec::with_capacity(alloc, others.len())?;
-    let mut handles = Vec::with_capacity(alloc, others.len())?;
-    for lot in others {
+    let handles = start_all(scope, alloc, bench, others)?;
+    add(&mut lots, first.work_all(bench)?)?;
+    join_all(rt, handles, &mut lots)?;
+    Ok(lots)
+}
+
+/// Starts workers, each on a thread of its own.
+fn start_all<'s, 'e, N: Which + Send + Sync + 'e, M: Crewed + Send + Sync + 'e, G: Gate + 'e>(
+    scope: &'s Scope<'s, &'e ()>,
+    alloc: Global,
+    bench: &'e Bench<'e, N, M, G>,
+    lots: Vec<Lot<N, M>>,
+) -> Result<Vec<Started<N, M>>, CrewError>
+    requires { ArePlacedFrom 1 lots.items }
+    ensures { IfOk result (λ handles. (length handles.items ≡ length lots.items)
+        × ((k : ℕ) (d : _) → k < length handles.items → (get_or handles.items k d).promise.0 ≡ 1 + k)) }
+{
+    let mut handles = Vec::with_capacity(alloc, lots.len())?;
+    for lot in lots {
         add(&mut handles, start(scope, bench, lot)?)?;
     }
-    add(&mut lots, first.work_all(bench)?)?;
+    Ok(handles)
+}
+
+/// Waits for workers, and adds each behind the first.
+fn join_all<N: Which, M: Crewed, R: Threads>(
+    rt: &R,
+    handles: Vec<Started<N, M>>,
+    lots: &mut Vec<Emptied<N, M>>,
+) -> Result<(), CrewError>
+    requires handles { (k : ℕ) (d : _) → k < length handles.items → (get_or handles.items k d).promise.0 ≡ 1 + k }
+    requires placed { ArePlacedFrom 0 lots.old.items }
+    requires first { length lots.old.items ≡ 1 }
+    ensures { OnOk result (ArePlacedFrom 0 lots.new.items × (length lots.new.items ≡ length handles.items + 1)) }
+{
     for handle in handles {
-        add(&mut lots, handle.join(rt)?)?;
+        add(lots, handle.join(rt)?)?;
     }
-    Ok(lots)
+    Ok(())
 }
 
 /// Adds an element at the end.

@@ -12,7 +12,7 @@ use space::NoMemory;
 use std::alloc::{AllocError, Global};
 use std::fmt::Write;
 use std::thread::Threads;
-use texts::{Places, Scope, field, push_shown};
+use texts::{Places, Scope, Span, field, push_shown};
 use trace::{Failed, Sink, Std};
 
 /// How many bytes of a line are shown.
@@ -288,21 +288,11 @@ fn push_record<T: AllocGlobal + Threads + Sync>(
     text: &mut String,
 ) -> Result<Option<Trees>, CompareError> {
     let alloc = rt.alloc();
-    let trace = comparison.trace;
-    let mut places = Places::new(alloc, trace)?;
-    let mut before = places.next_place()?;
-    let mut span = places.next_place()?;
-    for _ in 1..number {
-        before = span;
-        span = places.next_place()?;
-    }
-    let name = comparison.name;
-    let line = span.line;
-    write!(text, "  record {number}, {name}:{line}: ")?;
-    push_shown(text, span.text(trace), SHOWN)?;
-    let old = replayed(rt, trace.get(..before.end).unwrap_or(trace))?;
-    let new = replayed(rt, trace.get(..span.end).unwrap_or(trace))?;
-    let (old, new) = (audit_of(alloc, &old)?, audit_of(alloc, &new)?);
+    let mut places = Places::new(alloc, comparison.trace)?;
+    let (before, span) = nth_record(&mut places, number)?;
+    push_place(comparison, number, &span, text)?;
+    let old = audit_at(rt, comparison, before.end)?;
+    let new = audit_at(rt, comparison, span.end)?;
     if old.as_slice() == new.as_slice() {
         text.push_str("\n  it changes no mapping\n")?;
         let fields = places.fields(alloc)?;
@@ -311,6 +301,41 @@ fn push_record<T: AllocGlobal + Threads + Sync>(
     text.push_str("\n  it changes these mappings:\n")?;
     push_changes(text, &old, &new)?;
     Ok(Some(Trees::ChangedBy(u64::from(number))))
+}
+
+/// Where the record with this number stands, behind where what comes before it stands: a record, or the header.
+fn nth_record(places: &mut Places<'_>, number: u32) -> Result<(Span, Span), NoMemory> {
+    let mut before = places.next_place()?;
+    let mut span = places.next_place()?;
+    for _ in 1..number {
+        before = span;
+        span = places.next_place()?;
+    }
+    Ok((before, span))
+}
+
+/// Appends a record, with its number, the name of the trace and its line there.
+fn push_place(
+    comparison: &Comparison<'_>,
+    number: u32,
+    span: &Span,
+    text: &mut String,
+) -> Result<(), AllocError> {
+    let name = comparison.name;
+    let line = span.line;
+    write!(text, "  record {number}, {name}:{line}: ")?;
+    push_shown(text, span.text(comparison.trace), SHOWN)
+}
+
+/// The audit after the records of a trace that end before this byte of it.
+fn audit_at<T: AllocGlobal + Threads + Sync>(
+    rt: &T,
+    comparison: &Comparison<'_>,
+    end: usize,
+) -> Result<Vec<u8>, CompareError> {
+    let trace = comparison.trace;
+    let text = replayed(rt, trace.get(..end).unwrap_or(trace))?;
+    Ok(audit_of(rt.alloc(), &text)?)
 }
 
 /// The tree of the page that a record with this number accesses, if an audit has the page.

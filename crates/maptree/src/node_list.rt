@@ -1,6 +1,7 @@
 //! A list of nodes: one vector while it is short, blocks once it is long.
 
-ghost use Rattle.std.specs.Prelude.{◌≡◌, ◌≤◌, IfSome};
+ghost use Rattle.std.specs.Prelude.{◌≡◌, ◌<◌, ◌≤◌, length, reverse, IfOk, IfSome};
+ghost use Rattle.maptree.specs.Blocks.{nodes_in};
 ghost use Rattle.mapnode.specs.Slices.{nodes_of};
 ghost use Rattle.maptree.specs.Cuts.{count_of};
 
@@ -253,16 +254,8 @@ impl NodeList {
         ensures err { OnErr result (self.new ≡ self.old) }
     {
         match &mut self.form {
-            Form::Few(nodes) => {
-                if nodes.is_empty() {
-                    nodes.reserve(n)?;
-                } else {
-                    let alloc = *nodes.allocator();
-                    let mut blocks = Blocks::of(alloc, &forward(alloc, nodes, 0, nodes.len())?)?;
-                    blocks.reserve(n)?;
-                    self.form = Form::Many(Box::new(alloc, blocks)?);
-                }
-            }
+            Form::Few(nodes) if nodes.is_empty() => nodes.reserve(n)?,
+            Form::Few(nodes) => self.form = Form::Many(in_blocks(nodes, n)?),
             Form::Many(blocks) => blocks.reserve(n)?,
         }
         self.room = n;
@@ -394,4 +387,16 @@ fn kept_up_to(parts: &[Slice], most: usize) -> Option<usize>
         kept += more;
     }
     Some(kept)
+}
+
+/// Nodes of which the last one stands first, in blocks, with room for so many more.
+fn in_blocks(backward: &SmallVec<Node, 1>, room: usize) -> Result<Box<Blocks>, AllocError>
+    requires { 0 < length backward.now.items }
+    ensures nodes { IfOk result (λ b. nodes_in b.value.blocks ≡ reverse backward.now.items) }
+    ensures room { IfOk result (λ b. room ≤ b.value.room) }
+{
+    let alloc = *backward.allocator();
+    let mut blocks = Blocks::of(alloc, &forward(alloc, backward, 0, backward.len())?)?;
+    blocks.reserve(room)?;
+    Ok(Box::new(alloc, blocks)?)
 }

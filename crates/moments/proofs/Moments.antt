@@ -1,6 +1,6 @@
 -- What records leave, one after another.
-use Rattle.std.proofs.Common.{◌≡◌, ℕ, zero, suc, Bool, ◌+◌, ◌-◌, ◌<◌, ◌≤◌, List, [], ◌∷◌, ◌++◌, take, drop, map, length, min, true, false, nat_lt, Option, Some, None, Result, Ok, Err, IfErr, OnOk, if◌then◌else◌, ◌⊎◌, inl, inr, refl, sym, ap, ◌∙◌, arith, zero-add}
-use Rattle.std.proofs.lemmas.List.{take-map, take-append-drop, take-take, drop-take, drop-drop, take_all, drop_all, length-map}
+use Rattle.std.proofs.Common.{◌≡◌, ℕ, Bool, ◌+◌, ◌-◌, List, [], ◌∷◌, ◌++◌, take, drop, map, length, min, true, false, nat_lt, Some, None, Result, Ok, Err, IfErr, OnOk, if◌then◌else◌, inl, inr, refl, sym, ap, ◌∙◌, arith}
+use Rattle.std.proofs.lemmas.List.{take-map, take-append-drop, take-take, drop-take, length-map}
 use Rattle.std.specs.List.{zip}
 use Rattle.std.specs.Option.{option_map}
 use Rattle.fpage.specs.Fpage.{Flexpage}

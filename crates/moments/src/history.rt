@@ -85,6 +85,54 @@ fn mappings_of(
     Ok(held)
 }
 
+/// Some pages of a database whose records are answered one by one.
+#[derive(Drop)]
+struct Watched<'a> {
+    reader: TraceReader<'a>,
+    database: Database,
+    places: Vec<Place>,
+    /// What each of the pages holds.
+    held: Vec<Option<Mapping>>,
+}
+
+impl<'a> Watched<'a> {
+    ghost use Rattle.std.specs.Prelude.{IfOk, OnOk};
+    ghost use Rattle.moments.specs.History.{IsRunning};
+
+    /// The pages of these that there are, before the first record of a trace.
+    fn new(alloc: Global, bytes: &'a [u8], places: &[Place]) -> Result<Self, ShowError>
+        ensures { IfOk result (λ watched. IsRunning watched.database watched.places.items) }
+    {
+        let reader = TraceReader::new(alloc, bytes)?;
+        let database = start(alloc, &reader.limits())?;
+        let places = places_within(alloc, &reader.limits(), places)?;
+        let held = mappings_of(alloc, &database, &places)?;
+        Ok(Watched {
+            reader,
+            database,
+            places,
+            held,
+        })
+    }
+
+    /// Answers the record that comes next, which has this number, and appends what it changed of the pages.
+    fn answer_next(
+        &mut self,
+        alloc: Global,
+        record: u64,
+        changes: &mut Vec<Change>,
+    ) -> Result<(), ShowError>
+        requires { IsRunning self.old.database self.old.places.items }
+        ensures { OnOk result (IsRunning self.new.database self.new.places.items) }
+    {
+        answer_records(alloc, &mut self.database, &mut self.reader, 1)?;
+        let after = mappings_of(alloc, &self.database, &self.places)?;
+        push_changes(changes, record, &self.places, &self.held, &after)?;
+        self.held = after;
+        Ok(())
+    }
+}
+
 /// What the first so many records of a trace changed of some pages, record by record.
 pub fn changes(
     alloc: Global,
@@ -92,16 +140,10 @@ pub fn changes(
     records: u64,
     places: &[Place],
 ) -> Result<Vec<Change>, ShowError> {
-    let mut reader = TraceReader::new(alloc, bytes)?;
-    let mut database = start(alloc, &reader.limits())?;
-    let places = places_within(alloc, &reader.limits(), places)?;
-    let mut held = mappings_of(alloc, &database, &places)?;
+    let mut watched = Watched::new(alloc, bytes, places)?;
     let mut changes = Vec::new(alloc);
     for i in 0..records {
-        answer_records(alloc, &mut database, &mut reader, 1)?;
-        let after = mappings_of(alloc, &database, &places)?;
-        push_changes(&mut changes, i + 1, &places, &held, &after)?;
-        held = after;
+        watched.answer_next(alloc, i + 1, &mut changes)?;
     }
     Ok(changes)
 }

@@ -71,18 +71,29 @@ pub fn push_why(
     let chain = chain_of(alloc, &moment.after, place, LEVELS)?;
     let places = places_of(alloc, &moment.limits, &chain, place)?;
     let changes = changes(alloc, bytes, moment.records, &places)?;
-    let mut numbers = Vec::new(alloc);
-    numbers.push(moment.records)?;
-    for change in &changes {
-        if change.is_link() || change.place == place {
-            numbers.push(change.record)?;
-        }
-    }
+    let numbers = numbers_of(alloc, moment.records, place, &changes)?;
     let texts = RecordTexts::new(alloc, name, bytes, numbers)?;
     push_page(text, &moment, place, chain.first(), &texts)?;
     push_chain(text, &chain, &changes, &texts)?;
     push_changes(text, place, &changes, &texts)?;
     Ok(())
+}
+
+/// The numbers of the records that are shown: the last, and those that changed the page or linked one of its chain.
+fn numbers_of(
+    alloc: Global,
+    last: u64,
+    place: Place,
+    changes: &[Change],
+) -> Result<Vec<u64>, AllocError> {
+    let mut numbers = Vec::new(alloc);
+    numbers.push(last)?;
+    for change in changes {
+        if change.is_link() || change.place == place {
+            numbers.push(change.record)?;
+        }
+    }
+    Ok(numbers)
 }
 
 /// Appends what a page holds.

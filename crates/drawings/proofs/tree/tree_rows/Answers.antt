@@ -1,5 +1,4 @@
 -- Sorting moves rows, and drops none.
-use Rattle.std.proofs.Common.{◌≡◌, map}
 use Rattle.std.proofs.lemmas.List.Sorted.{IsPermutation-map}
 use Rattle.drawings.specs.Tree.{mapping_in}
 use Rattle.drawings.proofs.tree.tree_rows.Goals as goal
