@@ -1,4 +1,5 @@
-//! The calls of a handle.
+//! The calls of a handle. Each answers a code (`code`): `DONE`, or why it was refused. A refused call changes nothing of what is
+//! held, and writes nothing to what is lent to it; one that runs out of memory in the middle loses what was held (`HALTED`).
 
 ghost use Rattle.std.specs.Prelude.{◌≡◌, None, Some, option_map};
 ghost use Rattle.handles.specs.Boxed.{value_of};
@@ -25,7 +26,10 @@ impl Handle {
     ghost use Rattle.handles.specs.Replied.{counts_told, words_told, made_told};
     ghost use Rattle.handles.specs.Listed.{listed_of};
 
-    /// Makes a database.
+    /// Makes a database of so many spaces of `2^bits` bytes, and of so many frames, which space 0 holds at the start.
+    ///
+    /// Refused: `HOLDS_ONE`, where the handle holds a database, which stays; `BAD_LIMITS`, where the limits are not served;
+    /// `NO_MEMORY`.
     pub fn make(&mut self, alloc: Global, spaces: u32, bits: u32, frames: u32) -> u32
         ensures { IsMade self.old.held (record { spaces = spaces; bits = bits; frames = frames }) result self.new.held }
     {
@@ -47,7 +51,7 @@ impl Handle {
         }
     }
 
-    /// Gives all memory of a database back.
+    /// Gives all memory of the database back, if there is one. The handle holds nothing afterwards.
     pub fn clear(&mut self, alloc: Global)
         ensures { self.new.held ≡ None }
     {
@@ -56,7 +60,10 @@ impl Handle {
         }
     }
 
-    /// Maps or grants the pages that items name.
+    /// Maps or grants the pages that items name, two words each, through a window of the receiver, and writes how many pages had
+    /// which outcome to `reply`.
+    ///
+    /// Refused: `EMPTY`, where the handle holds nothing; and what `send` refuses, in its order.
     pub fn send(
         &mut self,
         alloc: Global,
@@ -77,7 +84,10 @@ impl Handle {
         result_code(sent)
     }
 
-    /// Takes rights from the pages that words name, and from all that derives from them.
+    /// Takes rights from the pages that words name, and from all that derives from them. Each word comes back with the status
+    /// found in place of its rights.
+    ///
+    /// Refused: `EMPTY`, where the handle holds nothing; and what `unmap` refuses, in its order.
     pub fn unmap(&mut self, alloc: Global, space: u16, control: u32, words: &mut [u32]) -> u32
         ensures { IsCalledOf words_told (unmap_asked space control words.old) self.old.held words.old
             (record { code = result; held = self.new.held; lent = words.new }) }
@@ -90,7 +100,10 @@ impl Handle {
         result_code(unmapped)
     }
 
-    /// Accesses the page of an address.
+    /// Accesses the page of an address, in bytes, by a kind of access: 4 reads, 2 writes and 1 executes. `made` is then 1, or 0 for
+    /// a fault.
+    ///
+    /// Refused: `EMPTY`, where the handle holds nothing; and what `access` refuses, in its order.
     pub fn access(
         &mut self,
         alloc: Global,
@@ -110,7 +123,9 @@ impl Handle {
         result_code(accessed)
     }
 
-    /// What a page holds.
+    /// Writes what a page holds to `reply`.
+    ///
+    /// Refused, the first that fits: `EMPTY`, `HALTED`, `NO_SUCH_SPACE`, `OUT_OF_SPACE`.
     pub fn entry(&mut self, alloc: Global, space: u16, page: u32, reply: &mut EntryReply) -> u32
         ensures code { result ≡ held_code self.old.held space page }
         ensures reply { reply.new ≡ held_entry self.old.held space page reply.old }
@@ -124,7 +139,9 @@ impl Handle {
         code
     }
 
-    /// From where a page came.
+    /// Writes from where a page came to `reply`.
+    ///
+    /// Refused, the first that fits: `EMPTY`, `HALTED`, `NO_SUCH_SPACE`, `OUT_OF_SPACE`.
     pub fn origin(&mut self, alloc: Global, space: u16, page: u32, reply: &mut OriginReply) -> u32
         ensures code { result ≡ held_code self.old.held space page }
         ensures reply { reply.new ≡ held_origin self.old.held space page reply.old }
@@ -138,7 +155,10 @@ impl Handle {
         code
     }
 
-    /// The first mappings at or behind a page of a space.
+    /// Writes the first mappings at or behind a page of a space to `mappings`, as many as there is room for, by rising place, and
+    /// how many they are to `count`. A place that there is not is no error.
+    ///
+    /// Refused: `EMPTY`, `HALTED`.
     pub fn mappings(
         &mut self,
         alloc: Global,

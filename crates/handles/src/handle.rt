@@ -26,14 +26,14 @@ impl Model for Handle {
 ghost use Rattle.mapdb.specs.State.{State};
 
 impl Handle {
-    /// Nothing.
+    /// A handle that holds nothing.
     pub fn empty() -> Self
         ensures { result.held ≡ None }
     {
         Handle { at: null_mut() }
     }
 
-    /// A database.
+    /// A handle that holds a database, which comes as its pointer.
     pub fn holding(whole: RawBox<Database, Global>) -> Self
         ensures { result.held ≡ Some whole.value }
     {
@@ -41,7 +41,7 @@ impl Handle {
         Handle { at: at as *mut u8 }
     }
 
-    /// The database, if there is one.
+    /// The database as its pointer, if the handle holds one.
     pub fn into_raw_box(self, alloc: Global) -> Option<RawBox<Database, Global>>
         ensures { option_map boxed_value result ≡ self.held }
     {
