@@ -25,8 +25,8 @@ build_crate() {
 top=$(dirname -- "$(readlink -f -- "${BASH_SOURCE[0]}")")
 command -v rt > /dev/null || fail "the command rt is missing: install the Rattle kit and put its bin folder on the PATH"
 # (a crate NAME_tests has the tests of the crate NAME, and nothing to build; capi is the library that ./library.sh builds, and
-# handles and raw_box are there for it alone)
-mapfile -t crates < <(sed -nE 's/^([a-z0-9_]+)( [^:]*)?:.*/\1/p' "$top/crates.txt" | grep -vE '_tests$|^capi$|^handles$|^raw_box$')
+# c_handle and raw_box are there for it alone)
+mapfile -t crates < <(sed -nE 's/^([a-z0-9_]+)( [^:]*)?:.*/\1/p' "$top/crates.txt" | grep -vE '_tests$|^capi$|^c_handle$|^raw_box$')
 log=$(mktemp "${TMPDIR:-/tmp}/l4map-build-XXXXXX.log") || fail "no temporary file can be made"
 
 printf '%s: proving %s crates; from nothing that takes 30 to 60 minutes on 4 cores\n' "$0" "${#crates[@]}"

@@ -28,7 +28,7 @@ NOBODY = 65534
 PROGRAMS = ("l4map", "l4trace")
 
 # The crates that only library.sh builds.
-OF_LIBRARY = ("capi", "handles", "raw_box")
+OF_LIBRARY = ("c_handle", "capi", "raw_box")
 
 # What run.sh says where the program is not built, before anything else, and where the program cannot be run to its end.
 NOTICE = b"./run.sh: the program is not built; running it without proofs, in half a minute (./build.sh proves and builds it)\n"

@@ -1,14 +1,14 @@
 //! What a C program calls.
 
 ghost use Rattle.std.specs.Prelude.{◌≡◌, None};
-ghost use Rattle.handles.specs.New.{IsMade};
-ghost use Rattle.handles.specs.Look.{held_code, held_entry, held_origin};
-ghost use Rattle.handles.specs.Asked.{send_asked, unmap_asked, access_asked};
-ghost use Rattle.handles.specs.Called.{IsCalledOf};
-ghost use Rattle.handles.specs.Replied.{counts_told, words_told, made_told};
-ghost use Rattle.handles.specs.Listed.{listed_of};
+ghost use Rattle.c_handle.specs.New.{IsMade};
+ghost use Rattle.c_handle.specs.Look.{held_code, held_entry, held_origin};
+ghost use Rattle.c_handle.specs.Asked.{send_asked, unmap_asked, access_asked};
+ghost use Rattle.c_handle.specs.Called.{IsCalledOf};
+ghost use Rattle.c_handle.specs.Replied.{counts_told, words_told, made_told};
+ghost use Rattle.c_handle.specs.Listed.{listed_of};
 
-use handles::{EntryReply, Handle, MappingReply, OriginReply, SendReply};
+use c_handle::{EntryReply, Handle, MappingReply, OriginReply, SendReply};
 use std::alloc::Global;
 
 /// The version of the interface.

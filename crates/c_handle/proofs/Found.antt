@@ -1,0 +1,130 @@
+-- The mappings of the pages of a space, and of the spaces, one after another.
+use Rattle.std.proofs.Common.{◌≡◌, ◌⊎◌, inl, inr, nat_le, true, false, ℕ, ◌+◌, ◌-◌, ◌<◌, ◌≤◌, List, [], ◌∷◌, ◌++◌, map, set, filter, length, Option, Some, None, sym, ap, ◌∙◌, subst, arith, append_assoc, append-nil}
+use Rattle.std.proofs.lemmas.List.{map-append}
+use Rattle.std.proofs.lemmas.Bool.Decides.{leb_tells}
+use Rattle.std.specs.Option.{option_map}
+use Rattle.space.specs.declared.place.Place.{Place}
+use Rattle.space.specs.Directory.{pages_of}
+use Rattle.model.specs.Calls.{Limits}
+use Rattle.model.specs.Holdings.{Held, Holdings, keep, at}
+use Rattle.holdings.specs.Places.{pages_from, spaces_from, listed, listing}
+use Rattle.c_handle.specs.Listed.{mapping_told, mappings_at, mappings_from, from_page, WritesBehind}
+use Rattle.c_handle.specs.declared.mappings.MappingReply.{MappingReply}
+use Rattle.c_handle.proofs.Buffers.{writes_none, writes_more, writes_full, writes_both}
+use Rattle.c_handle.proofs.Listings.{pages_more, pages_and, spaces_more, listed_and, listed_of_set, places_behind, none_behind}
+
+-- the mappings at places in two parts
+pub mappings_and : (held : Place → Option Held) (ps qs : List Place) → mappings_at held (ps ++ qs) ≡ mappings_at held ps ++ mappings_at held qs
+mappings_and held ps qs = ap (map mapping_told) (listed_and held ps qs) ∙ map-append mapping_told (listed held ps) (listed held qs)
+
+-- ---- one page
+
+module _ (before : List MappingReply) (count : ℕ) (p : Place) where
+  -- a page that holds nothing
+  pub page_none : (m : Option Held) → None ≡ option_map (λ m. mapping_told (p, m)) m → WritesBehind before count (map mapping_told (keep p m [])) before count
+  page_none None is = writes_none before count
+  page_none (Some m) is = absurd (cc is)
+
+  -- a page that holds something
+  pub page_some : (m : Option Held) (r : MappingReply) → Some r ≡ option_map (λ m. mapping_told (p, m)) m → count < length before → WritesBehind before count (map mapping_told (keep p m [])) (set before count r) (count + 1)
+  page_some None r is room = absurd (cc is)
+  page_some (Some m) r is room =
+      let same : mapping_told (p, m) ≡ r = cc is in
+      subst (λ t. WritesBehind before count (t ∷ []) (set before count r) (count + 1)) (sym same) (writes_more before count [] before count (writes_none before count) room r)
+
+-- ---- the pages of a space
+
+module _ (held : Place → Option Held) (space first : ℕ) (before : List MappingReply) (count : ℕ) where
+  -- before the first page
+  pub space_start : WritesBehind before count (mappings_at held (pages_from space first (first - first))) before count
+  space_start =
+      let none : first - first ≡ 0 = omega arith in
+      subst (λ n. WritesBehind before count (mappings_at held (pages_from space first n)) before count) (sym none) (writes_none before count)
+
+  -- one page more
+  pub space_more : (page : ℕ) → first ≤ page → (after : List MappingReply) (told : ℕ) → WritesBehind before count (mappings_at held (pages_from space first (page - first))) after told
+      → (last : List MappingReply) (end : ℕ) → WritesBehind after told (mappings_at held (record { space = space; page = page } ∷ [])) last end
+      → WritesBehind before count (mappings_at held (pages_from space first (page + 1 - first))) last end
+  space_more page from after told so_far last end one =
+      let here : Place = record { space = space; page = page } in
+      let many : page - first + 1 ≡ page + 1 - first = omega (arith, from) in
+      let which : first + (page - first) ≡ page = omega (arith, from) in
+      let pages = sym (ap (pages_from space first) many) ∙ pages_more space first (page - first) ∙ ap (λ g. pages_from space first (page - first) ++ (record { space = space; page = g } ∷ [])) which in
+      let parts = ap (mappings_at held) pages ∙ mappings_and held (pages_from space first (page - first)) (here ∷ []) in
+      subst (λ l. WritesBehind before count l last end) (sym parts)
+      (writes_both before count (mappings_at held (pages_from space first (page - first))) after told so_far (mappings_at held (here ∷ [])) last end one)
+
+  -- the end, which may lie before the first page
+  pub space_end : (page end pages : ℕ) → end ≡ pages → end ≤ page → (first ≤ end → page ≤ end) → (end ≤ first → page ≡ first) → (after : List MappingReply) (told : ℕ)
+      → WritesBehind before count (mappings_at held (pages_from space first (page - first))) after told → WritesBehind before count (mappings_at held (pages_from space first (pages - first))) after told
+  space_end page end pages same past some none after told so_far = by (leb_tells first end)
+    where
+      by_count : page - first ≡ pages - first → WritesBehind before count (mappings_at held (pages_from space first (pages - first))) after told
+      by_count many = subst (λ n. WritesBehind before count (mappings_at held (pages_from space first n)) after told) many so_far
+
+      by : ((nat_le first end ≡ true) × (first ≤ end)) ⊎ ((nat_le first end ≡ false) × (end < first)) → WritesBehind before count (mappings_at held (pages_from space first (pages - first))) after told
+      by (inl h) = let to : page ≤ end = some h.1 in by_count (omega (arith, same, past, to))
+      by (inr h) = let start : page ≡ first = none (omega (arith, h.1)) in by_count (omega (arith, same, h.1, start))
+
+  -- the buffer is full before the end
+  pub space_full : (page pages : ℕ) → first ≤ page → page ≤ pages → (after : List MappingReply) (told : ℕ) → WritesBehind before count (mappings_at held (pages_from space first (page - first))) after told
+      → told ≡ length after → WritesBehind before count (mappings_at held (pages_from space first (pages - first))) after told
+  space_full page pages from to after told so_far full =
+      let many : pages - first ≡ page - first + (pages - page) = omega (arith, from, to) in
+      let split = ap (pages_from space first) many ∙ pages_and space first (page - first) (pages - page) in
+      let rest = pages_from space (first + (page - first)) (pages - page) in
+      let parts = ap (mappings_at held) split ∙ mappings_and held (pages_from space first (page - first)) rest in
+      subst (λ l. WritesBehind before count l after told) (sym parts)
+      (writes_full before count (mappings_at held (pages_from space first (page - first))) after told so_far full (mappings_at held rest))
+
+-- ---- the spaces behind
+
+-- the places from a page on, in the rest of its space and in the spaces behind it up to one
+abbrev pub places_to : ℕ → ℕ → ℕ → ℕ → List Place
+places_to pages space page next = pages_from space page (pages - page) ++ spaces_from pages (space + 1) (next - (space + 1))
+
+module _ (held : Place → Option Held) (pages space page : ℕ) (before : List MappingReply) (count : ℕ) where
+  -- only the rest of the space
+  pub spaces_start : (after : List MappingReply) (told : ℕ) → WritesBehind before count (mappings_at held (pages_from space page (pages - page))) after told
+      → WritesBehind before count (mappings_at held (places_to pages space page (space + 1))) after told
+  spaces_start after told first =
+      let none : space + 1 - (space + 1) ≡ 0 = omega arith in
+      let all = ap (λ n. pages_from space page (pages - page) ++ spaces_from pages (space + 1) n) none ∙ append-nil (pages_from space page (pages - page)) in
+      subst (λ l. WritesBehind before count (mappings_at held l) after told) (sym all) first
+
+  -- one space more
+  pub spaces_next : (next : ℕ) → space + 1 ≤ next → (after : List MappingReply) (told : ℕ) → WritesBehind before count (mappings_at held (places_to pages space page next)) after told
+      → (last : List MappingReply) (end : ℕ) → WritesBehind after told (mappings_at held (pages_from next 0 (pages - 0))) last end
+      → WritesBehind before count (mappings_at held (places_to pages space page (next + 1))) last end
+  spaces_next next from after told so_far last end one =
+      let here = pages_from space page (pages - page) in
+      let others = next - (space + 1) in
+      let many : next + 1 - (space + 1) ≡ others + 1 = omega (arith, from) in
+      let which : space + 1 + others ≡ next = omega (arith, from) in
+      let whole : pages ≡ pages - 0 = omega arith in
+      let split =
+      ap (λ n. here ++ spaces_from pages (space + 1) n) many ∙ ap (λ l. here ++ l) (spaces_more pages (space + 1) others)
+      ∙ sym (append_assoc here (spaces_from pages (space + 1) others) (pages_from (space + 1 + others) 0 pages))
+      ∙ (λ j. places_to pages space page next ++ pages_from (which j) 0 (whole j)) in
+      let parts = ap (mappings_at held) split ∙ mappings_and held (places_to pages space page next) (pages_from next 0 (pages - 0)) in
+      subst (λ l. WritesBehind before count l last end) (sym parts)
+      (writes_both before count (mappings_at held (places_to pages space page next)) after told so_far (mappings_at held (pages_from next 0 (pages - 0))) last end one)
+
+-- ---- all that is held from a page on
+
+-- of a space that there is
+pub found_behind : (limits : Limits) (h : Holdings) → h ≡ listing limits (at h) → (space page : ℕ) → space < limits.spaces
+    → mappings_from space page h ≡ mappings_at (at h) (places_to (pages_of limits.bits) space page limits.spaces)
+unfolding listing
+found_behind limits h is space page there =
+    let m = pages_of limits.bits in
+    ap (λ k. map mapping_told (filter (λ e. from_page space page e.0) k)) is
+    ∙ ap (map mapping_told) (listed_of_set (from_page space page) (at h) (spaces_from m 0 limits.spaces) ∙ ap (listed (at h)) (places_behind space page m limits.spaces there))
+
+-- of one that there is not
+pub none_found : (limits : Limits) (h : Holdings) → h ≡ listing limits (at h) → (space page : ℕ) → limits.spaces ≤ space → mappings_from space page h ≡ []
+unfolding listing
+none_found limits h is space page past =
+    let m = pages_of limits.bits in
+    ap (λ k. map mapping_told (filter (λ e. from_page space page e.0) k)) is
+    ∙ ap (map mapping_told) (listed_of_set (from_page space page) (at h) (spaces_from m 0 limits.spaces) ∙ ap (listed (at h)) (none_behind space page m limits.spaces past))

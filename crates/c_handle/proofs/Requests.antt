@@ -1,0 +1,31 @@
+-- What a send asks for, once its words were read.
+use Rattle.std.proofs.Common.{◌≡◌, ℕ, ◌%◌, ◌≤◌, ◌&&◌, true, List, length, Some, None, Result, Ok, Err, if◌then◌else◌, ap, ◌∙◌}
+use Rattle.std.proofs.lemmas.Bool.{eq-eqb, le-leb}
+use Rattle.fpage.specs.Fpage.{Flexpage, read_fpage}
+use Rattle.fpage.specs.declared.item.Item.{Item}
+use Rattle.fpage.specs.declared.error.FpageError.{FpageError}
+use Rattle.model.specs.Calls.{Limits, send, refusal_of, Request}
+use Rattle.model.specs.Records.{SendFields, are_item_words, or_refused, read_items, send_request}
+use Rattle.c_handle.specs.Asked.{send_asked}
+
+-- a number of words that is served
+pub are_words : (words : List ℕ) → length words % 2 ≡ 0 → 2 ≤ length words → length words ≤ 62 → are_item_words words ≡ true
+are_words words even some few = λ j. eq-eqb (length words % 2) 0 even j && le-leb 2 (length words) some j && le-leb (length words) 62 few j
+
+module _ (from to window : ℕ) (words : List ℕ) (limits : Limits) (served : are_item_words words ≡ true) (f : Flexpage) (window_is : read_fpage limits.bits window ≡ Ok f) where
+  abbrev items_asked : Result (List Item) FpageError → Request
+  items_asked read = or_refused read (λ items. Ok (send from to f items))
+
+  until_items : send_asked from to window words limits ≡ items_asked (read_items limits.bits words)
+  until_items =
+      let fields : SendFields = record { from = from; to = to; window = window; words = words } in
+      ap (λ b. send_request limits (if b then Some fields else None)) served
+      ∙ ap (λ r. or_refused r (λ w. or_refused (read_items limits.bits words) (λ items. Ok (send from to w items)))) window_is
+
+  -- its items were read
+  pub send_is : (items : List Item) → read_items limits.bits words ≡ Ok items → send_asked from to window words limits ≡ Ok (send from to f items)
+  send_is items read = until_items ∙ ap items_asked read
+
+  -- an item is refused
+  pub send_refused : (e : FpageError) → read_items limits.bits words ≡ Err e → send_asked from to window words limits ≡ Err (refusal_of e)
+  send_refused e read = until_items ∙ ap items_asked read

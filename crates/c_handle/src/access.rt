@@ -1,0 +1,61 @@
+//! Accesses to pages.
+
+ghost use Rattle.std.specs.Prelude.{◌≡◌, Some};
+ghost use Rattle.c_handle.specs.Asked.{access_asked, kind_of};
+ghost use Rattle.c_handle.specs.Called.{IsCalled};
+ghost use Rattle.c_handle.specs.Errors.{result_code};
+ghost use Rattle.c_handle.specs.Replied.{made_told};
+
+use crate::error::CallError;
+use crew::Alone;
+use fpage::Access;
+use mapdb::{Database, DbError};
+use space::Place;
+use std::alloc::Global;
+
+/// The kind of access that a number names: 4 for read, 2 for write, 1 for execute.
+fn kind_of(number: u32) -> Option<Access>
+    ensures { result ≡ kind_of number }
+{
+    match number {
+        4 => Some(Access::Read),
+        2 => Some(Access::Write),
+        1 => Some(Access::Execute),
+        _ => None,
+    }
+}
+
+/// Accesses the page of an address, in bytes, and writes to `made` 1 if the access was made, and 0 if it is a fault.
+///
+/// Refused, the first that fits: a halted database; `BadCall`, for the kind; `NoSuchSpace`; `OutOfSpace`; and where memory
+/// is. Then `made` is as it was.
+pub fn access(
+    alloc: Global,
+    database: &mut Database,
+    space: u16,
+    address: u32,
+    kind: u32,
+    made: &mut u32,
+) -> Result<(), CallError>
+    ensures { IsCalled made_told (access_asked space address kind database.old.limits) database.old made.old
+        (record { code = result_code result; held = Some database.new; lent = made.new }) }
+{
+    if database.is_halted() {
+        return Err(CallError::Database(DbError::Halted));
+    }
+    let access = kind_of(kind).ok_or(CallError::BadCall)?;
+    let limits = database.limits();
+    if u32::from(space) >= limits.spaces {
+        return Err(CallError::Database(DbError::NoSuchSpace));
+    }
+    if u64::from(address) >= 1 << limits.bits {
+        return Err(CallError::OutOfSpace);
+    }
+    let place = Place {
+        space,
+        page: address / 4096,
+    };
+    let answers = database.access_all(alloc, &[(place, access)], &Alone)?;
+    *made = u32::from(answers[0]);
+    Ok(())
+}

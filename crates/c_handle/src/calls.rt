@@ -1,0 +1,199 @@
+//! The calls of a handle. Each answers a code (`code`): `DONE`, or why it was refused. A refused call changes nothing of what is
+//! held, and writes nothing to what is lent to it; one that runs out of memory in the middle loses what was held (`HALTED`).
+
+ghost use Rattle.std.specs.Prelude.{◌≡◌, None, Some, option_map};
+ghost use Rattle.c_handle.specs.Boxed.{value_of};
+
+use crate::access::access;
+use crate::code::{BAD_LIMITS, DONE, EMPTY, HOLDS_ONE, NO_MEMORY};
+use crate::error::result_code;
+use crate::handle::Handle;
+use crate::look::{EntryReply, OriginReply, entry, origin};
+use crate::mappings::{MappingReply, list};
+use crate::send::{SendReply, send};
+use crate::unmap::unmap;
+use mapdb::{Database, DbError};
+use raw_box::RawBox;
+use std::alloc::Global;
+use std::mem;
+
+impl Handle {
+    ghost use Rattle.std.specs.Prelude.{◌≡◌, None};
+    ghost use Rattle.c_handle.specs.New.{IsMade};
+    ghost use Rattle.c_handle.specs.Look.{held_code, held_entry, held_origin};
+    ghost use Rattle.c_handle.specs.Asked.{send_asked, unmap_asked, access_asked};
+    ghost use Rattle.c_handle.specs.Called.{IsCalledOf};
+    ghost use Rattle.c_handle.specs.Replied.{counts_told, words_told, made_told};
+    ghost use Rattle.c_handle.specs.Listed.{listed_of};
+
+    /// Makes a database of so many spaces of `2^bits` bytes, and of so many frames, which space 0 holds at the start.
+    ///
+    /// Refused: `HOLDS_ONE`, where the handle holds a database, which stays; `BAD_LIMITS`, where the limits are not served;
+    /// `NO_MEMORY`.
+    pub fn make(&mut self, alloc: Global, spaces: u32, bits: u32, frames: u32) -> u32
+        ensures { IsMade self.old.held (record { spaces = spaces; bits = bits; frames = frames }) result self.new.held }
+    {
+        if let Some(whole) = take(self, alloc) {
+            put(self, alloc, whole);
+            return HOLDS_ONE;
+        }
+        let made = match Database::new(alloc, spaces, bits, frames) {
+            Ok(made) => made,
+            Err(DbError::BadLimits) => return BAD_LIMITS,
+            Err(_) => return NO_MEMORY,
+        };
+        match Box::new(alloc, made) {
+            Ok(whole) => {
+                put(self, alloc, whole);
+                DONE
+            }
+            Err(_) => NO_MEMORY,
+        }
+    }
+
+    /// Gives all memory of the database back, if there is one. The handle holds nothing afterwards.
+    pub fn clear(&mut self, alloc: Global)
+        ensures { self.new.held ≡ None }
+    {
+        if let Some(whole) = take(self, alloc) {
+            drop(whole);
+        }
+    }
+
+    /// Maps or grants the pages that items name, two words each, through a window of the receiver, and writes how many pages had
+    /// which outcome to `reply`.
+    ///
+    /// Refused: `EMPTY`, where the handle holds nothing; and what `send` refuses, in its order.
+    pub fn send(
+        &mut self,
+        alloc: Global,
+        from: u16,
+        to: u16,
+        window: u32,
+        words: &[u32],
+        reply: &mut SendReply,
+    ) -> u32
+        ensures { IsCalledOf counts_told (send_asked from to window words.now) self.old.held reply.old
+            (record { code = result; held = self.new.held; lent = reply.new }) }
+    {
+        let Some(mut whole) = take(self, alloc) else {
+            return EMPTY;
+        };
+        let sent = send(alloc, &mut whole, from, to, window, words, reply);
+        put(self, alloc, whole);
+        result_code(sent)
+    }
+
+    /// Takes rights from the pages that words name, and from all that derives from them. Each word comes back with the status
+    /// found in place of its rights.
+    ///
+    /// Refused: `EMPTY`, where the handle holds nothing; and what `unmap` refuses, in its order.
+    pub fn unmap(&mut self, alloc: Global, space: u16, control: u32, words: &mut [u32]) -> u32
+        ensures { IsCalledOf words_told (unmap_asked space control words.old) self.old.held words.old
+            (record { code = result; held = self.new.held; lent = words.new }) }
+    {
+        let Some(mut whole) = take(self, alloc) else {
+            return EMPTY;
+        };
+        let unmapped = unmap(alloc, &mut whole, space, control, words);
+        put(self, alloc, whole);
+        result_code(unmapped)
+    }
+
+    /// Accesses the page of an address, in bytes, by a kind of access: 4 reads, 2 writes and 1 executes. `made` is then 1, or 0 for
+    /// a fault.
+    ///
+    /// Refused: `EMPTY`, where the handle holds nothing; and what `access` refuses, in its order.
+    pub fn access(
+        &mut self,
+        alloc: Global,
+        space: u16,
+        address: u32,
+        kind: u32,
+        made: &mut u32,
+    ) -> u32
+        ensures { IsCalledOf made_told (access_asked space address kind) self.old.held made.old
+            (record { code = result; held = self.new.held; lent = made.new }) }
+    {
+        let Some(mut whole) = take(self, alloc) else {
+            return EMPTY;
+        };
+        let accessed = access(alloc, &mut whole, space, address, kind, made);
+        put(self, alloc, whole);
+        result_code(accessed)
+    }
+
+    /// Writes what a page holds to `reply`.
+    ///
+    /// Refused, the first that fits: `EMPTY`, `HALTED`, `NO_SUCH_SPACE`, `OUT_OF_SPACE`.
+    pub fn entry(&mut self, alloc: Global, space: u16, page: u32, reply: &mut EntryReply) -> u32
+        ensures code { result ≡ held_code self.old.held space page }
+        ensures reply { reply.new ≡ held_entry self.old.held space page reply.old }
+        ensures held { self.new.held ≡ self.old.held }
+    {
+        let Some(whole) = take(self, alloc) else {
+            return EMPTY;
+        };
+        let code = entry(&whole, space, page, reply);
+        put(self, alloc, whole);
+        code
+    }
+
+    /// Writes from where a page came to `reply`.
+    ///
+    /// Refused, the first that fits: `EMPTY`, `HALTED`, `NO_SUCH_SPACE`, `OUT_OF_SPACE`.
+    pub fn origin(&mut self, alloc: Global, space: u16, page: u32, reply: &mut OriginReply) -> u32
+        ensures code { result ≡ held_code self.old.held space page }
+        ensures reply { reply.new ≡ held_origin self.old.held space page reply.old }
+        ensures held { self.new.held ≡ self.old.held }
+    {
+        let Some(whole) = take(self, alloc) else {
+            return EMPTY;
+        };
+        let code = origin(&whole, space, page, reply);
+        put(self, alloc, whole);
+        code
+    }
+
+    /// Writes the first mappings at or behind a page of a space to `mappings`, as many as there is room for, by rising place, and
+    /// how many they are to `count`. A place that there is not is no error.
+    ///
+    /// Refused: `EMPTY`, `HALTED`.
+    pub fn mappings(
+        &mut self,
+        alloc: Global,
+        space: u16,
+        page: u32,
+        mappings: &mut [MappingReply],
+        count: &mut usize,
+    ) -> u32
+        ensures { record { code = result; held = self.new.held; mappings = mappings.new; count = count.new }
+            ≡ listed_of self.old.held space page mappings.old count.old }
+    {
+        let Some(whole) = take(self, alloc) else {
+            return EMPTY;
+        };
+        let code = list(&whole, space, page, mappings, count);
+        put(self, alloc, whole);
+        code
+    }
+}
+
+/// Takes the database out of a handle, which is then empty.
+fn take(db: &mut Handle, alloc: Global) -> Option<Box<Database>>
+    ensures taken { option_map value_of result ≡ db.old.held }
+    ensures empty { db.new.held ≡ None }
+{
+    let raw = mem::replace(db, Handle::empty()).into_raw_box(alloc)?;
+    Some(raw.into_box())
+}
+
+/// Puts a database in place of what a handle holds.
+fn put(db: &mut Handle, alloc: Global, whole: Box<Database>)
+    ensures { db.new.held ≡ Some whole.value }
+{
+    let before = mem::replace(db, Handle::holding(RawBox::of(whole)));
+    if let Some(raw) = before.into_raw_box(alloc) {
+        drop(raw.into_box());
+    }
+}

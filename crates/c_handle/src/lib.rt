@@ -1,0 +1,17 @@
+//! The handle by which a program in C holds a database, with calls that take words and answer codes.
+#![tactic(auto)]
+
+mod access;
+mod calls;
+mod code;
+mod error;
+mod handle;
+mod look;
+mod mappings;
+mod send;
+mod unmap;
+
+pub use handle::Handle;
+pub use look::{EntryReply, OriginReply};
+pub use mappings::MappingReply;
+pub use send::SendReply;

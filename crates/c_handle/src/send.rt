@@ -1,0 +1,90 @@
+//! Maps and grants.
+
+ghost use Rattle.std.specs.Prelude.{◌≡◌, ◌<◌, ◌^◌, Some};
+ghost use Rattle.model.specs.SendLaws.{total};
+ghost use Rattle.mapdb.specs.Meaning.{counts_of};
+ghost use Rattle.c_handle.specs.Asked.{send_asked};
+ghost use Rattle.c_handle.specs.Called.{IsCalled};
+ghost use Rattle.c_handle.specs.Errors.{result_code};
+ghost use Rattle.c_handle.specs.Replied.{counts_in, counts_told};
+
+use crate::error::CallError;
+use crew::Alone;
+use fpage::{Fpage, Item, ItemKind};
+use mapdb::{Database, DbError};
+use std::alloc::Global;
+use words::read_items;
+
+/// How many items a message has at most.
+const MOST_ITEMS: usize = 31;
+
+/// How many pages had which outcome, over all items of a send.
+#[repr(C)]
+#[derive(Clone, Copy, Debug, PartialEq, Eq)]
+pub struct SendReply {
+    /// The sender's page holds nothing.
+    pub absent: u32,
+    /// It holds none of the rights that the item asks for.
+    pub norights: u32,
+    /// The receiver's page is one from which the sender's page came.
+    pub origin: u32,
+    /// The sender's page was gone before its turn, or had no rights left.
+    pub lost: u32,
+    /// The receiver's page came from the sender's already, and got the rights that it lacked.
+    pub extended: u32,
+    /// The receiver's page came from the sender's by this call.
+    pub linked: u32,
+}
+
+/// The counts in words.
+fn counts(reply: mapdb::SendReply) -> SendReply
+    requires { total (counts_of reply) < 2 ^ 32 }
+    ensures { result ≡ counts_in (counts_of reply) }
+{
+    SendReply {
+        absent: reply.absent as u32,
+        norights: reply.norights as u32,
+        origin: reply.origin as u32,
+        lost: reply.lost as u32,
+        extended: reply.extended as u32,
+        linked: reply.linked as u32,
+    }
+}
+
+/// Sends the items of words, and writes how many pages had which outcome to `reply`. The words take no memory.
+///
+/// Refused, the first that fits: a halted database; `BadCall`, for the number of words; what `Fpage::read` refuses of the
+/// window, and then what `Item::read` refuses of each item in order; and what `Database::send` refuses. Then `reply` is as it
+/// was.
+pub fn send(
+    alloc: Global,
+    database: &mut Database,
+    from: u16,
+    to: u16,
+    window: u32,
+    words: &[u32],
+    reply: &mut SendReply,
+) -> Result<(), CallError>
+    ensures { IsCalled counts_told (send_asked from to window words.now database.old.limits) database.old reply.old
+        (record { code = result_code result; held = Some database.new; lent = reply.new }) }
+{
+    if database.is_halted() {
+        return Err(CallError::Database(DbError::Halted));
+    }
+    if words.len() % 2 != 0 || words.len() < 2 || words.len() > 2 * MOST_ITEMS {
+        return Err(CallError::BadCall);
+    }
+    let bits = database.limits().bits;
+    let window = Fpage::read(window, bits)?;
+    // What stands in the items before they are read has no meaning.
+    let mut items = [Item {
+        kind: ItemKind::Map,
+        base: 0,
+        sent: window,
+    }; MOST_ITEMS];
+    read_items(words, bits, &mut items)?;
+    let items = &items[..words.len() / 2];
+    let sent = database.send(alloc, from, to, &window, items, &Alone)?;
+    *reply = counts(sent);
+    Ok(())
+}

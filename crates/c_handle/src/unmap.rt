@@ -1,0 +1,59 @@
+//! Unmaps and flushes.
+
+ghost use Rattle.std.specs.Prelude.{◌≡◌, length, map, Some};
+ghost use Rattle.std.specs.List.{zip};
+ghost use Rattle.fpage.specs.Control.{with_status};
+ghost use Rattle.c_handle.specs.Asked.{unmap_asked};
+ghost use Rattle.c_handle.specs.Called.{IsCalled};
+ghost use Rattle.c_handle.specs.Errors.{result_code};
+ghost use Rattle.c_handle.specs.Replied.{words_told};
+
+use crate::error::CallError;
+use crew::Alone;
+use fpage::{Control, Fpage, Rights, with_status};
+use mapdb::{Database, DbError};
+use std::alloc::Global;
+use words::read_fpages;
+
+/// How many words an unmap has at most.
+const MOST_WORDS: usize = 64;
+
+/// Takes rights from the pages that words name, and from all that derives from them. Each word comes back with the status
+/// found in place of its rights. The words take no memory.
+///
+/// Refused, the first that fits: a halted database; what `Control::read` refuses; what `Fpage::read` refuses of each word in
+/// order; and what `Database::unmap` refuses. Then the words are as they were.
+pub fn unmap(
+    alloc: Global,
+    database: &mut Database,
+    space: u16,
+    control: u32,
+    words: &mut [u32],
+) -> Result<(), CallError>
+    ensures { IsCalled words_told (unmap_asked space control words.old database.old.limits) database.old words.old
+        (record { code = result_code result; held = Some database.new; lent = words.new }) }
+{
+    if database.is_halted() {
+        return Err(CallError::Database(DbError::Halted));
+    }
+    let bits = database.limits().bits;
+    let control = Control::read(control, words.len())?;
+    // The control word names as many words as there are, so there is a first.
+    let first = Fpage::read(words[0], bits)?;
+    let mut fpages = [first; MOST_WORDS];
+    read_fpages(words, bits, &mut fpages)?;
+    let fpages = &fpages[..words.len()];
+    let status = database.unmap(alloc, space, control, fpages, &Alone)?;
+    put_status(words, &status);
+    Ok(())
+}
+
+/// Puts the status of each word in place of its rights.
+fn put_status(words: &mut [u32], status: &[Rights])
+    requires { length status.now ≡ length words.old }
+    ensures { words.new ≡ map (λ e. with_status e.0 e.1) (zip words.old status.now) }
+{
+    for i in 0..words.len() {
+        words[i] = with_status(words[i], status[i]);
+    }
+}
