@@ -24,7 +24,7 @@ build_crate() {
 (($# == 0)) || fail "no argument is taken; usage: $0"
 top=$(dirname -- "$(readlink -f -- "${BASH_SOURCE[0]}")")
 command -v rt > /dev/null || fail "the command rt is missing: install the Rattle kit and put its bin folder on the PATH"
-# (a crate NAME_tests has the tests of the crate NAME, and nothing to build; capi is the library that ./library.sh builds, and
+# (a crate whose name ends in _tests has tests, and nothing to build; capi is the library that ./library.sh builds, and
 # c_handle and raw_box are there for it alone)
 mapfile -t crates < <(sed -nE 's/^([a-z0-9_]+)( [^:]*)?:.*/\1/p' "$top/crates.txt" | grep -vE '_tests$|^capi$|^c_handle$|^raw_box$')
 log=$(mktemp "${TMPDIR:-/tmp}/l4map-build-XXXXXX.log") || fail "no temporary file can be made"

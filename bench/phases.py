@@ -3,7 +3,7 @@
 
     bench/phases.py [NODES..]
 
-The test `works_a_thousand_nodes_or_as_many_as_are_asked_for` of crates/crew_tests/out/crew_tests_tests, which `rt ci` leaves, works
+The test `works_a_thousand_nodes_or_as_many_as_are_asked_for` of crates/phase_tests/out/phase_tests_tests, which `rt ci` leaves, works
 strips of 1,048,576 nodes, or of as many as are asked for, in pieces of 256, 1,024 and 4,096, each crew five times in turn. It times only
 the call of `work` of `crew`, which shares the words, starts the workers, works all turns and takes the words back. It is run three times,
 and the medians and the least times are printed:
@@ -24,7 +24,7 @@ import subprocess
 import sys
 
 HERE = os.path.dirname(os.path.abspath(__file__))
-TESTS = os.path.join(os.path.dirname(HERE), "crates", "crew_tests", "out", "crew_tests_tests")
+TESTS = os.path.join(os.path.dirname(HERE), "crates", "phase_tests", "out", "phase_tests_tests")
 TEST = "times::works_a_thousand_nodes_or_as_many_as_are_asked_for"
 NODES = [1_048_576]
 RUNS = 3
@@ -44,7 +44,7 @@ def told(nodes):
 
 def main():
     if not os.access(TESTS, os.X_OK):
-        sys.exit(f"phases.py: there is no {TESTS}: `rt test` in crates/crew_tests proves it and builds it")
+        sys.exit(f"phases.py: there is no {TESTS}: `rt test` in crates/phase_tests proves it and builds it")
     for nodes in [int(word) for word in sys.argv[1:]] or NODES:
         tell(nodes)
 

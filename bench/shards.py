@@ -3,7 +3,7 @@
 
     bench/shards.py
 
-The first is the test `keeps_a_million_entries_over_512_spaces` of crates/space/out/space_tests, which `rt ci` leaves;
+The first is the test `keeps_a_million_entries_over_512_spaces` of crates/page_tests/out/page_tests_tests, which `rt ci` leaves;
 the second is shards.rs, built here by `rustc -O`. Both make the vector of 2,097,152 words first. Nothing here has a
 threshold.
 """
@@ -16,7 +16,7 @@ import tempfile
 import time
 
 HERE = os.path.dirname(os.path.abspath(__file__))
-TESTS = os.path.join(os.path.dirname(HERE), "crates", "space", "out", "space_tests")
+TESTS = os.path.join(os.path.dirname(HERE), "crates", "page_tests", "out", "page_tests_tests")
 RUNS = 15
 
 
@@ -32,12 +32,12 @@ def median_of(words):
 
 def main():
     if not os.access(TESTS, os.X_OK):
-        sys.exit(f"shards.py: there is no {TESTS}: `rt test` in crates/space proves it and builds it")
+        sys.exit(f"shards.py: there is no {TESTS}: `rt test` in crates/page_tests proves it and builds it")
     with tempfile.TemporaryDirectory() as room:
         plain = os.path.join(room, "shards")
         subprocess.run(["rustc", "-O", "-o", plain, os.path.join(HERE, "shards.rs")], check=True)
         print(f"plain vector, rustc -O  {median_of([plain]):6.1f} ms")
-    print(f"shards, proved          {median_of([TESTS, 'tests::keeps_a_million_entries_over_512_spaces']):6.1f} ms")
+    print(f"shards, proved          {median_of([TESTS, 'entries::keeps_a_million_entries_over_512_spaces']):6.1f} ms")
 
 
 if __name__ == "__main__":

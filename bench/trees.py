@@ -3,7 +3,7 @@
 
     bench/trees.py [NODES..]
 
-The first is the test `makes_each_call_on_a_thousand_nodes_or_as_many_as_are_asked_for` of crates/maptree_tests/out/maptree_tests_tests,
+The first is the test `makes_each_call_on_a_thousand_nodes_or_as_many_as_are_asked_for` of crates/page_tests/out/page_tests_tests,
 which `rt ci` leaves; the others are trees.rs and pointers.rs, built here by `rustc -O`. All make the same calls on the same
 trees (calls.rs) and time them, and the sums of their answers must be equal. The vector, which passes over its nodes in each
 call, has no trees of more than 100,000 nodes. A run that takes longer than LIMIT seconds is given up: what it told counts,
@@ -16,8 +16,8 @@ import sys
 import tempfile
 
 HERE = os.path.dirname(os.path.abspath(__file__))
-TESTS = os.path.join(os.path.dirname(HERE), "crates", "maptree_tests", "out", "maptree_tests_tests")
-TEST = "tests::large::makes_each_call_on_a_thousand_nodes_or_as_many_as_are_asked_for"
+TESTS = os.path.join(os.path.dirname(HERE), "crates", "page_tests", "out", "page_tests_tests")
+TEST = "trees::large::makes_each_call_on_a_thousand_nodes_or_as_many_as_are_asked_for"
 NODES = [1_000, 10_000, 100_000, 1_000_000]
 MOST_OF_VECTOR = 100_000
 RUNS = 3
@@ -124,7 +124,7 @@ def growth(sizes, nanos, kind):
 
 def main():
     if not os.access(TESTS, os.X_OK):
-        sys.exit(f"trees.py: there is no {TESTS}: `rt test` in crates/maptree_tests proves it and builds it")
+        sys.exit(f"trees.py: there is no {TESTS}: `rt test` in crates/page_tests proves it and builds it")
     sizes = sorted({int(word) for word in sys.argv[1:]} or NODES)
     results = {}
     with tempfile.TemporaryDirectory() as room:

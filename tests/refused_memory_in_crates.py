@@ -18,47 +18,45 @@ import tempfile
 from support.program import TOP, Cases, build_library, give_up, run
 from support.refusals import EXTENTS, runs_refusing
 
-# A crate that has tests, and those of them that take memory. One line makes a further crate part of this.
+# A crate of tests, and those of them that take memory. One line makes a further test part of this.
 TESTS = {
-    "space": ["keeps_entries_at_the_least_limits", "keeps_entries_at_the_largest_limits"],
-    "maptree_tests": [
-        "has_outer_runs",
-        "cuts::puts_back_one_node_of_a_run_of_three",
-        "cuts::stays_as_the_last_cut_left_it_where_nothing_is_put_back",
-        "cuts::cuts_runs_and_puts_back_what_is_kept",
+    "page_tests": [
+        "entries::keeps_entries_at_the_least_limits",
+        "entries::keeps_entries_at_the_largest_limits",
+        "trees::has_outer_runs",
+        "trees::cuts::puts_back_one_node_of_a_run_of_three",
+        "trees::cuts::stays_as_the_last_cut_left_it_where_nothing_is_put_back",
+        "trees::cuts::cuts_runs_and_puts_back_what_is_kept",
     ],
-    "pieces_tests": [
-        "masks_spare_the_first_node_of_a_run",
-        "cuts_lists_in_their_order",
-        "gathers_by_number",
-        "tells_distinct_indexes",
-        "links_and_moves_in_pieces",
+    "phase_tests": [
+        "piecewise::masks_spare_the_first_node_of_a_run",
+        "piecewise::cuts_lists_in_their_order",
+        "piecewise::gathers_by_number",
+        "piecewise::tells_distinct_indexes",
+        "piecewise::links_and_moves_in_pieces",
+        "by_turns::two_strips_closed_at_each_pair_of_counts",
+        "by_turns::a_phase_is_closed_once_all_turns_are_there",
+        "by_turns::an_access_is_seen_and_then_marked",
+        "by_turns::a_page_is_taken_and_then_put",
+        "by_workers::crews_read_words_at_opening_and_add_marks_up",
+        "by_workers::the_calling_thread_alone_links_and_moves_in_several_pieces",
+        "by_workers::one_worker_links_in_a_single_piece",
+        "by_workers::one_worker_moves_and_marks_in_a_single_piece",
+        "by_workers::one_worker_strips_and_marks",
     ],
-    "turns_tests": [
-        "two_strips_closed_at_each_pair_of_counts",
-        "a_phase_is_closed_once_all_turns_are_there",
-        "an_access_is_seen_and_then_marked",
-        "a_page_is_taken_and_then_put",
+    "database_tests": [
+        "databases::holds_each_frame_once_at_the_start",
+        "databases::maps_a_page_on",
+        "databases::accesses::marks_the_same_with_a_crew",
+        "databases::unmaps::revokes_what_derives",
+        "databases::unmaps::revokes_by_recursion",
+        "audits::reports_a_small_database",
+        "audits::halted::a_halted_database_refuses_every_call",
+        "replays::flushes_what_it_has_written_where_memory_runs_out",
     ],
-    "crew_tests": [
-        "crews_read_words_at_opening_and_add_marks_up",
-        "the_calling_thread_alone_links_and_moves_in_several_pieces",
-        "one_worker_links_in_a_single_piece",
-        "one_worker_moves_and_marks_in_a_single_piece",
-        "one_worker_strips_and_marks",
-    ],
-    "mapdb_tests": [
-        "holds_each_frame_once_at_the_start",
-        "maps_a_page_on",
-        "accesses::marks_the_same_with_a_crew",
-        "unmaps::revokes_what_derives",
-        "unmaps::revokes_by_recursion",
-    ],
-    "audit_tests": ["reports_a_small_database", "halted::a_halted_database_refuses_every_call"],
-    "replay_tests": ["flushes_what_it_has_written_where_memory_runs_out"],
 }
 # Those of them whose calls start threads.
-TESTS_WITH_THREADS = {("audit_tests", "halted::a_halted_database_refuses_every_call")}
+TESTS_WITH_THREADS = {("database_tests", "audits::halted::a_halted_database_refuses_every_call")}
 
 # What a test ends with that was refused memory, by a call, or for a list of its own; or a thread.
 REFUSED = {
@@ -68,7 +66,7 @@ REFUSED = {
 
 
 def built_tests(crate):
-    """The tests of a crate as a program. Where it is not built, the script ends."""
+    """A crate of tests as a program. Where it is not built, the script ends."""
     program = os.path.join(TOP, "crates", crate, "out", f"{crate}_tests")
     if not os.access(program, os.X_OK):
         give_up(f"there is no {program}: ./test.sh proves it and builds it")
@@ -113,7 +111,7 @@ def main():
         library = build_library("fail_alloc.c", room)
         for crate, program in programs.items():
             for test in TESTS[crate]:
-                words = [program, f"tests::{test}"]
+                words = [program, test]
                 check_test(cases, f"{crate}: {test}", words, library, "allocation")
                 if (crate, test) in TESTS_WITH_THREADS:
                     check_test(cases, f"{crate}: {test}", words, library, "thread")

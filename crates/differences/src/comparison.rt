@@ -303,7 +303,7 @@ fn push_record<T: AllocGlobal + Threads + Sync>(
     Ok(Some(Trees::ChangedBy(u64::from(number))))
 }
 
-/// Where the record with this number stands, behind where what comes before it stands: a record, or the header.
+/// Where what comes right before the record with this number stands, a record or the header, and then where that record stands.
 fn nth_record(places: &mut Places<'_>, number: u32) -> Result<(Span, Span), NoMemory> {
     let mut before = places.next_place()?;
     let mut span = places.next_place()?;

@@ -6,8 +6,6 @@ mod error;
 mod item;
 mod pairing;
 mod rights;
-#[cfg(test)]
-mod tests;
 mod word;
 
 pub use control::{Control, with_status};

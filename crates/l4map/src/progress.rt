@@ -1,7 +1,7 @@
 //! How far a run has come, told in one line of a terminal.
 
 use itoa::Buffer;
-use replay::Watch;
+use replay::{BLOCK, Watch};
 use std::io::Write;
 use std::time::{Clock, Duration, Instant};
 
@@ -10,9 +10,6 @@ const PATIENCE: u64 = 2000;
 
 /// How many milliseconds a line stands before it is written anew.
 const PAUSE: u64 = 200;
-
-/// How many bytes of reply lines are passed on at once where nobody looks on.
-const BLOCK: usize = 32768;
 
 /// Puts the cursor of a terminal at the start of its line, and clears what stands there.
 const CLEAR: &[u8] = b"\r\x1b[K";

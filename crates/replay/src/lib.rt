@@ -14,4 +14,4 @@ pub use buffers::Buffers;
 pub use error::RunError;
 pub use options::Options;
 pub use replay::{Summary, run, run_by};
-pub use watch::{NoWatch, Watch};
+pub use watch::{BLOCK, NoWatch, Watch};

@@ -1,7 +1,7 @@
 //! Who hears how far a run has come.
 
-/// How many bytes of reply lines are worth a write, if nobody waits for them.
-const BLOCK: usize = 32768;
+/// How many bytes of reply lines are worth a write where nobody waits for them.
+pub const BLOCK: usize = 32_768;
 
 /// Who hears how far a run has come. What it does changes nothing of what is written.
 pub trait Watch {

@@ -6,8 +6,6 @@ mod laws;
 mod place;
 mod shards;
 mod status;
-#[cfg(test)]
-mod tests;
 mod word;
 
 pub use error::NoMemory;

@@ -1,7 +1,0 @@
--- The fpages so far lie within a space.
-use Rattle.std.specs.List.{All}
-use Rattle.fpage.specs.Fpage.{IsFpageOf}
-use Rattle.mapdb_tests.proofs.tests.calls.fpages.Given as goal
-
-abbrev pub invariant-loop-word : goal.invariant-loop-word
-invariant-loop-word g l = All (IsFpageOf l.bits) l.fpages.items

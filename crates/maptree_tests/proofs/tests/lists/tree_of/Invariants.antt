@@ -1,6 +1,0 @@
--- The nodes so far are counted.
-use Rattle.std.proofs.Common.{◌≡◌, length}
-use Rattle.maptree_tests.proofs.tests.lists.tree_of.Given as goal
-
-abbrev pub invariant-loop-depth : goal.invariant-loop-depth
-invariant-loop-depth g l = l.len ≡ length l.tree.links

@@ -1,0 +1,363 @@
+//! Thousands of calls on one tree, drawn by a fixed rule, each beside the same on a plain list of its nodes.
+
+ghost use Rattle.std.specs.Prelude.{◌<◌, ◌≤◌, IfSome, length};
+ghost use Rattle.std.specs.List.{All};
+ghost use Rattle.maptree.specs.Origins.{AreRising, IsRun};
+
+use super::cuts::{are_absent, are_closed, nodes_in, parts_without};
+use super::large::nth_place;
+use super::{position, put_below, rename};
+use crate::assertions::{assert_equal, assert_holds};
+use mapnode::{Node, Slice};
+use maptree::Tree;
+use space::Place;
+use std::alloc::Global;
+use std::ops::Range;
+use std::process::Abort;
+use std::test::Fail;
+
+/// How many calls change the tree.
+const CHANGES: u32 = 6_000;
+
+/// After how many of them all nodes are compared.
+const BETWEEN: u32 = 100;
+
+/// Only a tree of so many nodes or more has nodes cut out.
+const LARGE: usize = 1_500;
+
+/// Numbers that look random, the same ones each time.
+#[derive(Clone, Copy)]
+struct Chance {
+    state: u64,
+}
+
+impl Chance {
+    /// A number below this one; 0 below 0.
+    fn below(&mut self, n: usize) -> usize
+        ensures { 0 < n → result < n }
+    {
+        self.state = self
+            .state
+            .wrapping_mul(6_364_136_223_846_793_005)
+            .wrapping_add(1_442_695_040_888_963_407);
+        (self.state / 8_589_934_592) as usize % n.max(1)
+    }
+}
+
+/// Where the run of a node ends.
+fn end_of(list: &[Node], i: usize) -> usize
+    requires { i < length list.now }
+{
+    for j in i + 1..list.len() {
+        if list[j].depth <= list[i].depth {
+            return j;
+        }
+    }
+    list.len()
+}
+
+/// Where the origin of a node stands.
+fn origin_of(list: &[Node], i: usize) -> Option<usize>
+    requires { i < length list.now }
+    ensures { IfSome result (λ r. r < i) }
+{
+    for j in (0..i).rev() {
+        if list[j].depth < list[i].depth {
+            return Some(j);
+        }
+    }
+    None
+}
+
+/// The outermost runs of some places.
+fn outer_runs(alloc: Global, list: &[Node], places: &[Place]) -> Result<Vec<Range<usize>>, Fail> {
+    let mut runs = Vec::new(alloc);
+    let mut until = 0;
+    for i in 0..list.len() {
+        if until <= i && places.contains(&list[i].place) {
+            until = end_of(list, i);
+            runs.push(i..until)?;
+        }
+    }
+    Ok(runs)
+}
+
+/// The nodes that stand outside of some ranges.
+fn outside(alloc: Global, list: &[Node], ranges: &[Range<usize>]) -> Result<Vec<Node>, Fail> {
+    let mut left = Vec::new(alloc);
+    for i in 0..list.len() {
+        if !ranges.iter().any(|range| range.contains(&i)) {
+            left.push(list[i])?;
+        }
+    }
+    Ok(left)
+}
+
+/// What the tree answers of two nodes is what the list says.
+fn asks(rt: &impl Abort, tree: &Tree, list: &[Node], i: usize, j: usize)
+    requires i { i < length list.now }
+    requires j { j < length list.now }
+{
+    let a = position(rt, tree, list[i].place);
+    let b = position(rt, tree, list[j].place);
+    let end = end_of(list, i);
+    assert_equal(rt, (a, b), (i, j), i);
+    assert_equal(rt, tree.node(a), list[i], i);
+    assert_equal(rt, tree.run_of(a), i..end, i);
+    assert_equal(rt, tree.origin_of(a), origin_of(list, i), i);
+    assert_equal(rt, tree.is_origin(a, b), i < j && j < end, i);
+}
+
+/// The place of a node's origin.
+fn origin_at(list: &[Node], i: usize) -> Option<Place>
+    requires { i < length list.now }
+{
+    match origin_of(list, i) {
+        Some(above) => Some(list[above].place),
+        None => None,
+    }
+}
+
+/// The tree has the nodes of the list, with their origins and the ends of their runs, and no others.
+fn assert_all(rt: &impl Abort, alloc: Global, tree: &Tree, list: &[Node]) -> Result<(), Fail> {
+    let links = tree.links(alloc)?;
+    assert_eq!(rt; links.len(), list.len());
+    for i in 0..list.len() {
+        assert_equal(rt, links[i], (list[i].place, origin_at(list, i)), i);
+        assert_equal(rt, tree.node(i), list[i], i);
+        assert_equal(rt, tree.run_of(i), i..end_of(list, i), i);
+    }
+    Ok(())
+}
+
+/// Puts a new place below a node.
+fn inserts(
+    rt: &impl Abort,
+    tree: &mut Tree,
+    list: &mut Vec<Node>,
+    i: usize,
+    place: Place,
+) -> Result<(), Fail>
+    requires { i < length list.old.items }
+{
+    let origin = list[i];
+    tree.reserve(1)?;
+    put_below(rt, tree, origin.place, place);
+    let depth = origin.depth.saturating_add(1);
+    list.insert(i + 1, Node { place, depth })?;
+    Ok(())
+}
+
+/// Gives a node a new place.
+fn renames(rt: &impl Abort, tree: &mut Tree, list: &mut [Node], i: usize, place: Place)
+    requires { i < length list.old }
+{
+    rename(rt, tree, list[i].place, place);
+    list[i].place = place;
+}
+
+/// A node of a part, by their numbers.
+fn nth_node(parts: &[Slice], part: usize, at: usize) -> Option<Node> {
+    match parts.get(part) {
+        Some(part) => part.nodes.get(at).copied(),
+        None => None,
+    }
+}
+
+/// A node of a part, by their numbers, is this one.
+fn has_node(rt: &impl Abort, parts: &[Slice], part: usize, at: usize, node: Node) {
+    assert_equal(
+        rt,
+        (part, at, nth_node(parts, part, at)),
+        (part, at, Some(node)),
+        "a node of a part",
+    );
+}
+
+/// The parts have the nodes of these runs of the list, each at most so many, and no others.
+fn assert_parts(
+    rt: &impl Abort,
+    parts: &[Slice],
+    list: &[Node],
+    runs: &[Range<usize>],
+    most: usize,
+) {
+    let (mut begun, mut count) = (0_usize, 0_usize);
+    for run in runs {
+        for i in run.start..run.end.min(list.len()) {
+            let at = i.wrapping_sub(run.start) % most.max(1);
+            if at == 0 {
+                begun = begun.wrapping_add(1);
+            }
+            has_node(rt, parts, begun.wrapping_sub(1), at, list[i]);
+            count = count.wrapping_add(1);
+        }
+    }
+    assert_equal(
+        rt,
+        (parts.len(), nodes_in(parts)),
+        (begun, count),
+        "parts and nodes",
+    );
+}
+
+/// Cuts runs out of the tree, which has the nodes of a list, and puts back all but the nodes at some places.
+fn cuts(
+    rt: &impl Abort,
+    alloc: Global,
+    tree: &mut Tree,
+    list: &[Node],
+    runs: &[Range<usize>],
+    most: usize,
+    gone: &[Place],
+) -> Result<(), Fail>
+    requires rising { AreRising 0 runs.now (length tree.old.links) }
+    requires runs { All (IsRun tree.old.links) runs.now }
+    requires most { 1 ≤ most }
+{
+    let len = tree.links(alloc)?.len();
+    if !are_closed(tree, len, gone) {
+        panic!(rt; "a node would stay without its origin");
+    }
+    let parts = tree.cut(alloc, runs, most)?;
+    assert_parts(rt, &parts, list, runs, most);
+    assert_all(rt, alloc, tree, &outside(alloc, list, runs)?)?;
+    if !are_absent(tree, gone) {
+        panic!(rt; "not all are in parts");
+    }
+    let kept = parts_without(alloc, &parts, gone)?;
+    tree.splice(kept)?;
+    Ok(())
+}
+
+/// Some runs within these, none with the root: what is left out of the parts.
+fn left_out(
+    alloc: Global,
+    list: &[Node],
+    runs: &[Range<usize>],
+    chance: &mut Chance,
+) -> Result<Vec<Range<usize>>, Fail> {
+    let mut out = Vec::new(alloc);
+    let mut until = 1;
+    for run in runs {
+        for i in run.start..run.end.min(list.len()) {
+            if until <= i && chance.below(64) == 0 {
+                until = end_of(list, i);
+                out.push(i..until)?;
+            }
+        }
+    }
+    Ok(out)
+}
+
+/// The places of a few nodes, or of many.
+fn some_places(alloc: Global, list: &[Node], chance: &mut Chance) -> Result<Vec<Place>, Fail> {
+    let mut named = Vec::new(alloc);
+    let few_or_many = [2, 5, 200][chance.below(3)];
+    for _ in 0..1 + chance.below(few_or_many) {
+        if let Some(node) = list.get(chance.below(list.len())) {
+            named.push(node.place)?;
+        }
+    }
+    Ok(named)
+}
+
+/// The places of the nodes within some ranges.
+fn places_within(
+    alloc: Global,
+    list: &[Node],
+    ranges: &[Range<usize>],
+) -> Result<Vec<Place>, Fail> {
+    let mut places = Vec::new(alloc);
+    for i in 0..list.len() {
+        if ranges.iter().any(|range| range.contains(&i)) {
+            places.push(list[i].place)?;
+        }
+    }
+    Ok(places)
+}
+
+/// Cuts the outermost runs of a few places, or of many, out, and puts back what is not left out.
+fn thins(
+    rt: &impl Abort,
+    alloc: Global,
+    tree: &mut Tree,
+    list: &mut Vec<Node>,
+    chance: &mut Chance,
+) -> Result<(), Fail> {
+    let named = some_places(alloc, list, chance)?;
+    let runs = tree.outer_runs(alloc, &named)?;
+    let wanted = outer_runs(alloc, list, &named)?;
+    assert_equal(rt, runs.as_slice(), wanted.as_slice(), "outermost runs");
+    let out = left_out(alloc, list, &runs, chance)?;
+    let gone = places_within(alloc, list, &out)?;
+    cuts(rt, alloc, tree, list, &runs, 1 + chance.below(300), &gone)?;
+    *list = outside(alloc, list, &out)?;
+    Ok(())
+}
+
+/// Makes one call that changes the tree.
+fn changes(
+    rt: &impl Abort,
+    alloc: Global,
+    tree: &mut Tree,
+    list: &mut Vec<Node>,
+    place: Place,
+    chance: &mut Chance,
+) -> Result<(), Fail> {
+    let any = chance.below(list.len());
+    let last = list.len().saturating_sub(1);
+    assert!(rt; any < list.len() && last < list.len());
+    match chance.below(50) {
+        0 if LARGE < list.len() => thins(rt, alloc, tree, list, chance),
+        1..=9 => {
+            renames(rt, tree, list, any, place);
+            Ok(())
+        }
+        10..=20 => inserts(rt, tree, list, 0, place),
+        21..=31 => inserts(rt, tree, list, last, place),
+        _ => inserts(rt, tree, list, any, place),
+    }
+}
+
+/// Makes the nth call that changes the tree, and asks of two nodes.
+fn step(
+    rt: &impl Abort,
+    alloc: Global,
+    tree: &mut Tree,
+    list: &mut Vec<Node>,
+    n: u32,
+    chance: &mut Chance,
+) -> Result<(), Fail> {
+    changes(rt, alloc, tree, list, nth_place(n), chance)?;
+    let (i, j) = (chance.below(list.len()), chance.below(list.len()));
+    assert!(rt; i < list.len() && j < list.len());
+    asks(rt, tree, list, i, j);
+    assert_equal(
+        rt,
+        tree.find(nth_place(CHANGES)),
+        None,
+        "a place that never comes",
+    );
+    if n % BETWEEN == 0 {
+        assert_all(rt, alloc, tree, list)?;
+    }
+    Ok(())
+}
+
+#[test]
+fn is_like_a_plain_list_over_thousands_of_calls(rt: HostRuntime) -> Result<(), Fail> {
+    let alloc = rt.alloc();
+    let mut chance = Chance { state: 1 };
+    let mut tree = Tree::root(alloc, nth_place(0));
+    let mut list = Vec::new(alloc);
+    list.push(Node {
+        place: nth_place(0),
+        depth: 0,
+    })?;
+    for n in 1..CHANGES {
+        step(&rt, alloc, &mut tree, &mut list, n, &mut chance)?;
+    }
+    assert_holds(&rt, LARGE < list.len(), "too few nodes");
+    Ok(())
+}

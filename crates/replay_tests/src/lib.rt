@@ -1,5 +1,0 @@
-//! Tests of whole replays.
-#![tactic(auto)]
-
-#[cfg(test)]
-mod tests;

@@ -1,6 +1,0 @@
--- Both turns are of this phase.
-use Rattle.std.proofs.Common.{◌≡◌}
-use Rattle.turns_tests.proofs.random.step_two.Given as goal
-
-abbrev pub invariant-loop-k : goal.invariant-loop-k
-invariant-loop-k l = (l.first.sheet ≡ l.phase) × (l.second.sheet ≡ l.phase)

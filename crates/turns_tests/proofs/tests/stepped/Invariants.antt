@@ -1,6 +1,0 @@
--- The turn is of this phase.
-use Rattle.std.proofs.Common.{◌≡◌}
-use Rattle.turns_tests.proofs.tests.stepped.Given as goal
-
-abbrev pub invariant-loop : goal.invariant-loop
-invariant-loop l = l.turn.sheet ≡ l.phase

@@ -1,8 +1,0 @@
--- The turns so far are of this phase.
-use Rattle.std.proofs.Common.{◌≡◌}
-use Rattle.std.specs.List.{All}
-use Rattle.turns.specs.Posts.{PostContent}
-use Rattle.turns_tests.proofs.times.ended.Given as goal
-
-abbrev pub invariant-loop-turn : goal.invariant-loop-turn
-invariant-loop-turn l = All (λ (t : PostContent). t.sheet ≡ l.phase) l.after.items
