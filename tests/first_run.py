@@ -3,8 +3,8 @@
 
     tests/first_run.py
 
-What is to be seen without the built program is seen in a copy of the repository. There run.sh builds a program without
-proofs, in half a minute; so that is done twice only, and elsewhere a script stands in for the command `rt`.
+What is to be seen without the built program is seen in copies of the repository. There run.sh builds a program without
+proofs, in half a minute; so that is done twice only, at once, and elsewhere a script stands in for the command `rt`.
 """
 
 import os
@@ -12,6 +12,7 @@ import pty
 import re
 import shutil
 import tempfile
+from concurrent.futures import ThreadPoolExecutor
 
 from support.program import TOP, Cases, Ended, program_path, run
 
@@ -131,9 +132,9 @@ def check_program_speaks(cases, program, room):
     cases.compare("no argument is left of run.sh", run([program, ""], TRACE), run(["./run.sh", trace, ""], cwd=TOP))
 
 
-def unbuilt_copy(room):
+def unbuilt_copy(room, name):
     """A copy of the repository without what was built."""
-    copy = os.path.join(room, "copy")
+    copy = os.path.join(room, name)
     os.mkdir(copy)
     for name in ("run.sh", "build.sh", "crates.txt", "HANDLES"):
         shutil.copy(os.path.join(TOP, name), copy)
@@ -142,13 +143,15 @@ def unbuilt_copy(room):
     return copy
 
 
-def check_quick_way(cases, copy):
+def check_quick_way(cases, copy, other):
     """Without the program run.sh says so in one line, and ends as the program does, or says what it cannot do."""
-    closed = run(["./run.sh", "-"], TRACE, stdout=None, preexec_fn=lambda: os.close(1), cwd=copy)
+    with ThreadPoolExecutor() as pool:
+        closed = pool.submit(run, ["bash", "-c", "exec ./run.sh - >&-"], TRACE, cwd=copy)
+        long = pool.submit(run, ["./run.sh", "-"], LONG, cwd=other)
     wanted = Ended(4, b"", NOTICE + b"l4map: WriteFailed\n")
-    cases.compare("without the program: closed standard output", wanted, closed)
+    cases.compare("without the program: closed standard output", wanted, closed.result())
     wanted = Ended(125, b"", NOTICE + TOO_LONG)
-    cases.compare("without the program: more than 1 MiB of output", wanted, run(["./run.sh", "-"], LONG, cwd=copy))
+    cases.compare("without the program: more than 1 MiB of output", wanted, long.result())
 
 
 def stand_in(room, text):
@@ -237,11 +240,11 @@ def main():
         make_room(room)
         check_traces(cases, room)
         check_program_speaks(cases, program, room)
-        copy = unbuilt_copy(room)
+        copy, other = unbuilt_copy(room, "copy"), unbuilt_copy(room, "other")
         check_without_kit(cases, copy, room)
         check_ends_of_rt_try(cases, copy, room)
         check_build(cases, copy, room)
-        check_quick_way(cases, copy)
+        check_quick_way(cases, copy, other)
     cases.end()
 
 

@@ -82,52 +82,37 @@ pub fn check_trace<W: Sink>(
     let mut reader = match TraceReader::new(alloc, subject.bytes) {
         Ok(reader) => reader,
         Err(TraceError::BadHeader) => {
-            tell_bad_header(alloc, subject, writer)?;
+            tell_header(alloc, subject, None, writer)?;
             return Ok(Found::BadHeader);
         }
         Err(_) => return Err(CheckError::NoMemory),
     };
     let limits = reader.limits();
     if !limits.are_served() {
-        tell_bad_limits(alloc, subject, &limits, writer)?;
+        tell_header(alloc, subject, Some(&limits), writer)?;
         return Ok(Found::BadLimits);
     }
     check_records(alloc, subject, &limits, &mut reader, writer)
 }
 
-/// Writes the line of a first record that is no header.
-fn tell_bad_header<W: Sink>(
+/// Writes the line of a header whose limits are not served, or, where there are none, of a first record that is no header.
+fn tell_header<W: Sink>(
     alloc: Global,
     subject: &Subject<'_>,
+    limits: Option<&Limits>,
     writer: &mut W,
 ) -> Result<(), CheckError> {
     let mut places = Places::new(alloc, subject.bytes)?;
     let span = places.next_place()?;
     let fields = places.fields(alloc)?;
     let mut cause = String::new(alloc);
-    let index = push_bad_header(&mut cause, &fields)?;
+    let (refusal, index) = match limits {
+        None => ("BadHeader", push_bad_header(&mut cause, &fields)?),
+        Some(limits) => ("BadLimits", push_bad_limits(&mut cause, limits)?),
+    };
     let mut line = String::new(alloc);
     push_place(&mut line, subject, span, &fields, index)?;
-    write!(line, "header: BadHeader: {cause}\n")?;
-    writer.write_all(line.as_bytes())?;
-    Ok(())
-}
-
-/// Writes the line of a header whose limits are not served.
-fn tell_bad_limits<W: Sink>(
-    alloc: Global,
-    subject: &Subject<'_>,
-    limits: &Limits,
-    writer: &mut W,
-) -> Result<(), CheckError> {
-    let mut places = Places::new(alloc, subject.bytes)?;
-    let span = places.next_place()?;
-    let fields = places.fields(alloc)?;
-    let mut cause = String::new(alloc);
-    let index = push_bad_limits(&mut cause, limits)?;
-    let mut line = String::new(alloc);
-    push_place(&mut line, subject, span, &fields, index)?;
-    write!(line, "header: BadLimits: {cause}\n")?;
+    write!(line, "header: {refusal}: {cause}\n")?;
     writer.write_all(line.as_bytes())?;
     Ok(())
 }

@@ -8,7 +8,7 @@ use fpage::{Control, Fpage, FpageError, Item};
 use mapdb::Limits;
 use std::alloc::AllocError;
 use std::fmt::Write;
-use texts::{field, push_fpage_fault, push_item_fault, push_quoted};
+use texts::{push_fpage_fault, push_item_fault, push_quoted};
 use trace::Refusal;
 
 /// Appends why a record with these fields is refused so, and returns the index of the field at fault.
@@ -69,14 +69,8 @@ pub fn push_hint(text: &mut String, hint: Option<&str>) -> Result<(), AllocError
 
 /// Appends which field of a record does not have its form, or that fields are missing or too many.
 fn push_bad_form(text: &mut String, form: Form, fields: &[&[u8]]) -> Result<usize, AllocError> {
-    let empty = fields
-        .iter()
-        .rev()
-        .take_while(|field| field.is_empty())
-        .count();
-    if empty > 0 && empty < fields.len() {
-        push_padding(text, empty)?;
-        return Ok(fields.len() - empty);
+    if let Some(index) = push_padding(text, fields)? {
+        return Ok(index);
     }
     for (index, field) in fields.iter().enumerate() {
         if index == 0 {
@@ -96,14 +90,23 @@ fn push_bad_form(text: &mut String, form: Form, fields: &[&[u8]]) -> Result<usiz
     Ok(fields.len().saturating_sub(1))
 }
 
-/// Appends that the last fields of a record are empty.
-pub fn push_padding(text: &mut String, empty: usize) -> Result<(), AllocError> {
+/// Appends that the last fields of a record are empty, where they are and others are not, and returns which is the first of them.
+pub fn push_padding(text: &mut String, fields: &[&[u8]]) -> Result<Option<usize>, AllocError> {
+    let empty = fields
+        .iter()
+        .rev()
+        .take_while(|field| field.is_empty())
+        .count();
+    if empty == 0 || empty >= fields.len() {
+        return Ok(None);
+    }
     if empty == 1 {
         text.push_str("the last field is empty")?;
     } else {
         write!(text, "the last {empty} fields are empty")?;
     }
-    text.push_str("; a spreadsheet fills its rows up so: leave out the commas at the end")
+    text.push_str("; a spreadsheet fills its rows up so: leave out the commas at the end")?;
+    Ok(Some(fields.len() - empty))
 }
 
 /// Appends how many fields a record should have.
@@ -131,7 +134,7 @@ fn push_unknown_space(
     spaces: u32,
 ) -> Result<usize, AllocError> {
     let sender = fields.get(1).copied().and_then(field::space).unwrap_or(0);
-    let index = if sender < spaces { 2 } else { 1 };
+    let index = if u32::from(sender) < spaces { 2 } else { 1 };
     let space = fields
         .get(index)
         .copied()

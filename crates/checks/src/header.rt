@@ -5,7 +5,7 @@ use crate::hint::{number_hint, separator_hint};
 use mapdb::Limits;
 use std::alloc::AllocError;
 use std::fmt::Write;
-use texts::{field, push_quoted};
+use texts::push_quoted;
 
 /// How many fields a header has.
 const FIELDS: usize = 5;
@@ -37,14 +37,8 @@ pub fn push_bad_header(text: &mut String, fields: &[&[u8]]) -> Result<usize, All
 
 /// Appends which number of a header does not have its form, or that there are not three of them.
 fn push_bad_numbers(text: &mut String, fields: &[&[u8]]) -> Result<usize, AllocError> {
-    let empty = fields
-        .iter()
-        .rev()
-        .take_while(|field| field.is_empty())
-        .count();
-    if empty > 0 && empty < fields.len() {
-        push_padding(text, empty)?;
-        return Ok(fields.len() - empty);
+    if let Some(index) = push_padding(text, fields)? {
+        return Ok(index);
     }
     for (index, field) in fields.iter().enumerate() {
         if index >= 2 && index < FIELDS && field::number(field, 10, 7).is_none() {

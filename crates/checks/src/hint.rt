@@ -1,7 +1,6 @@
 //! Usual mistakes, by what a field looks like.
 
 use crate::role::Role;
-use texts::field;
 
 /// The bytes of a byte order mark.
 const BYTE_ORDER_MARK: &[u8] = b"\xef\xbb\xbf";

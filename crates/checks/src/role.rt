@@ -2,7 +2,6 @@
 
 use std::alloc::AllocError;
 use std::fmt::Write;
-use texts::field;
 
 /// The form of a record, by its name.
 #[derive(Clone, Copy, Debug, PartialEq, Eq)]

@@ -11,7 +11,6 @@ use clap::ArgMatches;
 use drawings::Question;
 use space::Place;
 use std::alloc::Global;
-use texts::field;
 
 const ABOUT: &str =
     "Tells where a page came from: the page from which it has its frame, and so on to the root, each with the record since which that is so; and which records gave rights to the page or took them.";
@@ -75,7 +74,7 @@ pub fn why_task(alloc: Global, asked: &ArgMatches) -> Result<Task, TaskError>
 /// The page that a text names.
 fn place_of(text: &str) -> Option<Place> {
     let (space, page) = text.split_once(':')?;
-    let space = u16::try_from(field::space(space.as_bytes())?).ok()?;
+    let space = field::space(space.as_bytes())?;
     let page = field::number(page.as_bytes(), 10, 7)?;
     Some(Place { space, page })
 }

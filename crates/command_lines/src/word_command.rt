@@ -13,7 +13,7 @@ use fpage::{FpageError, ItemKind};
 use std::alloc::{AllocError, Global};
 use std::fmt::Write;
 use texts::{
-    Extent, Size, control_word, field, fpage_word, item_word, push_extent_fault, rights_of, size_of,
+    Extent, Size, control_word, fpage_word, item_word, push_extent_fault, rights_of, size_of,
 };
 
 const ABOUT: &str =

@@ -1,5 +1,6 @@
 //! The command line, and what is told of errors.
 
+use crate::assertions::{assert_equal, assert_holds};
 use cli::{OptionsError, parse, status, tell};
 use replay::{Options, RunError};
 use std::test::Fail;
@@ -36,8 +37,9 @@ fn tells_each_error_by_its_line_and_status(rt: HostRuntime) -> Result<(), Fail> 
         tell(error, &mut output)
             .ok()
             .ok_or("a write to memory failed")?;
-        assert_eq!(rt; output.into_inner().as_slice(), line.as_bytes());
-        assert_eq!(rt; status(error), number);
+        let told = output.into_inner();
+        assert_equal(&rt, told.as_slice(), line.as_bytes(), line);
+        assert_equal(&rt, status(error), number, line);
     }
     Ok(())
 }
@@ -45,29 +47,39 @@ fn tells_each_error_by_its_line_and_status(rt: HostRuntime) -> Result<(), Fail> 
 #[test]
 fn reads_the_command_line(rt: HostRuntime) -> Result<(), Fail> {
     let alloc = rt.alloc();
-    assert_eq!(rt; parse(alloc, &["l4map"]).ok(), Some(DEFAULTS));
-    assert_eq!(rt; parse(alloc, &["l4map", "--plain"]).ok(), Some(PLAIN));
+    assert_equal(
+        &rt,
+        parse(alloc, &["l4map"]).ok(),
+        Some(DEFAULTS),
+        "nothing",
+    );
+    assert_equal(
+        &rt,
+        parse(alloc, &["l4map", "--plain"]).ok(),
+        Some(PLAIN),
+        "--plain",
+    );
     let most = Options {
         workers: 64,
         piece_length: 65536,
         plain: false,
     };
     let words = ["l4map", "--workers", "64", "--piece=65536"];
-    assert_eq!(rt; parse(alloc, &words).ok(), Some(most));
+    assert_equal(&rt, parse(alloc, &words).ok(), Some(most), "the most");
     let others = Options {
         workers: 3,
         piece_length: 5,
         plain: true,
     };
     let words = ["l4map", "--piece", "5", "--plain", "--workers", "3"];
-    assert_eq!(rt; parse(alloc, &words).ok(), Some(others));
+    assert_equal(&rt, parse(alloc, &words).ok(), Some(others), "others");
     let least = Options {
         workers: 1,
         piece_length: 1,
         plain: false,
     };
     let words = ["l4map", "--workers=1", "--piece", "1"];
-    assert_eq!(rt; parse(alloc, &words).ok(), Some(least));
+    assert_equal(&rt, parse(alloc, &words).ok(), Some(least), "the least");
     Ok(())
 }
 
@@ -87,10 +99,8 @@ fn refuses_what_is_no_option(rt: HostRuntime) {
     ];
     for words in lines {
         let refused = parse(rt.alloc(), &words);
-        assert!(rt;
-            matches!(&refused, Err(OptionsError::Refused(text)) if !text.is_empty()),
-            "{words:?}"
-        );
+        let is_told = matches!(&refused, Err(OptionsError::Refused(text)) if !text.is_empty());
+        assert_equal(&rt, (words, is_told), (words, true), "refused");
     }
 }
 
@@ -104,10 +114,9 @@ fn refuses_a_file_with_a_tip(rt: HostRuntime) {
         ("-w", false),
     ] {
         let refused = parse(rt.alloc(), &["l4map", word]);
-        assert!(rt;
-            matches!(&refused, Err(OptionsError::Refused(text)) if text.starts_with("error: unexpected argument '") && text.contains(tip) == is_tipped),
-            "{word}"
-        );
+        let is_told =
+            matches!(&refused, Err(OptionsError::Refused(text)) if text.starts_with("error: unexpected argument '") && text.contains(tip) == is_tipped);
+        assert_holds(&rt, is_told, word);
     }
 }
 
@@ -120,9 +129,8 @@ fn tells_help_and_version(rt: HostRuntime) {
         ["l4map", "-V"],
     ] {
         let asked = parse(rt.alloc(), &words);
-        assert!(rt;
-            matches!(&asked, Err(OptionsError::Help(text)) if text.starts_with("l4map") || text.contains("Usage: l4map")),
-            "{words:?}"
-        );
+        let is_told =
+            matches!(&asked, Err(OptionsError::Help(text)) if text.starts_with("l4map") || text.contains("Usage: l4map"));
+        assert_equal(&rt, (words, is_told), (words, true), "told");
     }
 }

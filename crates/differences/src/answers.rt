@@ -1,7 +1,6 @@
 //! The lines of answers: replies to records, mappings, and the end line.
 
 use std::alloc::{AllocError, Global};
-use texts::field;
 
 /// What a line tells of, in the order of a run's lines.
 #[derive(Clone, Copy, Debug, PartialEq, Eq, PartialOrd, Ord)]

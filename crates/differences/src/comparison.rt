@@ -12,7 +12,7 @@ use space::NoMemory;
 use std::alloc::{AllocError, Global};
 use std::fmt::Write;
 use std::thread::Threads;
-use texts::{Places, Scope, Span, field, push_shown};
+use texts::{Places, Scope, Span, push_shown};
 use trace::{Failed, Sink, Std};
 
 /// How many bytes of a line are shown.

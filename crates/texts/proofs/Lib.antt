@@ -1,2 +1,1 @@
-mod Digits
 mod Made

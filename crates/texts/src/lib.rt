@@ -2,7 +2,6 @@
 #![tactic(auto)]
 
 mod explain;
-pub mod field;
 mod make;
 mod parts;
 mod places;

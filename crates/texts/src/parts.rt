@@ -3,7 +3,6 @@
 ghost use Rattle.std.specs.Prelude.{◌≤◌, IfSome};
 ghost use Rattle.texts.specs.Asked.{IsSize};
 
-use crate::field;
 use crate::make::Size;
 use fpage::Rights;
 

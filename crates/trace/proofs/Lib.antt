@@ -1,8 +1,6 @@
 mod Counted
 mod ReadRows
 mod Taking
-mod Digits
-mod DigitTable
 mod Words
 mod Hex
 mod Lines

@@ -2,7 +2,6 @@
 #![tactic(auto)]
 
 mod call;
-mod field;
 mod read;
 mod reader;
 mod records;

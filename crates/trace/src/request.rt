@@ -13,7 +13,6 @@ ghost use Rattle.trace.specs.Meaning.{request_of, IsWithinLimits};
 ghost use Rattle.trace.specs.Unread.{access_in};
 
 use crate::call::{Call, CallError, Refusal};
-use crate::field;
 use crate::records::{Fields, Record};
 use fpage::{Access, Control, Fpage, Item, ItemKind};
 use mapdb::Limits;

@@ -4,6 +4,7 @@ ghost use Rattle.std.specs.Prelude.{◌≡◌, ◌<◌};
 ghost use Rattle.space.specs.Directory.{pages_of};
 ghost use Rattle.fpage.specs.Fpage.{IsFpageOf};
 
+use crate::assertions::{assert_equal, assert_holds};
 use audit::{AuditError, check_database, lines, report};
 use crew::{Crew, NoGate, Workers};
 use fpage::{Access, Control, Fpage, Item, Rights};
@@ -113,15 +114,25 @@ fn work<W: Workers>(
     workers: &W,
 ) -> Result<(), DbError> {
     let reply = send(rt, database, alloc, workers, 0, 1, COMPLETE)?;
-    assert_eq!(rt; reply.linked, 256);
+    assert_equal(rt, reply.linked, 256, "linked");
     let made = access(rt, database, alloc, workers, 5)?;
-    assert_eq!(rt; made.as_slice(), [true].as_slice());
+    assert_equal(rt, made.as_slice(), [true].as_slice(), "made");
     let made = access(rt, database, alloc, workers, 400)?;
-    assert_eq!(rt; made.as_slice(), [false].as_slice());
+    assert_equal(rt, made.as_slice(), [false].as_slice(), "fault");
     let seen = unmap(rt, database, alloc, workers, 0, false)?;
-    assert_eq!(rt; seen.as_slice(), [Rights::of_bits(6)].as_slice());
+    assert_equal(
+        rt,
+        seen.as_slice(),
+        [Rights::of_bits(6)].as_slice(),
+        "status",
+    );
     let seen = unmap(rt, database, alloc, workers, 0, true)?;
-    assert_eq!(rt; seen.as_slice(), [Rights::none()].as_slice());
+    assert_equal(
+        rt,
+        seen.as_slice(),
+        [Rights::none()].as_slice(),
+        "no status",
+    );
     Ok(())
 }
 
@@ -141,17 +152,17 @@ fn expect_no_change<W: Workers>(
         (2, 2, NIL),
     ] {
         let answer = send(rt, database, alloc, workers, from, to, window);
-        assert_eq!(rt; answer, Err(DbError::Halted), "{from} {to} {window}");
+        assert_equal(rt, answer, Err(DbError::Halted), window);
     }
     for (space, plain) in [(0, false), (0, true), (2, false), (2, true)] {
         let answer = unmap(rt, database, alloc, workers, space, plain);
-        assert_eq!(rt; answer.err(), Some(DbError::Halted), "{space} {plain}");
+        assert_equal(rt, answer.err(), Some(DbError::Halted), space);
     }
     let answer = access(rt, database, alloc, workers, 5);
-    assert_eq!(rt; answer.err(), Some(DbError::Halted));
+    assert_equal(rt, answer.err(), Some(DbError::Halted), "an access");
     let answer = database.access_all(alloc, &[], workers);
-    assert_eq!(rt; answer.err(), Some(DbError::Halted));
-    assert!(rt; database.is_halted());
+    assert_equal(rt, answer.err(), Some(DbError::Halted), "no access");
+    assert_holds(rt, database.is_halted(), "halted");
 }
 
 /// Looks at a database that is halted: each call that reads one is refused as `Halted`, but for its limits.
@@ -159,12 +170,14 @@ fn expect_no_answer(rt: &(impl Abort + AllocGlobal + Threads + Sync), database: 
     let alloc = rt.alloc();
     expect_limits(rt, database);
     let held = page(rt, 5);
-    assert_eq!(rt; database.entry(held), Err(DbError::Halted));
-    assert_eq!(rt; database.origin(held), Err(DbError::Halted));
-    assert_eq!(rt; database.mappings(alloc).err(), Some(DbError::Halted));
-    assert_eq!(rt; lines(alloc, database).err(), Some(AuditError::Halted));
-    assert_eq!(rt; report(rt, database).err(), Some(AuditError::Halted));
-    assert_eq!(rt; check_database(alloc, database), Err(AuditError::Halted));
+    let refused = Some(DbError::Halted);
+    assert_equal(rt, database.entry(held).err(), refused, "entry");
+    assert_equal(rt, database.origin(held).err(), refused, "origin");
+    assert_equal(rt, database.mappings(alloc).err(), refused, "mappings");
+    let refused = Some(AuditError::Halted);
+    assert_equal(rt, lines(alloc, database).err(), refused, "lines");
+    assert_equal(rt, report(rt, database).err(), refused, "report");
+    assert_equal(rt, check_database(alloc, database).err(), refused, "check");
 }
 
 /// With ample memory and threads this passes. Where an allocation or a thread is refused to a call, the database must be halted, and
@@ -176,11 +189,11 @@ fn a_halted_database_refuses_every_call(rt: HostRuntime) -> Result<(), Fail> {
     let mut database = Database::new(alloc, 2, 21, 256)?;
     match work(&rt, &mut database, alloc, &workers) {
         Ok(()) => {
-            assert!(rt; !database.is_halted());
+            assert_holds(&rt, !database.is_halted(), "not halted");
             Ok(())
         }
         Err(error) => {
-            assert!(rt; database.is_halted());
+            assert_holds(&rt, database.is_halted(), "halted");
             expect_no_answer(&rt, &database);
             expect_no_change(&rt, &mut database, alloc, &workers);
             Err(error)?

@@ -1,8 +1,8 @@
 -- the value so far and the digits that are left spell the number
 use Rattle.std.proofs.Common.{◌≡◌, ◌<◌, ◌^◌, drop}
 use Rattle.model.specs.Records.{value_of}
-use Rattle.trace.proofs.Digits.{spelled}
-use Rattle.trace.proofs.field.number.Given as goal
+use Rattle.field.proofs.SpelledDigits.{spelled}
+use Rattle.field.proofs.number.Given as goal
 
 abbrev pub invariant-loop-byte : goal.invariant-loop-byte
 invariant-loop-byte l = record {

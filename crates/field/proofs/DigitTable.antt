@@ -2,7 +2,7 @@
 use Rattle.std.proofs.Common.{◌≡◌, ℕ, zero, suc, ◌<◌, Bool, true, false, ◌&&◌, nat_eq, get_or, List, Option, Some, None, refl, sym, ap, ◌∙◌, arith, inl, inr, if◌then◌else◌}
 use Rattle.std.proofs.lemmas.Bool.{cases_eq}
 use Rattle.model.specs.Records.{hex_digit}
-use Rattle.trace.specs.declared.field.TheConstants.{DIGITS}
+use Rattle.field.specs.declared.digits.TheConstants.{DIGITS}
 
 -- what an entry stands for
 abbrev pub digit_of : ℕ → Option ℕ

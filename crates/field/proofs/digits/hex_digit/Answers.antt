@@ -1,7 +1,7 @@
 -- The table has the value of each digit.
 use Rattle.std.proofs.Common.{arith}
-use Rattle.trace.proofs.DigitTable.{no_digit, one_digit}
-use Rattle.trace.proofs.field.hex_digit.Goals as goal
+use Rattle.field.proofs.DigitTable.{no_digit, one_digit}
+use Rattle.field.proofs.digits.hex_digit.Goals as goal
 
 pub returns-then-digit-eq-NO : goal.returns-then-digit-eq-NO
 returns-then-digit-eq-NO c = no_digit c.args.byte c.from.result (omega arith) c.from.ensures c.if-digit-eq-NO.true

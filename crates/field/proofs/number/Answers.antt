@@ -1,8 +1,8 @@
 -- Each digit moves the value one place up, and the whole field fits.
 use Rattle.std.proofs.Common.{suc, drop, get_or, length, arith, sym, ◌∙◌, add-one}
 use Rattle.std.proofs.Math.Seq.{drop-cons}
-use Rattle.texts.proofs.Digits.{spelled-more, next_fits, fits_next}
-use Rattle.texts.proofs.field.number.Goals as goal
+use Rattle.field.proofs.SpelledDigits.{spelled-more, next_fits, fits_next}
+use Rattle.field.proofs.number.Goals as goal
 
 pub overflow_mul-value : goal.overflow_mul-value
 overflow_mul-value c = omega (arith, fits_next c.args.base c.loop-byte.value 0 c.loop-byte.byte-index (length c.args.field.now) c.args.most c.requires.base c.loop-byte.invariant.small c.requires.base (omega arith) (omega arith) c.requires.fits)

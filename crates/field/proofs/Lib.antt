@@ -1,0 +1,2 @@
+mod SpelledDigits
+mod DigitTable
