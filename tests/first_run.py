@@ -146,10 +146,10 @@ def unbuilt_copy(room, name):
 def check_quick_way(cases, copy, other):
     """Without the program run.sh says so in one line, and ends as the program does, or says what it cannot do."""
     with ThreadPoolExecutor() as pool:
-        closed = pool.submit(run, ["bash", "-c", "exec ./run.sh - >&-"], TRACE, cwd=copy)
         long = pool.submit(run, ["./run.sh", "-"], LONG, cwd=other)
+        closed = run(["./run.sh", "-"], TRACE, stdout=None, preexec_fn=lambda: os.close(1), cwd=copy)
     wanted = Ended(4, b"", NOTICE + b"l4map: WriteFailed\n")
-    cases.compare("without the program: closed standard output", wanted, closed.result())
+    cases.compare("without the program: closed standard output", wanted, closed)
     wanted = Ended(125, b"", NOTICE + TOO_LONG)
     cases.compare("without the program: more than 1 MiB of output", wanted, long.result())
 
