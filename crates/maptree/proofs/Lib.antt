@@ -20,6 +20,7 @@ pub mod ManyRenamed
 pub mod Insertion
 pub mod Outermost
 pub mod Cuttings
+pub mod Alone
 pub mod Keeping
 pub mod Outside
 pub mod Splicing

@@ -3,6 +3,7 @@ pub mod Nodes
 pub mod Blocks
 pub mod Cuts
 pub mod Forms
+pub mod TreeForms
 pub mod Named
 pub mod PlaceMaps
 pub mod Renamings

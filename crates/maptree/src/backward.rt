@@ -22,6 +22,9 @@ use space::Place;
 use std::alloc::{AllocError, Global};
 use std::ops::Range;
 
+/// How many nodes take no memory but the vector's own bytes.
+pub const INLINE: usize = 3;
+
 /// The node at a position of the list.
 pub fn node_at(backward: &[Node], i: usize) -> Node
     requires { i < length backward.now }
@@ -99,7 +102,7 @@ pub fn rename_all(backward: &mut [Node], new: &PlaceMap)
 }
 
 /// Takes ranges of the list out. This takes no memory.
-pub fn take_out(backward: &mut SmallVec<Node, 1>, ranges: &[Range<usize>])
+pub fn take_out(backward: &mut SmallVec<Node, INLINE>, ranges: &[Range<usize>])
     requires { AreRising 0 ranges.now (length backward.old.items) }
     ensures nodes { reverse backward.new.items ≡ outside 0 ranges.now (reverse backward.old.items) }
     ensures fewer { length backward.new.items ≤ length backward.old.items }

@@ -19,6 +19,7 @@ mod scans;
 mod searching;
 mod shifts;
 mod tree;
+mod tree_nodes;
 
 pub use nodes::Nodes;
 pub use origins::NodeOrigins;

@@ -5,7 +5,7 @@ ghost use Rattle.maptree.specs.Blocks.{nodes_in};
 ghost use Rattle.mapnode.specs.Slices.{nodes_of};
 ghost use Rattle.maptree.specs.Cuts.{count_of};
 
-use crate::backward::{self, forward, node_at};
+use crate::backward::{self, INLINE, forward, node_at};
 use crate::blocks::Blocks;
 use crate::cutting::{Cutting, joined};
 use crate::links::linked;
@@ -37,8 +37,8 @@ pub struct NodeList {
 
 #[derive(Drop)]
 enum Form {
-    /// One vector, the last node first (`backward`). It takes no memory for a root alone.
-    Few(SmallVec<Node, 1>),
+    /// One vector, the last node first (`backward`). The first few nodes stand in it, and take no other memory.
+    Few(SmallVec<Node, INLINE>),
     /// Blocks, in a box since most lists are short.
     Many(Box<Blocks>),
 }
@@ -73,8 +73,21 @@ impl NodeList {
     pub fn one(alloc: Global, node: Node) -> NodeList
         ensures { result.nodes ≡ node ∷ [] }
     {
+        let mut nodes = SmallVec::new(alloc);
+        nodes.push_reserved(node);
         NodeList {
-            form: Form::Few(SmallVec::from_buf(alloc, [node])),
+            form: Form::Few(nodes),
+            room: 0,
+            last: 0,
+        }
+    }
+
+    /// A list of no nodes. This takes no memory.
+    pub fn none(alloc: Global) -> NodeList
+        ensures { result.nodes ≡ [] }
+    {
+        NodeList {
+            form: Form::Few(SmallVec::new(alloc)),
             room: 0,
             last: 0,
         }
@@ -390,7 +403,7 @@ fn kept_up_to(parts: &[Slice], most: usize) -> Option<usize>
 }
 
 /// Nodes of which the last one stands first, in blocks, with room for so many more.
-fn in_blocks(backward: &SmallVec<Node, 1>, room: usize) -> Result<Box<Blocks>, AllocError>
+fn in_blocks(backward: &SmallVec<Node, INLINE>, room: usize) -> Result<Box<Blocks>, AllocError>
     requires { 0 < length backward.now.items }
     ensures nodes { IfOk result (λ b. nodes_in b.value.blocks ≡ reverse backward.now.items) }
     ensures room { IfOk result (λ b. room ≤ b.value.room) }

@@ -6,7 +6,7 @@ ghost use Rattle.maptree.specs.Nodes.{is_forest, origins_of};
 ghost use Rattle.maptree.specs.Origins.{place_at, HasDepth};
 
 use crate::backward::node_at;
-use crate::node_list::NodeList;
+use crate::tree_nodes::TreeNodes;
 use mapnode::Node;
 use std::marker::Model;
 
@@ -14,7 +14,7 @@ use std::marker::Model;
 /// sees the places of the tree with their origins.
 #[derive(Drop)]
 pub struct Nodes<'a> {
-    list: &'a NodeList,
+    nodes: &'a TreeNodes,
     /// Some of the nodes, one after another.
     near: &'a [Node],
     /// The position of the first of these.
@@ -31,21 +31,21 @@ impl<'a> Model for Nodes<'a> {
 
     ghost Value = { Origins };
 
-    ghost view = { λ n. origins_of n.list.now.nodes };
+    ghost view = { λ n. origins_of n.nodes.now.nodes };
 
-    ghost invariant = { λ n. (is_forest n.list.now.nodes ≡ true) × (in_order n.backward n.near.now ≡ take (length n.near.now) (drop n.first n.list.now.nodes)) };
+    ghost invariant = { λ n. (is_forest n.nodes.now.nodes ≡ true) × (in_order n.backward n.near.now ≡ take (length n.near.now) (drop n.first n.nodes.now.nodes)) };
 }
 
 impl<'a> Nodes<'a> {
     ghost use Rattle.std.specs.Prelude.{true};
 
-    /// The nodes of a list.
-    pub fn of(list: &'a NodeList) -> Nodes<'a>
-        requires { is_forest list.now.nodes ≡ true }
-        ensures { result ≡ origins_of list.now.nodes }
+    /// The nodes of a tree.
+    pub fn of(nodes: &'a TreeNodes) -> Nodes<'a>
+        requires { is_forest nodes.now.nodes ≡ true }
+        ensures { result ≡ origins_of nodes.now.nodes }
     {
         Nodes {
-            list,
+            nodes,
             near: &[],
             first: 0,
             backward: false,
@@ -64,7 +64,9 @@ impl<'a> Nodes<'a> {
         if self.first <= i && i - self.first < self.near.len() {
             return nth(self.near, self.backward, i - self.first);
         }
-        let (first, near, backward) = self.list.near(i);
+        let Some((first, near, backward)) = self.nodes.near(i) else {
+            return self.nodes.get(i);
+        };
         self.first = first;
         self.near = near;
         self.backward = backward;

@@ -6,7 +6,7 @@ ghost use Rattle.maptree.specs.Nodes.{are_distinct, is_forest, origins_of};
 ghost use Rattle.maptree.specs.Origins.{AreOuterRuns};
 ghost use Rattle.maptree.specs.Named.{ArePositions};
 
-use crate::node_list::NodeList;
+use crate::tree_nodes::TreeNodes;
 use space::Place;
 use std::alloc::{AllocError, Global};
 use std::ops::Range;
@@ -14,20 +14,20 @@ use std::ops::Range;
 /// The outermost runs of the nodes with these places.
 pub fn runs_of(
     alloc: Global,
-    list: &NodeList,
+    nodes: &TreeNodes,
     places: &[Place],
 ) -> Result<Vec<Range<usize>>, AllocError>
-    requires { is_forest list.now.nodes ≡ true }
-    ensures { IfOk result (λ runs. AreOuterRuns (origins_of list.now.nodes) places.now runs.items) }
+    requires { is_forest nodes.now.nodes ≡ true }
+    ensures { IfOk result (λ runs. AreOuterRuns (origins_of nodes.now.nodes) places.now runs.items) }
 {
-    let positions = positions_of(alloc, list, places)?;
+    let positions = positions_of(alloc, nodes, places)?;
     let mut runs = Vec::new(alloc);
     let mut end = 0;
     for m in 0..positions.len() {
         let i = positions[m];
         // What stands before the end is in the last run.
         if end <= i {
-            let (_, derived) = list.run_of(i);
+            let (_, derived) = nodes.run_of(i);
             end = i + 1 + derived;
             runs.push(i..end)?;
         }
@@ -36,14 +36,18 @@ pub fn runs_of(
 }
 
 /// The positions of the nodes with these places, in rising order.
-fn positions_of(alloc: Global, list: &NodeList, places: &[Place]) -> Result<Vec<usize>, AllocError>
-    requires { are_distinct list.now.nodes ≡ true }
-    ensures positions { IfOk result (λ at. ArePositions list.now.nodes places.now at.items) }
+fn positions_of(
+    alloc: Global,
+    nodes: &TreeNodes,
+    places: &[Place],
+) -> Result<Vec<usize>, AllocError>
+    requires { are_distinct nodes.now.nodes ≡ true }
+    ensures positions { IfOk result (λ at. ArePositions nodes.now.nodes places.now at.items) }
     ensures rising { IfOk result (λ at. IsNonDecreasing at.items) }
 {
     let mut positions = Vec::new(alloc);
     for place in places {
-        if let Some(i) = list.find(*place) {
+        if let Some(i) = nodes.find(*place) {
             positions.push(i)?;
         }
     }

@@ -7,15 +7,16 @@ ghost use Rattle.maptree.specs.Nodes.{is_forest, are_distinct, origins_of, run_l
 ghost use Rattle.maptree.specs.PlaceMaps.{place_for};
 ghost use Rattle.maptree.specs.Renamings.{nodes_renamed};
 
-use crate::node_list::NodeList;
 use crate::nodes::Nodes;
 use crate::place_map::PlaceMap;
 use crate::searching::runs_of;
+use crate::tree_nodes::TreeNodes;
 use mapnode::{Node, Slice};
 use space::{NoMemory, Place};
 use std::alloc::{AllocError, Global};
 use std::collections::BTreeSet;
 use std::marker::Model;
+use std::mem::size_of;
 use std::ops::Range;
 
 /// Places are searched for one by one where the tree has so many nodes for each of them; where it has fewer, one pass over the
@@ -28,10 +29,11 @@ const SEARCHED: usize = 3;
 /// see the places in this order, each with its origin.
 #[derive(Drop)]
 pub struct Tree {
-    nodes: NodeList,
-    /// For each part of the last cut, behind how many of the nodes that were left it stood.
-    gaps: Vec<usize>,
+    nodes: TreeNodes,
 }
+
+// There is one for each frame.
+const _: () = prove!(size_of::<Tree>() == 16);
 
 impl Model for Tree {
     ghost use Rattle.std.specs.Prelude.{◌≡◌, true};
@@ -40,7 +42,7 @@ impl Model for Tree {
 
     ghost Value = { Shape };
 
-    ghost view = { λ t. record { links = origins_of t.nodes.nodes; room = t.nodes.room; gaps = t.gaps.items } };
+    ghost view = { λ t. record { links = origins_of t.nodes.nodes; room = t.nodes.room; gaps = t.nodes.gaps } };
 
     ghost invariant = { λ t. is_forest t.nodes.nodes ≡ true };
 }
@@ -64,9 +66,9 @@ impl Tree {
     pub fn root(alloc: Global, place: Place) -> Tree
         ensures { result.links ≡ (place, None) ∷ [] }
     {
-        let nodes = NodeList::one(alloc, Node { place, depth: 0 });
-        let gaps = Vec::new(alloc);
-        Tree { nodes, gaps }
+        Tree {
+            nodes: TreeNodes::root(alloc, place),
+        }
     }
 
     /// Memory for so many more nodes: after it so many insertions take none.
@@ -236,8 +238,7 @@ impl Tree {
         ensures room { OnOk result (self.old.room ≤ self.new.room) }
         ensures err { OnErr result (self.new ≡ self.old) }
     {
-        let (gaps, parts) = self.nodes.cut(alloc, ranges, most)?;
-        self.gaps = gaps;
+        let parts = self.nodes.cut(alloc, ranges, most)?;
         Ok(parts)
     }
 
@@ -252,9 +253,7 @@ impl Tree {
         ensures room { OnOk result (self.old.room ≤ self.new.room) }
         ensures err { OnErr result (self.new ≡ self.old) }
     {
-        let alloc = *self.gaps.allocator();
-        self.nodes.put_back(alloc, &self.gaps, &parts)?;
-        self.gaps = Vec::new(alloc);
+        self.nodes.put_back(&parts)?;
         Ok(())
     }
 
@@ -317,7 +316,7 @@ impl Tree {
 
 /// Each node whose place has one in the map gets that. The one entry of a map is searched for: a pass over all nodes would
 /// look each of them up.
-fn replace_in(nodes: &mut NodeList, new: &PlaceMap)
+fn replace_in(nodes: &mut TreeNodes, new: &PlaceMap)
     requires { are_distinct nodes.old.nodes ≡ true }
     ensures nodes { nodes.new.nodes ≡ nodes_renamed (place_for new.now) nodes.old.nodes }
     ensures room { nodes.new.room ≡ nodes.old.room }

@@ -10,7 +10,7 @@ use Rattle.maptree.proofs.searching.positions_of.Goals as goal
 
 pub loop-place-preserved : goal.loop-place-preserved
 loop-place-preserved c =
-    let ns = c.args.list.now.nodes in
+    let ns = c.args.nodes.now.nodes in
     let places = c.args.places.now in
     let i = c.loop-place.place-index in
     elim c.match-find.branch [
@@ -25,8 +25,8 @@ loop-place-preserved c =
 pub returns-clause-positions : goal.returns-clause-positions
 returns-clause-positions c =
     let all = take_all c.loop-place.place-index c.args.places.now (search (rules, arith)) in
-    sorted_positions c.args.list.now.nodes c.args.places.now c.loop-place.positions.items c.sort_unstable.new.self.items
-    (subst (λ l. ArePositions c.args.list.now.nodes l c.loop-place.positions.items) all c.loop-place.invariant) c.sort_unstable.ensures.permutation
+    sorted_positions c.args.nodes.now.nodes c.args.places.now c.loop-place.positions.items c.sort_unstable.new.self.items
+    (subst (λ l. ArePositions c.args.nodes.now.nodes l c.loop-place.positions.items) all c.loop-place.invariant) c.sort_unstable.ensures.permutation
 
 pub returns-clause-rising : goal.returns-clause-rising
 returns-clause-rising c = IsNonDecreasingBy-from_sort (λ x. x) c.sort_unstable.new.self.items c.sort_unstable.ensures.sorted

@@ -4,4 +4,4 @@ use Rattle.maptree.specs.Named.{ArePositions}
 use Rattle.maptree.proofs.searching.positions_of.Given as goal
 
 abbrev pub invariant-loop-place : goal.invariant-loop-place
-invariant-loop-place l = ArePositions l.list.nodes (take l.place-index l.places) l.positions.items
+invariant-loop-place l = ArePositions l.nodes.nodes (take l.place-index l.places) l.positions.items

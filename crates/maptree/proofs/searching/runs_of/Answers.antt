@@ -8,7 +8,7 @@ use Rattle.maptree.proofs.searching.runs_of.Goals as goal
 
 pub overflow_add-end-then-end-i : goal.overflow_add-end-then-end-i
 overflow_add-end-then-end-i c =
-    let ns = c.args.list.now.nodes in
+    let ns = c.args.nodes.now.nodes in
     let i = c.index-i.result.now in
     let inside : c.loop-m.m < length c.in_ok-positions.positions.items = search (rules, arith) in
     let within = subst (λ k. k < length ns) (sym c.index-i.ensures) (c.in_ok-positions.ensures.positions.within c.loop-m.m i inside) in
@@ -20,7 +20,7 @@ overflow_add-end-then-end-i c =
 
 pub loop-m-preserved : goal.loop-m-preserved
 loop-m-preserved c =
-    let ns = c.args.list.now.nodes in
+    let ns = c.args.nodes.now.nodes in
     let at = c.in_ok-positions.positions.items in
     let i = c.index-i.result.now in
     let inside : c.loop-m.m < length at = search (rules, arith) in
@@ -39,4 +39,4 @@ loop-m-preserved c =
 
 pub returns : goal.returns
 returns c =
-    runs_of_all c.args.list.now.nodes c.args.places.now c.in_ok-positions.positions.items c.loop-m.m c.loop-m.end c.loop-m.runs.items c.in_ok-positions.ensures.positions c.in_ok-positions.ensures.rising c.loop-m.invariant c.requires (search (rules, arith))
+    runs_of_all c.args.nodes.now.nodes c.args.places.now c.in_ok-positions.positions.items c.loop-m.m c.loop-m.end c.loop-m.runs.items c.in_ok-positions.ensures.positions c.in_ok-positions.ensures.rising c.loop-m.invariant c.requires (search (rules, arith))

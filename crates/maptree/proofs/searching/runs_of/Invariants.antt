@@ -3,4 +3,4 @@ use Rattle.maptree.proofs.Named.{AreRunsTo}
 use Rattle.maptree.proofs.searching.runs_of.Given as goal
 
 abbrev pub invariant-loop-m : goal.invariant-loop-m
-invariant-loop-m l = AreRunsTo l.list.nodes l.places l.positions.items l.m l.end l.runs.items
+invariant-loop-m l = AreRunsTo l.nodes.nodes l.places l.positions.items l.m l.end l.runs.items

@@ -12,8 +12,8 @@ back c k =
     let tree = c.self.inside in
     let items : c.put_back.new.self.nodes ≡ joined 0 tree.nodes.nodes c.args.self.now.gaps (nodes_of c.args.parts.items) =
     c.in_ok-put_back.ensures.nodes
-    ∙ ap (λ gaps. joined 0 tree.nodes.nodes gaps (nodes_of c.deref-2.result.now)) (c.deref.ensures.value ∙ ap (λ (s : Shape). s.gaps) c.self.view_is)
-    ∙ ap (λ parts. joined 0 tree.nodes.nodes c.args.self.now.gaps (nodes_of parts)) c.deref-2.ensures.value in
+    ∙ ap (λ gaps. joined 0 tree.nodes.nodes gaps (nodes_of c.deref.result.now)) (ap (λ (s : Shape). s.gaps) c.self.view_is)
+    ∙ ap (λ parts. joined 0 tree.nodes.nodes c.args.self.now.gaps (nodes_of parts)) c.deref.ensures.value in
     subst (λ ns. IsPutBack ns k.keep k.whole) (sym items) (put_back tree.nodes.nodes c.args.self.now c.args.parts.items c.self.invariant (ap (λ (s : Shape). s.links) c.self.view_is) k)
 
 pub invariant_of-self-2 : goal.invariant_of-self-2
