@@ -61,13 +61,14 @@ BAD_LIMITS = [
     ("largest number of spaces", "9999999,18,16"),
     ("no bits", "3,0,16"),
     ("17 bits", "3,17,16"),
-    ("25 bits", "3,25,16"),
+    ("33 bits", "3,33,16"),
     ("largest number of bits", "3,9999999,16"),
     ("no frame", "3,18,0"),
     ("a frame more than pages, 18 bits", "3,18,65"),
     ("a frame more than pages, 19 bits", "3,19,129"),
     ("a frame more than pages, 24 bits", "3,24,4097"),
-    ("largest number of frames", "3,24,9999999"),
+    ("a frame more than pages, 32 bits", "3,32,1048577"),
+    ("largest number of frames", "3,32,9999999"),
     ("all three", "0,0,0"),
 ]
 
@@ -79,7 +80,10 @@ GOOD_LIMITS = [
     ("19 bits with all frames", "3,19,128", 128),
     ("24 bits with one frame", "3,24,1", 1),
     ("24 bits with all frames", "3,24,4096", 4096),
+    ("25 bits with one frame", "3,25,1", 1),
+    ("32 bits with one frame", "3,32,1", 1),
     ("512 spaces of 24 bits with all frames", "512,24,4096", 4096),
+    ("512 spaces of 32 bits with all frames", "512,32,1048576", 1048576),
     ("seven digits each", "0000003,0000018,0000016", 16),
 ]
 

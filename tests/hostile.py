@@ -27,8 +27,8 @@ LARGE = [
     (hostile_traces.sends_that_extend_one_page, CHOICES),
     (hostile_traces.million_mappings_revoked_at_once, CHOICES),
     (hostile_traces.million_mappings_revoked_one_by_one, [FOUR_BY_256, MANY_BY_1, PLAIN]),
-    (hostile_traces.largest_limits_with_every_page_held, [FOUR_BY_256, PLAIN]),
-    (hostile_traces.largest_limits_given_up, [ONE_BY_256, FOUR_BY_256, PLAIN]),
+    (hostile_traces.many_spaces_with_every_page_held, [FOUR_BY_256, PLAIN]),
+    (hostile_traces.many_spaces_given_up, [ONE_BY_256, FOUR_BY_256, PLAIN]),
 ]
 
 BAD_HEADER = Ended(2, b"", b"l4map: BadHeader\n")

@@ -57,6 +57,19 @@ WORDS = [
     ("400c7", 19, "page 64, rights rwx; base 40000, s 12: 4K", NO_ITEM % 7, HIGH_BIT),
     ("3f7", 24, "OutOfSpace: it ends at 8000000000000000, and a space of 24 bits at 1000000", NO_ITEM % 7, HIGH_BIT),
     ("fffff0c7", 24, "OutOfSpace: it ends at 100000000, and a space of 24 bits at 1000000", NO_ITEM % 7, HIGH_BIT),
+    ("190", 25, "pages 0 to 8191 (8192 pages), rights ---; base 0, s 25: 32M", NO_ITEM % 0, HIGH_BIT),
+    ("80000cc", 27, "OutOfSpace: it ends at 8001000, and a space of 27 bits at 8000000", NO_ITEM % "c", HIGH_BIT),
+    ("11f7", 31, "Misaligned: base 1000 is no multiple of the size, 2G", NO_ITEM % 7, HIGH_BIT),
+    ("11f7", 32, "Misaligned: base 1000 is no multiple of the size, 2G; the next good base is 80000000: 800001f7", NO_ITEM % 7, HIGH_BIT),
+    ("1207", 32, "Misaligned: base 1000 is no multiple of the size, 4G", NO_ITEM % 7, HIGH_BIT),
+    ("fffff0d7", 32, "Misaligned: base fffff000 is no multiple of the size, 8K", NO_ITEM % 7, HIGH_BIT),
+    ("fffff0c6", 32, "page 1048575, rights rw-; base fffff000, s 12: 4K", NO_ITEM % 6, HIGH_BIT),
+    ("800001f4", 32, "pages 524288 to 1048575 (524288 pages), rights r--; base 80000000, s 31: 2G", NO_ITEM % 4, HIGH_BIT),
+    ("200", 32, "pages 0 to 1048575 (1048576 pages), rights ---; base 0, s 32: 4G", NO_ITEM % 0, HIGH_BIT),
+    ("10", 32, "pages 0 to 1048575 (1048576 pages), rights ---; the complete space", NO_ITEM % 0, "17 fpage words follow, without flush"),
+    ("217", 32, "OutOfSpace: it ends at 200000000, and a space of 32 bits at 100000000", NO_ITEM % 7, HIGH_BIT),
+    ("3f7", 32, "OutOfSpace: it ends at 8000000000000000, and a space of 32 bits at 100000000", NO_ITEM % 7, HIGH_BIT),
+    ("fffff008", 32, "BadSize: s is 0, the nilpage, but there is a base, fffff000", "MapItem, send base fffff000: page 1048575", HIGH_BIT),
 ]
 
 # Arguments, and the words that they make.
@@ -67,6 +80,12 @@ MADE = [
     ("--size nil --rights -", "0"),
     ("--size 4K", "c7"),
     ("--base ff0000 --size 64K --rights x", "ff0101"),
+    ("--size 16777216 --rights -", "180"),
+    ("--base fffff000 --size 4K --rights rw", "fffff0c6"),
+    ("--base 80000000 --size 2G --rights r", "800001f4"),
+    ("--size 4G --rights r", "204"),
+    ("--size 4294967296 --rights r", "204"),
+    ("--map fffff000 --size 4K --rights rw", "fffff008,c6"),
     ("--map 9000", "9008"),
     ("--grant 0", "a"),
     ("--map 9000 --base 5000 --size 4K --rights rw", "9008,50c6"),
@@ -87,6 +106,14 @@ REFUSED = [
     ("--base 1000 --size 8K", "error: Misaligned: base 1000 is no multiple of the size, 8K"),
     ("--base 1000 --size complete", "error: BadSize: s is 1, the complete space, but there is a base, 1000"),
     ("--base 40000 --size 4K --bits 18", "error: OutOfSpace: it ends at 41000, and a space of 18 bits at 40000"),
+    ("--base 1000000 --size 4K --bits 24", "error: OutOfSpace: it ends at 1001000, and a space of 24 bits at 1000000"),
+    ("--size 8G", "error: OutOfSpace: it ends at 200000000, and a space of 32 bits at 100000000"),
+    ("--size 8589934592G", "error: OutOfSpace: it ends at 8000000000000000, and a space of 32 bits at 100000000"),
+    ("--size 17179869184G", "error: '17179869184G' is not a size: a power of two from 4096 or 4K on, or nil, or complete"),
+    ("--size 18446744073709551616", "error: '18446744073709551616' is not a size: a power of two from 4096 or 4K on, or nil, or complete"),
+    ("--size +4K", "error: '+4K' is not a size: a power of two from 4096 or 4K on, or nil, or complete"),
+    ("--base fffff000 --size 8K", "error: Misaligned: base fffff000 is no multiple of the size, 8K"),
+    ("--base 100000000 --size 4K", "error: '100000000' is not 1 to 8 hexadecimal digits"),
     ("--map 9100", "error: a send base is a multiple of 400 (1024 bytes)"),
     ("", "error: give a word to explain, or --size, --map, --grant or --control to make one"),
 ]
@@ -144,6 +171,19 @@ RECORDS = [
     ("unmap,0,1,c7,10d7", "14 Misaligned: fpage word 2 is 10d7: base 1000 is no multiple of the size, 8K; the next good base is 2000: 20d7"),
 ]
 
+LARGE_HEADER = "l4map,1,3,32,1048576\n"
+
+# The same behind a header of three spaces of 32 bits, which have every address.
+LARGE_RECORDS = [
+    ("access,2,ffffffff,x", ""),
+    ("access,2,100000000,x", "10 BadRecord: the address is '100000000', not 1 to 8 hexadecimal digits"),
+    ("send,0,1,10,fffff008,fffff0c7", ""),
+    ("send,0,1,217,8,c7", "10 OutOfSpace: the window is 217: it ends at 200000000, and a space of 32 bits at 100000000"),
+    ("unmap,2,0,207", ""),
+    ("unmap,2,0,fffff0d7", "11 Misaligned: fpage word 1 is fffff0d7: base fffff000 is no multiple of the size, 8K"),
+    ("unmap,2,1,207,217", "15 OutOfSpace: fpage word 2 is 217: it ends at 200000000, and a space of 32 bits at 100000000"),
+]
+
 # A header, and the line and the rest of what is told of it.
 HEADERS = [
     (b"", "1: header: BadHeader: there is no record"),
@@ -159,8 +199,10 @@ HEADERS = [
     ("l4map,1,3,18,16\n".encode("utf-16"), "1:1: header: BadHeader: the first field is '\\xff\\xfel\\x004\\x00m\\x00a\\x00p\\x00', not l4map; the file is UTF-16: save it as UTF-8"),
     (b"send,0,1,10,8,c7\n", "1:1: header: BadHeader: the first field is 'send', not l4map"),
     (b"l4map,1,513,18,16\n", "1:9: header: BadLimits: 513 spaces; there are 2 to 512"),
-    (b"l4map,1,3,25,16\n", "1:11: header: BadLimits: 25 bits; a space has 18 to 24"),
+    (b"l4map,1,3,17,16\n", "1:11: header: BadLimits: 17 bits; a space has 18 to 32"),
+    (b"l4map,1,3,33,16\n", "1:11: header: BadLimits: 33 bits; a space has 18 to 32"),
     (b"l4map,1,3,18,65\n", "1:14: header: BadLimits: 65 frames; there are 1 to 64, as many as a space of 18 bits has pages"),
+    (b"l4map,1,3,32,1048577\n", "1:14: header: BadLimits: 1048577 frames; there are 1 to 1048576, as many as a space of 32 bits has pages"),
 ]
 
 # Traces whose lines end in other ways, and where the refused records stand.
@@ -187,6 +229,8 @@ def check_words(cases, program):
     for word, bits, fpage, item, control in WORDS:
         lines = (word.lower().lstrip("0"), f"  fpage: {fpage}", f"  first word of an item: {item}", f"  control word: {control}")
         cases.compare(f"word {word} of {bits} bits", ended(0, *lines), run([program, "word", word, "--bits", str(bits)]))
+        if bits == 32:
+            cases.compare(f"word {word}", ended(0, *lines), run([program, "word", word]))
     for arguments, made in MADE:
         cases.compare(f"word {arguments}", ended(0, made), run([program, "word", *arguments.split()]))
     for arguments, why in REFUSED:
@@ -203,15 +247,9 @@ def compare_count(cases, name, given, got):
 
 
 def check_records(cases, program):
-    for record, told in RECORDS:
-        given = (HEADER + record + "\n").encode()
-        lines = [counted(1, 1 if told else 0)]
-        if told:
-            column, cause = told.split(" ", 1)
-            lines.insert(0, f"-:2:{column + ': ' if column else ' '}record 1: {cause}")
-        got = run([program, "check", "-"], given)
-        cases.compare(f"check {record}", ended(1 if told else 0, *lines), got)
-        compare_count(cases, f"check {record}", given, got)
+    for header, records in ((HEADER, RECORDS), (LARGE_HEADER, LARGE_RECORDS)):
+        for record, told in records:
+            check_record(cases, program, header, record, told)
     for header, told in HEADERS:
         cases.compare(f"check {header!r}", ended(1, f"-:{told}"), run([program, "check", "-"], header))
         wanted = Ended(2, b"", f"-:{told}\n".encode())
@@ -223,6 +261,17 @@ def check_records(cases, program):
         alike = len(lines) == len(places) and all(line.startswith(f"-:{place}: ") for line, place in zip(lines, places))
         cases.check(f"places with {name}", "" if alike else f"{lines} in place of {places}")
         compare_count(cases, f"places with {name}", given, got)
+
+
+def check_record(cases, program, header, record, told):
+    given = (header + record + "\n").encode()
+    lines = [counted(1, 1 if told else 0)]
+    if told:
+        column, cause = told.split(" ", 1)
+        lines.insert(0, f"-:2:{column + ': ' if column else ' '}record 1: {cause}")
+    got = run([program, "check", "-"], given)
+    cases.compare(f"check {record}", ended(1 if told else 0, *lines), got)
+    compare_count(cases, f"check {record}", given, got)
 
 
 def check_program(cases, program):
@@ -245,7 +294,7 @@ def check_program(cases, program):
         got = run([program, *arguments.split()])
         good = got.status == 0 and example in got.stdout.decode() and not got.stderr
         cases.check(arguments, "" if good else f"{got}")
-    for arguments in ("", "chek t", "check", "word 50c6 --size 4K", "word --rights rw", "word --control 0", "word --flush", "compare t", "show", "why t", "random", "show t --svg --dot", "show t --space 1 --diff", "compare t a --audit --part"):
+    for arguments in ("", "chek t", "check", "word 50c6 --size 4K", "word 50c6 --bits 17", "word 50c6 --bits 33", "word --rights rw", "word --control 0", "word --flush", "compare t", "show", "why t", "random", "show t --svg --dot", "show t --space 1 --diff", "compare t a --audit --part"):
         got = run([program, *arguments.split()])
         good = got.status == 2 and not got.stdout and got.stderr
         cases.check(f"refused: {arguments}", "" if good else f"{got}")
@@ -434,7 +483,7 @@ DIFF_5 = [
     "  └─ 2:5 rwx --- | * ├─ 1:0 rwx ---",
     "                 |   └─ 2:5 rwx ---",
 ]
-TABLE_HEAD = "    page      base  frame  rights  status  origin"
+TABLE_HEAD = "     page      base    frame  rights  status  origin"
 # Four spaces and three frames. Page 0:0 goes to 1:0, and from there to 2:0 and 2:5; 0:1 goes to 2:9, and 0:0 to 3:0; then 2:0 and 2:5 are taken
 # back, while pages on either side of them stay.
 GONE = [
@@ -465,7 +514,7 @@ GONE_DIFF = [
     "- │  └─ 2:5 r-x --- |",
     "  └─ 3:0 rwx ---    |",
 ]
-GONE_TABLE = ["space 2: 1 of 64 pages held", TABLE_HEAD, "       9      9000      1  rwx     ---     0:1"]
+GONE_TABLE = ["space 2: 1 of 64 pages held", TABLE_HEAD, "        9      9000        1  rwx     ---     0:1"]
 
 
 def more(count, noun):
@@ -516,10 +565,10 @@ SHOWN = [
     (
         "--at 3 --space 3",
         3,
-        ["space 3: 2 of 64 pages held", TABLE_HEAD, "+      0         0      0  rwx     ---     1:0", "+      4      4000      0  r-x     ---     1:0"],
+        ["space 3: 2 of 64 pages held", TABLE_HEAD, "+       0         0        0  rwx     ---     1:0", "+       4      4000        0  r-x     ---     1:0"],
     ),
     ("--space 3", 5, ["space 3: 0 of 64 pages held", TABLE_HEAD, "- 3:0 rwx --- of frame 0", "- 3:4 r-x --- of frame 0"]),
-    ("--space 2 --frame 1", 5, ["space 2: 1 of 64 pages held", TABLE_HEAD, "       5      5000      1  rwx     ---     0:1"]),
+    ("--space 2 --frame 1", 5, ["space 2: 1 of 64 pages held", TABLE_HEAD, "        5      5000        1  rwx     ---     0:1"]),
 ]
 
 
@@ -668,6 +717,49 @@ def why_pages(cases, program):
         cases.compare("why of a page below one that was granted", ended(0, *lines), run([program, "why", path, "--page", "2:5"]))
 
 
+# Two spaces of 32 bits, which have every address. Page 0 of space 0 is mapped to the last page of space 1 and written
+# there; then the right to write is taken from it again. (A page that was written was read too.)
+LARGE = ["l4map,1,2,32,1", "send,0,1,10,fffff008,c6", "access,1,fffff123,w", "unmap,0,0,c2"]
+LARGE_ANSWERS = [
+    "1 send absent=0 norights=0 origin=0 lost=0 extended=0 linked=1",
+    "2 access ok",
+    "3 unmap 000000c6",
+    "0,0,0,rwx,---,-",
+    "1,1048575,0,r--,---,0:0",
+    "end 3 0",
+]
+LARGE_TREE = ["frame 0", "  0:0 rwx ---", "* └─ 1:1048575 r-- ---, was rw- RW-"]
+LARGE_DIFF = ["frame 0", "  0:0 rwx ---          |   0:0 rwx ---", "* └─ 1:1048575 rw- RW- | * └─ 1:1048575 r-- ---"]
+LARGE_TABLE = ["space 1: 1 of 1048576 pages held", TABLE_HEAD, "* 1048575  fffff000        0  r--     ---     0:0, was rw- RW-"]
+
+
+def last_pages(cases, program):
+    """The last page of a space of 32 bits."""
+    with tempfile.TemporaryDirectory() as room:
+        path = written(room, "large.csv", LARGE)
+        first, third = (record_at(path, LARGE, number) for number in (1, 3))
+        cases.compare("check of the last page", ended(0, counted(3, 0)), run([program, "check", path]))
+        cases.compare("l4map of the last page", ended(0, *LARGE_ANSWERS), run(L4MAP, text_of(LARGE)))
+        for arguments, lines in (("", LARGE_TREE), ("--diff", LARGE_DIFF), ("--space 1", LARGE_TABLE)):
+            got = run([program, "show", path, *arguments.split()])
+            cases.compare(f"show {arguments} of the last page", ended(0, f"after {third}", *lines), got)
+        lines = [f"1:1048575 holds frame 0 with r--, after {third}", "it came from", f"  1:1048575 r-- --- from 0:0, since {first}"]
+        lines += ["  0:0 rwx ---, a root, since the start", "what changed its rights", f"  {first}", "    gave rw- of frame 0 from 0:0"]
+        lines += [f"  {third}", "    took -w-: rw- became r--"]
+        cases.compare("why of the last page", ended(0, *lines), run([program, "why", path, "--page", "1:1048575"]))
+        lines = [f"0:1048575 holds nothing, after {third}", "no record changed its rights"]
+        cases.compare("why of another last page", ended(0, *lines), run([program, "why", path, "--page", "0:1048575"]))
+        unknown = Ended(2, b"", f"l4trace: {path}: there is no such space or frame\n".encode())
+        for page in ("1:1048576", "1:9999999", "2:1048575"):
+            cases.compare(f"why of page {page}, which there is not", unknown, run([program, "why", path, "--page", page]))
+        cases.compare("compare of the last page", ended(0, "no difference"), run([program, "compare", path, "-"], text_of(LARGE_ANSWERS)))
+        answers = [*LARGE_ANSWERS[:2], "3 unmap 000000c4", *LARGE_ANSWERS[3:]]
+        lines = ["first difference: line 3", f"  l4map:   {LARGE_ANSWERS[2]}", f"  answers: {answers[2]}", f"  {third}", "  it changes these mappings:"]
+        lines += ["    - 1,1048575,0,rw-,RW-,0:0", "    + 1,1048575,0,r--,---,0:0", "the trees before and after it:", *LARGE_DIFF]
+        got = run([program, "compare", path, "-"], text_of(answers))
+        cases.compare("compare of the last page with a wrong answer", ended(1, *lines), got)
+
+
 GREEN, RED, YELLOW, RESET = "\x1b[32m", "\x1b[31m", "\x1b[33m", "\x1b[0m"
 
 
@@ -760,11 +852,28 @@ def make_random(cases, program):
             good = records == "2000 records" and least <= int(refused.split()[0]) <= most
             cases.check(f"random {shape}: {percent} of 100 refused", "" if good else last)
         compare_random(cases, program, shape, trace)
-    given = run([program, *"random --seed 1 --records 300 --spaces 512 --bits 24 --frames 64".split()]).stdout
-    cases.check("random: header", "" if given.startswith(b"l4map,1,512,24,64\n") else given[:40].decode())
-    for arguments in ("--spaces 1", "--bits 25", "--frames 65", "--refused 101", "--shape ring", "--records x"):
+    for bits in (18, 24, 25, 32):
+        random_of_bits(cases, program, bits)
+    for arguments in ("--spaces 1", "--bits 17", "--bits 33", "--frames 65", "--refused 101", "--shape ring", "--records x"):
         got = run([program, *"random --seed 1 --records 1".split(), *arguments.split()])
         cases.check(f"random {arguments}", "" if got.status == 2 and not got.stdout and got.stderr else f"{got}")
+
+
+REFUSALS = {"BadSize", "Misaligned", "OutOfSpace", "NotAnItem", "BadControl", "NoSuchSpace", "SameSpace", "NoWindow", "BadRecord"}
+
+
+def random_of_bits(cases, program, bits):
+    """Traces of spaces of so many bits: with as many spaces and frames as there can be, with each refusal, and without one."""
+
+    def made(arguments):
+        return run([program, *f"random --seed 1 --bits {bits} --shape fpages {arguments}".split()]).stdout
+
+    given = made("--records 300 --spaces 512 --frames 64")
+    cases.check(f"random of {bits} bits: header", "" if given.startswith(f"l4map,1,512,{bits},64\n".encode()) else given[:40].decode())
+    told = run([program, "check", "-", "--max", "300"], made("--records 300 --refused 100")).stdout.decode().splitlines()
+    found = {line.split(": ")[2] for line in told[:-1]}
+    cases.check(f"random of {bits} bits: refusals", "" if told[-1:] == [counted(300, 300)] and found == REFUSALS else f"{told[-1:]} {found}")
+    compare_random(cases, program, f"of {bits} bits", made("--records 2000 --refused 0"))
 
 
 def compare_random(cases, program, shape, trace):
@@ -814,6 +923,36 @@ def check_many(cases, program):
         cases.compare("compare of a million records with a wrong answer", ended(1, *lines), got)
 
 
+def check_large(cases, program):
+    """As many spaces of 32 bits as there can be, of which two hold a page; then as many frames. Each run has a minute."""
+    with tempfile.TemporaryDirectory() as room:
+        records = ["l4map,1,512,32,1", "send,0,511,10,fffff008,c6"]
+        path = written(room, "spaces.csv", records)
+        first, root = record_at(path, records, 1), "  0:0 rwx ---, a root, since the start"
+
+        def asked(*arguments, given=b""):
+            return run([program, *arguments], given, MANY_SECONDS)
+
+        lines = ["space 511: 1 of 1048576 pages held", TABLE_HEAD, "+ 1048575  fffff000        0  rw-     ---     0:0"]
+        cases.compare("show of 512 large spaces", ended(0, f"after {first}", *lines), asked("show", path, "--space", "511"))
+        lines = [f"511:1048575 holds frame 0 with rw-, after {first}", "it came from", f"  511:1048575 rw- --- from 0:0, since {first}", root]
+        lines += ["what changed its rights", f"  {first}", "    gave rw- of frame 0 from 0:0"]
+        cases.compare("why of 512 large spaces", ended(0, *lines), asked("why", path, "--page", "511:1048575"))
+        answers = [ANSWERS[0], "0,0,0,rwx,---,-", "511,1048575,0,rw-,---,0:0", "end 1 0"]
+        cases.compare("compare of 512 large spaces", ended(0, "no difference"), asked("compare", path, "-", given=text_of(answers)))
+        records = ["l4map,1,2,32,1048576", "access,0,ffffffff,w"]
+        path = written(room, "frames.csv", records)
+        first = record_at(path, records, 1)
+        lines = ["frame 1048575", "* 0:1048575 rwx RW-, was rwx ---"]
+        cases.compare("show of the last of all frames", ended(0, f"after {first}", *lines), asked("show", path, "--frame", "1048575"))
+        lines = ["frame 0", "  0:0 rwx ---", "frame 1", "  0:1 rwx ---", more(1048574, "mappings")]
+        cases.compare("show of all frames", ended(0, f"after {first}", *lines), asked("show", path, "--max", "2"))
+        lines = ["space 0: 1048576 of 1048576 pages held", TABLE_HEAD, "        0         0        0  rwx     ---     -", more(1048575, "mappings")]
+        cases.compare("show of a space that is full", ended(0, f"after {first}", *lines), asked("show", path, "--space", "0", "--max", "1"))
+        lines = [f"0:1048575 holds frame 1048575 with rwx, after {first}", "it came from", "  0:1048575 rwx RW-, a root, since the start"]
+        cases.compare("why of the last of all frames", ended(0, *lines, "no record changed its rights"), asked("why", path, "--page", "0:1048575"))
+
+
 def check_script(cases, program):
     """trace.sh runs the program, and tells where there is none."""
     script = os.path.join(TOP, "trace.sh")
@@ -852,9 +991,11 @@ def main():
     compare_unchanged(cases, program)
     show_traces(cases, program)
     why_pages(cases, program)
+    last_pages(cases, program)
     check_colors(cases, program)
     make_random(cases, program)
     check_many(cases, program)
+    check_large(cases, program)
     cases.end()
 
 

@@ -22,7 +22,7 @@ CHOICES_OF_LARGE = [[], ["--plain"]]
 LARGE = [
     hostile_traces.sends_that_extend_one_page,
     hostile_traces.million_mappings_revoked_at_once,
-    hostile_traces.largest_limits_given_up,
+    hostile_traces.many_spaces_given_up,
 ]
 
 # Runs that end without an answer: a name, the arguments, the input, the status, and how standard error begins.

@@ -112,14 +112,14 @@ def four_digits():
 def upper_limits():
     """The last space and the last page at the upper limits."""
     trace = lines(
-        "l4map,1,512,24,4096",
-        "send,0,511,10,fff008,fff0c7",
-        "access,511,ffffff,x",
-        "access,511,1000000,x",
+        "l4map,1,512,32,4096",
+        "send,0,511,10,fffff008,fff0c7",
+        "access,511,ffffffff,x",
+        "access,511,100000000,x",
         "access,512,0,x",
     )
-    replies = lines(f"1 {LINKED.decode()}", "2 access ok", "3 refused OutOfSpace", "4 refused NoSuchSpace")
-    return trace, replies + roots(4096) + lines("511,4095,4095,rwx,R-X,0:4095", "end 4 2")
+    replies = lines(f"1 {LINKED.decode()}", "2 access ok", "3 refused BadRecord", "4 refused NoSuchSpace")
+    return trace, replies + roots(4096) + lines("511,1048575,4095,rwx,R-X,0:4095", "end 4 2")
 
 
 def complete_spaces():
@@ -191,7 +191,15 @@ def chain_through_all_spaces():
     return trace, answer
 
 
-LARGE = [four_digits, upper_limits, complete_spaces, chain_through_all_spaces]
+def all_pages_of_the_largest_space():
+    """Each of 1,048,576 pages is mapped, loses a right, and is revoked."""
+    pages = 1 << 20
+    trace = lines(f"l4map,1,2,32,{pages}", "send,0,1,10,8,17", "unmap,0,0,12", "unmap,0,0,17")
+    linked = f"send absent=0 norights=0 origin=0 lost=0 extended=0 linked={pages}"
+    return trace, lines(f"1 {linked}", "2 unmap 00000010", "3 unmap 00000010") + roots(pages) + lines("end 3 0")
+
+
+LARGE = [four_digits, upper_limits, complete_spaces, chain_through_all_spaces, all_pages_of_the_largest_space]
 
 
 def check_odd_records(cases, program):

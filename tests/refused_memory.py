@@ -31,6 +31,7 @@ SMALL = [
     "grants/fewer-rights-narrow-what-derives",
     "grants/two-pages-of-one-chain",
     "phases/map-whose-flush-removes-a-source",
+    "large-spaces/last-page-of-the-largest-space",
 ]
 
 # Those of whole fpages, whose phases are in many pieces.

@@ -23,6 +23,7 @@ TESTS = {
     "page_tests": [
         "entries::keeps_entries_at_the_least_limits",
         "entries::keeps_entries_at_the_largest_limits",
+        "entries::shards_stand_in_the_order_in_which_they_were_made",
         "trees::has_outer_runs",
         "trees::cuts::puts_back_one_node_of_a_run_of_three",
         "trees::cuts::stays_as_the_last_cut_left_it_where_nothing_is_put_back",

@@ -44,7 +44,7 @@ int main(void) {
     entry(&db, 0, 0);
     origin(&db, 0, 0);
     printf("new %u\n", l4map_new(&db, 1, 18, 3));
-    printf("new %u\n", l4map_new(&db, 2, 25, 3));
+    printf("new %u\n", l4map_new(&db, 2, 33, 3));
     printf("new %u\n", l4map_new(&db, 2, 18, 65));
     printf("new %u\n", l4map_new(&db, 2, 18, 3));
     printf("new %u\n", l4map_new(&db, 2, 18, 3));

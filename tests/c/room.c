@@ -144,8 +144,11 @@ static void print_heap(void) {
     must(l4map_new(&db, 2, 18, 1), "new");
     printf("heap smallest %zu\n", arena_most);
     l4map_free(&db);
-    must(l4map_new(&db, 512, 24, 4096), "new");
+    must(l4map_new(&db, 512, 32, 1048576), "new");
     printf("heap largest %zu\n", arena_most);
+    l4map_free(&db);
+    arena_most = 0;
+    must(l4map_new(&db, 512, 24, 4096), "new");
     empty = arena_bytes;
     send(0, 1, item, 2);
     send(0, 2, item, 2);

@@ -237,7 +237,7 @@ def million_mappings_revoked_one_by_one():
     return trace.with_audit(["0,0,0,rwx,RW-,-"])
 
 
-def every_page_of_the_largest_limits(trace):
+def every_page_of_many_spaces(trace):
     """Maps the 4,096 pages of space 0 to each of the 511 others, and executes in the last page of the last."""
     for space in range(1, SPACES):
         trace.ask(f"send,0,{space},10,8,17", sent(linked=PAGES))
@@ -246,10 +246,10 @@ def every_page_of_the_largest_limits(trace):
     trace.ask("access,512,0,x", "refused NoSuchSpace")
 
 
-def largest_limits_with_every_page_held():
-    """All 2,097,152 pages of the largest limits are held, and the audit lists them."""
+def many_spaces_with_every_page_held():
+    """All 2,097,152 pages of 512 spaces of 24 bits are held, and the audit lists them."""
     trace = Dialogue(SPACES, 24, PAGES)
-    every_page_of_the_largest_limits(trace)
+    every_page_of_many_spaces(trace)
     audit = roots(PAGES)
     for space in range(1, SPACES):
         audit += [f"{space},{page},{page},rwx,---,0:{page}" for page in range(PAGES)]
@@ -257,10 +257,10 @@ def largest_limits_with_every_page_held():
     return trace.with_audit(audit)
 
 
-def largest_limits_given_up():
-    """All pages of the largest limits are held, and space 0 gives all up by one word, which returns R and X: none is left."""
+def many_spaces_given_up():
+    """All pages of 512 spaces of 24 bits are held, and space 0 gives all up by one word, which returns R and X: none is left."""
     trace = Dialogue(SPACES, 24, PAGES)
-    every_page_of_the_largest_limits(trace)
+    every_page_of_many_spaces(trace)
     trace.ask("unmap,0,40,17", "unmap 00000015")
     return trace.with_audit([])
 
@@ -310,6 +310,6 @@ LARGE = [
     sends_that_extend_one_page,
     million_mappings_revoked_at_once,
     million_mappings_revoked_one_by_one,
-    largest_limits_with_every_page_held,
-    largest_limits_given_up,
+    many_spaces_with_every_page_held,
+    many_spaces_given_up,
 ]

@@ -11,7 +11,7 @@ use crate::{Error, Fpage, Item, Place, Rights, Space};
 pub struct Limits {
     /// How many spaces there are: 2 to 512.
     pub spaces: u32,
-    /// Each space has `2^bits` bytes: 18 to 24.
+    /// Each space has `2^bits` bytes: 18 to 32.
     pub bits: u32,
     /// How many frames there are: 1 to the number of pages of a space.
     pub frames: u32,
@@ -301,12 +301,7 @@ impl Database {
         // SAFETY: the reply is lent for the call, and no other call runs: this thread makes one at a time, and no other
         // has the database too, since it is not `Sync`.
         Error::check(unsafe {
-            raw::l4map_entry(
-                self.handle.get(),
-                place.space.0,
-                place.page.into(),
-                &mut reply,
-            )
+            raw::l4map_entry(self.handle.get(), place.space.0, place.page, &mut reply)
         })?;
         Ok((reply.held == 1).then(|| Entry {
             frame: reply.frame,
@@ -339,12 +334,7 @@ impl Database {
         let mut reply = raw::OriginReply::default();
         // SAFETY: as in `entry`.
         Error::check(unsafe {
-            raw::l4map_origin(
-                self.handle.get(),
-                place.space.0,
-                place.page.into(),
-                &mut reply,
-            )
+            raw::l4map_origin(self.handle.get(), place.space.0, place.page, &mut reply)
         })?;
         Ok((reply.known == 1).then(|| place_of(reply.space, reply.page)))
     }
@@ -410,7 +400,7 @@ fn control(n: usize) -> u32 {
 pub(crate) fn place_of(space: u32, page: u32) -> Place {
     Place {
         space: Space(space as u16),
-        page: page as u16,
+        page,
     }
 }
 
@@ -431,7 +421,7 @@ mod tests {
         Database::new(limits).unwrap()
     }
 
-    fn place(space: u16, page: u16) -> Place {
+    fn place(space: u16, page: u32) -> Place {
         Place {
             space: Space(space),
             page,
@@ -444,9 +434,10 @@ mod tests {
             (1, 18, 1),
             (513, 18, 1),
             (2, 17, 1),
-            (2, 25, 1),
+            (2, 33, 1),
             (2, 18, 0),
             (2, 18, 65),
+            (2, 32, 1_048_577),
         ] {
             let limits = Limits {
                 spaces,
@@ -628,6 +619,40 @@ mod tests {
             Err(Error::OutOfSpace)
         );
         assert_eq!(database.access(Space(0), 0x1ffff, Access::Write), Ok(true));
+    }
+
+    /// The last address is 0xffffffff. The mapping of its page is the sixteenth, the last of those that are asked for at once.
+    #[test]
+    fn the_last_page_of_the_largest_space() {
+        let limits = Limits {
+            spaces: 2,
+            bits: 32,
+            frames: 15,
+        };
+        let mut database = Database::new(limits).unwrap();
+        let (root, last) = (place(0, 0), place(1, 1_048_575));
+        let rights = Rights::READ | Rights::WRITE;
+        let item = Item::map(Fpage::page(root.page, rights), last.page);
+        let counts = database.send(Space(0), Space(1), WINDOW, &[item]).unwrap();
+        assert_eq!(counts.linked, 1);
+        assert_eq!(
+            database.access(Space(1), 0xffff_f123, Access::Write),
+            Ok(true)
+        );
+        assert_eq!(
+            database.access(Space(1), 0xffff_efff, Access::Read),
+            Ok(false)
+        );
+        assert_eq!(database.origin(last), Ok(Some(root)));
+        assert_eq!(database.entry(place(1, 1_048_574)), Ok(None));
+        assert_eq!(database.entry(place(1, 1_048_576)), Err(Error::OutOfSpace));
+        let held: vec::Vec<_> = database.mappings().unwrap().map(|m| m.place).collect();
+        assert_eq!((held.len(), held[15]), (16, last));
+        let all = Fpage::pages(0, 1_048_576, Rights::WRITE).unwrap();
+        assert_eq!(database.unmap_page(Space(0), all), Ok(rights));
+        assert_eq!(database.entry(last).unwrap().unwrap().rights, Rights::READ);
+        let past = Fpage::from_word(0x217);
+        assert_eq!(database.unmap_page(Space(0), past), Err(Error::OutOfSpace));
     }
 
     #[test]

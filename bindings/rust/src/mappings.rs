@@ -43,7 +43,7 @@ const SOME: usize = 16;
 /// let database = Database::new(Limits { spaces: 2, bits: 18, frames: 2 })?;
 /// for mapping in database.mappings()? {
 ///     assert_eq!(mapping.rights, Rights::ALL);
-///     assert_eq!(u32::from(mapping.place.page), mapping.frame);
+///     assert_eq!(mapping.place.page, mapping.frame);
 ///     assert_eq!(mapping.origin, None);
 /// }
 /// # Ok(())
@@ -109,11 +109,11 @@ mod tests {
     use std::vec::Vec;
 
     /// The pages 0 to 32 of space 0, of which so many are held, and the same in space 1.
-    fn held_twice(frames: u16) -> (Database, Vec<Mapping>) {
+    fn held_twice(frames: u32) -> (Database, Vec<Mapping>) {
         let limits = Limits {
             spaces: 2,
             bits: 18,
-            frames: frames.into(),
+            frames,
         };
         let mut database = Database::new(limits).unwrap();
         let (all, some) = (Fpage::complete(Rights::ALL), Rights::READ | Rights::EXECUTE);
@@ -125,7 +125,7 @@ mod tests {
         };
         let root = |page| Mapping {
             place: place(0, page),
-            frame: page.into(),
+            frame: page,
             rights: Rights::ALL,
             status: Rights::NONE,
             origin: None,

@@ -5,6 +5,19 @@ use crate::Rights;
 const PAGE_BITS: u32 = 12;
 const PAGE_BYTES: u32 = 1 << PAGE_BITS;
 
+/// How many pages a space has at most: those of all addresses of 32 bits.
+const PAGES: u32 = 1 << (u32::BITS - PAGE_BITS);
+
+/// The first address of a page.
+///
+/// # Panics
+///
+/// If the page has no address of 32 bits.
+const fn address(page: u32) -> u32 {
+    assert!(page < PAGES, "pages are 0 to 1,048,575");
+    page * PAGE_BYTES
+}
+
 /// An address space, by its number from 0.
 #[derive(Clone, Copy, Debug, PartialEq, Eq, PartialOrd, Ord, Hash)]
 pub struct Space(pub u16);
@@ -15,7 +28,7 @@ pub struct Place {
     /// The space.
     pub space: Space,
     /// The page of the space.
-    pub page: u16,
+    pub page: u32,
 }
 
 /// The space and the page, as `2:4`.
@@ -45,19 +58,21 @@ impl Fpage {
     pub const NIL: Fpage = Fpage(0);
 
     /// One page.
-    pub const fn page(page: u16, rights: Rights) -> Fpage {
-        Fpage(page as u32 * PAGE_BYTES + (PAGE_BITS << 4) + rights.bits())
+    ///
+    /// # Panics
+    ///
+    /// If the page is not below 2^20: the addresses of the largest space have 32 bits.
+    pub const fn page(page: u32, rights: Rights) -> Fpage {
+        Fpage(address(page) + (PAGE_BITS << 4) + rights.bits())
     }
 
-    /// So many pages from a first one on, if that is an fpage.
-    pub const fn pages(first: u16, pages: u32, rights: Rights) -> Option<Fpage> {
-        if !pages.is_power_of_two() || first as u32 % pages != 0 {
+    /// So many pages from a first one on, if that is an fpage of the largest space, which has 2^20 pages.
+    pub const fn pages(first: u32, pages: u32, rights: Rights) -> Option<Fpage> {
+        if !pages.is_power_of_two() || first % pages != 0 || pages > PAGES || first >= PAGES {
             return None;
         }
         let size = PAGE_BITS + pages.trailing_zeros();
-        Some(Fpage(
-            first as u32 * PAGE_BYTES + (size << 4) + rights.bits(),
-        ))
+        Some(Fpage(address(first) + (size << 4) + rights.bits()))
     }
 
     /// All pages of the space.
@@ -101,13 +116,21 @@ pub struct Item([u32; 2]);
 
 impl Item {
     /// Maps the fpage to page `base` of the receiver, or where that page lies in the larger of fpage and window.
-    pub const fn map(fpage: Fpage, base: u16) -> Item {
-        Item([base as u32 * PAGE_BYTES + 8, fpage.word()])
+    ///
+    /// # Panics
+    ///
+    /// If `base` is not below 2^20.
+    pub const fn map(fpage: Fpage, base: u32) -> Item {
+        Item([address(base) + 8, fpage.word()])
     }
 
     /// Grants the fpage: the sender holds it no longer.
-    pub const fn grant(fpage: Fpage, base: u16) -> Item {
-        Item([base as u32 * PAGE_BYTES + 10, fpage.word()])
+    ///
+    /// # Panics
+    ///
+    /// If `base` is not below 2^20.
+    pub const fn grant(fpage: Fpage, base: u32) -> Item {
+        Item([address(base) + 10, fpage.word()])
     }
 
     /// Any two words; a send refuses those that are no item.
@@ -134,10 +157,14 @@ mod tests {
             (Some(Fpage::complete(Rights::ALL)), 0x17),
             (Some(Fpage::page(0, Rights::ALL)), 0xc7),
             (Some(Fpage::page(4095, Rights::NONE)), 0xfff0c0),
+            (Some(Fpage::page(1_048_575, Rights::ALL)), 0xfffff0c7),
             (Fpage::pages(0, 1, Rights::READ), 0xc4),
             (Fpage::pages(0, 2, Rights::ALL), 0xd7),
             (Fpage::pages(0, 32, Rights::ALL), 0x117),
             (Fpage::pages(2048, 2048, Rights::WRITE), 0x800172),
+            (Fpage::pages(1_048_575, 1, Rights::NONE), 0xfffff0c0),
+            (Fpage::pages(524_288, 524_288, Rights::WRITE), 0x800001f2),
+            (Fpage::pages(0, 1_048_576, Rights::READ), 0x204),
         ] {
             assert_eq!(fpage.map(Fpage::word), Some(word));
         }
@@ -148,6 +175,10 @@ mod tests {
         assert_eq!(Fpage::pages(0, 0, Rights::ALL), None);
         assert_eq!(Fpage::pages(0, 3, Rights::ALL), None);
         assert_eq!(Fpage::pages(2, 4, Rights::ALL), None);
+        assert_eq!(Fpage::pages(1_048_576, 1, Rights::ALL), None);
+        assert_eq!(Fpage::pages(1_048_576, 1_048_576, Rights::ALL), None);
+        assert_eq!(Fpage::pages(0, 2_097_152, Rights::ALL), None);
+        assert_eq!(Fpage::pages(1 << 31, 1 << 31, Rights::ALL), None);
     }
 
     #[test]
@@ -161,8 +192,28 @@ mod tests {
     fn words_of_items() {
         let fpage = Fpage::page(1, Rights::READ);
         assert_eq!(Item::map(fpage, 4095).words(), [0xfff008, 0x10c4]);
+        assert_eq!(Item::map(fpage, 1_048_575).words(), [0xfffff008, 0x10c4]);
         assert_eq!(Item::grant(fpage, 3).words(), [0x300a, 0x10c4]);
+        assert_eq!(Item::grant(fpage, 1_048_575).words(), [0xfffff00a, 0x10c4]);
         assert_eq!(Item::from_words([4, 5]).words(), [4, 5]);
+    }
+
+    #[test]
+    #[should_panic(expected = "pages are 0 to 1,048,575")]
+    fn no_page_without_an_address() {
+        let _ = Fpage::page(1_048_576, Rights::ALL);
+    }
+
+    #[test]
+    #[should_panic(expected = "pages are 0 to 1,048,575")]
+    fn no_page_to_map_to_without_an_address() {
+        let _ = Item::map(Fpage::NIL, 1_048_576);
+    }
+
+    #[test]
+    #[should_panic(expected = "pages are 0 to 1,048,575")]
+    fn no_page_to_grant_to_without_an_address() {
+        let _ = Item::grant(Fpage::NIL, u32::MAX);
     }
 
     #[test]

@@ -1,5 +1,5 @@
 -- The mappings of the pages of a space, and of the spaces, one after another.
-use Rattle.std.proofs.Common.{◌≡◌, ◌⊎◌, inl, inr, nat_le, true, false, ℕ, ◌+◌, ◌-◌, ◌<◌, ◌≤◌, List, [], ◌∷◌, ◌++◌, map, set, filter, length, Option, Some, None, sym, ap, ◌∙◌, subst, arith, append_assoc, append-nil}
+use Rattle.std.proofs.Common.{◌≡◌, ◌⊎◌, inl, inr, nat_le, true, false, ℕ, zero, suc, refl, ◌+◌, ◌-◌, ◌<◌, ◌≤◌, List, [], ◌∷◌, ◌++◌, map, set, filter, length, Option, Some, None, sym, ap, ◌∙◌, subst, arith, append_assoc, append-nil}
 use Rattle.std.proofs.lemmas.List.{map-append}
 use Rattle.std.proofs.lemmas.Bool.Decides.{leb_tells}
 use Rattle.std.specs.Option.{option_map}
@@ -16,6 +16,13 @@ use Rattle.c_handle.proofs.Listings.{pages_more, pages_and, spaces_more, listed_
 -- the mappings at places in two parts
 pub mappings_and : (held : Place → Option Held) (ps qs : List Place) → mappings_at held (ps ++ qs) ≡ mappings_at held ps ++ mappings_at held qs
 mappings_and held ps qs = ap (map mapping_told) (listed_and held ps qs) ∙ map-append mapping_told (listed held ps) (listed held qs)
+
+-- no mapping is at pages that hold nothing
+none_listed : (held : Place → Option Held) (space page n : ℕ) → ((j : ℕ) → page ≤ j → j < page + n → held (record { space = space; page = j }) ≡ None) → listed held (pages_from space page n) ≡ []
+none_listed held space page zero none = refl
+none_listed held space page (suc n) none =
+    ap (λ m. keep (record { space = space; page = page }) m (listed held (pages_from space (page + 1) n))) (none page (omega arith) (omega arith))
+    ∙ none_listed held space (page + 1) n (λ j after before. none j (omega (arith, after)) (omega (arith, before)))
 
 -- ---- one page
 
@@ -54,28 +61,50 @@ module _ (held : Place → Option Held) (space first : ℕ) (before : List Mappi
       subst (λ l. WritesBehind before count l last end) (sym parts)
       (writes_both before count (mappings_at held (pages_from space first (page - first))) after told so_far (mappings_at held (here ∷ [])) last end one)
 
-  -- the end, which may lie before the first page
-  pub space_end : (page end pages : ℕ) → end ≡ pages → end ≤ page → (first ≤ end → page ≤ end) → (end ≤ first → page ≡ first) → (after : List MappingReply) (told : ℕ)
-      → WritesBehind before count (mappings_at held (pages_from space first (page - first))) after told → WritesBehind before count (mappings_at held (pages_from space first (pages - first))) after told
-  space_end page end pages same past some none after told so_far = by (leb_tells first end)
+  -- pages that hold nothing
+  pub space_gap : (from to : ℕ) → first ≤ from → from ≤ to → ((p : Place) → p.space ≡ space → from ≤ p.page → p.page < to → held p ≡ None) → (after : List MappingReply) (told : ℕ)
+      → WritesBehind before count (mappings_at held (pages_from space first (from - first))) after told → WritesBehind before count (mappings_at held (pages_from space first (to - first))) after told
+  space_gap from to low high none after told so_far =
+      let many : to - first ≡ from - first + (to - from) = omega (arith, low, high) in
+      let on : first + (from - first) ≡ from = omega (arith, low) in
+      let earlier = pages_from space first (from - first) in
+      let gap = pages_from space (first + (from - first)) (to - from) in
+      let nothing : listed held gap ≡ [] =
+      ap (λ g. listed held (pages_from space g (to - from))) on
+      ∙ none_listed held space from (to - from) (λ j after before. none (record { space = space; page = j }) refl after (omega (arith, after, before, high))) in
+      let split = ap (pages_from space first) many ∙ pages_and space first (from - first) (to - from) in
+      let parts = ap (mappings_at held) split ∙ mappings_and held earlier gap ∙ ap (λ es. mappings_at held earlier ++ map mapping_told es) nothing ∙ append-nil (mappings_at held earlier) in
+      subst (λ l. WritesBehind before count l after told) (sym parts) so_far
+
+  -- no page from one on up to the end holds anything; that one may lie past the end only where it is the first
+  pub space_end : (from pages : ℕ) → first ≤ from → (pages < from → from ≡ first) → ((p : Place) → p.space ≡ space → from ≤ p.page → p.page < pages → held p ≡ None) → (after : List MappingReply) (told : ℕ)
+      → WritesBehind before count (mappings_at held (pages_from space first (from - first))) after told → WritesBehind before count (mappings_at held (pages_from space first (pages - first))) after told
+  space_end from pages low start none after told so_far = by (leb_tells from pages)
     where
-      by_count : page - first ≡ pages - first → WritesBehind before count (mappings_at held (pages_from space first (pages - first))) after told
-      by_count many = subst (λ n. WritesBehind before count (mappings_at held (pages_from space first n)) after told) many so_far
+      by : ((nat_le from pages ≡ true) × (from ≤ pages)) ⊎ ((nat_le from pages ≡ false) × (pages < from)) → WritesBehind before count (mappings_at held (pages_from space first (pages - first))) after told
+      by (inl h) = space_gap from pages low h.1 none after told so_far
+      by (inr h) =
+          let same : from ≡ first = start h.1 in
+          let many : from - first ≡ pages - first = omega (arith, same, h.1) in
+          subst (λ n. WritesBehind before count (mappings_at held (pages_from space first n)) after told) many so_far
 
-      by : ((nat_le first end ≡ true) × (first ≤ end)) ⊎ ((nat_le first end ≡ false) × (end < first)) → WritesBehind before count (mappings_at held (pages_from space first (pages - first))) after told
-      by (inl h) = let to : page ≤ end = some h.1 in by_count (omega (arith, same, past, to))
-      by (inr h) = let start : page ≡ first = none (omega (arith, h.1)) in by_count (omega (arith, same, h.1, start))
-
-  -- the buffer is full before the end
-  pub space_full : (page pages : ℕ) → first ≤ page → page ≤ pages → (after : List MappingReply) (told : ℕ) → WritesBehind before count (mappings_at held (pages_from space first (page - first))) after told
+  -- the buffer is full
+  pub space_full : (from pages : ℕ) → first ≤ from → (pages < from → from ≡ first) → (after : List MappingReply) (told : ℕ) → WritesBehind before count (mappings_at held (pages_from space first (from - first))) after told
       → told ≡ length after → WritesBehind before count (mappings_at held (pages_from space first (pages - first))) after told
-  space_full page pages from to after told so_far full =
-      let many : pages - first ≡ page - first + (pages - page) = omega (arith, from, to) in
-      let split = ap (pages_from space first) many ∙ pages_and space first (page - first) (pages - page) in
-      let rest = pages_from space (first + (page - first)) (pages - page) in
-      let parts = ap (mappings_at held) split ∙ mappings_and held (pages_from space first (page - first)) rest in
-      subst (λ l. WritesBehind before count l after told) (sym parts)
-      (writes_full before count (mappings_at held (pages_from space first (page - first))) after told so_far full (mappings_at held rest))
+  space_full from pages low start after told so_far full = by (leb_tells from pages)
+    where
+      by : ((nat_le from pages ≡ true) × (from ≤ pages)) ⊎ ((nat_le from pages ≡ false) × (pages < from)) → WritesBehind before count (mappings_at held (pages_from space first (pages - first))) after told
+      by (inl h) =
+          let many : pages - first ≡ from - first + (pages - from) = omega (arith, low, h.1) in
+          let split = ap (pages_from space first) many ∙ pages_and space first (from - first) (pages - from) in
+          let rest = pages_from space (first + (from - first)) (pages - from) in
+          let parts = ap (mappings_at held) split ∙ mappings_and held (pages_from space first (from - first)) rest in
+          subst (λ l. WritesBehind before count l after told) (sym parts)
+          (writes_full before count (mappings_at held (pages_from space first (from - first))) after told so_far full (mappings_at held rest))
+      by (inr h) =
+          let same : from ≡ first = start h.1 in
+          let many : from - first ≡ pages - first = omega (arith, same, h.1) in
+          subst (λ n. WritesBehind before count (mappings_at held (pages_from space first n)) after told) many so_far
 
 -- ---- the spaces behind
 

@@ -11,8 +11,8 @@ page_within bits address low below =
     omega (arith, bytes, below)
 
 -- one, shifted by the bits of a space
-pub shifted : (bits : ℕ) → bits ≤ 24 → 1 * 2 ^ bits % 2 ^ 64 ≡ 2 ^ bits
+pub shifted : (bits : ℕ) → bits ≤ 32 → 1 * 2 ^ bits % 2 ^ 64 ≡ 2 ^ bits
 shifted bits high =
-    let small : 2 ^ bits ≤ 2 ^ 24 = pow_mono high in
+    let small : 2 ^ bits ≤ 2 ^ 32 = pow_mono high in
     let one : 1 * 2 ^ bits < 2 ^ 64 = omega arith in
     mod-eq_of_lt one ∙ omega arith

@@ -1,14 +1,15 @@
 //! The mappings at or behind a place.
 
-ghost use Rattle.std.specs.Prelude.{◌≡◌, ◌<◌, ◌≤◌, ◌-◌, false, [], ◌∷◌, length, Some};
+ghost use Rattle.std.specs.Prelude.{◌≡◌, ◌<◌, ◌≤◌, ◌-◌, ◌^◌, false, [], ◌∷◌, length, MatchOption, Some};
 ghost use Rattle.std.specs.Option.{option_map};
 ghost use Rattle.space.specs.Directory.{pages_of};
 ghost use Rattle.model.specs.Holdings.{at};
 ghost use Rattle.holdings.specs.Places.{IsWithin, pages_from};
+ghost use Rattle.holdings.specs.Mappings.{AreAbsentFrom, IsNextHeldOf};
 ghost use Rattle.c_handle.specs.Listed.{mapping_told, mappings_at, mappings_from, IsWritten, WritesBehind, listed_of};
 
 use crate::code::{DONE, HALTED};
-use crate::look::{origin_numbers, pages};
+use crate::look::origin_numbers;
 use mapdb::Database;
 use space::{Entry, Place};
 
@@ -80,6 +81,23 @@ fn write_page(
     }
 }
 
+/// The first page of a space, from one on, that holds something.
+fn next_page(database: &Database, space: u16, page: u32) -> Option<Place>
+    requires running { database.now.is_halted ≡ false }
+    requires space { space < database.now.limits.spaces }
+    ensures next { MatchOption result
+        (AreAbsentFrom database.now.holdings space page (pages_of database.now.limits.bits))
+        (IsNextHeldOf database.now.holdings space page (pages_of database.now.limits.bits)) }
+    ensures small { pages_of database.now.limits.bits ≤ 2 ^ 20 }
+{
+    // Its contract says that the limits are served.
+    let _ = database.limits();
+    match database.next_held(space, page) {
+        Ok(found) => found,
+        Err(_) => None,
+    }
+}
+
 /// Writes the mappings of a space from a page on behind the first `told` of `mappings`, as many as there is room for, and
 /// returns how many are there then.
 fn write_space(
@@ -98,11 +116,13 @@ fn write_space(
         mappings.new result }
 {
     let mut told = told;
-    for page in first..pages(database.limits().bits) {
-        if told == mappings.len() {
+    let mut from = first;
+    while told < mappings.len() {
+        let Some(place) = next_page(database, space, from) else {
             return told;
-        }
-        told = write_page(database, Place { space, page }, mappings, told);
+        };
+        told = write_page(database, place, mappings, told);
+        from = place.page + 1;
     }
     told
 }

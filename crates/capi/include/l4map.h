@@ -105,7 +105,7 @@ struct l4map_mapping {
 /* The version of the interface that was linked: L4MAP_VERSION. */
 uint32_t l4map_version(void);
 
-/* Makes a database in an empty handle: `spaces` spaces, 2 to 512, of 2^bits bytes, 18 to 24, in which page i of space 0
+/* Makes a database in an empty handle: `spaces` spaces, 2 to 512, of 2^bits bytes, 18 to 32, in which page i of space 0
  * holds frame i with all rights, for each i below `frames`, 1 to the number of pages of a space. No page holds anything
  * else, and no status is set.
  *

@@ -78,8 +78,8 @@ pub fn push_bad_limits(text: &mut String, limits: &Limits) -> Result<usize, Allo
         write!(text, "{spaces} spaces; there are 2 to 512")?;
         return Ok(2);
     }
-    if bits < 18 || bits > 24 {
-        write!(text, "{bits} bits; a space has 18 to 24")?;
+    if bits < 18 || bits > 32 {
+        write!(text, "{bits} bits; a space has 18 to 32")?;
         return Ok(3);
     }
     let pages = 1u32 << (bits - 12);

@@ -61,7 +61,7 @@ static RANDOM: Subcommand = Subcommand {
             },
             value: Some("N"),
             default: Some("18"),
-            help: "Spaces have 2^N bytes, 18 to 24",
+            help: "Spaces have 2^N bytes, 18 to 32",
             ..OPTION
         },
         Argument {
@@ -121,8 +121,8 @@ pub fn random_task(alloc: Global, asked: &ArgMatches) -> Result<Task, TaskError>
     if spaces < 2 || spaces > 512 {
         return Err(refused(alloc, "there are 2 to 512 spaces"));
     }
-    if bits < 18 || bits > 24 {
-        return Err(refused(alloc, "bits are 18 to 24"));
+    if bits < 18 || bits > 32 {
+        return Err(refused(alloc, "bits are 18 to 32"));
     }
     if frames < 1 || frames > 64 {
         return Err(refused(alloc, "there are 1 to 64 frames"));

@@ -53,11 +53,11 @@ static WORD: Subcommand = Subcommand {
             name: "bits",
             kind: Kind::Number {
                 least: 18,
-                most: 24,
+                most: 32,
             },
             value: Some("N"),
-            default: Some("24"),
-            help: "Spaces have 2^N bytes, 18 to 24",
+            default: Some("32"),
+            help: "Spaces have 2^N bytes, 18 to 32",
             ..OPTION
         },
         Argument {
@@ -70,7 +70,7 @@ static WORD: Subcommand = Subcommand {
         Argument {
             name: "size",
             value: Some("SIZE"),
-            help: "The size of an fpage: bytes, as 4096, 4K or 1M, or nil, or complete",
+            help: "The size of an fpage: bytes, as 4096, 4K, 1M or 2G, or nil, or complete",
             ..OPTION
         },
         Argument {
@@ -123,8 +123,8 @@ pub fn word_task(alloc: Global, asked: &ArgMatches) -> Result<Task, TaskError>
     let Some(bits) = asked.get_one::<u32>("bits") else {
         return Err(refused(alloc, "there are no bits"));
     };
-    if !(18..=24).contains(&bits) {
-        return Err(refused(alloc, "bits are 18 to 24"));
+    if !(18..=32).contains(&bits) {
+        return Err(refused(alloc, "bits are 18 to 32"));
     }
     let makes_other = makes_item(asked);
     let makes_control = asked.contains_id("control");

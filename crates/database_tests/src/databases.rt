@@ -14,19 +14,23 @@ use calls::{
 };
 use crew::{Crew, NoGate};
 use mapdb::{Database, DbError, Limits, SendReply};
+use space::Place;
 use std::alloc::{AllocError, Global};
 use std::process::Abort;
 use std::test::Fail;
 
 /// Spaces, bits and frames of databases, and whether they are served.
-static LIMITS: [(u32, u32, u32, bool); 12] = [
+static LIMITS: [(u32, u32, u32, bool); 15] = [
     (2, 18, 1, true),
     (2, 18, 64, true),
     (3, 19, 128, true),
+    (2, 25, 8192, true),
+    (512, 32, 1048576, true),
     (1, 18, 1, false),
     (513, 18, 1, false),
     (2, 17, 1, false),
-    (2, 25, 1, false),
+    (2, 33, 1, false),
+    (2, 32, 1048577, false),
     (2, 18, 0, false),
     (2, 18, 65, false),
     (3, 19, 129, false),
@@ -99,6 +103,28 @@ fn refuses_limits_that_are_not_served(rt: HostRuntime) {
         };
         assert_equal(&rt, made(rt.alloc(), limits), expected, "limits");
     }
+}
+
+/// The pages of a space from one on that hold something come one after another.
+#[test]
+fn tells_the_next_page_that_is_held(rt: HostRuntime) -> Result<(), Fail> {
+    let rows = [
+        (0, 0, Some((0, 0))),
+        (0, 1, Some((0, 1))),
+        (0, 16_383, Some((0, 16_383))),
+        (0, 16_384, None),
+        (1, 0, None),
+        (1, 1_048_575, None),
+        (1, 1_048_576, None),
+        (0, u32::MAX, None),
+    ];
+    let database = Database::new(rt.alloc(), 2, 32, 16_384)?;
+    for (space, page, found) in rows {
+        let expected = found.map(|(space, page)| Place { space, page });
+        let found = database.next_held(space, page);
+        assert_equal(&rt, found, Ok(expected), "next");
+    }
+    Ok(())
 }
 
 /// Looks at how an error is written.

@@ -157,6 +157,25 @@ fn expect_outputs(
     expect_output(rt, input, &PLAIN, expected);
 }
 
+/// Traces of spaces of 2^32 bytes, and what is written of them.
+const LARGE_REPLAYS: [(&str, &str); 2] = [
+    (
+        "l4map,1,2,32,1\nsend,0,1,10,fffff008,c6\naccess,1,fffff123,w\nunmap,0,0,c2\n",
+        "1 send absent=0 norights=0 origin=0 lost=0 extended=0 linked=1\n2 access ok\n3 unmap 000000c6\n0,0,0,rwx,---,-\n1,1048575,0,r--,---,0:0\nend 3 0\n",
+    ),
+    (
+        "l4map,1,2,32,1\nsend,0,1,200,8,207\nsend,0,1,200,8,217\n",
+        "1 send absent=1048575 norights=0 origin=0 lost=0 extended=0 linked=1\n2 refused OutOfSpace\n0,0,0,rwx,---,-\n1,0,0,rwx,---,0:0\nend 2 1\n",
+    ),
+];
+
+#[test]
+fn writes_the_replies_and_the_audit_of_large_spaces(rt: HostRuntime) {
+    for (input, expected) in &LARGE_REPLAYS {
+        expect_outputs(&rt, input, expected);
+    }
+}
+
 #[test]
 fn writes_the_replies_and_the_audit(rt: HostRuntime) -> Result<(), Fail> {
     for (input, replies, mappings, end) in &REPLAYS {
@@ -332,7 +351,7 @@ fn counts_the_records_and_the_refused_ones(rt: HostRuntime) {
 }
 
 /// Inputs that end a run before it writes, each with its error.
-const BAD_HEADERS: [(&str, RunError); 8] = [
+const BAD_HEADERS: [(&str, RunError); 9] = [
     ("", RunError::BadHeader),
     ("\n\n", RunError::BadHeader),
     ("l4map,01,3,18,16\n", RunError::BadHeader),
@@ -341,6 +360,7 @@ const BAD_HEADERS: [(&str, RunError); 8] = [
     ("l4map,1,3,17,16\n", RunError::BadLimits),
     ("l4map,1,513,18,16\n", RunError::BadLimits),
     ("l4map,1,3,18,65\n", RunError::BadLimits),
+    ("l4map,1,2,33,1\n", RunError::BadLimits),
 ];
 
 /// Looks at a run that ends with an error before it writes.

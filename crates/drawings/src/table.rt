@@ -20,10 +20,10 @@ pub fn push_table(
     after: &[Mapping],
     view: &View,
 ) -> Result<(), AllocError> {
-    let pages = 1u32 << (moment.limits.bits.clamp(18, 24) - 12);
+    let pages = 1u32 << (moment.limits.bits.clamp(18, 32) - 12);
     let held = after.len();
     write!(text, "space {space}: {held} of {pages} pages held\n")?;
-    text.push_str("    page      base  frame  rights  status  origin\n")?;
+    text.push_str("     page      base    frame  rights  status  origin\n")?;
     for (i, mapping) in after.iter().enumerate() {
         if i as u64 >= view.most {
             let gone = gone_count(before, &moment.after);
@@ -45,7 +45,7 @@ fn push_page(text: &mut String, mapping: &Mapping, mark: Mark) -> Result<(), All
     let page = mapping.place.page;
     let base = u64::from(page) * 4096;
     let frame = mapping.frame;
-    write!(text, "{page:>6}  {base:>8x}  {frame:>5}  ")?;
+    write!(text, "{page:>7}  {base:>8x}  {frame:>7}  ")?;
     push_rights(text, mapping.rights)?;
     text.push_str("     ")?;
     push_status(text, mapping.status)?;

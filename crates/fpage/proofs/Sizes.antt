@@ -45,11 +45,11 @@ pub record Sized (bits s b : ℕ) : Type 0 where
   pub aligned : IsTrue (is_aligned (b / 4) (2 ^ (s - 12)))
   pub pages : (g : ℕ) → (leb (b / 4) g && ltb g (b / 4 + 2 ^ (s - 12))) ≡ (leb (1024 * b) (4096 * g) && ltb (4096 * g) (1024 * b + 2 ^ s))
 
-pub sized_pages : (bits s b : ℕ) → bits ≤ 24 → 12 ≤ s → 1024 * b % 2 ^ s ≡ 0 → 1024 * b + 2 ^ s ≤ 2 ^ bits → Sized bits s b
+pub sized_pages : (bits s b : ℕ) → bits ≤ 32 → 12 ≤ s → 1024 * b % 2 ^ s ≡ 0 → 1024 * b + 2 ^ s ≤ 2 ^ bits → Sized bits s b
 sized_pages bits s b low page even ends =
     let small : s ≤ bits = size_within b s bits ends in
     let whole : 2 ^ s ≡ 4096 * 2 ^ (s - 12) = pages_size s page in
-    let space : 2 ^ bits ≤ 2 ^ 24 = pow_mono low in
+    let space : 2 ^ bits ≤ 2 ^ 32 = pow_mono low in
     let pages : 2 ^ bits ≡ 4096 * 2 ^ (bits - 12) = pages_size bits (omega arith) in
     let short : s - 12 < 32 = omega arith in
     record {

@@ -68,10 +68,10 @@ is_page_of f g = nat_le f.first g && nat_lt g (f.first + f.count)
 abbrev pub is_aligned : ℕ → ℕ → Bool
 is_aligned first count = (count == 0) || (is_power_of_two count && (first % count == 0))
 
--- a space has 64 to 4096 pages (profile)
+-- a space has 64 to 1,048,576 pages (profile)
 pub record IsSpaceBits (bits : ℕ) : Type 0 where
   pub low : 18 ≤ bits
-  pub high : bits ≤ 24
+  pub high : bits ≤ 32
 
 -- an fpage whose pages lie within a space of 2^bits bytes
 abbrev pub IsFpageOf : ℕ → Flexpage → Type 0

@@ -11,6 +11,7 @@ pub mod KeptNodes
 pub mod Beside
 pub mod Whole
 pub mod WorkedPhase
+pub mod FaultsAmong
 pub mod AccessPhase
 pub mod WrittenPhase
 pub mod Counted

@@ -14,3 +14,5 @@ pub mod Outcomes
 pub mod Links
 pub mod Renamings
 pub mod WordOrigins
+pub mod Faults
+pub mod NextHeld

@@ -1,6 +1,6 @@
 -- The pages of an item: what becomes of each, and those that are mapped or moved.
 use Rattle.std.specs.List.{All}
-use Rattle.std.specs.Prelude.{◌≡◌, ℕ, ◌+◌, ◌^◌, ◌<◌, ◌≤◌, true, List, length, Some, None, false, [], ◌∷◌, get_or, if◌then◌else◌}
+use Rattle.std.specs.Prelude.{◌≡◌, ℕ, ◌+◌, ◌^◌, ◌<◌, ◌≤◌, true, List, length, Some, None, false, [], ◌∷◌, if◌then◌else◌}
 use Rattle.fpage.specs.Rights.{is_empty, meet}
 use Rattle.fpage.specs.declared.rights.Rights.{Rights}
 use Rattle.space.specs.Directory.{pages_of}
@@ -8,7 +8,7 @@ use Rattle.space.specs.Place.{same_place}
 use Rattle.space.specs.declared.place.Place.{Place}
 use Rattle.model.specs.Calls.{Limits}
 use Rattle.model.specs.Holdings.{Held, Holdings, at, is_held}
-use Rattle.model.specs.Items.{counts_of, Counts, no_counts, Job, Pair, pairs_from, Fate, absent, norights, to_origin, extends, goes, fate, add_counts}
+use Rattle.model.specs.Items.{counts_of, Counts, no_counts, Job, Pair, pairs_from, Fate, absent, norights, to_origin, extends, goes, add_counts}
 use Rattle.model.specs.Map.{map_pair}
 use Rattle.holdings.specs.declared.item_pages.ItemPages.{ItemPages}
 use Rattle.holdings.specs.declared.outcome.Outcome.{Outcome}
@@ -38,11 +38,6 @@ pub record AreItemPages (limits : Limits) (p : ItemPages) : Type 0 where
 -- the page so far behind a first page
 abbrev pub page_on : Place → ℕ → Place
 page_on p i = record p { page = p.page + i }
-
--- what becomes of each page of an item, in order
-pub record AreOutcomes (h : Holdings) (p : ItemPages) (os : List Outcome) : Type 0 where
-  pub count : length os ≡ p.count
-  pub each : (k : ℕ) (d : Outcome) → k < p.count → fate_of_outcome (get_or os k d) ≡ fate h (job_of_pages p) (page_on p.source k, page_on p.target k)
 
 -- ---- transfers
 

@@ -35,10 +35,12 @@ impl Holdings {
         let list = word_accesses(alloc, &shards, accesses)?;
         let pieces = touches(alloc, list, workers.piece_length())?;
         if pieces.is_empty() {
-            return Ok((Holdings { shards, trees }, Vec::new(alloc)));
+            let answers = with_faults(alloc, &shards, accesses, &[])?;
+            return Ok((Holdings { shards, trees }, answers));
         }
         let found = work_phase(alloc, &mut shards, pieces, workers)?;
-        Ok((Holdings { shards, trees }, found.answers))
+        let answers = with_faults(alloc, &shards, accesses, &found.answers)?;
+        Ok((Holdings { shards, trees }, answers))
     }
 
     /// The same, without pieces.
@@ -59,26 +61,59 @@ impl Holdings {
     }
 }
 
-ghost use Rattle.std.specs.Prelude.{◌≡◌, map, IfOk};
+ghost use Rattle.std.specs.Prelude.{◌≡◌, false, filter, get_or, map, IfOk};
 ghost use Rattle.std.specs.List.{All};
 ghost use Rattle.space.specs.Shards.{IsPlace};
+ghost use Rattle.holdings.specs.Inner.Faults.{is_there, with_faults};
 ghost use Rattle.holdings.specs.Inner.Planning.{word_access};
 
-/// Accesses by the words of their pages.
+/// Accesses by the words of their pages, of those pages whose shards are there.
 fn word_accesses(
     alloc: Global,
     shards: &Shards,
     accesses: &[(Place, Access)],
 ) -> Result<Vec<WordAccess>, AllocError>
     requires { All (λ access. IsPlace shards.now access.0) accesses.now }
-    ensures { IfOk result (λ list. list.items ≡ map (word_access shards.now) accesses.now) }
+    ensures { IfOk result (λ list. list.items ≡ map (word_access shards.now) (filter (is_there shards.now) accesses.now)) }
 {
     let mut list = Vec::with_capacity(alloc, accesses.len())?;
     for (place, access) in accesses {
-        list.push(WordAccess {
-            index: shards.index(*place),
-            access: *access,
-        })?;
+        if shards.has(*place) {
+            list.push(WordAccess {
+                index: shards.index(*place),
+                access: *access,
+            })?;
+        }
     }
     Ok(list)
+}
+
+/// Puts the answers of the accesses of pages whose shards are there among those of all accesses: the others are faults.
+fn with_faults(
+    alloc: Global,
+    shards: &Shards,
+    accesses: &[(Place, Access)],
+    made: &[bool],
+) -> Result<Vec<bool>, AllocError>
+    requires { All (λ access. IsPlace shards.now access.0) accesses.now }
+    ensures { IfOk result (λ answers. answers.items ≡ with_faults (map (is_there shards.now) accesses.now) made.now) }
+{
+    let mut answers = Vec::with_capacity(alloc, accesses.len())?;
+    let mut next = 0;
+    for (place, _) in accesses {
+        if shards.has(*place) {
+            answers.push(answer_at(made, next))?;
+            next += 1;
+        } else {
+            answers.push(false)?;
+        }
+    }
+    Ok(answers)
+}
+
+/// An answer; past the last one, a fault.
+fn answer_at(answers: &[bool], i: usize) -> bool
+    ensures { result ≡ get_or answers.now i false }
+{
+    i < answers.len() && answers[i]
 }

@@ -1,4 +1,5 @@
 use crate::limits::Limits;
+use crate::next_held::next_held;
 use crate::start::{root_trees, root_words};
 use crate::tree;
 use fpage::Access;
@@ -33,13 +34,15 @@ impl Model for Holdings {
 }
 
 impl Holdings {
-    ghost use Rattle.std.specs.Prelude.{◌≡◌, true, IfOk, option_map};
+    ghost use Rattle.std.specs.Prelude.{◌≡◌, ◌<◌, true, IfOk, MatchOption, option_map};
+    ghost use Rattle.space.specs.Directory.{pages_of};
     ghost use Rattle.model.specs.Holdings.{at, origin_at};
     ghost use Rattle.model.specs.Records.{are_limits};
     ghost use Rattle.model.specs.Touch.{can_touch, touch};
     ghost use Rattle.holdings.specs.Meaning.{limits_of};
     ghost use Rattle.holdings.specs.Places.{IsWithin};
     ghost use Rattle.holdings.specs.Contents.{IsConsistent, at_start, left_with, entry_of};
+    ghost use Rattle.holdings.specs.Mappings.{AreAbsentFrom, IsNextHeldOf};
 
     /// The holdings at the start: page `i` of space 0 holds frame `i` with all rights, for each frame.
     ///
@@ -71,6 +74,18 @@ impl Holdings {
         ensures { result ≡ option_map entry_of (at self.now.holdings place) }
     {
         self.shards.get(place)
+    }
+
+    /// The first page of a space, from one on, that holds something. It passes over shards that are not there without a
+    /// look at their pages, but for the rest of the first one. Takes no memory.
+    pub fn next_held(&self, space: u16, page: u32) -> Option<Place>
+        requires { space < self.now.limits.spaces }
+        ensures { MatchOption result
+            (AreAbsentFrom self.now.holdings space page (pages_of self.now.limits.bits))
+            (IsNextHeldOf self.now.holdings space page (pages_of self.now.limits.bits)) }
+    {
+        let (place, _) = next_held(&self.shards, Place { space, page })?;
+        Some(place)
     }
 
     /// The page from which a page came; none for a root, and where nothing is held.

@@ -1,4 +1,4 @@
-//! What is held, as one value: the entry words of all pages and the derivation trees of all frames, and the phases by
+//! What is held, as one value: the entry words of pages and the derivation trees of all frames, and the phases by
 //! which calls change them.
 #![tactic(auto)]
 
@@ -17,6 +17,7 @@ mod mappings;
 mod move_alone;
 mod moves;
 mod named;
+mod next_held;
 mod one_by_one;
 mod origins;
 mod outcome;

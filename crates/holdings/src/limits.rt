@@ -14,12 +14,12 @@ impl Limits {
     ghost use Rattle.model.specs.Records.{are_limits};
     ghost use Rattle.holdings.specs.Meaning.{limits_of};
 
-    /// Whether there are 2 to 512 spaces of 64 to 4096 pages, and 1 frame to as many as a space has pages.
+    /// Whether there are 2 to 512 spaces of 64 to 1,048,576 pages, and 1 frame to as many as a space has pages.
     pub fn are_served(&self) -> bool
         ensures { result ≡ are_limits (limits_of self.now) }
     {
         (2..=512).contains(&self.spaces)
-            && (18..=24).contains(&self.bits)
+            && (18..=32).contains(&self.bits)
             && self.frames >= 1
             && self.frames <= 1 << (self.bits - 12)
     }

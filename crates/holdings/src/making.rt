@@ -1,39 +1,25 @@
 //! Words for pages that are about to hold something.
 
-use crate::holdings::Holdings;
+ghost use Rattle.std.specs.Prelude.{OnOk, IsFalse};
+ghost use Rattle.std.specs.List.{All, list_any};
+ghost use Rattle.space.specs.Shards.{HasWord, IsMade, AreOnlyMade, IsPlace, are_beside, is_taken};
+
 use crate::transfer::Transfer;
-use space::{Place, Shards};
+use space::{NoMemory, Shards};
 
-impl Holdings {
-    ghost use Rattle.std.specs.Prelude.{◌≡◌};
-    ghost use Rattle.holdings.specs.Sending.{ArePlanned};
-
-    /// Has words in use for the targets of transfers. What is held stays.
-    pub(crate) fn with_targets(self, transfers: &[Transfer]) -> Self
-        requires { ArePlanned self.limits transfers.now }
-        ensures { result ≡ self }
-    {
-        let Holdings { mut shards, trees } = self;
-        make_targets(&mut shards, transfers);
-        Holdings { shards, trees }
-    }
-}
-
-ghost use Rattle.std.specs.Prelude.{◌≡◌, IsFalse};
-ghost use Rattle.std.specs.List.{All};
-ghost use Rattle.space.specs.declared.place.Place.{Place};
-ghost use Rattle.space.specs.Shards.{IsPlace, spaces_of, bits_of, entry_at, is_taken};
-
-/// The same of the words alone.
-fn make_targets(shards: &mut Shards, transfers: &[Transfer])
+/// Makes the shards of the targets of transfers, where they are not there yet, and no others. What is held stays.
+///
+/// Refused, where memory is, `NoMemory`: some of the shards may then be there, and nothing else has changed.
+pub fn make_targets(shards: &mut Shards, transfers: &[Transfer]) -> Result<(), NoMemory>
     requires present { IsFalse (is_taken shards.old) }
     requires places { All (λ t. IsPlace shards.old t.target) transfers.now }
-    ensures entries { (p : Place) → entry_at shards.new p ≡ entry_at shards.old p }
-    ensures spaces { spaces_of shards.new ≡ spaces_of shards.old }
-    ensures bits { bits_of shards.new ≡ bits_of shards.old }
+    ensures made { IsMade shards.old shards.new }
+    ensures there { OnOk result (All (λ t. HasWord shards.new t.target) transfers.now) }
+    ensures only { AreOnlyMade shards.old shards.new (λ p. list_any (λ t. are_beside t.target p) transfers.now) }
     ensures present { IsFalse (is_taken shards.new) }
 {
     for transfer in transfers {
-        shards.make(transfer.target);
+        shards.make_one(transfer.target)?;
     }
+    Ok(())
 }

@@ -2,6 +2,7 @@
 
 use crate::holdings::Holdings;
 use crate::link::link_all;
+use crate::making::make_targets;
 use crate::phase::is_worked_alone;
 use crate::transfer::Transfer;
 use crate::transfer_counts::TransferCounts;
@@ -33,15 +34,15 @@ impl Holdings {
         requires ready { AreReady self.holdings rights transfers.now }
         ensures { IfOk result (AreMapped self transfers.now rights) }
     {
-        let held = self.with_targets(transfers);
         if is_worked_alone(transfers.len(), workers) {
-            let mapped = held.map_alone(alloc, transfers, rights)?;
+            let mapped = self.map_alone(alloc, transfers, rights)?;
             return Ok(mapped);
         }
         let Holdings {
             mut shards,
             mut trees,
-        } = held;
+        } = self;
+        make_targets(&mut shards, transfers)?;
         let counts = TransferCounts::of_all(&shards, transfers);
         let stores = stores(alloc, &shards, transfers, rights)?;
         let pieces = links(alloc, stores, workers.piece_length())?;
@@ -54,6 +55,7 @@ impl Holdings {
 ghost use Rattle.std.specs.Prelude.{◌≡◌, IfOk, IsFalse};
 ghost use Rattle.std.specs.List.{All};
 ghost use Rattle.space.specs.Shards.{IsPlace, is_taken};
+ghost use Rattle.holdings.specs.Inner.Words.{IsThere};
 ghost use Rattle.holdings.specs.Inner.Planning.{stores_of};
 
 /// The stores of the transfers whose source is held, by the words of their pages.
@@ -64,7 +66,7 @@ fn stores(
     rights: Rights,
 ) -> Result<Vec<Store>, AllocError>
     requires present { IsFalse (is_taken shards.now) }
-    requires places { All (λ t. IsPlace shards.now t.source × IsPlace shards.now t.target) transfers.now }
+    requires places { All (λ t. IsPlace shards.now t.source × IsThere shards.now t.target) transfers.now }
     ensures { IfOk result (λ stores. stores.items ≡ stores_of shards.now rights transfers.now) }
 {
     let mut stores = Vec::with_capacity(alloc, transfers.len())?;

@@ -2,6 +2,7 @@
 
 use crate::holdings::Holdings;
 use crate::link::link_all;
+use crate::making::make_targets;
 use crate::transfer::Transfer;
 use crate::transfer_counts::TransferCounts;
 use fpage::Rights;
@@ -31,6 +32,7 @@ impl Holdings {
             mut shards,
             mut trees,
         } = self;
+        make_targets(&mut shards, transfers)?;
         link_all(alloc, &shards, &mut trees, transfers)?;
         let mut worked = TransferCounts::none();
         for transfer in transfers {
@@ -45,13 +47,14 @@ ghost use Rattle.std.specs.Prelude.{◌≡◌, None, Some};
 ghost use Rattle.holdings.specs.Meaning.{counts_of};
 ghost use Rattle.std.specs.Prelude.{IsFalse};
 ghost use Rattle.space.specs.declared.place.Entry.{Entry};
-ghost use Rattle.space.specs.Shards.{IsPlace, entry_at, is_taken};
+ghost use Rattle.space.specs.Shards.{HasWord, IsPlace, entry_at, is_taken};
 ghost use Rattle.holdings.specs.Inner.Links.{IsPageLost, IsPageMapped};
 
 /// Works one page of a MapItem, whose new mapping stands in the tree already.
 fn map_page(shards: &mut Shards, transfer: Transfer, rights: Rights) -> TransferCounts
     requires source { IsPlace shards.old transfer.source }
     requires target { IsPlace shards.old transfer.target }
+    requires there { HasWord shards.old transfer.target }
     requires present { IsFalse (is_taken shards.old) }
     ensures lost { entry_at shards.old transfer.source ≡ None → IsPageLost shards.old shards.new (counts_of result) }
     ensures mapped { (e : Entry) → entry_at shards.old transfer.source ≡ Some e → IsPageMapped shards.old shards.new rights transfer e (counts_of result) }

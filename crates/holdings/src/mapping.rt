@@ -4,6 +4,7 @@ use crate::holdings::Holdings;
 use crate::mappings::Mappings;
 use crate::origins::origins_by_word;
 use fpage::Rights;
+use maptree::Tree;
 use space::{NoMemory, Place};
 use std::alloc::Global;
 
@@ -34,6 +35,7 @@ impl Holdings {
             shards: &self.shards,
             trees: &self.trees,
             origins,
+            len: count_nodes(&self.trees),
         })
     }
 
@@ -47,4 +49,13 @@ impl Holdings {
         let mappings = reader.list(alloc)?;
         Ok(mappings)
     }
+}
+
+/// How many places trees have together.
+fn count_nodes(trees: &[Tree]) -> usize {
+    let mut count: usize = 0;
+    for tree in trees {
+        count = count.saturating_add(tree.len());
+    }
+    count
 }

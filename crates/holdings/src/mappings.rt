@@ -2,9 +2,9 @@
 
 use crate::limits::Limits;
 use crate::mapping::Mapping;
-use crate::shard::SHARD_PAGES;
+use crate::next_held::next_held;
 use maptree::Tree;
-use space::{Place, Shards};
+use space::{Entry, Place, Shards};
 use std::alloc::{AllocError, Global};
 use std::marker::Model;
 
@@ -16,6 +16,8 @@ pub struct Mappings<'a> {
     pub(crate) trees: &'a [Tree],
     /// The origin of each page that is held, at the index of its word.
     pub(crate) origins: Vec<Option<Place>>,
+    /// How many mappings there are.
+    pub(crate) len: usize,
 }
 
 impl<'a> Model for Mappings<'a> {
@@ -33,11 +35,11 @@ impl<'a> Model for Mappings<'a> {
 }
 
 impl<'a> Mappings<'a> {
-    ghost use Rattle.std.specs.Prelude.{◌≡◌, ◌∷◌, ◌++◌, ◌+◌, ◌<◌, ◌^◌, [], IfOk, IfSome, OnOk, MatchOption, map, option_map};
+    ghost use Rattle.std.specs.Prelude.{◌≡◌, ◌∷◌, ◌++◌, ◌+◌, ◌<◌, ◌^◌, [], IfOk, IfSome, OnOk, MatchOption, Some, map, option_map};
     ghost use Rattle.model.specs.Holdings.{at};
     ghost use Rattle.holdings.specs.Meaning.{limits_of};
     ghost use Rattle.holdings.specs.Places.{IsWithin};
-    ghost use Rattle.holdings.specs.Contents.{IsConsistent};
+    ghost use Rattle.holdings.specs.Contents.{IsConsistent, entry_of};
     ghost use Rattle.holdings.specs.Mappings.{mapped_of, held_from};
 
     /// The limits of what is read.
@@ -52,33 +54,22 @@ impl<'a> Mappings<'a> {
         }
     }
 
-    /// How many mappings there are, for which room is made.
+    /// How many mappings there are: a number for which room is made. No clause says which.
     pub fn len(&self) -> usize {
-        let mut len: usize = 0;
-        for tree in self.trees {
-            len = len.saturating_add(tree.len());
-        }
-        len
+        self.len
     }
 
-    /// How many mappings a space has, for which room is made.
+    /// How many mappings a space has: a number for which room is made. No clause says which.
     pub fn len_of(&self, space: u16) -> usize {
         let limits = self.limits();
         if u32::from(space) >= limits.spaces {
             return 0;
         }
-        let pages = 1 << (limits.bits - 12);
         let mut len: usize = 0;
-        let mut place = Place { space, page: 0 };
-        while place.page < pages {
-            if place.page % SHARD_PAGES == 0 && !self.shards.has(place) {
-                place.page += SHARD_PAGES;
-            } else {
-                if self.shards.get(place).is_some() {
-                    len = len.saturating_add(1);
-                }
-                place.page += 1;
-            }
+        let mut from = Place { space, page: 0 };
+        while let Some((place, _)) = next_held(self.shards, from) {
+            len = len.saturating_add(1);
+            from.page = place.page + 1;
         }
         len
     }
@@ -90,17 +81,27 @@ impl<'a> Mappings<'a> {
         ensures place { IfSome result (λ m. m.place ≡ place) }
     {
         let entry = self.shards.get(place)?;
-        Some(Mapping {
+        Some(self.mapping(place, entry))
+    }
+
+    /// The mapping of a page, from its entry.
+    fn mapping(&self, place: Place, entry: Entry) -> Mapping
+        requires within { IsWithin self.now.limits place }
+        requires held { option_map entry_of (at self.now.holdings place) ≡ Some entry }
+        ensures held { at self.now.holdings place ≡ Some (mapped_of result).1 }
+        ensures place { result.place ≡ place }
+    {
+        Mapping {
             place,
             frame: entry.frame,
             rights: entry.rights,
             status: entry.status,
             origin: self.origins[self.shards.index(place)],
-        })
+        }
     }
 
-    /// The first mapping of a space from a page on; none where no page from there on holds anything. Shards that nobody used are
-    /// passed over whole.
+    /// The first mapping of a space from a page on; none where no page from there on holds anything. It passes over shards
+    /// that are not there without a look at their pages, but for the rest of the first one.
     pub fn next_from(&self, from: Place) -> Option<Mapping>
         ensures next { MatchOption result (held_from self.now from.space from.page ≡ [])
             (λ m. held_from self.now from.space from.page ≡ mapped_of m ∷ held_from self.now from.space (m.place.page + 1)) }
@@ -110,18 +111,8 @@ impl<'a> Mappings<'a> {
         if u32::from(from.space) >= limits.spaces {
             return None;
         }
-        let pages = 1 << (limits.bits - 12);
-        let mut place = from;
-        while place.page < pages {
-            if place.page % SHARD_PAGES == 0 && !self.shards.has(place) {
-                place.page += SHARD_PAGES;
-            } else if let Some(mapping) = self.at(place) {
-                return Some(mapping);
-            } else {
-                place.page += 1;
-            }
-        }
-        None
+        let (place, entry) = next_held(self.shards, from)?;
+        Some(self.mapping(place, entry))
     }
 
     /// Every mapping, by rising place.

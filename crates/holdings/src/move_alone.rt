@@ -1,6 +1,7 @@
 //! Pages that move to other places, moved by the calling thread alone: one word after another, in place.
 
 use crate::holdings::Holdings;
+use crate::making::make_targets;
 use crate::renaming::rename_all;
 use crate::transfer::Transfer;
 use crate::transfer_counts::TransferCounts;
@@ -31,6 +32,7 @@ impl Holdings {
             mut shards,
             mut trees,
         } = self;
+        make_targets(&mut shards, transfers)?;
         rename_all(alloc, &shards, &mut trees, transfers)?;
         let mut worked = TransferCounts::none();
         for transfer in transfers {
@@ -46,7 +48,7 @@ ghost use Rattle.holdings.specs.Meaning.{counts_of};
 ghost use Rattle.std.specs.Prelude.{false, IsFalse};
 ghost use Rattle.space.specs.declared.place.Entry.{Entry};
 ghost use Rattle.space.specs.Place.{same_place};
-ghost use Rattle.space.specs.Shards.{IsPlace, entry_at, is_taken};
+ghost use Rattle.space.specs.Shards.{HasWord, IsPlace, entry_at, is_taken};
 ghost use Rattle.holdings.specs.Inner.Links.{IsPageLost};
 ghost use Rattle.holdings.specs.Inner.Renamings.{IsPageMoved};
 
@@ -54,6 +56,7 @@ ghost use Rattle.holdings.specs.Inner.Renamings.{IsPageMoved};
 fn move_page(shards: &mut Shards, source: Place, target: Place) -> TransferCounts
     requires source { IsPlace shards.old source }
     requires target { IsPlace shards.old target }
+    requires there { HasWord shards.old target }
     requires apart { same_place source target ≡ false }
     requires present { IsFalse (is_taken shards.old) }
     ensures lost { entry_at shards.old source ≡ None → IsPageLost shards.old shards.new (counts_of result) }

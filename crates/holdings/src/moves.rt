@@ -1,6 +1,7 @@
 //! Pages that move to other places, with all that derives from them.
 
 use crate::holdings::Holdings;
+use crate::making::make_targets;
 use crate::phase::is_worked_alone;
 use crate::renaming::rename_all;
 use crate::transfer::Transfer;
@@ -32,15 +33,15 @@ impl Holdings {
         requires free { AreFree self.holdings transfers.now }
         ensures { IfOk result (AreMoved self transfers.now) }
     {
-        let held = self.with_targets(transfers);
         if is_worked_alone(transfers.len(), workers) {
-            let moved = held.rename_alone(alloc, transfers)?;
+            let moved = self.rename_alone(alloc, transfers)?;
             return Ok(moved);
         }
         let Holdings {
             mut shards,
             mut trees,
-        } = held;
+        } = self;
+        make_targets(&mut shards, transfers)?;
         let counts = TransferCounts::of_all(&shards, transfers);
         let pairs = pairs(alloc, &shards, transfers)?;
         let pieces = moves(alloc, pairs, workers.piece_length())?;
@@ -53,12 +54,13 @@ impl Holdings {
 ghost use Rattle.std.specs.Prelude.{◌≡◌, IfOk, IsFalse};
 ghost use Rattle.std.specs.List.{All};
 ghost use Rattle.space.specs.Shards.{IsPlace, is_taken};
+ghost use Rattle.holdings.specs.Inner.Words.{IsThere};
 ghost use Rattle.holdings.specs.Inner.Planning.{word_pairs};
 
 /// The transfers whose source is held, by the words of their pages.
 fn pairs(alloc: Global, shards: &Shards, transfers: &[Transfer]) -> Result<Vec<Pair>, AllocError>
     requires present { IsFalse (is_taken shards.now) }
-    requires places { All (λ t. IsPlace shards.now t.source × IsPlace shards.now t.target) transfers.now }
+    requires places { All (λ t. IsPlace shards.now t.source × IsThere shards.now t.target) transfers.now }
     ensures { IfOk result (λ pairs. pairs.items ≡ word_pairs shards.now transfers.now) }
 {
     let mut pairs = Vec::with_capacity(alloc, transfers.len())?;

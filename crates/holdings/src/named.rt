@@ -15,7 +15,7 @@ impl Holdings {
 
     /// Those of some pages of a space that are held, by rising page.
     ///
-    /// A shard that the words do not reach is passed over whole.
+    /// It passes over shards that are not there without a look at their pages.
     ///
     /// Fails where memory is refused.
     pub fn held_among(
@@ -34,10 +34,9 @@ impl Holdings {
         let mut places = Vec::with_capacity(alloc, named.min(SHARD_PAGES) as usize)?;
         let mut page = pages.start;
         while page < pages.end {
-            let next = page + pages_in_shard(page, pages.end - page);
-            if shards.has(Place { space, page }) {
-                add_held(shards, space, page..next, &mut places)?;
-            }
+            let first = shards.first_from(Place { space, page }).min(pages.end);
+            let next = first + pages_in_shard(first, pages.end - first);
+            add_held(shards, space, first..next, &mut places)?;
             page = next;
         }
         Ok(places)

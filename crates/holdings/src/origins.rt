@@ -2,7 +2,8 @@
 
 ghost use Rattle.std.specs.Prelude.{◌≡◌, ◌<◌, true, length, IfOk};
 ghost use Rattle.std.specs.List.{All};
-ghost use Rattle.space.specs.Shards.{IsPlace, index_of};
+ghost use Rattle.space.specs.Shards.{index_of};
+ghost use Rattle.holdings.specs.Inner.Words.{IsThere};
 ghost use Rattle.maptree.specs.Origins.{are_once};
 ghost use Rattle.holdings.specs.Inner.Sound.{AreSound};
 ghost use Rattle.holdings.specs.Inner.WordOrigins.{AreOrigins, ArePut};
@@ -20,17 +21,43 @@ pub fn origins_by_word(
     requires { AreSound shards.now trees.now }
     ensures { IfOk result (λ origins. AreOrigins shards.now trees.now (length trees.now) origins.items) }
 {
-    let mut origins = vec![in alloc; None; shards.words_in_use()]?;
-    for tree in trees {
-        let links = tree.links(alloc)?;
-        put_origins(shards, &links, &mut origins);
+    let mut origins = vec![in alloc; None; shards.words()]?;
+    for frame in 0..trees.len() {
+        put_tree(alloc, shards, trees, frame, &mut origins)?;
     }
     Ok(origins)
 }
 
+ghost use Rattle.std.specs.Prelude.{◌+◌, OnOk};
+
+/// Puts the origins of the places of the next frame to those of the frames before it.
+fn put_tree(
+    alloc: Global,
+    shards: &Shards,
+    trees: &[Tree],
+    frame: usize,
+    origins: &mut [Option<Place>],
+) -> Result<(), NoMemory>
+    requires sound { AreSound shards.now trees.now }
+    requires within { frame < length trees.now }
+    requires before { AreOrigins shards.now trees.now frame origins.old }
+    ensures { OnOk result (AreOrigins shards.now trees.now (frame + 1) origins.new) }
+{
+    let tree = &trees[frame];
+    if tree.len() == 1 {
+        // Most frames are not shared: their one page needs no list.
+        let root = [(tree.node(0).place, tree.place_of_origin(0))];
+        put_origins(shards, &root, origins);
+        return Ok(());
+    }
+    let links = tree.links(alloc)?;
+    put_origins(shards, &links, origins);
+    Ok(())
+}
+
 /// Puts the origin of each place of a tree at the index of the place's word.
 fn put_origins(shards: &Shards, links: &[(Place, Option<Place>)], origins: &mut [Option<Place>])
-    requires places { All (λ link. IsPlace shards.now link.0) links.now }
+    requires places { All (λ link. IsThere shards.now link.0) links.now }
     requires reached { All (λ link. index_of shards.now link.0 < length origins.old) links.now }
     requires once { are_once links.now ≡ true }
     ensures { ArePut shards.now links.now origins.old origins.new }

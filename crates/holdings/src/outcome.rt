@@ -1,11 +1,11 @@
 //! What becomes of the pages of an item.
 
-ghost use Rattle.std.specs.Prelude.{◌≡◌, [], IfOk};
+ghost use Rattle.std.specs.Prelude.{◌≡◌, []};
 ghost use Rattle.model.specs.Items.{fate};
 ghost use Rattle.holdings.specs.Places.{IsWithin};
 ghost use Rattle.holdings.specs.Inner.Held.{limits_in, holdings_in};
 ghost use Rattle.holdings.specs.Inner.Sound.{AreSound};
-ghost use Rattle.holdings.specs.Sending.{fate_of_outcome, AreItemPages, AreOutcomes};
+ghost use Rattle.holdings.specs.Sending.{fate_of_outcome};
 ghost use Rattle.std.specs.Prelude.{false};
 ghost use Rattle.space.specs.Place.{same_place};
 
@@ -15,7 +15,6 @@ use crate::shard::pages_in_shard;
 use fpage::{ItemKind, Rights};
 use maptree::Tree;
 use space::{Place, Shards};
-use std::alloc::{AllocError, Global};
 use std::ops::Range;
 
 /// What becomes of a page of an item, as things stand at the item's start (profile).
@@ -34,95 +33,45 @@ pub enum Outcome {
 }
 
 impl Holdings {
-    ghost use Rattle.std.specs.Prelude.{◌≡◌, ◌<◌, IfOk};
+    ghost use Rattle.std.specs.Prelude.{◌≡◌, ℕ, ◌<◌, ◌≤◌, None};
+    ghost use Rattle.model.specs.Holdings.{at};
     ghost use Rattle.model.specs.Items.{fate};
     ghost use Rattle.holdings.specs.Contents.{IsConsistent};
-    ghost use Rattle.holdings.specs.Sending.{fate_of_outcome, job_of_pages, AreItemPages, AreOutcomes};
+    ghost use Rattle.holdings.specs.Places.{IsWithin};
+    ghost use Rattle.holdings.specs.Sending.{fate_of_outcome, job_of_pages, page_on, AreItemPages};
 
-    /// What becomes of the first page of an item, as things stand (profile).
-    pub fn outcome(&self, pages: &ItemPages) -> Outcome
+    /// What becomes of a page of an item that is to go to another page, as things stand (profile).
+    pub fn outcome(&self, pages: &ItemPages, source: Place, target: Place) -> Outcome
+        requires source { IsWithin self.now.limits source }
+        requires target { IsWithin self.now.limits target }
+        requires differ { source.space ≡ target.space → ⊥ }
+        ensures outcome { fate_of_outcome result ≡ fate self.now.holdings (job_of_pages pages.now) (source, target) }
+        ensures consistent { IsConsistent self.now }
+    {
+        let shards = &self.shards;
+        let trees = self.trees.as_slice();
+        outcome_of(shards, trees, pages.kind, pages.rights, source, target)
+    }
+
+    /// The next pages of an item, from one on, whose sources may be held: those of one shard that is there. The sources of
+    /// all pages before them are absent. It passes over shards that are not there without a look at their pages.
+    pub fn next_sources(&self, pages: &ItemPages, from: u32) -> Range<u32>
         requires pages { AreItemPages self.now.limits pages.now }
-        requires some { 0 < pages.now.count }
-        ensures outcome { fate_of_outcome result ≡ fate self.now.holdings (job_of_pages pages.now) (pages.now.source, pages.now.target) }
+        requires within { from < pages.now.count }
+        ensures from { from ≤ result.start }
+        ensures order { result.start ≤ result.end }
+        ensures further { from < result.end }
+        ensures end { result.end ≤ pages.now.count }
+        ensures absent { (i : ℕ) → from ≤ i → i < result.start → at self.now.holdings (page_on pages.now.source i) ≡ None }
         ensures consistent { IsConsistent self.now }
     {
         let shards = &self.shards;
-        let trees = self.trees.as_slice();
-        outcome_of(
-            shards,
-            trees,
-            pages.kind,
-            pages.rights,
-            pages.source,
-            pages.target,
-        )
+        let (source, _) = pages.pair(from);
+        let page = shards.first_from(source);
+        let start = (page - pages.source.page).min(pages.count);
+        let end = start + pages_in_shard(page, pages.count - start);
+        start..end
     }
-
-    /// What becomes of each page of an item, as things stand (profile).
-    ///
-    /// Sources in a shard that the words do not reach are absent, without a look at each.
-    ///
-    /// Fails where memory is refused.
-    pub fn outcomes(&self, alloc: Global, pages: &ItemPages) -> Result<Vec<Outcome>, AllocError>
-        requires { AreItemPages self.now.limits pages.now }
-        ensures outcomes { IfOk result (λ outcomes. AreOutcomes self.now.holdings pages.now outcomes.items) }
-        ensures consistent { IsConsistent self.now }
-    {
-        let shards = &self.shards;
-        let trees = self.trees.as_slice();
-        let mut outcomes = Vec::with_capacity(alloc, pages.count as usize)?;
-        let mut i = 0;
-        while i < pages.count {
-            let source = page_on(pages.source, i);
-            let next = i + pages_in_shard(source.page, pages.count - i);
-            if shards.has(source) {
-                add_outcomes(shards, trees, pages, i..next, &mut outcomes)?;
-            } else {
-                outcomes.resize(next as usize, Outcome::Absent)?;
-            }
-            i = next;
-        }
-        Ok(outcomes)
-    }
-}
-
-ghost use Rattle.std.specs.Prelude.{◌+◌, ◌^◌, ◌<◌, ◌≤◌, OnOk};
-ghost use Rattle.holdings.specs.Sending.{page_on};
-ghost use Rattle.holdings.specs.Inner.Outcomes.{AreOutcomesUpTo};
-
-/// The page so far behind a first page.
-fn page_on(first: Place, i: u32) -> Place
-    requires { first.page + i < 2 ^ 32 }
-    ensures { result ≡ page_on first i }
-{
-    Place {
-        page: first.page + i,
-        ..first
-    }
-}
-
-/// Adds the outcomes of some pages of an item, each by a look at its words, behind those of the pages before them.
-fn add_outcomes(
-    shards: &Shards,
-    trees: &[Tree],
-    pages: &ItemPages,
-    part: Range<u32>,
-    outcomes: &mut Vec<Outcome>,
-) -> Result<(), AllocError>
-    requires sound { AreSound shards.now trees.now }
-    requires pages { AreItemPages (limits_in shards.now trees.now) pages.now }
-    requires some { part.start ≤ part.end }
-    requires within { part.end ≤ pages.now.count }
-    requires so_far { AreOutcomesUpTo (holdings_in shards.now trees.now) pages.now part.start outcomes.old.items }
-    ensures { OnOk result (AreOutcomesUpTo (holdings_in shards.now trees.now) pages.now part.end outcomes.new.items) }
-{
-    for i in part.start..part.end {
-        let source = page_on(pages.source, i);
-        let target = page_on(pages.target, i);
-        let outcome = outcome_of(shards, trees, pages.kind, pages.rights, source, target);
-        outcomes.push(outcome)?;
-    }
-    Ok(())
 }
 
 /// The outcome of one page: the first that fits.

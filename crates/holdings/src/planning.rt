@@ -194,11 +194,12 @@ fn add_run(
 
 ghost use Rattle.std.specs.Prelude.{map, option_map, Some};
 ghost use Rattle.space.specs.declared.place.Place.{Place};
-ghost use Rattle.space.specs.Shards.{IsPlace, index_of};
+ghost use Rattle.space.specs.Shards.{index_of};
+ghost use Rattle.holdings.specs.Inner.Words.{IsThere};
 
 /// The index of the word of an origin, if there is one.
 fn index_of_origin(shards: &Shards, origin: Option<Place>) -> Option<usize>
-    requires { (o : Place) → origin ≡ Some o → IsPlace shards.now o }
+    requires { (o : Place) → origin ≡ Some o → IsThere shards.now o }
     ensures { result ≡ option_map (index_of shards.now) origin }
 {
     let origin = origin?;
@@ -207,7 +208,7 @@ fn index_of_origin(shards: &Shards, origin: Option<Place>) -> Option<usize>
 
 /// The indexes of the words of nodes.
 fn indexes(alloc: Global, shards: &Shards, nodes: &[Node]) -> Result<Vec<usize>, AllocError>
-    requires { All (λ n. IsPlace shards.now n.place) nodes.now }
+    requires { All (λ n. IsThere shards.now n.place) nodes.now }
     ensures { IfOk result (λ indexes. indexes.items ≡ map (λ n. index_of shards.now n.place) nodes.now) }
 {
     let mut indexes = Vec::with_capacity(alloc, nodes.len())?;

@@ -127,5 +127,6 @@ pub fn take(
     ensures present { IsFalse (is_taken shards.new) }
     ensures layout { IsLaidOutAs shards.old shards.new }
 {
-    shards.narrow(place, revoked, flush || place != first)
+    let loses = flush || place != first;
+    shards.narrow(place, revoked, loses)
 }

@@ -40,7 +40,9 @@ pub fn root_words(alloc: Global, limits: &Limits) -> Result<Shards, NoMemory>
             rights: Rights::all(),
             status: Rights::none(),
         };
-        shards.set(root_place(frame), Some(entry));
+        let place = root_place(frame);
+        shards.make_one(place)?;
+        shards.set(place, Some(entry));
     }
     Ok(shards)
 }

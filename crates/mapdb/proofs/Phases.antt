@@ -263,21 +263,21 @@ ends_within limits end (t ∷ ts) within p is = by (or_cases (not t.extends && s
 
 -- ---- sizes
 
--- a space has no more than 4096 pages
-pub pages_few : (limits : Limits) → are_limits limits ≡ true → pages_of limits.bits ≤ 4096
+-- a space has no more than 2^20 pages
+pub pages_few : (limits : Limits) → are_limits limits ≡ true → pages_of limits.bits ≤ 2 ^ 20
 pages_few limits served = pow-le-pow_right two (bits_few limits.spaces limits.bits limits.frames (pages_of limits.bits) served)
   where
     two : 0 < 2
     two = omega arith
 
-    bits_few : (spaces bits frames most : ℕ) → (nat_le 2 spaces && nat_le spaces 512 && nat_le 18 bits && nat_le bits 24 && nat_le 1 frames && nat_le frames most) ≡ true → bits - 12 ≤ 12
+    bits_few : (spaces bits frames most : ℕ) → (nat_le 2 spaces && nat_le spaces 512 && nat_le 18 bits && nat_le bits 32 && nat_le 1 frames && nat_le frames most) ≡ true → bits - 12 ≤ 20
     bits_few spaces bits frames most is = grind (arith, nat_tests)
 
 -- nor does an item have more
 pub few_pages : (limits : Limits) (p : ItemPages) → are_limits limits ≡ true → AreItemPages limits p → p.count < 2 ^ 32
 few_pages limits p served within = by p.source.page p.count (pages_of limits.bits) within.source_pages (pages_few limits served)
   where
-    by : (a b c : ℕ) → a + b ≤ c → c ≤ 4096 → b < 2 ^ 32
+    by : (a b c : ℕ) → a + b ≤ c → c ≤ 2 ^ 20 → b < 2 ^ 32
     by a b c first second = omega (arith, first, second)
 
 -- ---- one item

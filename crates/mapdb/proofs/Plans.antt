@@ -1,14 +1,14 @@
 -- The outcomes of the pages so far, and those of the pages to come.
-use Rattle.std.proofs.Common.{◌≡◌, ℕ, zero, suc, ◌+◌, ◌-◌, ◌<◌, ◌≤◌, List, [], ◌∷◌, ◌++◌, length, refl, sym, ap, ◌∙◌, subst, arith}
+use Rattle.std.proofs.Common.{◌≡◌, ℕ, zero, suc, ◌+◌, ◌-◌, ◌<◌, ◌≤◌, List, [], ◌∷◌, ◌++◌, length, None, refl, sym, ap, ◌∙◌, subst, arith}
 use Rattle.std.proofs.lemmas.List.{append_assoc, append-nil}
 use Rattle.space.specs.declared.place.Place.{Place}
-use Rattle.model.specs.Holdings.{Holdings}
-use Rattle.model.specs.Items.{Job, Pair, next_page, pairs_from, Fate, absent, norights, to_origin, extends, goes, fate, Counts, no_counts, add_counts}
+use Rattle.model.specs.Holdings.{Holdings, at}
+use Rattle.model.specs.Items.{Job, Pair, next_page, pairs_from, Fate, absent, norights, to_origin, extends, goes, fate, fate_of, Counts, no_counts, add_counts}
 use Rattle.model.specs.SendLaws.{total}
 use Rattle.holdings.specs.declared.transfer.Transfer.{Transfer}
 use Rattle.holdings.specs.Sending.{page_on}
 use Rattle.holdings.proofs.CountSums.{add_assoc, add_none, none_add, total_sum}
-use Rattle.mapdb.specs.Sending.{transfer_of, transfers_of, count_before_flush, counts_before_flush}
+use Rattle.mapdb.specs.Sending.{transfer_of, transfers_of, count_before_flush, counts_before_flush, AreDecided}
 
 -- ---- pages
 
@@ -35,12 +35,6 @@ decided_one to_origin = omega arith
 decided_one extends = omega arith
 decided_one goes = omega arith
 
--- the outcomes so far with those of the pages to come are those of all pages
-pub record AreDecided (h : Holdings) (job : Job) (n i : ℕ) (source target : Place) (counts : Counts) (ts : List Transfer) : Type 0 where
-  pub counts_are : add_counts counts (counts_before_flush h job (pairs_from (n - i) (page_on source i) (page_on target i))) ≡ counts_before_flush h job (pairs_from n source target)
-  pub transfers_are : ts ++ transfers_of h job (pairs_from (n - i) (page_on source i) (page_on target i)) ≡ transfers_of h job (pairs_from n source target)
-  pub few : total counts ≤ i
-
 module _ (h : Holdings) (job : Job) (n : ℕ) (source target : Place) where
   pub none_decided : AreDecided h job n 0 source target no_counts []
   none_decided =
@@ -64,6 +58,22 @@ module _ (h : Holdings) (job : Job) (n : ℕ) (source target : Place) where
             ∙ sym (ap (λ es. ts ++ transfers_of h job es) (pairs_on n i source target less)) ∙ so_far.transfers_are;
         few = subst (λ c. total c ≤ i + 1) (sym more_is) (subst (λ k. k ≤ i + 1) (sym (total_sum counts (count_before_flush f))) (omega (arith, one, so_far.few)));
       }
+
+  -- some pages more, whose sources are absent
+  pub absent_decided : (m i : ℕ) (counts : Counts) (ts : List Transfer) → i + m ≤ n → AreDecided h job n i source target counts ts → ((k : ℕ) → i ≤ k → k < i + m → at h (page_on source k) ≡ None)
+      → AreDecided h job n (i + m) source target (add_counts counts (record no_counts { absent = m })) ts
+  absent_decided zero i counts ts most so_far none =
+      let same : i ≡ i + 0 = omega arith in
+      subst (λ c. AreDecided h job n (i + 0) source target c ts) (sym (add_none counts)) (subst (λ k. AreDecided h job n k source target counts ts) same so_far)
+  absent_decided (suc m) i counts ts most so_far none =
+      let e : Pair = (page_on source i, page_on target i) in
+      let is : absent ≡ fate h job e = sym (ap (fate_of h job e) (none i (omega arith) (omega arith))) in
+      let one = one_decided i counts (add_counts counts (count_before_flush absent)) ts ts absent (omega (arith, most)) so_far is refl (sym (append-nil ts)) in
+      let rest = absent_decided m (i + 1) (add_counts counts (count_before_flush absent)) ts (omega (arith, most)) one (λ k low high. none k (omega (arith, low)) (omega (arith, high))) in
+      let on : i + 1 + m ≡ i + suc m = omega arith in
+      let more : 1 + m ≡ suc m = omega arith in
+      subst (λ k. AreDecided h job n k source target (add_counts counts (record no_counts { absent = suc m })) ts) on
+      (subst (λ c. AreDecided h job n (i + 1 + m) source target c ts) (add_assoc counts (count_before_flush absent) (record no_counts { absent = m }) ∙ (λ j. add_counts counts (record no_counts { absent = more j }))) rest)
 
   pub all_decided : (i : ℕ) (counts : Counts) (ts : List Transfer) → n ≤ i → AreDecided h job n i source target counts ts → (counts ≡ counts_before_flush h job (pairs_from n source target)) × (ts ≡ transfers_of h job (pairs_from n source target))
   all_decided i counts ts past so_far =

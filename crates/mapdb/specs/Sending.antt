@@ -1,5 +1,5 @@
 -- One item of a send: its pairs that go or extend, and what the phases after the flush leave.
-use Rattle.std.specs.Prelude.{◌≡◌, ℕ, ◌+◌, ◌≤◌, true, false, ◌&&◌, not, List, [], ◌∷◌}
+use Rattle.std.specs.Prelude.{◌≡◌, ℕ, ◌+◌, ◌-◌, ◌≤◌, true, false, ◌&&◌, not, List, [], ◌∷◌, ◌++◌}
 use Rattle.std.specs.List.{list_any}
 use Rattle.fpage.specs.declared.item.ItemKind.{ItemKind}
 use Rattle.fpage.specs.declared.item.ItemKind.TheVariants.{Map, Grant}
@@ -10,15 +10,17 @@ use Rattle.space.specs.Directory.{pages_of}
 use Rattle.space.specs.Place.{same_place}
 use Rattle.model.specs.Grant.{renamed}
 use Rattle.model.specs.Holdings.{Holdings, PlaceSet}
-use Rattle.model.specs.Items.{Job, Pair, sources_of, Fate, absent, norights, to_origin, extends, goes, fate, Counts, no_counts, add_counts}
+use Rattle.model.specs.Items.{Job, Pair, pairs_from, sources_of, Fate, absent, norights, to_origin, extends, goes, fate, Counts, no_counts, add_counts}
+use Rattle.model.specs.SendLaws.{total}
 use Rattle.model.specs.Strip.{strip}
 use Rattle.holdings.specs.declared.item_pages.ItemPages.{ItemPages}
 use Rattle.holdings.specs.declared.transfer.Transfer.{Transfer}
 use Rattle.holdings.specs.declared.transfer_counts.TransferCounts.{TransferCounts}
 use Rattle.holdings.specs.Contents.{Contents, left_with}
 use Rattle.holdings.specs.Meaning as phase
-use Rattle.holdings.specs.Sending.{map_transfers, moving_of, counts_after_flush}
+use Rattle.holdings.specs.Sending.{page_on, job_of_pages, map_transfers, moving_of, counts_after_flush}
 use Rattle.mapdb.specs.declared.plan.End.{End}
+use Rattle.mapdb.specs.declared.plan.Plan.{Plan}
 use Rattle.mapdb.specs.declared.plan.End.TheVariants.{Source, Target}
 use Rattle.mapdb.specs.declared.reply.SendReply.{SendReply}
 use Rattle.mapdb.specs.Meaning.{counts_of}
@@ -55,6 +57,16 @@ count_before_flush goes = no_counts
 abbrev pub counts_before_flush : Holdings → Job → List Pair → Counts
 counts_before_flush h job [] = no_counts
 counts_before_flush h job (e ∷ es) = add_counts (count_before_flush (fate h job e)) (counts_before_flush h job es)
+
+-- the first i of n pairs were decided: these counts and transfers with those of the pairs to come are those of all
+pub record AreDecided (h : Holdings) (job : Job) (n i : ℕ) (source target : Place) (counts : Counts) (ts : List Transfer) : Type 0 where
+  pub counts_are : add_counts counts (counts_before_flush h job (pairs_from (n - i) (page_on source i) (page_on target i))) ≡ counts_before_flush h job (pairs_from n source target)
+  pub transfers_are : ts ++ transfers_of h job (pairs_from (n - i) (page_on source i) (page_on target i)) ≡ transfers_of h job (pairs_from n source target)
+  pub few : total counts ≤ i
+
+-- the first i pages of an item were decided
+abbrev pub IsDecided : Holdings → ItemPages → ℕ → Plan → Type 0
+IsDecided h p i plan = AreDecided h (job_of_pages p) p.count i p.source p.target (counts_of plan.decided) plan.transfers.items
 
 -- the end of a pair
 abbrev pub end_of : End → Transfer → Place

@@ -33,7 +33,7 @@ impl Model for Database {
 
 impl Database {
     ghost use Rattle.std.specs.Prelude.{◌≡◌, ◌≤◌, ◌↔◌, ◌⊎◌, true, false, map, option_map};
-    ghost use Rattle.std.specs.Prelude.{IfOk, OnOk, IfErr, OnErr, IsErrOf};
+    ghost use Rattle.std.specs.Prelude.{◌<◌, IfOk, OnOk, IfErr, OnErr, IsErrOf, MatchOption};
     ghost use Rattle.std.specs.List.{All};
     ghost use Rattle.model.specs.Holdings.{at, origin_at};
     ghost use Rattle.model.specs.Records.{are_limits};
@@ -43,7 +43,8 @@ impl Database {
     ghost use Rattle.model.specs.Lawful.{is_lawful};
     ghost use Rattle.holdings.specs.Meaning.{limits_of};
     ghost use Rattle.holdings.specs.Places.{IsWithin, listing};
-    ghost use Rattle.holdings.specs.Mappings.{mapped_of};
+    ghost use Rattle.holdings.specs.Mappings.{mapped_of, AreAbsentFrom, IsNextHeldOf};
+    ghost use Rattle.space.specs.Directory.{pages_of};
     ghost use Rattle.holdings.specs.Contents.{entry_of};
     ghost use Rattle.mapdb.specs.Meaning.{counts_of};
     ghost use Rattle.mapdb.specs.State.{new_state, halted, left_with, unless_halted, refusal, unmap_refusal, IsRefused};
@@ -120,6 +121,24 @@ impl Database {
             return Err(DbError::Halted);
         };
         Ok(held.origin(place))
+    }
+
+    /// The first page of a space, from one on, that holds something; none where no page from there on does. Its time goes
+    /// with what is held or was, and not with the pages in between.
+    ///
+    /// Refused where the database is halted, `Halted`. Takes no memory.
+    pub fn next_held(&self, space: u16, page: u32) -> Result<Option<Place>, DbError>
+        requires { space < self.now.limits.spaces }
+        ensures halted { IsErrOf result Halted ↔ (self.now.is_halted ≡ true) }
+        ensures errors { IfErr result (λ e. e ≡ Halted) }
+        ensures next { IfOk result (λ found. MatchOption found
+            (AreAbsentFrom self.now.holdings space page (pages_of self.now.limits.bits))
+            (IsNextHeldOf self.now.holdings space page (pages_of self.now.limits.bits))) }
+    {
+        let Some(held) = &self.held else {
+            return Err(DbError::Halted);
+        };
+        Ok(held.next_held(space, page))
     }
 
     /// A reader of every mapping, by rising place. To make it takes time by what is held, and not by how many pages there are.

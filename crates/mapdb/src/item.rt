@@ -97,14 +97,14 @@ fn work_page<W: Workers>(
     ensures sent { IfOk result (IsSent held (item_answer held.holdings (job_of_pages pages.now)).left (item_answer held.holdings (job_of_pages pages.now)).counts) }
     ensures few { IfOk result (λ r. total (counts_of r.1) < 2 ^ 32) }
 {
-    let outcome = held.outcome(pages);
+    let outcome = held.outcome(pages, pages.source, pages.target);
     let none = Phases {
         decided: SendReply::of_outcome(outcome),
         transfers: &[],
         targets: &[],
         sources: &[],
     };
-    match transfer_of(outcome, pages, 0) {
+    match transfer_of(outcome, pages.source, pages.target) {
         None => work_phases(alloc, held, pages, &none, workers),
         Some(transfer) if transfer.extends => {
             let transfers = [transfer];

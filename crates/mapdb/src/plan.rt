@@ -12,6 +12,7 @@ use crate::reply::SendReply;
 use holdings::{Holdings, ItemPages, Outcome, Transfer};
 use space::Place;
 use std::alloc::{AllocError, Global};
+use std::ops::Range;
 
 /// What is to be done for an item.
 #[derive(Drop)]
@@ -22,7 +23,7 @@ pub struct Plan {
     pub transfers: Vec<Transfer>,
 }
 
-/// Decides the outcome of every page of an item.
+/// Decides the outcome of every page of an item. Sources whose shards are not there are absent without a look at each.
 pub fn plan_item(alloc: Global, held: &Holdings, pages: &ItemPages) -> Result<Plan, AllocError>
     requires { AreItemPages held.now.limits pages.now }
     ensures decided { IfOk result (λ plan. counts_of plan.decided
@@ -31,29 +32,55 @@ pub fn plan_item(alloc: Global, held: &Holdings, pages: &ItemPages) -> Result<Pl
         ≡ transfers_of held.now.holdings (job_of_pages pages.now) (job_of_pages pages.now).pairs) }
     ensures consistent { IsConsistent held.now }
 {
-    let outcomes = held.outcomes(alloc, pages)?;
-    let mut decided = SendReply::none();
-    let mut transfers = Vec::with_capacity(alloc, outcomes.len())?;
-    for i in 0..pages.count {
-        let outcome = outcomes[i as usize];
-        decided = decided.plus(SendReply::of_outcome(outcome));
-        if let Some(transfer) = transfer_of(outcome, pages, i) {
-            transfers.push(transfer)?;
-        }
+    // Its contract says that what is held is consistent.
+    let _ = held.limits();
+    let mut plan = Plan {
+        decided: SendReply::none(),
+        transfers: Vec::new(alloc),
+    };
+    let mut i = 0;
+    while i < pages.count {
+        let next = held.next_sources(pages, i);
+        plan.decided = plan.decided.plus(SendReply::of_absent(next.start - i));
+        plan_pages(held, pages, next.start..next.end, &mut plan)?;
+        i = next.end;
     }
-    Ok(Plan { decided, transfers })
+    Ok(plan)
 }
 
-ghost use Rattle.std.specs.Prelude.{◌<◌, ◌+◌, ◌^◌};
-ghost use Rattle.holdings.specs.Sending.{page_on};
+ghost use Rattle.std.specs.Prelude.{◌≤◌, OnOk};
+ghost use Rattle.mapdb.specs.Sending.{IsDecided};
+
+/// Decides the outcomes of some pages of an item, when all before them are decided.
+fn plan_pages(
+    held: &Holdings,
+    pages: &ItemPages,
+    part: Range<u32>,
+    plan: &mut Plan,
+) -> Result<(), AllocError>
+    requires pages { AreItemPages held.now.limits pages.now }
+    requires consistent { IsConsistent held.now }
+    requires order { part.start ≤ part.end }
+    requires end { part.end ≤ pages.now.count }
+    requires before { IsDecided held.now.holdings pages.now part.start plan.old }
+    ensures { OnOk result (IsDecided held.now.holdings pages.now part.end plan.new) }
+{
+    for i in part.start..part.end {
+        let (source, target) = pages.pair(i);
+        let outcome = held.outcome(pages, source, target);
+        plan.decided = plan.decided.plus(SendReply::of_outcome(outcome));
+        if let Some(transfer) = transfer_of(outcome, source, target) {
+            plan.transfers.push(transfer)?;
+        }
+    }
+    Ok(())
+}
 
 /// The transfer of a page that goes or extends.
-pub fn transfer_of(outcome: Outcome, pages: &ItemPages, i: u32) -> Option<Transfer>
-    requires source { pages.now.source.page + i < 2 ^ 32 }
-    requires target { pages.now.target.page + i < 2 ^ 32 }
+pub fn transfer_of(outcome: Outcome, source: Place, target: Place) -> Option<Transfer>
     ensures { MatchOption result
-        (transfer_of (page_on pages.now.source i, page_on pages.now.target i) (fate_of_outcome outcome) [] ≡ [])
-        (λ t. transfer_of (page_on pages.now.source i, page_on pages.now.target i) (fate_of_outcome outcome) [] ≡ t ∷ []) }
+        (transfer_of (source, target) (fate_of_outcome outcome) [] ≡ [])
+        (λ t. transfer_of (source, target) (fate_of_outcome outcome) [] ≡ t ∷ []) }
 {
     let extends = match outcome {
         Outcome::Absent | Outcome::NoRights | Outcome::Origin => return None,
@@ -61,14 +88,8 @@ pub fn transfer_of(outcome: Outcome, pages: &ItemPages, i: u32) -> Option<Transf
         Outcome::Goes => false,
     };
     Some(Transfer {
-        source: Place {
-            page: pages.source.page + i,
-            ..pages.source
-        },
-        target: Place {
-            page: pages.target.page + i,
-            ..pages.target
-        },
+        source,
+        target,
         extends,
     })
 }

@@ -58,6 +58,16 @@ impl SendReply {
         }
     }
 
+    /// So many pairs whose sources are absent.
+    pub(crate) fn of_absent(count: u32) -> Self
+        ensures { counts_of result ≡ record no_counts { absent = count } }
+    {
+        SendReply {
+            absent: u128::from(count),
+            ..NONE
+        }
+    }
+
     /// The pairs that were worked after the flush.
     pub(crate) fn of_transfers(worked: TransferCounts) -> Self
         ensures { counts_of result ≡ phase.counts_of worked }

@@ -84,10 +84,10 @@ header_limits (name ∷ version ∷ spaces ∷ bits ∷ frames ∷ []) = do
       then Some (record { spaces = spaces; bits = bits; frames = frames }) else None
 header_limits _ = None
 
--- 2 to 512 spaces, of 64 to 4096 pages; 1 frame to as many as a space has pages (profile)
+-- 2 to 512 spaces, of 64 to 1,048,576 pages; 1 frame to as many as a space has pages (profile)
 abbrev pub are_limits : Limits → Bool
 are_limits l =
-    nat_le 2 l.spaces && nat_le l.spaces 512 && nat_le 18 l.bits && nat_le l.bits 24
+    nat_le 2 l.spaces && nat_le l.spaces 512 && nat_le 18 l.bits && nat_le l.bits 32
     && nat_le 1 l.frames && nat_le l.frames (pages_of_space l.bits)
 
 -- the limits of a header, if it has the form, and if they are served

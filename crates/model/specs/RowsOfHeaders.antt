@@ -44,10 +44,10 @@ LimitsPassed =
     (codes "l4map,1,1,18,1"
     ∷ codes "l4map,1,513,18,1"
     ∷ codes "l4map,1,2,17,1"
-    ∷ codes "l4map,1,2,25,1"
+    ∷ codes "l4map,1,2,33,1"
     ∷ codes "l4map,1,2,18,0"
     ∷ codes "l4map,1,2,18,65"
-    ∷ codes "l4map,1,2,24,4097"
+    ∷ codes "l4map,1,2,32,1048577"
     ∷ codes "l4map,1,0,0,0"
     ∷ codes "l4map,1,9999999,9999999,9999999" ∷ [])
     ≡ replicate 9 (Err bad_limits)
@@ -62,8 +62,13 @@ BitsOfHeaders =
     ∷ codes "l4map,1,511,21,512"
     ∷ codes "l4map,1,2,22,1024"
     ∷ codes "l4map,1,2,23,2048"
-    ∷ codes "l4map,1,2,24,4096" ∷ [])
-    ≡ limits 3 18 64 ∷ limits 10 19 128 ∷ limits 100 20 256 ∷ limits 511 21 512 ∷ limits 2 22 1024 ∷ limits 2 23 2048 ∷ limits 2 24 4096 ∷ []
+    ∷ codes "l4map,1,2,24,4096"
+    ∷ codes "l4map,1,2,25,8192"
+    ∷ codes "l4map,1,2,28,65536"
+    ∷ codes "l4map,1,2,31,524288"
+    ∷ codes "l4map,1,512,32,1048576" ∷ [])
+    ≡ limits 3 18 64 ∷ limits 10 19 128 ∷ limits 100 20 256 ∷ limits 511 21 512 ∷ limits 2 22 1024 ∷ limits 2 23 2048
+    ∷ limits 2 24 4096 ∷ limits 2 25 8192 ∷ limits 2 28 65536 ∷ limits 2 31 524288 ∷ limits 512 32 1048576 ∷ []
 
 -- one frame more than a space of each size has pages
 abbrev pub FramesPastSpaces : Type 0
@@ -75,8 +80,11 @@ FramesPastSpaces =
     ∷ codes "l4map,1,3,21,513"
     ∷ codes "l4map,1,3,22,1025"
     ∷ codes "l4map,1,3,23,2049"
-    ∷ codes "l4map,1,3,24,4097" ∷ [])
-    ≡ replicate 7 (Err bad_limits)
+    ∷ codes "l4map,1,3,24,4097"
+    ∷ codes "l4map,1,3,25,8193"
+    ∷ codes "l4map,1,3,31,524289"
+    ∷ codes "l4map,1,3,32,1048577" ∷ [])
+    ≡ replicate 10 (Err bad_limits)
 
 -- each field of another form: too many digits, none, a byte that is no digit, another name or version, a field more
 abbrev pub FieldsOfHeaders : Type 0

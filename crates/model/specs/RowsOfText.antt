@@ -19,6 +19,22 @@ WholeRun =
     ∷ codes "1,3,0,r--,---,0:0"
     ∷ codes "end 3 0" ∷ []))
 
+-- the last page of a space of 2^32 bytes, and the last byte of an address
+abbrev pub RunOfLargestSpaces : Type 0
+RunOfLargestSpaces =
+    output_of (lines
+    (codes "l4map,1,2,32,1"
+    ∷ codes "send,0,1,10,fffff008,c6"
+    ∷ codes "access,1,fffff123,w"
+    ∷ codes "unmap,0,0,c2" ∷ []))
+    ≡ Ok (lines
+    (codes "1 send absent=0 norights=0 origin=0 lost=0 extended=0 linked=1"
+    ∷ codes "2 access ok"
+    ∷ codes "3 unmap 000000c6"
+    ∷ codes "0,0,0,rwx,---,-"
+    ∷ codes "1,1048575,0,r--,---,0:0"
+    ∷ codes "end 3 0" ∷ []))
+
 -- a run without records
 abbrev pub RunOfHeaderAlone : Type 0
 RunOfHeaderAlone =

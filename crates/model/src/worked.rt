@@ -4,7 +4,7 @@
 ghost use Rattle.model.specs.RowsOfWords.{SmallestFpageIntoCompleteWindow, SendBasePicksPageOfWindow, WindowCutsLargerFpage, HalfOfPagesHeld, CompleteSpaceSent, NilpageSent, SizesOfWords, IgnoredBits, FirstWordsOfItems, BlocksOfLargerSide, PairsByRuns, SpaceOfOddBits, EachBitOfSendBase, SendBasePicksSources, SizeSpellsNoOtherPages, SizesBelowAPage, BasesWithoutSize, SizesFromAPage, SizesPastTheSpace, BasesPastTheSpace, BasesBetweenPages, LastPagesOfSpaces, PagesPastSpaces, CompleteSpaces, Nilpages, PagesOfWords, PagesOfFpages, SetsByNumber, BitsOfRights, SetsMet, SetsJoined, SetsWithout, SetsWithin, ItemsOfWords, LastDigitsOfItems, ControlWordsTaken, NumbersOfControlWords, BitsOfControlWords, ControlWordsTold, StatusInPlaceOfRights, PairsOfBlocks};
 ghost use Rattle.model.specs.RowsOfRecords.{RefusalsByName, AccessFields, SendRefusalsInOrder, UnmapRefusalsInOrder, NumbersOfWords, QuotedFields, DigitsOfAddresses, BytesThatAreNoDigits, KindsOfAccess, NamesOfRecords, SpacesOfRecords, LengthsOfWords, FieldsMissing, RefusalsOfOneRecord};
 ghost use Rattle.model.specs.RowsOfHeaders.{HeadersOfRightForm, HeadersOfWrongForm, LimitsPassed, BitsOfHeaders, FramesPastSpaces, FieldsOfHeaders};
-ghost use Rattle.model.specs.RowsOfText.{WholeRun, RunOfHeaderAlone, RunCutOff, RefusalsAreCounted, NumbersOfTwelveSpaces, LongRun, HexadecimalDigits, EachSetOfRights, FrameOfThreeDigits, CountsOfManyPairs, SixteenPairsAreLost, StatusAsItIsWritten};
+ghost use Rattle.model.specs.RowsOfText.{WholeRun, RunOfLargestSpaces, RunOfHeaderAlone, RunCutOff, RefusalsAreCounted, NumbersOfTwelveSpaces, LongRun, HexadecimalDigits, EachSetOfRights, FrameOfThreeDigits, CountsOfManyPairs, SixteenPairsAreLost, StatusAsItIsWritten};
 ghost use Rattle.model.specs.RowsOfAccess.{AccessAnswers, AccessesAddUp, EachRightAlone, EachTwoKinds, OnePageAlone};
 ghost use Rattle.model.specs.RowsOfUnmaps.{UnmapNarrowsDerivedAlone, StatusGoesToOutsideOrigin, NestedMappingInOwnSpace, BranchesAddToOneOrigin, UnmapOfNilpage, CompleteUnmapRemovesAll, FlushByTwoWords, TwoWordsInOrder, StatusOfRootEnds, StatusAlone, SiblingKeepsItsStatus, FlushNarrowsCaller, UnmapOfNothingHeld, StatusGoesOneOriginUp, WordsOfSeveralPages, EachRightRevoked, MappingsLeftWithoutRights, BranchBesideStays, DeepChainIsNarrowed, RemovedPagesPassStatusOn, UnmapOfTwoOrigins};
 ghost use Rattle.model.specs.RowsOfOutcomes.{EachOutcome, WithheldRightsAreNoRights, NoRightsComesFirst, OriginIsNotReplaced, DistantOriginIsNotReplaced, DistantDerivedIsReplaced, FlushedSourceIsLost, ExtendingPairIsLost, TargetOfLostPairIsGone, TwoItemsInOrder, SecondItemSeesFirst, AbsentComesFirst, OriginAtEachDistance, OriginOfEightMappings, NoRightsOfFlushedSource, OriginOfFlushedSource, SecondItemTellsOrigin, CountsOfItemsAddUp};
@@ -89,6 +89,7 @@ pub fn rows_of_headers()
 /// Whole runs: all that is written.
 pub fn rows_of_text()
     ensures whole_run { WholeRun }
+    ensures run_of_largest_spaces { RunOfLargestSpaces }
     ensures run_of_header_alone { RunOfHeaderAlone }
     ensures run_cut_off { RunCutOff }
     ensures refusals_are_counted { RefusalsAreCounted }

@@ -42,7 +42,7 @@ impl Change {
 pub fn is_within(limits: &Limits, place: Place) -> bool
     ensures { result ≡ true → IsWithin (limits_of limits.now) place }
 {
-    if limits.bits < 12 || limits.bits >= 32 {
+    if limits.bits < 12 || limits.bits > 32 {
         return false;
     }
     u32::from(place.space) < limits.spaces && place.page < 1 << (limits.bits - 12)

@@ -2,6 +2,7 @@
 
 ghost use Rattle.std.specs.Prelude.{◌<◌};
 ghost use Rattle.space.specs.Directory.{AreLimits, pages_of};
+ghost use Rattle.space.specs.Shards.{IsPlace};
 
 use crate::assertions::assert_equal;
 use fpage::Rights;
@@ -33,14 +34,14 @@ fn packs_and_unpacks_each_word_of_the_table(rt: HostRuntime) {
     assert_equal(&rt, unpack(absent), None, "absent");
 }
 
-/// Sets one place and lets its word change while the words are away; the other place stays absent.
+/// Makes the shard of one place, sets the place, and lets its word change while the words are away; another place of another
+/// shard stays absent.
 fn goes_round(
     rt: &(impl AllocGlobal + Abort),
     spaces: u32,
     bits: u32,
     place: Place,
     other: Place,
-    words_in_all: usize,
 ) -> Result<(), Fail>
     requires limits { AreLimits spaces bits }
     requires place_space { place.space < spaces }
@@ -55,40 +56,31 @@ fn goes_round(
         status: Rights::none(),
     };
     let mut shards = Shards::new(rt.alloc(), spaces, bits)?;
-    assert_equal(rt, shards.get(place), None, "at first");
-    assert_equal(
-        rt,
-        (shards.has(place), shards.words_in_use()),
-        (false, 0),
-        "at first",
-    );
+    let told = (shards.get(place), shards.has(place), shards.words());
+    assert_equal(rt, told, (None, false, 0), "at first");
+    shards.set(place, None);
+    assert_equal(rt, shards.has(place), false, "nothing is taken away");
+    shards.make_one(place)?;
+    let told = (shards.get(place), shards.has(place), shards.words());
+    assert_equal(rt, told, (None, true, 64), "made");
     shards.set(place, Some(unseen));
-    let in_use = shards.index(place) < shards.words_in_use();
-    assert_equal(rt, (shards.has(place), in_use), (true, true), "in use");
-    assert_equal(
-        rt,
-        (shards.get(place), shards.get(other)),
-        (Some(unseen), None),
-        "one is held",
-    );
+    let told = (shards.get(place), shards.get(other));
+    assert_equal(rt, told, (Some(unseen), None), "one is held");
+    assert_equal(rt, shards.has(other), false, "the other's shard");
 
+    let index = shards.index(place);
     let mut words = shards.take_words();
-    let found = (words[shards.index(place)], words[shards.index(other)]);
-    assert_equal(rt, words.len(), words_in_all, "words");
-    assert_equal(rt, found, (0x1_0000_0507, 0), "two words");
-    words[shards.index(place)] = 0x1_0000_053f;
+    assert_equal(rt, words.len(), 64, "words");
+    assert_equal(rt, words[index], 0x1_0000_0507, "its word");
+    words[index] = 0x1_0000_053f;
     shards.put_words(words);
 
     let seen = Entry {
         status: all,
         ..unseen
     };
-    assert_equal(
-        rt,
-        (shards.get(place), shards.get(other)),
-        (Some(seen), None),
-        "one is seen",
-    );
+    let told = (shards.get(place), shards.get(other));
+    assert_equal(rt, told, (Some(seen), None), "one is seen");
     shards.set(place, None);
     assert_equal(rt, shards.get(place), None, "at last");
     Ok(())
@@ -96,90 +88,100 @@ fn goes_round(
 
 #[test]
 fn keeps_entries_at_the_least_limits(rt: HostRuntime) -> Result<(), Fail> {
-    goes_round(
-        &rt,
-        2,
-        18,
-        Place { space: 0, page: 0 },
-        Place { space: 1, page: 0 },
-        128,
-    )?;
-    goes_round(
-        &rt,
-        2,
-        18,
-        Place { space: 1, page: 63 },
-        Place { space: 1, page: 62 },
-        128,
-    )
+    let first = Place { space: 0, page: 0 };
+    let last = Place { space: 1, page: 63 };
+    goes_round(&rt, 2, 18, first, last)?;
+    goes_round(&rt, 2, 18, last, first)
 }
 
 #[test]
 fn keeps_entries_at_the_largest_limits(rt: HostRuntime) -> Result<(), Fail> {
-    goes_round(
-        &rt,
-        512,
-        24,
-        Place {
-            space: 511,
-            page: 4095,
-        },
-        Place {
-            space: 511,
-            page: 4031,
-        },
-        2_097_152,
-    )?;
-    goes_round(
-        &rt,
-        512,
-        24,
-        Place { space: 0, page: 64 },
-        Place { space: 1, page: 0 },
-        2_097_152,
-    )
+    let first = Place { space: 0, page: 64 };
+    let last = Place {
+        space: 511,
+        page: 1_048_575,
+    };
+    goes_round(&rt, 512, 32, last, first)?;
+    goes_round(&rt, 512, 32, first, last)
+}
+
+/// How many bits the spaces of the tests of several shards have.
+const BITS: u32 = 32;
+
+#[test]
+fn shards_stand_in_the_order_in_which_they_were_made(rt: HostRuntime) -> Result<(), Fail> {
+    let last = Place {
+        space: 511,
+        page: 1_048_575,
+    };
+    let first = Place { space: 0, page: 64 };
+    let mut shards = Shards::new(rt.alloc(), 512, BITS)?;
+    shards.make(&[last, first, last])?;
+    // The last page of the first shard, in a space whose words are turned by 511 lines of eight: 7 beyond whole shards.
+    assert_equal(&rt, shards.words(), 128, "words");
+    expect_index(&rt, &shards, last, Some(55));
+    expect_index(&rt, &shards, first, Some(64));
+    expect_index(&rt, &shards, Place { space: 0, page: 63 }, None);
+    // Nothing moves when more are made.
+    shards.make(&[Place { space: 0, page: 0 }, first])?;
+    assert_equal(&rt, shards.words(), 192, "words");
+    expect_index(&rt, &shards, last, Some(55));
+    expect_index(&rt, &shards, first, Some(64));
+    expect_index(&rt, &shards, Place { space: 0, page: 63 }, Some(191));
+    Ok(())
+}
+
+/// Looks at the index of a place, if its shard is there.
+fn expect_index(rt: &impl Abort, shards: &Shards, place: Place, index: Option<usize>)
+    requires { IsPlace shards.now place }
+{
+    let found = if shards.has(place) {
+        Some(shards.index(place))
+    } else {
+        None
+    };
+    assert_equal(rt, found, index, "index");
 }
 
 #[test]
-fn shards_stand_in_the_order_of_their_first_use(rt: HostRuntime) -> Result<(), Fail> {
+fn the_next_shard_is_found_from_any_page(rt: HostRuntime) -> Result<(), Fail> {
+    // Pages, and the first one from there on whose shard is there.
+    let rows = [
+        (0, 70_016),
+        (70_015, 70_016),
+        (70_016, 70_016),
+        (70_079, 70_079),
+        (70_080, 1_048_512),
+        (1_048_575, 1_048_575),
+    ];
+    let mut shards = Shards::new(rt.alloc(), 3, BITS)?;
     let last = Place {
-        space: 511,
-        page: 4095,
+        space: 1,
+        page: 1_048_575,
     };
-    let first = Place { space: 0, page: 64 };
-    let entry = Some(Entry {
-        frame: 5,
-        rights: Rights::all(),
-        status: Rights::none(),
-    });
-    let mut shards = Shards::new(rt.alloc(), 512, 24)?;
-    shards.make(last);
-    shards.set(last, entry);
-    shards.make(first);
-    assert_equal(
-        &rt,
-        (shards.get(last), shards.get(first)),
-        (entry, None),
-        "one",
-    );
-    shards.set(first, entry);
-    // Nothing moves any more.
-    shards.make(last);
-    shards.make(first);
-    assert_equal(
-        &rt,
-        (shards.get(last), shards.get(first)),
-        (entry, entry),
-        "both",
-    );
-    // The last page of the first shard, in a space whose words are turned by 511 lines of eight: 7 beyond whole shards.
-    assert_equal(
-        &rt,
-        (shards.index(last), shards.index(first)),
-        (55, 64),
-        "indexes",
-    );
+    shards.make(&[
+        Place {
+            space: 1,
+            page: 70_017,
+        },
+        last,
+        Place { space: 2, page: 5 },
+    ])?;
+    for (page, found) in rows {
+        assert_equal(&rt, next_from(&shards, 1, page), found, "space 1");
+    }
+    // In a space without shards that is its end.
+    assert_equal(&rt, next_from(&shards, 0, 7), 1_048_576, "space 0");
+    assert_equal(&rt, next_from(&shards, 2, 64), 1_048_576, "space 2");
     Ok(())
+}
+
+/// The first page of a space, from one on, whose shard is there, if there are such a space and such a page.
+fn next_from(shards: &Shards, space: u16, page: u32) -> u32 {
+    if u32::from(space) >= shards.spaces() || page >= 1 << (shards.bits() - 12) {
+        return 0;
+    }
+    shards.first_from(Place { space, page })
 }
 
 /// How many pages `keeps_a_million_entries_over_512_spaces` holds.
@@ -205,7 +207,9 @@ fn keeps_a_million_entries_over_512_spaces(rt: HostRuntime) -> Result<(), Fail> 
             rights: Rights::all(),
             status: Rights::none(),
         };
-        shards.set(nth_place(n), Some(entry));
+        let place = nth_place(n);
+        shards.make_one(place)?;
+        shards.set(place, Some(entry));
     }
     let mut frames = 0u64;
     for n in 0..MILLION {

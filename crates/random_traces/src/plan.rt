@@ -38,7 +38,7 @@ pub struct Plan {
     pub records: u64,
     /// How many spaces there are, 2 to 512.
     pub spaces: u32,
-    /// Spaces have `2^bits` bytes, 18 to 24.
+    /// Spaces have `2^bits` bytes, 18 to 32.
     pub bits: u32,
     /// How many frames there are, 1 to 64.
     pub frames: u32,

@@ -19,7 +19,7 @@ pub fn push_refused(line: &mut String, dice: &mut Dice, plan: &Plan) -> Result<(
         // Misaligned: the size is 8K, and the base a multiple of 4K.
         1 => write!(line, "unmap,{space},0,10d7\n"),
         // OutOfSpace.
-        2 => write!(line, "access,{space},{:x},r\n", 1u32 << bits),
+        2 => push_outside(line, space, bits),
         // NotAnItem.
         3 => write!(line, "send,0,1,10,6,c7\n"),
         // BadControl: two words are to follow.
@@ -32,5 +32,15 @@ pub fn push_refused(line: &mut String, dice: &mut Dice, plan: &Plan) -> Result<(
         7 => write!(line, "send,0,1,0,8,c7\n"),
         // BadRecord.
         _ => write!(line, "access,{space},0,q\n"),
+    }
+}
+
+/// Appends a record that names what is outside a space of `2^bits` bytes: an access of the first address behind it.
+/// A space of 32 bits has every address; there it is an unmap of an fpage of `2^33` bytes.
+fn push_outside(line: &mut String, space: u32, bits: u32) -> Result<(), AllocError> {
+    if bits < 32 {
+        write!(line, "access,{space},{:x},r\n", 1u32 << bits)
+    } else {
+        write!(line, "unmap,{space},0,217\n")
     }
 }

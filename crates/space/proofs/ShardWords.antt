@@ -1,50 +1,49 @@
 -- The words of shards, by place.
-use Rattle.std.proofs.Common.{◌≡◌, refl, sym, ◌∙◌, ap, arith, subst, nat_lt, ℕ, ◌+◌, ◌-◌, ◌*◌, ◌<◌, ◌≤◌, Bool, ◌⊎◌, inl, inr, List, [], length, Option, Some, None, IsTrue, true, false, Vec, Global, slice_index, slice_set, vec_capacity, get_or}
+use Rattle.std.proofs.Common.{◌≡◌, refl, sym, ◌∙◌, ap, arith, subst, ℕ, ◌+◌, ◌*◌, ◌<◌, ◌≤◌, ◌++◌, ◌⊎◌, inl, inr, List, [], length, Option, Some, None, IsTrue, IfSome, true, ◌&&◌, ◌/◌, ◌-◌, Vec, Global, slice_index, slice_set, vec_capacity}
 use Rattle.std.specs.Option.{option_map_or}
 use Rattle.std.specs.Prelude.{replicate}
-use Rattle.std.specs.List.{AllPass, swap}
-use Rattle.std.specs.Int.{div_ceil}
-use Rattle.std.specs.Vec.{with_item, vec_len}
-use Rattle.std.proofs.lemmas.Grind.{div_ceil_times}
+use Rattle.std.specs.List.{AllPass}
+use Rattle.std.specs.Vec.{with_item}
+use Rattle.std.proofs.lemmas.Bool.{eq-eqb}
 use Rattle.std.proofs.lemmas.Option.{same_Some}
-use Rattle.std.proofs.lemmas.Bool.{ltb-true, ltb-false}
-use Rattle.std.proofs.lemmas.List.{length-append, length-replicate, length-set, get_or-set_same, get_or-set_other, get_or_past, get_or-replicate, get_or_append_left, get_or-append_right, get_or_default}
-use Rattle.std.proofs.lemmas.List.Edits.{swapped_from_swap}
+use Rattle.std.proofs.lemmas.List.{length-replicate, length-set, get_or-set_same, get_or-set_other, get_or_past, get_or-replicate, get_or_append_left, get_or-append_right}
 use Rattle.std.proofs.lemmas.List.Elements.{All-append, All-replicate, All-set}
 use Rattle.space.specs.declared.place.Place.{Place}
 use Rattle.space.specs.declared.place.Entry.{Entry}
 use Rattle.space.specs.declared.shards.Shards.{Shards}
 use Rattle.space.specs.Word.{word_of, entry_of, is_pack, FrameFits}
-use Rattle.space.specs.Directory.{shards_of, shard_of, position_of, owner_of, offset_of, IsDirectory, place_index, words_in, filled, AreWords}
-use Rattle.space.specs.Shards.{IsPlace, shard_count, index_of, word_count, words_of, shards_in_use, entry_at}
-use Rattle.space.specs.ShardLaws.{PlacesHaveWords, WordsAreTheirOwn, EntriesFit, AreAllWords, IsWithWords, ShardsHaveWords, WordsHaveShards}
+use Rattle.space.specs.Directory.{pages_of, shards_of, shard_of, offset_of, AreWords}
+use Rattle.space.specs.declared.directory.Directory.{Directory}
+use Rattle.space.specs.Positions.{nowhere, most_of, count_of, position_in, IsAdded}
+use Rattle.space.specs.Shards.{IsPlace, HasWord, index_of, word_count, words_of, entry_at, are_beside, IsSetAt}
+use Rattle.space.specs.ShardLaws.{HeldHaveWords, WordsAreTheirOwn, EntriesFit, AreAllWords, IsWithWords, ShardsHaveWords, WordsHaveShards}
 use Rattle.space.proofs.Words.{pack_gives_back, unpack_gives_back, unpacked_fits}
-use Rattle.space.proofs.Directories.{index_within, index_distinct, same_or_not, exchanged_found}
+use Rattle.space.proofs.Directories.{shard_found, same_shard, shard_in_space, same_parts, pages_are}
+use Rattle.space.proofs.Leaves.{within_or_past, few_there, same_or_not}
 
-pub places_have_words : PlacesHaveWords
-places_have_words s p place = index_within s.spaces s.bits s.directory.items s.owners.items s.limits s.found p place.space place.page
+-- the shard of a place is one that the directory can have
+pub shard_can : (s : Shards) (p : Place) → IsPlace s p → shard_of s.bits p < most_of s.directory
+shard_can s p place = rw s.most (shard_found s.bits s.limits.low p place.page s.spaces place.space)
 
 pub words_are_their_own : WordsAreTheirOwn
-words_are_their_own s p q p_place q_place same =
-    index_distinct s.spaces s.bits s.directory.items s.owners.items s.limits s.found p q p_place.space p_place.page q_place.space q_place.page same
+words_are_their_own s p q p_place q_place has same =
+    let d = s.directory in
+    let at_p = position_in d (shard_of s.bits p) in
+    let at_q = position_in d (shard_of s.bits q) in
+    let position : at_p ≡ at_q = omega (arith, same) in
+    let offset : offset_of p ≡ offset_of q = omega (arith, same, position) in
+    let there : at_p < count_of d = omega (arith, has) in
+    same_shard s.bits s.limits.low p q p_place.page q_place.page (d.found.apart (shard_of s.bits p) (shard_of s.bits q) there position) offset
 
 pub entries_fit : EntriesFit
 entries_fit s p = unpacked_fits _
 
--- ---- words with zeros behind them
-
-pub length_filled : (words : List ℕ) (up_to : ℕ) → length (filled words up_to) ≡ length words + (up_to - length words)
-length_filled words up_to = length-append words (replicate (up_to - length words) 0) ∙ ap (λ n. length words + n) (length-replicate (up_to - length words) 0)
-
-pub packs_filled : (words : List ℕ) (up_to : ℕ) → AllPass is_pack words → AllPass is_pack (filled words up_to)
-packs_filled words up_to packs = All-append (λ x. is_pack x ≡ true) words (replicate (up_to - length words) 0) packs (All-replicate (λ x. is_pack x ≡ true) (up_to - length words) 0 refl)
-
-within_or_past : (i n : ℕ) → (i < n) ⊎ (n ≤ i)
-within_or_past i n = by (nat_lt i n) refl
-  where
-    by : (b : Bool) → nat_lt i n ≡ b → (i < n) ⊎ (n ≤ i)
-    by true is = inl (ltb-true i n is)
-    by false is = inr (ltb-false i n is)
+-- a shard that is not there has no position
+pub nowhere_unless : (s : Shards) (p : Place) → (HasWord s p → ⊥) → position_in s.directory (shard_of s.bits p) ≡ nowhere
+nowhere_unless s p away = elim (same_or_not (position_in s.directory (shard_of s.bits p)) nowhere) as (λ _. position_in s.directory (shard_of s.bits p) ≡ nowhere) [
+  | inl same ↦ same
+  | inr differ ↦ let there = s.directory.found.placed (shard_of s.bits p) differ in absurd (away (omega (arith, there)))
+]
 
 read_zeros : (n i : ℕ) → slice_index (replicate n 0) i ≡ 0
 read_zeros n i = elim (within_or_past i n) as (λ _. slice_index (replicate n 0) i ≡ 0) [
@@ -52,12 +51,15 @@ read_zeros n i = elim (within_or_past i n) as (λ _. slice_index (replicate n 0)
   | inr past ↦ get_or_past (replicate n 0) i 0 (omega (arith, length-replicate {A = ℕ} n 0))
 ]
 
--- each word is what it was, since one behind the end reads as 0
-pub read_filled : (words : List ℕ) (up_to i : ℕ) → slice_index (filled words up_to) i ≡ slice_index words i
-read_filled words up_to i = elim (within_or_past i (length words)) as (λ _. slice_index (filled words up_to) i ≡ slice_index words i) [
-  | inl within ↦ get_or_append_left words (replicate (up_to - length words) 0) 0 i within
-  | inr past ↦ get_or-append_right words (replicate (up_to - length words) 0) (length words) i 0 refl past ∙ read_zeros (up_to - length words) (i - length words) ∙ sym (get_or_past words i 0 past)
+-- each word is what it was where zeros stand behind them, since one behind the end reads as 0
+pub read_longer : (words : List ℕ) (n i : ℕ) → slice_index (words ++ replicate n 0) i ≡ slice_index words i
+read_longer words n i = elim (within_or_past i (length words)) as (λ _. slice_index (words ++ replicate n 0) i ≡ slice_index words i) [
+  | inl within ↦ get_or_append_left words (replicate n 0) 0 i within
+  | inr past ↦ get_or-append_right words (replicate n 0) (length words) i 0 refl past ∙ read_zeros n _ ∙ sym (get_or_past words i 0 past)
 ]
+
+pub packs_longer : (words : List ℕ) (n : ℕ) → AllPass is_pack words → AllPass is_pack (words ++ replicate n 0)
+packs_longer words n packs = All-append (λ x. is_pack x ≡ true) words (replicate n 0) packs (All-replicate (λ x. is_pack x ≡ true) n 0 refl)
 
 -- each word is a pack, since one behind the end reads as 0
 read_pack : (words : List ℕ) (i : ℕ) → AllPass is_pack words → IsTrue (is_pack (slice_index words i))
@@ -66,68 +68,18 @@ read_pack words i packs = elim (within_or_past i (length words)) as (λ _. IsTru
   | inr past ↦ ap is_pack (get_or_past words i 0 past)
 ]
 
--- a vector with no words yet, which has room for all
-pub words_none : (directory : List ℕ) (words : Vec ℕ Global) → words.items ≡ [] → words_in directory ≤ vec_capacity words → AreWords directory words
-words_none directory words none room = record {
-  count = omega (arith, ap length none);
-  room = room;
-  packs = subst (AllPass is_pack) (sym none) (λ i d within. absurd (omega (arith, within)));
-}
-
 -- words stay words where one becomes another pack
-pub words_set : (directory : List ℕ) (words : Vec ℕ Global) (i w : ℕ) → AreWords directory words → IsTrue (is_pack w) → AreWords directory (with_item words i w)
-words_set directory words i w are pack = record {
+pub words_set : (count : ℕ) (words : Vec ℕ Global) (i w : ℕ) → AreWords count words → IsTrue (is_pack w) → AreWords count (with_item words i w)
+words_set count words i w are pack = record {
   count = omega (arith, length-set words.items i w, are.count);
-  room = are.room;
   packs = All-set (λ x. is_pack x ≡ true) words.items i w pack are.packs;
 }
-
--- words stay words where the directory finds as many
-pub words_kept : (directory after : List ℕ) (words : Vec ℕ Global) → length after ≡ length directory → AreWords directory words → AreWords after words
-words_kept directory after words same are = record {
-  count = omega (arith, same, are.count);
-  room = omega (arith, same, are.room);
-  packs = are.packs;
-}
-
--- ---- two shards change their positions
-
-module _ (words : List ℕ) (bits : ℕ) (directory after : List ℕ) (a b : ℕ) (a_low : a < length directory) (b_low : b < length directory) (is : after ≡ swap directory a b) where
-  -- the words of the one stand where those of the other stood
-  pub exchanged_index : (p : Place) → shard_of bits p ≡ a → place_index bits after p ≡ position_of directory b * 64 + offset_of p
-  exchanged_index p at = ap (λ k. position_of after k * 64 + offset_of p) at ∙ ap (λ n. n * 64 + offset_of p) (swapped_from_swap directory after a b 0 a_low b_low is).0
-
-  -- if both stand behind all words, each place reads what it read
-  pub exchanged_read : length words ≤ position_of directory a * 64 → length words ≤ position_of directory b * 64
-      → (p : Place) → slice_index words (place_index bits after p) ≡ slice_index words (place_index bits directory p)
-  exchanged_read a_past b_past p =
-      let shard = shard_of bits p in
-      let swapped = swapped_from_swap directory after a b 0 a_low b_low is in
-      let past : (n : ℕ) → length words ≤ n * 64 → (m : ℕ) → m ≡ n → slice_index words (m * 64 + offset_of p) ≡ 0 =
-      λ n n_past m same. get_or_past words (m * 64 + offset_of p) 0 (omega (arith, n_past, same)) in
-      elim (same_or_not shard a) as (λ _. slice_index words (place_index bits after p) ≡ slice_index words (place_index bits directory p)) [
-        | inl at_a ↦
-            past (position_of directory b) b_past (position_of after shard) (ap (position_of after) at_a ∙ swapped.0)
-            ∙ sym (past (position_of directory a) a_past (position_of directory shard) (ap (position_of directory) at_a))
-        | inr not_a ↦ elim (same_or_not shard b) as (λ _. slice_index words (place_index bits after p) ≡ slice_index words (place_index bits directory p)) [
-          | inl at_b ↦
-              past (position_of directory a) a_past (position_of after shard) (ap (position_of after) at_b ∙ swapped.1)
-              ∙ sym (past (position_of directory b) b_past (position_of directory shard) (ap (position_of directory) at_b))
-          | inr not_b ↦ ap (λ n. slice_index words (n * 64 + offset_of p)) (swapped.2 shard not_a not_b)
-        ]
-      ]
 
 -- ---- the words of shards
 
 module _ (s : Shards) (words : Vec ℕ Global) (held : s.words ≡ Some words) where
-  entry_read : (p : Place) → entry_at s p ≡ entry_of (slice_index words.items (index_of s p))
+  pub entry_read : (p : Place) → entry_at s p ≡ entry_of (slice_index words.items (index_of s p))
   entry_read p = ap (λ (o : Option (Vec ℕ Global)). entry_of (slice_index (option_map_or (λ w. w.items) o []) (index_of s p))) held
-
-  -- so many shards they reach
-  pub shards_reached : (count : ℕ) → count ≡ div_ceil (vec_len words) 64 → count ≡ shards_in_use s
-  shards_reached count is =
-      let words_are : words_of s ≡ words.items = ap (λ (o : Option (Vec ℕ Global)). option_map_or (λ w. w.items) o []) held in
-      is ∙ ap (λ n. div_ceil n 64) (words.ok.0 ∙ sym (ap length words_are))
 
   -- the words are as many
   pub words_reach : (i : ℕ) → i < length (words_of s) → i < length words.items
@@ -139,62 +91,131 @@ module _ (s : Shards) (words : Vec ℕ Global) (held : s.words ≡ Some words) w
       let packs : AllPass is_pack words.items = (s.packed words held).packs in
       sym (ap word_of (entry_read p) ∙ (pack_gives_back _ (read_pack words.items (index_of s p) packs)).1)
 
-  -- what stands at a place stays where the words are filled
-  pub stays_filled : (up_to : ℕ) (after : List ℕ) → after ≡ filled words.items up_to → (p : Place) → entry_of (slice_index after (index_of s p)) ≡ entry_at s p
-  stays_filled up_to after is p =
-      ap (λ xs. entry_of (slice_index xs (index_of s p))) is ∙ ap entry_of (read_filled words.items up_to (index_of s p)) ∙ sym (entry_read p)
+  -- a place whose word stands behind the words holds nothing
+  pub none_behind : (p : Place) → (HasWord s p → ⊥) → entry_at s p ≡ None
+  none_behind p away =
+      let count = (s.packed words held).count in
+      let past : length words.items ≤ index_of s p = elim (within_or_past (index_of s p) (word_count s)) as (λ _. length words.items ≤ index_of s p) [
+        | inl within ↦ absurd (away within)
+        | inr behind ↦ omega (arith, count, behind)
+      ] in
+      entry_read p ∙ ap entry_of (get_or_past words.items (index_of s p) 0 past)
 
   -- to write the word of a place, which the words reach, changes what stands there alone
-  module _ (p : Place) (place : IsPlace s p) (entry : Option Entry) (fits : FrameFits entry) where
-    pub set_there : index_of s p < length words.items → entry_of (slice_index (slice_set words.items (index_of s p) (word_of entry)) (index_of s p)) ≡ entry
-    set_there within = ap entry_of (get_or-set_same words.items (index_of s p) (word_of entry) 0 within) ∙ (unpack_gives_back entry fits).1
+  module _ (p : Place) (place : IsPlace s p) (within : index_of s p < length words.items) (entry : Option Entry) (fits : FrameFits entry) where
+    pub set_there : entry_of (slice_index (slice_set words.items (index_of s p) (word_of entry)) (index_of s p)) ≡ entry
+    set_there = ap entry_of (get_or-set_same words.items (index_of s p) (word_of entry) 0 within) ∙ (unpack_gives_back entry fits).1
 
     pub set_elsewhere : (q : Place) → IsPlace s q → (q ≡ p → ⊥) → entry_of (slice_index (slice_set words.items (index_of s p) (word_of entry)) (index_of s q)) ≡ entry_at s q
     set_elsewhere q q_place apart =
-        ap entry_of (get_or-set_other words.items (index_of s p) (index_of s q) (word_of entry) 0 (λ same. apart (words_are_their_own s q p q_place place same)))
+        let has : HasWord s p = let count = (s.packed words held).count in omega (arith, count, within) in
+        ap entry_of (get_or-set_other words.items (index_of s p) (index_of s q) (word_of entry) 0 (λ same. apart (sym (words_are_their_own s p q place q_place has (sym same)))))
         ∙ sym (entry_read q)
 
--- a shard and the owner of a position before its own change their positions
-module _ (s : Shards) (shard position from other : ℕ) (shard_low : shard < shard_count s) (from_is : from ≡ get_or s.directory.items shard from) (before : position < from)
-    (other_is : other ≡ get_or s.owners.items position other) (directory owners : List ℕ) (directory_is : directory ≡ swap s.directory.items shard other)
-    (owners_is : owners ≡ swap s.owners.items from position) where
-  shard_in : shard < s.spaces * shards_of s.bits
-  shard_in = rw (← s.found.shards) shard_low
+-- so it is whether the words are taken or not
+pub absent_unless : (s : Shards) (p : Place) → (HasWord s p → ⊥) → entry_at s p ≡ None
+absent_unless s p away = by s.words refl
+  where
+    by : (o : Option (Vec ℕ Global)) → s.words ≡ o → entry_at s p ≡ None
+    by None none = ap (λ (o : Option (Vec ℕ Global)). entry_of (slice_index (option_map_or (λ w. w.items) o []) (index_of s p))) none
+    by (Some v) some = none_behind s v some p away
 
-  from_read : from ≡ position_of s.directory.items shard
-  from_read = from_is ∙ get_or_default s.directory.items shard from 0 shard_low
+-- as many words as the shards that are there have
+pub words_are_all : (s : Shards) (words : Vec ℕ Global) → s.words ≡ Some words → length words.items ≡ word_count s
+words_are_all s words held = (s.packed words held).count
 
-  position_in : position < s.spaces * shards_of s.bits
-  position_in = omega (arith, before, from_read, s.found.in_range shard shard_in)
+-- where no word is, nothing stands, and nothing is set
+pub unset : (s : Shards) (p : Place) (entry : Option Entry) → IfSome entry (λ _. HasWord s p) → (HasWord s p → ⊥) → IsSetAt s s p entry
+unset s p None has away = record { there = absent_unless s p away; elsewhere = λ q place apart. refl }
+unset s p (Some e) has away = absurd (away has)
 
-  position_low : position < length s.owners.items
-  position_low = rw s.found.positions position_in
+-- ---- a shard is added
 
-  other_read : other ≡ owner_of s.owners.items position
-  other_read = other_is ∙ get_or_default s.owners.items position other 0 position_low
+module _ (s : Shards) (words : Vec ℕ Global) (held : s.words ≡ Some words) (place : Place) (absent : HasWord s place → ⊥) (d : Directory)
+    (added : IsAdded s.directory d (shard_of s.bits place)) (after : List ℕ) (after_is : after ≡ words.items ++ replicate 64 0) where
+  abbrev index_now : Place → ℕ
+  index_now p = position_in d (shard_of s.bits p) * 64 + offset_of p
 
-  other_low : other < shard_count s
-  other_low = rw (s.found.shards, other_read) (s.found.owner_in_range position position_in)
+  -- the others are where they were
+  same_index : (p : Place) → (shard_of s.bits p ≡ shard_of s.bits place → ⊥) → index_now p ≡ index_of s p
+  same_index p differ = ap (λ n. n * 64 + offset_of p) (added.elsewhere (shard_of s.bits p) differ)
 
-  other_stands : position_of s.directory.items other ≡ position
-  other_stands = ap (position_of s.directory.items) other_read ∙ s.found.position position position_in
+  away_with : (p : Place) → shard_of s.bits p ≡ shard_of s.bits place → HasWord s p → ⊥
+  away_with p same has =
+      let position : position_in s.directory (shard_of s.bits p) ≡ position_in s.directory (shard_of s.bits place) = ap (position_in s.directory) same in
+      absent (omega (arith, has, position))
 
-  pub moved_found : IsDirectory s.spaces s.bits directory owners
-  moved_found =
-      exchanged_found s.spaces s.bits s.directory.items s.owners.items directory owners s.found shard position shard_low position_low
-      (directory_is ∙ ap (swap s.directory.items shard) other_read) (owners_is ∙ ap (λ p. swap s.owners.items p position) from_read)
+  pub read_now : (p : Place) → entry_of (slice_index after (index_now p)) ≡ entry_at s p
+  read_now p = elim (same_or_not (shard_of s.bits p) (shard_of s.bits place)) as (λ _. entry_of (slice_index after (index_now p)) ≡ entry_at s p) [
+    | inl same ↦
+        let position : position_in d (shard_of s.bits p) ≡ count_of s.directory = ap (position_in d) same ∙ added.there in
+        let past : length words.items ≤ index_now p = omega (arith, position, words_are_all s words held) in
+        ap entry_of (ap (λ xs. slice_index xs (index_now p)) after_is ∙ read_longer words.items 64 (index_now p) ∙ get_or_past words.items (index_now p) 0 past)
+        ∙ sym (absent_unless s p (away_with p same))
+    | inr differ ↦
+        ap entry_of (ap (λ xs. slice_index xs (index_now p)) after_is ∙ read_longer words.items 64 (index_now p) ∙ ap (slice_index words.items) (same_index p differ))
+        ∙ sym (entry_read s words held p)
+  ]
 
-  -- if the position is the first one that no word reaches, its words stand directly behind those in use
-  pub moved_near : position ≡ shards_in_use s → (p : Place) → shard ≡ shard_of s.bits p → place_index s.bits directory p < (shards_in_use s + 1) * 64
-  moved_near behind p at =
-      let index = exchanged_index (words_of s) s.bits s.directory.items directory shard other shard_low other_low directory_is p (sym at) in
-      omega (arith, index, other_stands, behind)
+  pub index_kept : (p : Place) → HasWord s p → index_now p ≡ index_of s p
+  index_kept p has = elim (same_or_not (shard_of s.bits p) (shard_of s.bits place)) as (λ _. index_now p ≡ index_of s p) [
+    | inl same ↦ absurd (away_with p same has)
+    | inr differ ↦ same_index p differ
+  ]
 
-  -- and each place reads what it read
-  pub moved_read : position ≡ shards_in_use s → (p : Place) → slice_index (words_of s) (place_index s.bits directory p) ≡ slice_index (words_of s) (index_of s p)
-  moved_read behind =
-      let past : length (words_of s) ≤ position * 64 = omega (arith, div_ceil_times (length (words_of s)) 64 (omega arith), behind) in
-      exchanged_read (words_of s) s.bits s.directory.items directory shard other shard_low other_low directory_is (omega (arith, past, before, from_read)) (omega (arith, past, other_stands))
+  -- no other shard is there
+  pub only_added : IsPlace s place → (p : Place) → IsPlace s p → index_now p < count_of d * 64 → (HasWord s p) ⊎ IsTrue (are_beside place p)
+  only_added is_place p is_p has = elim (same_or_not (shard_of s.bits p) (shard_of s.bits place)) as (λ _. (HasWord s p) ⊎ IsTrue (are_beside place p)) [
+    | inl same ↦
+        let parts = same_parts s.bits s.limits.low place p is_place.page is_p.page (sym same) in
+        inr (λ i. eq-eqb place.space p.space parts.0 i && eq-eqb (place.page / 64) (p.page / 64) parts.1 i)
+    | inr differ ↦
+        let apart : position_in d (shard_of s.bits p) ≡ count_of s.directory → ⊥ =
+        λ at. differ (d.found.apart (shard_of s.bits p) (shard_of s.bits place) (omega (arith, has)) (at ∙ sym added.there)) in
+        inl (omega (arith, same_index p differ, has, added.count, apart))
+  ]
+
+-- ---- the shards of a space
+
+module _ (s : Shards) (place : Place) (is_place : IsPlace s place) where
+  abbrev shards_in : ℕ
+  shards_in = shards_of s.bits
+
+  abbrev before : ℕ
+  before = place.space * shards_in
+
+  pub shard_before : shard_of s.bits place < before + shards_in
+  shard_before = omega (arith, shard_in_space s.bits s.limits.low place is_place.page)
+
+  module _ (found : ℕ) (from : shard_of s.bits place ≤ found) (end : found ≤ before + shards_in) where
+    pub page_end : (found - before) * 64 ≤ pages_of s.bits
+    page_end = omega (arith, pages_are s.bits s.limits.low, from, end)
+
+    pub page_there : (found < before + shards_in → position_in s.directory found < count_of s.directory) → (found - before) * 64 < pages_of s.bits
+        → HasWord s (record { space = place.space; page = (found - before) * 64 })
+    page_there there within =
+        let low = there (omega (arith, pages_are s.bits s.limits.low, within, from)) in
+        let p : Place = record { space = place.space; page = (found - before) * 64 } in
+        let shard : shard_of s.bits p ≡ found = omega (arith, from) in
+        let position : position_in s.directory (shard_of s.bits p) < count_of s.directory = rw shard low in
+        omega (arith, position)
+
+    pub page_absent : ((k : ℕ) → shard_of s.bits place ≤ k → k < found → position_in s.directory k ≡ nowhere)
+        → (p : Place) → p.space ≡ place.space → place.page ≤ p.page → p.page < (found - before) * 64 → entry_at s p ≡ None
+    page_absent skipped p same after below =
+        let spaces : p.space * shards_in ≡ before = ap (λ n. n * shards_in) same in
+        let away = skipped (shard_of s.bits p) (omega (arith, spaces, after)) (omega (arith, spaces, below, from)) in
+        absent_unless s p (λ has. absurd (omega (arith, has, away, few_there s.directory.most s.directory.count s.directory.leaves.items s.directory.positions.items s.directory.found, s.directory.found.few)))
+
+pub held_have_words : HeldHaveWords
+held_have_words s p e is = elim (within_or_past (index_of s p) (word_count s)) as (λ _. HasWord s p) [
+  | inl within ↦ within
+  | inr behind ↦ by s.words refl behind
+]
+  where
+    by : (o : Option (Vec ℕ Global)) → s.words ≡ o → word_count s ≤ index_of s p → HasWord s p
+    by None none behind = absurd (cc (is, none))
+    by (Some v) some behind = absurd (cc (is, none_behind s v some p (λ within. absurd (omega (arith, within, behind)))))
 
 pub shards_have_words : ShardsHaveWords
 shards_have_words s present = by s.words refl
@@ -202,14 +223,8 @@ shards_have_words s present = by s.words refl
     by : (o : Option (Vec ℕ Global)) → s.words ≡ o → (words : List ℕ) × AreAllWords s words
     by None is = absurd (cc (present, is))
     by (Some v) is =
-        let are : AreWords s.directory.items v = s.packed v is in (
-          filled v.items (word_count s),
-          record {
-            count = omega (arith, length_filled v.items (word_count s), are.count);
-            packs = packs_filled v.items (word_count s) are.packs;
-            entries = λ p place. ap entry_of (read_filled v.items (word_count s) (index_of s p)) ∙ sym (entry_read s v is p);
-          },
-        )
+        let are = s.packed v is in
+        (v.items, record { count = are.count; packs = are.packs; entries = λ p place. sym (entry_read s v is p) })
 
 -- a vector with other words, for which it has room
 abbrev with_items : (v : Vec ℕ Global) (words : List ℕ) → length words ≤ vec_capacity v → Vec ℕ Global
@@ -221,19 +236,18 @@ words_have_shards s present words count packs = by s.words refl
     by : (o : Option (Vec ℕ Global)) → s.words ≡ o → (new : Shards) × IsWithWords s new words
     by None is = absurd (cc (present, is))
     by (Some v) is =
-        let room : word_count s ≤ vec_capacity v = (s.packed v is).room in
-        let fits : length words ≤ vec_capacity v = omega (arith, room, count) in
+        let as_many = (s.packed v is).count in
+        let fits : length words ≤ vec_capacity v = omega (arith, as_many, count, v.ok.0, v.ok.1) in
         let u = with_items v words fits in
-        let are : AreWords s.directory.items u = record { count = omega (arith, count); room = room; packs = packs } in
+        let are : AreWords (count_of s.directory) u = record { count = count; packs = packs } in
         let new : Shards = record {
           spaces = s.spaces;
           bits = s.bits;
           directory = s.directory;
-          owners = s.owners;
           words = Some u;
           limits = s.limits;
-          found = s.found;
-          packed = λ x x_is. subst (AreWords s.directory.items) (same_Some u x x_is) are;
+          most = s.most;
+          packed = λ x x_is. subst (AreWords (count_of s.directory)) (same_Some u x x_is) are;
         } in (
           new,
           record {

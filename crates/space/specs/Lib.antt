@@ -2,6 +2,8 @@ pub mod Place
 pub mod Word
 pub mod EntryLaws
 pub mod Directory
+pub mod Leaves
+pub mod Positions
+pub mod Entries
 pub mod Shards
 pub mod ShardLaws
-pub mod Entries

@@ -1,12 +1,12 @@
 -- What shards hold: a map from place to entry, and the index of each place's word.
-use Rattle.std.specs.Prelude.{◌≡◌, ℕ, ◌<◌, Bool, List, [], length, Option, is_none, slice_index}
-use Rattle.std.specs.Int.{div_ceil}
+use Rattle.std.specs.Prelude.{◌≡◌, ℕ, ◌+◌, ◌*◌, ◌/◌, ◌<◌, ◌≤◌, ◌⊎◌, ◌&&◌, ◌==◌, Bool, IsTrue, List, [], Option, is_none, slice_index}
 use Rattle.std.specs.Option.{option_map_or}
 use Rattle.space.specs.declared.place.Place.{Place}
 use Rattle.space.specs.declared.place.Entry.{Entry}
 use Rattle.space.specs.declared.shards.Shards.{Shards}
 use Rattle.space.specs.Word.{entry_of}
-use Rattle.space.specs.Directory.{pages_of, place_index, words_in}
+use Rattle.space.specs.Directory.{pages_of, shard_of, offset_of}
+use Rattle.space.specs.Positions.{count_of, position_in}
 
 -- how many spaces there are
 abbrev pub spaces_of : Shards → ℕ
@@ -21,17 +21,17 @@ pub record IsPlace (s : Shards) (p : Place) : Type 0 where
   pub space : p.space < spaces_of s
   pub page : p.page < pages_of (bits_of s)
 
--- how many shards there are
-abbrev pub shard_count : Shards → ℕ
-shard_count s = length s.directory.items
-
--- how many words there are
+-- how many words there are: those of the shards that are there
 abbrev pub word_count : Shards → ℕ
-word_count s = words_in s.directory.items
+word_count s = count_of s.directory * 64
 
--- which word is a place's
+-- which word is a place's; that of a place whose shard is not there lies behind all words
 abbrev pub index_of : Shards → Place → ℕ
-index_of s p = place_index (bits_of s) s.directory.items p
+index_of s p = position_in s.directory (shard_of (bits_of s) p) * 64 + offset_of p
+
+-- the shard of a place is there
+abbrev pub HasWord : Shards → Place → Type 0
+HasWord s p = index_of s p < word_count s
 
 -- whether the words are taken
 abbrev pub is_taken : Shards → Bool
@@ -40,10 +40,6 @@ is_taken s = is_none s.words
 -- the words; none while they are taken
 abbrev pub words_of : Shards → List ℕ
 words_of s = option_map_or (λ words. words.items) s.words []
-
--- how many shards the words reach, the last one maybe in part
-abbrev pub shards_in_use : Shards → ℕ
-shards_in_use s = div_ceil (length (words_of s)) 64
 
 -- what stands at a place
 abbrev pub entry_at : Shards → Place → Option Entry
@@ -55,6 +51,22 @@ pub record IsLaidOutAs (old new : Shards) : Type 0 where
   pub bits : bits_of new ≡ bits_of old
   pub count : word_count new ≡ word_count old
   pub index : (p : Place) → index_of new p ≡ index_of old p
+
+-- the same limits and entries, and maybe more shards; a word that was there is where it was
+pub record IsMade (old new : Shards) : Type 0 where
+  pub spaces : spaces_of new ≡ spaces_of old
+  pub bits : bits_of new ≡ bits_of old
+  pub entries : (p : Place) → entry_at new p ≡ entry_at old p
+  pub index : (p : Place) → HasWord old p → index_of new p ≡ index_of old p
+  pub count : word_count old ≤ word_count new
+
+-- whether two pages have their words in one shard: they are of the same 64 pages of one space
+abbrev pub are_beside : Place → Place → Bool
+are_beside q p = (q.space == p.space) && (q.page / 64 == p.page / 64)
+
+-- a page that has a word had one before, or is one of these
+pub record AreOnlyMade (old new : Shards) (made : Place → Bool) : Type 0 where
+  pub each : (p : Place) → IsPlace new p → HasWord new p → (HasWord old p) ⊎ IsTrue (made p)
 
 -- the entry is changed at that place alone
 pub record IsSetAt (old new : Shards) (p : Place) (entry : Option Entry) : Type 0 where

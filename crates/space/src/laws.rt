@@ -1,7 +1,7 @@
 //! The laws of the entry word and of shards. A function here does nothing: its contract is the laws.
 
 ghost use Rattle.space.specs.EntryLaws.{UnpackGivesBack, PackGivesBack, WordsAreDistinct, AbsentIsZero, WordFits, FieldsOfWord, OrAddsStatus, PackGainsStatus};
-ghost use Rattle.space.specs.ShardLaws.{PlacesHaveWords, WordsAreTheirOwn, EntriesFit, ShardsHaveWords, WordsHaveShards};
+ghost use Rattle.space.specs.ShardLaws.{HeldHaveWords, WordsAreTheirOwn, EntriesFit, ShardsHaveWords, WordsHaveShards};
 
 /// What the word of an entry keeps, and what "or" adds to it.
 pub fn entry_words()
@@ -17,7 +17,7 @@ pub fn entry_words()
 
 /// Each place has a word of its own, whatever the shards hold, and what they hold is what their words say.
 pub fn shard_words()
-    ensures places_have_words { PlacesHaveWords }
+    ensures held_have_words { HeldHaveWords }
     ensures words_are_their_own { WordsAreTheirOwn }
     ensures entries_fit { EntriesFit }
     ensures shards_have_words { ShardsHaveWords }

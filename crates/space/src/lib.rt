@@ -1,6 +1,7 @@
 //! Places, that is pages of spaces, the entries of pages that are held, their words, and a map from place to entry.
 #![tactic(auto)]
 
+mod directory;
 mod error;
 mod laws;
 mod place;

@@ -1,14 +1,15 @@
-ghost use Rattle.std.specs.Prelude.{◌≡◌, ◌<◌, ◌≤◌, IfOk, vec_capacity};
-ghost use Rattle.std.specs.List.{range_with_len};
+ghost use Rattle.std.specs.Prelude.{◌≡◌, ◌*◌, ◌+◌, ◌<◌, ◌≤◌, ◌++◌, length, replicate, vec_capacity};
 ghost use Rattle.std.specs.Option.{ForSome};
-ghost use Rattle.space.specs.Directory.{AreLimits, IsDirectory, AreWords, filled, offset_of};
+ghost use Rattle.space.specs.Directory.{AreLimits, AreWords, offset_of, shards_of};
+ghost use Rattle.space.specs.Positions.{most_of, count_of};
 
+use crate::directory::Directory;
 use crate::error::NoMemory;
 use crate::place::{Entry, Place};
 use crate::status::Status;
 use crate::word::{narrowed_word, pack, unpack, word_bits};
 use fpage::Rights;
-use std::alloc::{AllocError, Global};
+use std::alloc::Global;
 
 /// The bytes of the pages of one shard, as a power of two.
 const SHARD_BITS: u32 = 18;
@@ -30,36 +31,30 @@ pub struct Narrowed {
 
 /// A map from places to entries, kept as entry words (profile).
 ///
-/// The words lie in shards of 64 pages of one space, one shard behind another. A directory has for each shard of each space where
-/// its words stand. `make` gives a shard that is not in use the first position behind the words in use, so that shards stand in
-/// the order of their first use.
-///
-/// Words behind the end of the list stand for absent pages, so that shards that nobody uses cost nothing. The memory of all
-/// words is asked for at the start, so that no later call takes any.
+/// The words lie in shards of 64 pages of one space, one shard behind another, in the order in which they were made. A directory tells
+/// where those of a place stand, if its shard is there; all other pages are absent. Only `new` and `make` take memory.
 #[derive(Drop)]
 pub struct Shards {
     spaces: u32,
     bits: u32,
-    /// Where the words of each shard stand, counted in shards.
-    directory: Vec<u32>,
-    /// Which shard has its words at each of these positions.
-    owners: Vec<u32>,
+    directory: Directory,
     /// None while the words are taken.
     words: Option<Vec<u64>>,
     ghost limits: { AreLimits spaces bits },
-    ghost found: { IsDirectory spaces bits directory.items owners.items },
-    ghost packed: { ForSome words (AreWords directory.items) },
+    ghost most: { most_of directory ≡ spaces * shards_of bits },
+    ghost packed: { ForSome words (AreWords (count_of directory)) },
 }
 
 impl Shards {
-    ghost use Rattle.std.specs.Prelude.{◌≡◌, ◌↔◌, ◌+◌, ◌*◌, ◌/◌, ◌<◌, IsTrue, IsFalse, IfOk, IfSome, IfNone, None, length, option_map, is_some, slice_index};
-    ghost use Rattle.std.specs.List.{AllPass};
+    ghost use Rattle.std.specs.Prelude.{◌≡◌, ◌↔◌, ◌+◌, ◌*◌, ◌/◌, ◌<◌, ◌≤◌, IsTrue, IsFalse, IfOk, OnOk, IfSome, IfNone, None, length, option_map, is_some, slice_index};
+    ghost use Rattle.std.specs.List.{All, AllPass, list_any};
     ghost use Rattle.std.specs.Option.{option_and_then};
     ghost use Rattle.space.specs.declared.place.Place.{Place};
     ghost use Rattle.space.specs.Word.{word_of, entry_of, is_pack, FrameFits};
-    ghost use Rattle.space.specs.Directory.{AreLimits, shard_of};
+    ghost use Rattle.space.specs.Directory.{AreLimits, pages_of, shard_of};
     ghost use Rattle.space.specs.Entries.{narrowed, status_of, with_status, extended};
-    ghost use Rattle.space.specs.Shards.{shard_count, spaces_of, bits_of, IsPlace, word_count, index_of, is_taken, words_of, shards_in_use, entry_at, IsLaidOutAs, IsSetAt};
+    ghost use Rattle.space.specs.Positions.{most_of};
+    ghost use Rattle.space.specs.Shards.{spaces_of, bits_of, IsPlace, HasWord, word_count, index_of, is_taken, words_of, entry_at, IsLaidOutAs, IsMade, AreOnlyMade, IsSetAt, are_beside};
 
     /// Spaces of `2^bits` bytes in which every page is absent.
     ///
@@ -72,15 +67,12 @@ impl Shards {
         ensures present { IfOk result (λ s. IsFalse (is_taken s)) }
     {
         let shards = spaces << (bits - SHARD_BITS);
-        let directory = in_order(alloc, shards)?;
-        let owners = in_order(alloc, shards)?;
-        let words = Vec::with_capacity(alloc, shards as usize * SHARD_PAGES)?;
+        let directory = Directory::new(alloc, shards)?;
         Ok(Shards {
             spaces,
             bits,
             directory,
-            owners,
-            words: Some(words),
+            words: Some(Vec::new(alloc)),
         })
     }
 
@@ -100,12 +92,21 @@ impl Shards {
 
     /// Which word is a place's.
     pub fn index(&self, place: Place) -> usize
-        requires { IsPlace self.now place }
+        requires place { IsPlace self.now place }
+        requires has { HasWord self.now place }
         ensures index { result ≡ index_of self.now place }
         ensures in_range { result < word_count self.now }
         ensures distinct { (q : Place) → IsPlace self.now q → index_of self.now q ≡ result → q ≡ place }
     {
-        let position = self.directory[self.shard(place)];
+        self.find(place)
+    }
+
+    /// The same; behind all words where the shard of the place is not there.
+    fn find(&self, place: Place) -> usize
+        requires { IsPlace self.now place }
+        ensures { result ≡ index_of self.now place }
+    {
+        let position = self.directory.position(self.shard(place));
         position as usize * SHARD_PAGES + offset(place)
     }
 
@@ -113,55 +114,110 @@ impl Shards {
     fn shard(&self, place: Place) -> usize
         requires { IsPlace self.now place }
         ensures shard { result ≡ shard_of (bits_of self.now) place }
-        ensures in_range { result < shard_count self.now }
+        ensures in_range { result < most_of self.now.directory }
     {
-        let before = usize::from(place.space) << (self.bits - SHARD_BITS);
-        before + place.page as usize / SHARD_PAGES
+        self.shards_before(place.space) + place.page as usize / SHARD_PAGES
     }
 
-    /// Has the words of a place stand directly behind those that are in use, where they are not in use yet, so that words that
-    /// nobody uses cost no memory. What stands at each place stays; the indexes of places that are not in use may become others.
-    /// This takes no memory.
-    pub fn make(&mut self, place: Place)
+    /// How many shards all spaces before one can have.
+    fn shards_before(&self, space: u16) -> usize
+        ensures { result ≡ space * shards_of (bits_of self.now) }
+    {
+        usize::from(space) << (self.bits - SHARD_BITS)
+    }
+
+    /// How many shards a space can have.
+    fn shards_in_space(&self) -> usize
+        ensures { result ≡ shards_of (bits_of self.now) }
+    {
+        1 << (self.bits - SHARD_BITS)
+    }
+
+    /// Has the shards of some places there. What stands at each place stays, and each shard that is there is where it was.
+    ///
+    /// Refused, where memory is: `NoMemory`; then the same is so, and some of the shards may be there.
+    pub fn make(&mut self, places: &[Place]) -> Result<(), NoMemory>
+        requires places { All (IsPlace self.old) places.now }
+        requires present { IsFalse (is_taken self.old) }
+        ensures made { IsMade self.old self.new }
+        ensures there { OnOk result (All (HasWord self.new) places.now) }
+        ensures only { AreOnlyMade self.old self.new (λ p. list_any (λ place. are_beside place p) places.now) }
+        ensures present { IsFalse (is_taken self.new) }
+    {
+        for place in places {
+            self.make_one(*place)?;
+        }
+        Ok(())
+    }
+
+    /// The same of one place.
+    pub fn make_one(&mut self, place: Place) -> Result<(), NoMemory>
         requires place { IsPlace self.old place }
         requires present { IsFalse (is_taken self.old) }
-        ensures entries { (p : Place) → entry_at self.new p ≡ entry_at self.old p }
-        ensures near { index_of self.new place < (shards_in_use self.old + 1) * 64 }
-        ensures words { words_of self.new ≡ words_of self.old }
-        ensures spaces { spaces_of self.new ≡ spaces_of self.old }
-        ensures bits { bits_of self.new ≡ bits_of self.old }
+        ensures made { IsMade self.old self.new }
+        ensures there { OnOk result (HasWord self.new place) }
+        ensures only { AreOnlyMade self.old self.new (are_beside place) }
+        ensures present { IsFalse (is_taken self.new) }
+    {
+        if self.has(place) {
+            return Ok(());
+        }
+        self.add(place)
+    }
+
+    /// Adds the shard of a place, which is not there.
+    fn add(&mut self, place: Place) -> Result<(), NoMemory>
+        requires place { IsPlace self.old place }
+        requires present { IsFalse (is_taken self.old) }
+        requires absent { HasWord self.old place → ⊥ }
+        ensures made { IsMade self.old self.new }
+        ensures there { OnOk result (HasWord self.new place) }
+        ensures only { AreOnlyMade self.old self.new (are_beside place) }
         ensures present { IsFalse (is_taken self.new) }
     {
         let shard = self.shard(place);
-        let position = self.directory[shard] as usize;
-        // The first position that no word reaches.
-        let behind = self.words.as_ref().unwrap().len().div_ceil(SHARD_PAGES);
-        if behind < position {
-            let other = self.owners[behind] as usize;
-            self.directory.swap(shard, other);
-            self.owners.swap(position, behind);
-        }
+        let words = self.words.as_mut().unwrap();
+        words.reserve(SHARD_PAGES)?;
+        self.directory.add(shard)?;
+        add_absent(words);
+        Ok(())
     }
 
-    /// Whether the words reach the shard of a place, that is the 64 pages of its space among which it is. Where they do not, each of
+    /// Whether the shard of a place is there, that is the words of the 64 pages of its space among which it is. Where it is not, each of
     /// these pages is absent.
     pub fn has(&self, place: Place) -> bool
         requires place { IsPlace self.now place }
-        requires present { IsFalse (is_taken self.now) }
-        ensures in_use { IsTrue result ↔ (index_of self.now place / 64 < shards_in_use self.now) }
+        ensures there { IsTrue result ↔ HasWord self.now place }
         ensures absent { IsFalse result → (p : Place) → p.space ≡ place.space → p.page / 64 ≡ place.page / 64 → entry_at self.now p ≡ None }
     {
-        let position = self.directory[self.shard(place)] as usize;
-        position < self.words.as_ref().unwrap().len().div_ceil(SHARD_PAGES)
+        self.directory.position(self.shard(place)) < self.directory.count()
     }
 
-    /// How many words there are up to the last one that is in use. Each page that is held has its word among them.
-    pub fn words_in_use(&self) -> usize
-        requires present { IsFalse (is_taken self.now) }
-        ensures count { result ≡ length (words_of self.now) }
+    /// The first page of a space, from a page on, whose shard is there; the end of the space where there is none. All pages before it
+    /// are absent. What is not there is passed over in runs of 8,192 pages.
+    pub fn first_from(&self, place: Place) -> u32
+        requires place { IsPlace self.now place }
+        ensures from { place.page ≤ result }
+        ensures end { result ≤ pages_of (bits_of self.now) }
+        ensures there { result < pages_of (bits_of self.now) → HasWord self.now (record { space = place.space; page = result }) }
+        ensures absent { (p : Place) → p.space ≡ place.space → place.page ≤ p.page → p.page < result → entry_at self.now p ≡ None }
+    {
+        let from = self.shard(place);
+        let before = self.shards_before(place.space);
+        let end = before + self.shards_in_space();
+        let found = self.directory.next(from, end);
+        if found == from {
+            return place.page;
+        }
+        ((found - before) * SHARD_PAGES) as u32
+    }
+
+    /// How many words there are. Each page that is held has its word among them.
+    pub fn words(&self) -> usize
+        ensures count { result ≡ word_count self.now }
         ensures held { (p : Place) → IsTrue (is_some (entry_at self.now p)) → index_of self.now p < result }
     {
-        self.words.as_ref().unwrap().len()
+        self.directory.count() as usize * SHARD_PAGES
     }
 
     /// What stands at a place.
@@ -170,7 +226,7 @@ impl Shards {
         requires present { IsFalse (is_taken self.now) }
         ensures { result ≡ entry_at self.now place }
     {
-        self.read(self.index(place))
+        self.read(self.find(place))
     }
 
     /// What the word at an index says; it says nothing behind the end of the words.
@@ -200,17 +256,15 @@ impl Shards {
         requires place { IsPlace self.old place }
         requires present { IsFalse (is_taken self.old) }
         requires frame { FrameFits entry }
+        requires has { IfSome entry (λ _. HasWord self.old place) }
         ensures set { IsSetAt self.old self.new place entry }
         ensures present { IsFalse (is_taken self.new) }
         ensures layout { IsLaidOutAs self.old self.new }
     {
-        let index = self.index(place);
-        // To the end of the shard, so that its other pages find their words there.
-        fill(
-            self.words.as_mut().unwrap(),
-            (index / SHARD_PAGES + 1) * SHARD_PAGES,
-        );
-        self.write(index, entry);
+        let index = self.find(place);
+        if index < self.words.as_ref().unwrap().len() {
+            self.write(index, entry);
+        }
     }
 
     /// Writes the word at an index that the words reach.
@@ -248,7 +302,7 @@ impl Shards {
         ensures present { IsFalse (is_taken self.new) }
         ensures layout { IsLaidOutAs self.old self.new }
     {
-        let index = self.index(place);
+        let index = self.find(place);
         let Some(word) = self.word(index) else {
             return Narrowed {
                 status: Status::none(),
@@ -271,7 +325,7 @@ impl Shards {
         ensures present { IsFalse (is_taken self.new) }
         ensures layout { IsLaidOutAs self.old self.new }
     {
-        let index = self.index(place);
+        let index = self.find(place);
         let Some(word) = self.word(index) else {
             return;
         };
@@ -289,14 +343,14 @@ impl Shards {
         ensures present { IsFalse (is_taken self.new) }
         ensures layout { IsLaidOutAs self.old self.new }
     {
-        let index = self.index(place);
+        let index = self.find(place);
         let Some(entry) = self.read(index) else {
             return;
         };
         self.write(index, Some(entry.extended(rights)));
     }
 
-    /// Gives the words of all pages away, that of each place at its index.
+    /// Gives the words away, that of each place whose shard is there at its index.
     pub fn take_words(&mut self) -> Vec<u64>
         requires { IsFalse (is_taken self.old) }
         ensures words { (p : Place) → IsPlace self.old p → slice_index result.items (index_of self.old p) ≡ word_of (entry_at self.old p) }
@@ -305,9 +359,7 @@ impl Shards {
         ensures taken { IsTrue (is_taken self.new) }
         ensures layout { IsLaidOutAs self.old self.new }
     {
-        let mut words = self.words.take().unwrap();
-        fill(&mut words, self.directory.len() * SHARD_PAGES);
-        words
+        self.words.take().unwrap()
     }
 
     /// Takes words in the place of those that were taken.
@@ -332,25 +384,11 @@ fn offset(place: Place) -> usize
     (place.page as usize + usize::from(place.space) * LINE_WORDS) % SHARD_PAGES
 }
 
-/// Adds words of absent pages up to this length, if there are fewer. There is room for them, so that this takes no memory.
-fn fill(words: &mut Vec<u64>, up_to: usize)
-    requires { up_to ≤ vec_capacity words.old }
-    ensures items { words.new.items ≡ filled words.old.items up_to }
-    ensures capacity { vec_capacity words.old ≤ vec_capacity words.new }
+/// Adds the words of one shard more, of absent pages. There is room for them, so that this takes no memory.
+fn add_absent(words: &mut Vec<u64>)
+    requires { length words.old.items + 64 ≤ vec_capacity words.old }
+    ensures { words.new.items ≡ words.old.items ++ replicate 64 0 }
 {
-    if words.len() < up_to {
-        let filled = words.resize(up_to, 0);
-        prove!(filled.is_ok());
-    }
-}
-
-/// The numbers of so many shards, in order.
-fn in_order(alloc: Global, shards: u32) -> Result<Vec<u32>, AllocError>
-    ensures { IfOk result (λ order. order.items ≡ range_with_len 0 shards) }
-{
-    let mut order = Vec::with_capacity(alloc, shards as usize)?;
-    for shard in 0..shards {
-        order.push(shard)?;
-    }
-    Ok(order)
+    let added = words.resize(words.len() + SHARD_PAGES, 0);
+    prove!(added.is_ok());
 }

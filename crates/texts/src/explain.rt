@@ -36,7 +36,7 @@ pub fn next_aligned(word: u32, bits: u32) -> Option<u32>
     ensures same { IfSome result (λ next. next % 1024 ≡ word % 1024) }
 {
     let size = extent_of(word).size;
-    if size < 12 || size > 24 {
+    if size < 12 || size > 32 {
         return None;
     }
     let unit = 1u64 << (size - 10);

@@ -17,8 +17,11 @@ pub fn size_of(text: &str) -> Option<Size>
         return Some(Size::Complete);
     }
     let (digits, unit) = split_unit(text);
-    let count = field::number(digits.as_bytes(), 10, 7)?;
-    let bytes = u64::from(count) << unit;
+    if digits.starts_with('+') {
+        return None;
+    }
+    let count = digits.parse::<u64>().ok()?;
+    let bytes = count.checked_mul(1 << unit)?;
     if !bytes.is_power_of_two() {
         return None;
     }

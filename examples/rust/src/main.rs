@@ -16,7 +16,7 @@ struct Pager {
 
 impl Pager {
     /// Maps page 0 of a space, with some of its rights, to a page of another space.
-    fn map(&mut self, from: Space, to: Space, page: u16, rights: Rights) -> Result<(), Error> {
+    fn map(&mut self, from: Space, to: Space, page: u32, rights: Rights) -> Result<(), Error> {
         let item = Item::map(Fpage::page(0, rights), page);
         let window = Fpage::complete(Rights::NONE);
         let Counts {

@@ -173,6 +173,8 @@ fn expect_no_answer(rt: &(impl Abort + AllocGlobal + Threads + Sync), database: 
     let refused = Some(DbError::Halted);
     assert_equal(rt, database.entry(held).err(), refused, "entry");
     assert_equal(rt, database.origin(held).err(), refused, "origin");
+    let next = database.next_held(1, 0);
+    assert_equal(rt, next.err(), refused, "next held page");
     assert_equal(rt, database.mappings(alloc).err(), refused, "mappings");
     let refused = Some(AuditError::Halted);
     assert_equal(rt, lines(alloc, database).err(), refused, "lines");

@@ -18,8 +18,14 @@ const SIX: [(At, Access, bool); 6] = [
     ((0, 0), Access::Execute, true),
 ];
 
-/// The six accesses and what they leave, also after a call of no access.
-const CASES: [Case; 2] = [
+/// Accesses of pages of which nothing was ever held, by one call.
+const ABSENT: [(At, Access, bool); 2] = [
+    ((1, 0), Access::Read, false),
+    ((1, 63), Access::Write, false),
+];
+
+/// The six accesses and what they leave, also after a call of no access, and accesses that are all faults.
+const CASES: [Case; 3] = [
     Case {
         name: "six accesses",
         steps: &[Step::AccessAll(&SIX)],
@@ -28,6 +34,11 @@ const CASES: [Case; 2] = [
     Case {
         name: "six accesses, and none",
         steps: &[Step::AccessAll(&SIX), Step::AccessAll(&[])],
+        left: &LEFT,
+    },
+    Case {
+        name: "accesses of absent pages",
+        steps: &[Step::AccessAll(&ABSENT), Step::AccessAll(&SIX)],
         left: &LEFT,
     },
 ];

@@ -120,13 +120,13 @@ pub struct Case {
     pub left: &'static [(At, Option<Held>)],
 }
 
-/// The limits of a database of the tests: its spaces have 64 pages, or 4096.
+/// The limits of a database of the tests: its spaces have 64 pages, 4,096, or 1,048,576.
 fn known_limits(rt: &impl Abort, database: &Database) -> Limits
     ensures bits { IsSpaceBits result.bits }
     ensures limits { limits_of result ≡ database.now.limits }
 {
     let limits = database.limits();
-    assert!(rt; limits.bits == 18 || limits.bits == 24);
+    assert!(rt; limits.bits == 18 || limits.bits == 24 || limits.bits == 32);
     limits
 }
 
@@ -137,6 +137,7 @@ fn pages_in(rt: &impl Abort, bits: u32) -> u32
     match bits {
         18 => 64,
         24 => 4096,
+        32 => 1_048_576,
         _ => panic!(rt; "no test has spaces of 2^{bits} bytes"),
     }
 }
@@ -154,7 +155,7 @@ fn page(rt: &impl Abort, database: &Database, at: At) -> Place
 
 /// The word of one page, with these rights.
 fn page_word(rt: &impl Abort, page: u32, rights: Rights) -> u32 {
-    assert!(rt; page < 4096);
+    assert!(rt; page < 1_048_576);
     page * 4096 + 0xc0 + rights.number()
 }
 

@@ -234,7 +234,7 @@ static CASES: [Case; 17] = [
     },
 ];
 
-/// Two pages of different shards are held, of a space whose other shards nobody uses.
+/// Two pages of different shards are held, of a space whose other shards are not there.
 static FEW_OF_MANY: Case = Case {
     name: "complete spaces of which two pages are held",
     steps: &[
@@ -265,6 +265,22 @@ static FEW_OF_MANY: Case = Case {
     ],
 };
 
+/// The last page of a space of 2^32 bytes is mapped, written to, and loses a right.
+static LAST_PAGE_OF_MANY: Case = Case {
+    name: "the last page of the largest space",
+    steps: &[
+        Step::MapSome((0, 0), (1, 1_048_575), READ_WRITE),
+        Step::Touch((1, 1_048_575), Access::Write),
+        Step::Unmap(0, 0, 0xc2, 0xc6),
+    ],
+    left: &[
+        ((0, 0), Some((0, ALL, NONE, None))),
+        ((1, 1_048_575), Some((0, READ, NONE, Some((0, 0))))),
+        ((1, 0), None),
+        ((1, 1_048_574), None),
+    ],
+};
+
 /// Works all cases, unmaps by recursion if `plain`.
 fn work_cases<T: Workers>(
     rt: &impl Abort,
@@ -286,6 +302,12 @@ fn work_cases<T: Workers>(
         frames: 2,
     };
     work_case(rt, alloc, workers, large, &[], &FEW_OF_MANY, plain)?;
+    let largest = Limits {
+        spaces: 2,
+        bits: 32,
+        frames: 1,
+    };
+    work_case(rt, alloc, workers, largest, &[], &LAST_PAGE_OF_MANY, plain)?;
     Ok(())
 }
 

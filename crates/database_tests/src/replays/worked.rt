@@ -1,7 +1,7 @@
 //! The worked traces of the model that reach their audit, in the order of `Rows` in crates/model/specs.
 
 /// A trace, and how many mappings it leaves.
-pub const TRACES: [(&str, usize); 65] = [
+pub const TRACES: [(&str, usize); 66] = [
     ("l4map,1,3,18,16\nsend,0,1,10,8,50c6\n", 17),
     ("l4map,1,3,18,16\nsend,0,1,10,9008,50c7\n", 17),
     ("l4map,1,3,18,16\nsend,0,1,80c0,2008,40e7\n", 17),
@@ -196,6 +196,10 @@ pub const TRACES: [(&str, usize); 65] = [
     ),
     (
         "l4map,1,2,18,1\nsend,0,1,10,3008,c6\naccess,1,3abc,w\nunmap,0,0,c2\n",
+        2,
+    ),
+    (
+        "l4map,1,2,32,1\nsend,0,1,10,fffff008,c6\naccess,1,fffff123,w\nunmap,0,0,c2\n",
         2,
     ),
     ("l4map,1,2,18,2\n", 2),

@@ -100,16 +100,22 @@ module _ (c : Contents) (s : ℕ) (p : Place) (space : p.space ≡ s) where
       one_page (at c.holdings) s p.page (pages_of c.limits.bits) (Some h) within (ap (at c.holdings) here ∙ held)
       ∙ (λ i. ((here ∙ sym place) i, h) ∷ held_from c s ((sym place i).page + 1))
 
-  -- one that holds nothing is passed over
-  pub not_found : p.page < pages_of c.limits.bits → at c.holdings p ≡ None → held_from c s p.page ≡ held_from c s (p.page + 1)
-  not_found within none = one_page (at c.holdings) s p.page (pages_of c.limits.bits) None within (ap (at c.holdings) here ∙ none)
-
-  -- and so are 64 of them
-  pub shard_passed : ((j : ℕ) → p.page ≤ j → j < p.page + 64 → at c.holdings (record { space = s; page = j }) ≡ None) → held_from c s p.page ≡ held_from c s (p.page + 64)
-  shard_passed none =
+  -- where none from it on holds anything, there is none
+  pub none_from : ((j : ℕ) → p.page ≤ j → j < pages_of c.limits.bits → at c.holdings (record { space = s; page = j }) ≡ None) → held_from c s p.page ≡ []
+  none_from none =
       let pages = pages_of c.limits.bits in
-      let count : pages - p.page - 64 ≡ pages - (p.page + 64) = omega arith in
-      passed_over (at c.holdings) s p.page (pages - p.page) 64 none ∙ ap (λ n. listed (at c.holdings) (pages_from s (p.page + 64) n)) count
+      let nothing : pages - p.page - (pages - p.page) ≡ 0 = omega arith in
+      passed_over (at c.holdings) s p.page (pages - p.page) (pages - p.page) (λ j low high. none j low (omega (arith, low, high)))
+      ∙ ap (λ n. listed (at c.holdings) (pages_from s (p.page + (pages - p.page)) n)) nothing
+
+  -- pages that hold nothing are passed over
+  pub pages_passed : (to : ℕ) → p.page ≤ to → ((j : ℕ) → p.page ≤ j → j < to → at c.holdings (record { space = s; page = j }) ≡ None) → held_from c s p.page ≡ held_from c s to
+  pages_passed to past none =
+      let pages = pages_of c.limits.bits in
+      let there : p.page + (to - p.page) ≡ to = omega (arith, past) in
+      let count : pages - p.page - (to - p.page) ≡ pages - to = omega (arith, past) in
+      passed_over (at c.holdings) s p.page (pages - p.page) (to - p.page) (λ j low high. none j low (omega (arith, low, high, past)))
+      ∙ (λ i. listed (at c.holdings) (pages_from s (there i) (count i)))
 
 -- no page of a space that there is not holds anything
 pub outside_none : (c : Contents) → IsConsistent c → (s : ℕ) → c.limits.spaces ≤ s → (j : ℕ) → at c.holdings (record { space = s; page = j }) ≡ None

@@ -1,5 +1,5 @@
 -- The words and trees of a new database hold what the definition has at the start.
-use Rattle.std.proofs.Common.{◌≡◌, ℕ, zero, suc, ◌+◌, ◌<◌, ◌≤◌, true, false, Bool, ◌&&◌, ◌||◌, ◌==◌, nat_lt, nat_le, List, [], ◌∷◌, length, Option, Some, None, refl, sym, ap, ◌∙◌, subst, arith, ◌⊎◌, inl, inr, if◌then◌else◌}
+use Rattle.std.proofs.Common.{◌≡◌, ℕ, zero, suc, ◌+◌, ◌<◌, ◌≤◌, true, false, Bool, ◌&&◌, ◌||◌, ◌==◌, nat_lt, nat_le, List, [], ◌∷◌, length, Option, Some, None, refl, sym, ap, ◌∙◌, subst, arith, ◌⊎◌, inl, inr, if◌then◌else◌, pow_mono, ◌-◌, ◌^◌}
 use Rattle.std.specs.Prelude.{IsFalse}
 use Rattle.std.specs.Option.{option_map, option_map_or, option_and_then}
 use Rattle.std.specs.List.{list_any}
@@ -13,7 +13,8 @@ use Rattle.space.specs.declared.place.Entry.{Entry}
 use Rattle.space.specs.declared.shards.Shards.{Shards}
 use Rattle.space.specs.Place.{same_place}
 use Rattle.space.specs.Directory.{pages_of}
-use Rattle.space.specs.Shards.{spaces_of, bits_of, IsPlace, entry_at, is_taken, IsSetAt}
+use Rattle.space.proofs.ShardWords.{held_have_words}
+use Rattle.space.specs.Shards.{word_count, spaces_of, bits_of, IsPlace, entry_at, is_taken, IsSetAt}
 use Rattle.space.proofs.Places.{same_is, same_self, same_or_apart}
 use Rattle.maptree.specs.Origins.{Shape, Origins, origin_in}
 use Rattle.model.specs.Holdings.{Held, at}
@@ -36,7 +37,7 @@ pub record AreServed (l : Limits) : Type 0 where
   pub some : 2 ≤ l.spaces
   pub few : l.spaces ≤ 512
   pub low : 18 ≤ l.bits
-  pub high : l.bits ≤ 24
+  pub high : l.bits ≤ 32
   pub one : 1 ≤ l.frames
   pub all : l.frames ≤ pages_of l.bits
 
@@ -45,9 +46,13 @@ served l is =
     let parts = six l.spaces l.bits l.frames (pages_of l.bits) is in
     record { some = parts.0; few = parts.1; low = parts.2; high = parts.3; one = parts.4; all = parts.5 }
   where
-    six : (s b f n : ℕ) → (nat_le 2 s && nat_le s 512 && nat_le 18 b && nat_le b 24 && nat_le 1 f && nat_le f n) ≡ true
-        → (2 ≤ s) × (s ≤ 512) × (18 ≤ b) × (b ≤ 24) × (1 ≤ f) × (f ≤ n)
+    six : (s b f n : ℕ) → (nat_le 2 s && nat_le s 512 && nat_le 18 b && nat_le b 32 && nat_le 1 f && nat_le f n) ≡ true
+        → (2 ≤ s) × (s ≤ 512) × (18 ≤ b) × (b ≤ 32) × (1 ≤ f) × (f ≤ n)
     six s b f n is = grind (arith, nat_tests)
+
+-- a space has no more than 2^20 pages
+pub pages_few : (l : Limits) → are_limits l ≡ true → pages_of l.bits ≤ 2 ^ 20
+pages_few l is = let high = (served l is).high in let few : l.bits - 12 ≤ 20 = omega (arith, high) in pow_mono few
 
 -- ---- the words of roots
 
@@ -206,6 +211,14 @@ module _ (limits : Limits) (shards : Shards) (trees : List Shape)
               let inside : is_place limits p ≡ true = ap (is_place limits) r.place ∙ place_from_within limits (root_place e.frame) (root_within e.frame r.frame) in
               absurd (cc (inside, out))
 
+  -- the first root is held, so its shard is there
+  some_there : 0 < word_count shards
+  some_there =
+      let one = (served limits are).one in
+      let stands = root_stands (root_place 0) (root_within 0 one) ∙ root_at_place limits.frames 0 one in
+      let has = held_have_words shards (root_place 0) _ stands in
+      omega (arith, has)
+
   -- words and trees are sound
   pub start_sound : IsSound limits shards trees
   start_sound = record {
@@ -215,6 +228,7 @@ module _ (limits : Limits) (shards : Shards) (trees : List Shape)
         spaces = spaces;
         bits = bits;
         present = present;
+        some = some_there;
         count = count;
         frame = λ p e within is. (root_is limits.frames p e (sym (root_stands p within) ∙ is)).frame;
         listed = λ p e within is. listed_there p e (root_is limits.frames p e (sym (root_stands p within) ∙ is));

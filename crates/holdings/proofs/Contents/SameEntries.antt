@@ -1,9 +1,9 @@
 -- Where each word says what it said, the same is held, wherever the words stand.
-use Rattle.std.proofs.Common.{◌≡◌, ◌∙◌, List, length, sym, ap, subst}
+use Rattle.std.proofs.Common.{◌≡◌, ◌∙◌, List, length, sym, ap, subst, arith, ◌≤◌}
 use Rattle.std.specs.Prelude.{IsFalse, option_map}
 use Rattle.space.specs.declared.place.Place.{Place}
 use Rattle.space.specs.declared.shards.Shards.{Shards}
-use Rattle.space.specs.Shards.{entry_at, spaces_of, bits_of, is_taken}
+use Rattle.space.specs.Shards.{word_count, IsMade, entry_at, spaces_of, bits_of, is_taken}
 use Rattle.maptree.specs.Origins.{Shape}
 use Rattle.model.specs.Calls.{Limits}
 use Rattle.model.specs.Lawful.{is_lawful}
@@ -17,6 +17,11 @@ pub record SayTheSame (old new : Shards) : Type 0 where
   pub spaces : spaces_of new ≡ spaces_of old
   pub bits : bits_of new ≡ bits_of old
   pub present : IsFalse (is_taken new)
+  pub count : word_count old ≤ word_count new
+
+-- shards that were made
+pub made_says : (old new : Shards) → IsMade old new → IsFalse (is_taken new) → SayTheSame old new
+made_says old new made present = record { entries = made.entries; spaces = made.spaces; bits = made.bits; present = present; count = made.count }
 
 module _ (old new : Shards) (trees : List Shape) (same : SayTheSame old new) where
   same_limits : limits_in new trees ≡ limits_in old trees
@@ -37,6 +42,7 @@ module _ (old new : Shards) (trees : List Shape) (same : SayTheSame old new) whe
         spaces = same.spaces;
         bits = same.bits;
         present = same.present;
+        some = omega (arith, sound.kept.fits.some, same.count);
         count = sound.kept.fits.count;
         frame = λ p e within is. sound.kept.fits.frame p e within (sym (same.entries p) ∙ is);
         listed = λ p e within is. sound.kept.fits.listed p e within (sym (same.entries p) ∙ is);

@@ -1,6 +1,6 @@
 -- One word is changed, and keeps its frame or becomes 0: what words and trees keep, stays.
-use Rattle.std.proofs.Common.{◌≡◌, ℕ, ◌<◌, true, false, List, Option, Some, None, refl, sym, ap, ◌∙◌, subst, ◌⊎◌, inl, inr}
-use Rattle.std.specs.Prelude.{IsFalse}
+use Rattle.std.proofs.Common.{◌≡◌, ℕ, ◌<◌, arith, true, false, List, Option, Some, None, refl, sym, ap, ◌∙◌, subst, ◌⊎◌, inl, inr}
+use Rattle.std.specs.Prelude.{IsFalse, is_some}
 use Rattle.std.proofs.lemmas.Bool.{eqb-true, eq-eqb}
 use Rattle.std.proofs.lemmas.Option.{same_Some}
 use Rattle.space.specs.declared.place.Place.{Place}
@@ -8,13 +8,16 @@ use Rattle.space.specs.declared.place.Entry.{Entry}
 use Rattle.space.specs.declared.shards.Shards.{Shards}
 use Rattle.space.specs.Place.{same_place}
 use Rattle.space.specs.Directory.{pages_of}
-use Rattle.space.specs.Shards.{entry_at, is_taken, IsSetAt, IsLaidOutAs, IsPlace}
+use Rattle.space.specs.Shards.{entry_at, index_of, word_count, is_taken, HasWord, IsSetAt, IsLaidOutAs, IsPlace}
+use Rattle.space.proofs.Leaves.{within_or_past}
+use Rattle.space.proofs.ShardWords.{absent_unless, held_have_words}
+use Rattle.holdings.specs.Inner.Words.{IsThere}
 use Rattle.space.proofs.Places.{same_or_apart}
 use Rattle.maptree.specs.Origins.{Shape}
 use Rattle.model.specs.Calls.{Limits}
 use Rattle.model.specs.Lawful.{is_lawful}
 use Rattle.holdings.specs.Places.{IsWithin}
-use Rattle.holdings.specs.Inner.Held.{is_listed, has_frame, holdings_of}
+use Rattle.holdings.specs.Inner.Held.{has_entry, is_listed, has_frame, holdings_of}
 use Rattle.holdings.specs.Inner.Sound.{IsFitting, IsSound}
 use Rattle.holdings.proofs.Contents.Listing.{within_from_place}
 use Rattle.holdings.proofs.Contents.Holders.{place_within, entry_elsewhere}
@@ -37,6 +40,27 @@ frame_from f (Some e) has = (e, refl, eqb-true e.frame f has)
 pub place_kept : (old new : Shards) → IsLaidOutAs old new → (p : Place) → IsPlace old p → IsPlace new p
 place_kept old new layout p place = record { space = subst (λ n. p.space < n) (sym layout.spaces) place.space; page = subst (λ b. p.page < pages_of b) (sym layout.bits) place.page }
 
+-- and its shard stays
+pub word_kept : (old new : Shards) → IsLaidOutAs old new → (p : Place) → HasWord old p → HasWord new p
+word_kept old new layout p has = omega (arith, layout.index p, layout.count, has)
+
+-- what is held has a word
+pub there_if_held : (s : Shards) (p : Place) → IsPlace s p → has_entry s p ≡ true → IsThere s p
+there_if_held s p place held = record { place = place; word = by (entry_at s p) refl held }
+  where
+    by : (o : Option Entry) → entry_at s p ≡ o → is_some o ≡ true → HasWord s p
+    by None is held = absurd (cc held)
+    by (Some e) is held = held_have_words s p e is
+
+-- what changes only at places whose shards are there changes nowhere else
+pub same_by_word : (old new : Shards) → IsLaidOutAs old new → (q : Place) → (HasWord old q → entry_at new q ≡ entry_at old q) → entry_at new q ≡ entry_at old q
+same_by_word old new layout q same = elim (within_or_past (index_of old q) (word_count old)) as (λ _. entry_at new q ≡ entry_at old q) [
+  | inl has ↦ same has
+  | inr past ↦
+      absent_unless new q (λ has. absurd (omega (arith, layout.index q, layout.count, has, past)))
+      ∙ sym (absent_unless old q (λ has. absurd (omega (arith, has, past))))
+]
+
 module _ (limits : Limits) (old new : Shards) (trees : List Shape) (q : Place) (entry : Option Entry) (w : IsWordSet old new q entry) where
   module _ (fits : IsFitting limits old trees) where
     -- what stands at a place has the frame that stood there
@@ -56,6 +80,7 @@ module _ (limits : Limits) (old new : Shards) (trees : List Shape) (q : Place) (
       spaces = w.layout.spaces ∙ fits.spaces;
       bits = w.layout.bits ∙ fits.bits;
       present = w.present;
+      some = omega (arith, fits.some, w.layout.count);
       count = fits.count;
       frame = λ p e within is.
           let stood = frame_from e.frame (entry_at old p) (frame_stood keeps p e within is) in

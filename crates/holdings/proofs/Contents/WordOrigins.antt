@@ -19,6 +19,8 @@ use Rattle.mapnode.proofs.Lists.{take_all}
 use Rattle.holdings.specs.Inner.Derivation.{stands_in}
 use Rattle.holdings.specs.Inner.Held.{links_in, is_listed, has_frame, limits_in}
 use Rattle.holdings.specs.Inner.Sound.{AreSound}
+use Rattle.holdings.specs.Inner.Words.{IsThere}
+use Rattle.space.proofs.ShardWords.{held_have_words}
 use Rattle.holdings.specs.Inner.WordOrigins.{AreOrigins, ArePut}
 use Rattle.holdings.proofs.Contents.Holders.{place_within, links_read}
 use Rattle.holdings.proofs.Contents.Listing.{within_from_place}
@@ -145,10 +147,11 @@ module _ (s : Shards) (trees : List Shape) (sound : AreSound s trees) where
     listed_there p there = ap (λ os. stands_in os p) (links_read trees frame t within is) ∙ there
 
     module _ (once : are_once t.links ≡ true) where
-      pub places_there : All (λ o. IsPlace s o.0) t.links
+      pub places_there : All (λ o. IsThere s o.0) t.links
       places_there k d small =
           let p = (get_or t.links k d).0 in
-          place_within (limits_in s trees) s trees sound.kept.fits p (within_from_place (limits_in s trees) p (sound.pruned.within frame p (listed_there p (each_link t.links once k d small).0)))
+          let found = frame_of frame p (listed_there p (each_link t.links once k d small).0) in
+          record { word = held_have_words s p found.0 found.1; place = place_within (limits_in s trees) s trees sound.kept.fits p (within_from_place (limits_in s trees) p (sound.pruned.within frame p (listed_there p (each_link t.links once k d small).0))) }
 
       pub words_there : (n : ℕ) → n ≡ length (words_of s) → All (λ o. index_of s o.0 < n) t.links
       words_there n is_n k d small =

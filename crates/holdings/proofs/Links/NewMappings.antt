@@ -264,6 +264,7 @@ module _ (limits : Limits) (old new : Shards) (trees new_trees : List Shape) (so
         spaces = mapped.word.layout.spaces ∙ sound.kept.fits.spaces;
         bits = mapped.word.layout.bits ∙ sound.kept.fits.bits;
         present = mapped.word.present;
+        some = omega (arith, sound.kept.fits.some, mapped.word.layout.count);
         count = mapped.tree.count ∙ sound.kept.fits.count;
         frame = kept_frame;
         listed = kept_listed;

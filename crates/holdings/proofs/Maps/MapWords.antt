@@ -67,6 +67,7 @@ module _ (shards : Shards) (trees ahead : List Shape) (linked : AreLinked [] tre
         spaces = sound.kept.fits.spaces;
         bits = sound.kept.fits.bits;
         present = sound.kept.fits.present;
+        some = sound.kept.fits.some;
         count = linked.count ∙ sound.kept.fits.count;
         frame = sound.kept.fits.frame;
         listed = λ p e within is. linked.stands e.frame p ∙ sound.kept.fits.listed p e within is;

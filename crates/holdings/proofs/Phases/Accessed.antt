@@ -1,5 +1,5 @@
 -- Accesses worked as a touch are accesses made one after another.
-use Rattle.std.proofs.Common.{◌≡◌, ℕ, suc, true, false, Bool, List, [], ◌∷◌, map, Option, Some, None, slice_index, refl, sym, ap, ◌∙◌, subst, arith}
+use Rattle.std.proofs.Common.{◌≡◌, ℕ, suc, true, false, Bool, List, [], ◌∷◌, map, get_or, Option, Some, None, slice_index, refl, sym, ap, ◌∙◌, subst, arith}
 use Rattle.std.specs.Prelude.{◌==◌}
 use Rattle.std.proofs.lemmas.Bool.{ne_eqb}
 use Rattle.std.specs.List.{All}
@@ -10,8 +10,8 @@ use Rattle.space.specs.declared.place.Place.{Place}
 use Rattle.space.specs.declared.place.Entry.{Entry}
 use Rattle.space.specs.declared.shards.Shards.{Shards}
 use Rattle.space.specs.Word.{entry_of}
-use Rattle.space.specs.Shards.{IsPlace, index_of, entry_at}
-use Rattle.space.proofs.ShardWords.{places_have_words, words_are_their_own}
+use Rattle.space.specs.Shards.{IsPlace, HasWord, index_of, entry_at}
+use Rattle.space.proofs.ShardWords.{words_are_their_own}
 use Rattle.maptree.specs.Origins.{Shape}
 use Rattle.model.specs.Calls.{Limits}
 use Rattle.model.specs.Touch.{can_touch, touch}
@@ -26,7 +26,7 @@ use Rattle.holdings.specs.Inner.Held.{holdings_of}
 use Rattle.holdings.specs.Inner.Planning.{word_access}
 use Rattle.holdings.specs.Inner.Sound.{IsSound}
 use Rattle.holdings.proofs.Contents.Accesses.{can_touch_absent, can_touch_present, touched, touched_sound, marked_entry, touch_fault}
-use Rattle.holdings.proofs.Contents.WordChanges.{IsWordSet, place_kept}
+use Rattle.holdings.proofs.Contents.WordChanges.{IsWordSet, place_kept, word_kept, same_by_word}
 use Rattle.holdings.proofs.Contents.Holders.{place_within}
 use Rattle.holdings.specs.Inner.Words.{AreWordsOf, IsWith}
 use Rattle.holdings.proofs.Phases.Words.{with_words, same_holdings, same_sound}
@@ -43,7 +43,7 @@ module _ (limits : Limits) (s : Shards) (trees : List Shape) (w : List ℕ) (are
       by (Some e) is = sym (can_touch_present limits s trees p a within e is)
 
 -- what one access leaves
-module _ (limits : Limits) (s : Shards) (trees : List Shape) (sound : IsSound limits s trees) (w : List ℕ) (are : AreWordsOf s w) (p : Place) (a : Access) (within : IsWithin limits p)
+module _ (limits : Limits) (s : Shards) (trees : List Shape) (sound : IsSound limits s trees) (w : List ℕ) (are : AreWordsOf s w) (p : Place) (a : Access) (within : IsWithin limits p) (p_word : HasWord s p)
     (n : Shards) (with : IsWith s (accessed w (word_access s (p, a))) n) where
   abbrev one_access : WordAccess
   one_access = word_access s (p, a)
@@ -52,31 +52,31 @@ module _ (limits : Limits) (s : Shards) (trees : List Shape) (sound : IsSound li
   has_word = place_within limits s trees sound.kept.fits p within
 
   -- the entry of a place is that of its word after the access
-  entry_after : (q : Place) → IsPlace s q → entry_at n q ≡ entry_of (word_after (slice_index w (index_of s q)) (index_of s q) (one (may_access w one_access) one_access))
-  entry_after q place =
-      let has = places_have_words s q place in
+  entry_after : (q : Place) → IsPlace s q → HasWord s q → entry_at n q ≡ entry_of (word_after (slice_index w (index_of s q)) (index_of s q) (one (may_access w one_access) one_access))
+  entry_after q place q_has =
       sym (with.words.entries q (place_kept s n with.layout q place)) ∙ ap (λ i. entry_of (slice_index (accessed w one_access) i)) (with.layout.index q)
-      ∙ ap entry_of (accessed_word w one_access (index_of s q) (omega (arith, has, are.count)))
+      ∙ ap entry_of (accessed_word w one_access (index_of s q) (omega (arith, q_has, are.count)))
 
   -- elsewhere nothing changes
   elsewhere : (q : Place) → IsPlace s q → (q ≡ p → ⊥) → entry_at n q ≡ entry_at s q
   elsewhere q place apart =
-      let differ : (index_of s p == index_of s q) ≡ false = ne_eqb (index_of s p) (index_of s q) (λ same. apart (words_are_their_own s q p place has_word (sym same))) in
-      entry_after q place ∙ ap entry_of (accessed_elsewhere (slice_index w (index_of s q)) (index_of s q) (may_access w one_access) one_access differ) ∙ are.entries q place
+      same_by_word s n with.layout q (λ q_has.
+      let differ : (index_of s p == index_of s q) ≡ false = ne_eqb (index_of s p) (index_of s q) (λ same. apart (sym (words_are_their_own s p q has_word place p_word same))) in
+      entry_after q place q_has ∙ ap entry_of (accessed_elsewhere (slice_index w (index_of s q)) (index_of s q) (may_access w one_access) one_access differ) ∙ are.entries q place)
 
   -- a fault changes nothing
   faulted : may_access w one_access ≡ false → (q : Place) → IsPlace s q → entry_at n q ≡ entry_at s q
   faulted fault q place =
-      entry_after q place ∙ ap (λ b. entry_of (word_after (slice_index w (index_of s q)) (index_of s q) (one b one_access))) fault ∙ ap entry_of (faulted_word (slice_index w (index_of s q)) (index_of s q) one_access) ∙ are.entries q place
+      same_by_word s n with.layout q (λ q_has.
+      entry_after q place q_has ∙ ap (λ b. entry_of (word_after (slice_index w (index_of s q)) (index_of s q) (one b one_access))) fault ∙ ap entry_of (faulted_word (slice_index w (index_of s q)) (index_of s q) one_access) ∙ are.entries q place)
 
   -- an access that is made marks its entry
   made : may_access w one_access ≡ true → (e : Entry) → entry_at s p ≡ Some e → IsWordSet s n p (Some (marked_entry a e))
   made may e is = record {
     set = record {
       there =
-          let has = places_have_words s p has_word in
-          entry_after p has_word ∙ ap (λ b. entry_of (word_after (slice_index w (index_of s p)) (index_of s p) (one b one_access))) may
-          ∙ made_word (slice_index w (index_of s p)) one_access (are.packs (index_of s p) 0 (omega (arith, has, are.count))) (held_word (slice_index w (index_of s p)) a may)
+          entry_after p has_word p_word ∙ ap (λ b. entry_of (word_after (slice_index w (index_of s p)) (index_of s p) (one b one_access))) may
+          ∙ made_word (slice_index w (index_of s p)) one_access (are.packs (index_of s p) 0 (omega (arith, p_word, are.count))) (held_word (slice_index w (index_of s p)) a may)
           ∙ ap (option_map (λ (k : Entry). record k { status = join k.status (marks a) })) (are.entries p has_word ∙ is);
       elsewhere = elsewhere;
     };
@@ -111,24 +111,24 @@ pub record AreAccessed (limits : Limits) (s : Shards) (trees : List Shape) (w : 
   pub sound : IsSound limits n trees
   pub answers : answers_in_order w (map (word_access s) ts) ≡ access_answers (holdings_of limits s trees) ts
 
-pub all_accessed : (limits : Limits) (trees : List Shape) (ts : List (Place × Access)) → All (λ t. IsWithin limits t.0) ts → (s : Shards) → IsSound limits s trees → (w : List ℕ) → AreWordsOf s w
+pub all_accessed : (limits : Limits) (trees : List Shape) (ts : List (Place × Access)) → All (λ t. IsWithin limits t.0) ts → (s : Shards) → All (λ t. HasWord s t.0) ts → IsSound limits s trees → (w : List ℕ) → AreWordsOf s w
     → (n : Shards) → IsWith s (accessed_in_order w (map (word_access s) ts)) n → AreAccessed limits s trees w ts n
-all_accessed limits trees [] within s sound w are n with =
+all_accessed limits trees [] within s there sound w are n with =
     let same : (q : Place) → IsPlace s q → entry_at n q ≡ entry_at s q = λ q place. sym (with.words.entries q (place_kept s n with.layout q place)) ∙ ap (λ i. entry_of (slice_index w i)) (with.layout.index q) ∙ are.entries q place in
     record {
       left = same_holdings limits s n trees sound.kept.fits with.present with.layout same;
       sound = same_sound limits s n trees sound.kept.fits with.present with.layout same sound;
       answers = refl;
     }
-all_accessed limits trees (t ∷ ts) within s sound w are n with =
+all_accessed limits trees (t ∷ ts) within s there sound w are n with =
     let x = word_access s t in
     let inside : IsWithin limits t.0 = within 0 t (omega arith) in
     let place = place_within limits s trees sound.kept.fits t.0 inside in
     let middle = with_words s sound.kept.fits.present (accessed w x) (accessed_length w x ∙ are.count) (packs_after w are.packs x) in
     let m = middle.0 in
-    let one = one_left limits s trees sound w are t.0 t.1 inside m middle.1 in
+    let one = one_left limits s trees sound w are t.0 t.1 inside (there 0 t (omega arith)) m middle.1 in
     let xs = same_accesses s m middle.1.layout.index ts in
-    let rest = all_accessed limits trees ts (λ k d less. within (suc k) d (omega (arith, less))) m one.1 (accessed w x) middle.1.words n (record {
+    let rest = all_accessed limits trees ts (λ k d less. within (suc k) d (omega (arith, less))) m (λ k d less. word_kept s m middle.1.layout (get_or ts k d).0 (there (suc k) d (omega (arith, less)))) one.1 (accessed w x) middle.1.words n (record {
       words = subst (λ ys. AreWordsOf n (accessed_in_order (accessed w x) ys)) (sym xs) with.words;
       present = with.present;
       layout = record {
@@ -146,16 +146,16 @@ all_accessed limits trees (t ∷ ts) within s sound w are n with =
     }
 
 -- what they answer, in shards with whatever words come out
-pub all_answered : (limits : Limits) (trees : List Shape) (ts : List (Place × Access)) → All (λ t. IsWithin limits t.0) ts → (s : Shards) → IsSound limits s trees → (w : List ℕ) → AreWordsOf s w
+pub all_answered : (limits : Limits) (trees : List Shape) (ts : List (Place × Access)) → All (λ t. IsWithin limits t.0) ts → (s : Shards) → All (λ t. HasWord s t.0) ts → IsSound limits s trees → (w : List ℕ) → AreWordsOf s w
     → answers_in_order w (map (word_access s) ts) ≡ access_answers (holdings_of limits s trees) ts
-all_answered limits trees [] within s sound w are = refl
-all_answered limits trees (t ∷ ts) within s sound w are =
+all_answered limits trees [] within s there sound w are = refl
+all_answered limits trees (t ∷ ts) within s there sound w are =
     let x = word_access s t in
     let inside : IsWithin limits t.0 = within 0 t (omega arith) in
     let place = place_within limits s trees sound.kept.fits t.0 inside in
     let middle = with_words s sound.kept.fits.present (accessed w x) (accessed_length w x ∙ are.count) (packs_after w are.packs x) in
-    let one = one_left limits s trees sound w are t.0 t.1 inside middle.0 middle.1 in
+    let one = one_left limits s trees sound w are t.0 t.1 inside (there 0 t (omega arith)) middle.0 middle.1 in
     let xs = same_accesses s middle.0 middle.1.layout.index ts in
-    let rest = all_answered limits trees ts (λ k d less. within (suc k) d (omega (arith, less))) middle.0 one.1 (accessed w x) middle.1.words in
+    let rest = all_answered limits trees ts (λ k d less. within (suc k) d (omega (arith, less))) middle.0 (λ k d less. word_kept s middle.0 middle.1.layout (get_or ts k d).0 (there (suc k) d (omega (arith, less)))) one.1 (accessed w x) middle.1.words in
     ap (λ b. b ∷ answers_in_order (accessed w x) (map (word_access s) ts)) (may_is limits s trees w are t.0 t.1 place inside)
     ∙ ap (λ bs. can_touch (holdings_of limits s trees) t.0 t.1 ∷ bs) (ap (answers_in_order (accessed w x)) (sym xs) ∙ rest ∙ ap (λ h. access_answers h ts) one.0)

@@ -8,8 +8,8 @@ use Rattle.fpage.specs.declared.rights.Rights.{Rights}
 use Rattle.space.specs.declared.place.Place.{Place}
 use Rattle.space.specs.declared.shards.Shards.{Shards}
 use Rattle.space.specs.Word.{word_of, entry_of}
-use Rattle.space.specs.Shards.{IsPlace, index_of, entry_at}
-use Rattle.space.proofs.ShardWords.{places_have_words, entries_fit}
+use Rattle.space.specs.Shards.{index_of, entry_at}
+use Rattle.space.proofs.ShardWords.{entries_fit}
 use Rattle.space.proofs.Words.{unpack_gives_back}
 use Rattle.mapnode.specs.declared.node.Node.{Node}
 use Rattle.pieces.specs.Contents.{StripContent, IsStrip}
@@ -26,7 +26,7 @@ use Rattle.pieces.proofs.WholeStrips.{over, written_over, narrows, all_written}
 use Rattle.holdings.specs.Inner.Held.{has_entry}
 use Rattle.holdings.proofs.Contents.WordChanges.{place_kept}
 use Rattle.holdings.proofs.Phases.Narrowed.{narrowed_fits}
-use Rattle.holdings.specs.Inner.Words.{AreWordsOf, IsWith}
+use Rattle.holdings.specs.Inner.Words.{AreWordsOf, IsThere, IsWith}
 
 -- ---- what narrows of distinct indexes write
 
@@ -86,32 +86,31 @@ joined_masks (k ∷ ss) each =
     length_joined [] ys = sym (zero-add (length ys))
     length_joined (x ∷ xs) ys = let rest = length_joined xs ys in omega (arith, rest)
 
-module _ (s : Shards) (w : List ℕ) (are : AreWordsOf s w) (ss : List StripContent) (each : All IsStrip ss) (have : All (HasItsIndex s) ss) (places : All (λ n. IsPlace s n.place) (joined_strips ss).nodes)
+module _ (s : Shards) (w : List ℕ) (are : AreWordsOf s w) (ss : List StripContent) (each : All IsStrip ss) (have : All (HasItsIndex s) ss) (places : All (λ n. IsThere s n.place) (joined_strips ss).nodes)
     (once : are_distinct (joined_strips ss).indexes ≡ true) (new : Shards) (with : IsWith s (worked w (map piece.Strip ss)) new) where
   -- what stands at a place after all strips
-  entry_after : (p : Place) → IsPlace s p → entry_at new p ≡ entry_of (unwrap_or (over (index_of s p) (narrows w (joined_strips ss).indexes (joined_strips ss).masks) None) (bit_or (slice_index w (index_of s p)) (gained (index_of s p) (flat_map (effects w) (map piece.Strip ss)))))
-  entry_after p place =
-      let has = places_have_words s p place in
+  entry_after : (p : Place) → IsThere s p → entry_at new p ≡ entry_of (unwrap_or (over (index_of s p) (narrows w (joined_strips ss).indexes (joined_strips ss).masks) None) (bit_or (slice_index w (index_of s p)) (gained (index_of s p) (flat_map (effects w) (map piece.Strip ss)))))
+  entry_after p there =
       let i = index_of s p in
       let es = flat_map (effects w) (map piece.Strip ss) in
-      sym (with.words.entries p (place_kept s new with.layout p place)) ∙ ap (λ j. entry_of (slice_index (worked w (map piece.Strip ss)) j)) (with.layout.index p)
+      sym (with.words.entries p (place_kept s new with.layout p there.place)) ∙ ap (λ j. entry_of (slice_index (worked w (map piece.Strip ss)) j)) (with.layout.index p)
       ∙ ap (λ v. entry_of (slice_index v i)) (worked_all w (map piece.Strip ss))
-      ∙ ap entry_of (word_at 0 w es i (omega (arith, has, are.count)) ∙ ap (λ j. word_after (slice_index w i) j es) (zero-add i))
+      ∙ ap entry_of (word_at 0 w es i (omega (arith, there.word, are.count)) ∙ ap (λ j. word_after (slice_index w i) j es) (zero-add i))
       ∙ ap (λ o. entry_of (unwrap_or o (bit_or (slice_index w i) (gained i es)))) (written_over i es ∙ ap (λ fs. over i fs None) (flat_of_map piece.Strip (effects w) ss) ∙ all_written w i ss each None)
 
   -- a page whose word was narrowed remains where it is held
-  remains_held : (p : Place) (m : Rights) → IsPlace s p → over (index_of s p) (narrows w (joined_strips ss).indexes (joined_strips ss).masks) None ≡ Some (word_of (narrowed_by m (entry_in w (index_of s p)))) → remains w (index_of s p) m ≡ has_entry new p
-  remains_held p m place is =
-      let stood = are.entries p place in
+  remains_held : (p : Place) (m : Rights) → IsThere s p → over (index_of s p) (narrows w (joined_strips ss).indexes (joined_strips ss).masks) None ≡ Some (word_of (narrowed_by m (entry_in w (index_of s p)))) → remains w (index_of s p) m ≡ has_entry new p
+  remains_held p m there is =
+      let stood = are.entries p there.place in
       ap (λ o. is_some (narrowed_by m o)) stood
-      ∙ sym (ap is_some (entry_after p place ∙ ap (λ o. entry_of (unwrap_or o (bit_or (slice_index w (index_of s p)) (gained (index_of s p) (flat_map (effects w) (map piece.Strip ss)))))) is
+      ∙ sym (ap is_some (entry_after p there ∙ ap (λ o. entry_of (unwrap_or o (bit_or (slice_index w (index_of s p)) (gained (index_of s p) (flat_map (effects w) (map piece.Strip ss)))))) is
       ∙ ap (λ o. entry_of (word_of (narrowed_by m o))) stood ∙ (unpack_gives_back (narrowed_by m (entry_at s p)) (narrowed_fits m (entry_at s p) (entries_fit s p))).1))
 
   -- so it is of all nodes
   abbrev Agrees : Node × (ℕ × Rights) → Type 0
   Agrees e = remains w e.1.0 e.1.1 ≡ has_entry new e.0.place
 
-  all_agree : (ns : List Node) (ms : List Rights) → All (λ n. IsPlace s n.place) ns
+  all_agree : (ns : List Node) (ms : List Rights) → All (λ n. IsThere s n.place) ns
       → All (WritesItsOwn w (joined_strips ss).indexes (joined_strips ss).masks) (zip (map (λ n. index_of s n.place) ns) ms) → All Agrees (zip ns (zip (map (λ n. index_of s n.place) ns) ms))
   all_agree [] ms places own = λ k d less. absurd (omega (arith, less))
   all_agree (n ∷ ns) [] places own = λ k d less. absurd (omega (arith, less))

@@ -13,8 +13,8 @@ use Rattle.space.specs.declared.place.Place.{Place}
 use Rattle.space.specs.declared.place.Entry.{Entry}
 use Rattle.space.specs.declared.shards.Shards.{Shards}
 use Rattle.space.specs.Word.{word_of, entry_of, FrameFits}
-use Rattle.space.specs.Shards.{IsPlace, IsLaidOutAs, index_of, entry_at}
-use Rattle.space.proofs.ShardWords.{places_have_words, words_are_their_own, entries_fit}
+use Rattle.space.specs.Shards.{IsPlace, HasWord, IsLaidOutAs, index_of, entry_at}
+use Rattle.space.proofs.ShardWords.{words_are_their_own, entries_fit}
 use Rattle.space.proofs.Words.{unpack_gives_back}
 use Rattle.maptree.specs.Origins.{Shape}
 use Rattle.model.specs.Holdings.{Held, Holdings}
@@ -40,7 +40,7 @@ use Rattle.holdings.specs.Inner.Planning.{store_of, stores_of}
 use Rattle.holdings.specs.Inner.Sound.{IsSound, AreSound}
 use Rattle.std.proofs.lemmas.List.Elements.{All-drop}
 use Rattle.holdings.proofs.Contents.Holders.{present_within}
-use Rattle.holdings.proofs.Contents.WordChanges.{place_kept}
+use Rattle.holdings.proofs.Contents.WordChanges.{place_kept, word_kept, same_by_word}
 use Rattle.holdings.proofs.Links.LinkedTrees.{no_transfer}
 use Rattle.holdings.proofs.Maps.MapAll.{sources_in}
 use Rattle.holdings.proofs.Maps.MapWords.{AreAhead, one_page, none_ahead, all_left, all_sound, all_limits, stood_first, ready_here, source_within, target_within, source_place, target_place}
@@ -49,22 +49,21 @@ use Rattle.holdings.proofs.Trees.Chains.{entry_held}
 use Rattle.holdings.proofs.Stripping.Frames.{loose_from}
 use Rattle.std.proofs.lemmas.Option.{same_Some}
 use Rattle.holdings.proofs.Stripping.Walks.{same_layouts}
-use Rattle.holdings.specs.Inner.Words.{AreWordsOf, IsWith}
+use Rattle.holdings.specs.Inner.Words.{AreWordsOf, IsThere, IsWith}
 use Rattle.holdings.proofs.Phases.Words.{with_words, same_holdings, same_sound}
 use Rattle.model.specs.Calls.{Limits}
 use Rattle.fpage.specs.declared.item.ItemKind.TheVariants.{Map}
 
 -- ---- one store
 
-module _ (s : Shards) (w : List ℕ) (are : AreWordsOf s w) (rights : Rights) (t : Transfer) (source : IsPlace s t.source) (target : IsPlace s t.target) (e : Entry) (is : entry_at s t.source ≡ Some e)
+module _ (s : Shards) (w : List ℕ) (are : AreWordsOf s w) (rights : Rights) (t : Transfer) (source : IsPlace s t.source) (target : IsThere s t.target) (e : Entry) (is : entry_at s t.source ≡ Some e)
     (n : Shards) (with : IsWith s (worked w (piece.Link (store_of s rights t ∷ []) ∷ [])) n) where
   -- what is put
   abbrev put_word : ℕ
   put_word = word_of (option_map (linked rights (entry_in w (index_of s t.target))) (entry_in w (index_of s t.source)))
 
-  entry_after : (q : Place) → IsPlace s q → entry_at n q ≡ entry_of (word_after (slice_index w (index_of s q)) (index_of s q) (writes (index_of s t.target) put_word ∷ []))
-  entry_after q place =
-      let has = places_have_words s q place in
+  entry_after : (q : Place) → IsPlace s q → HasWord s q → entry_at n q ≡ entry_of (word_after (slice_index w (index_of s q)) (index_of s q) (writes (index_of s t.target) put_word ∷ []))
+  entry_after q place has =
       let i = index_of s q in
       let ps = piece.Link (store_of s rights t ∷ []) ∷ [] in
       sym (with.words.entries q (place_kept s n with.layout q place)) ∙ ap (λ j. entry_of (slice_index (worked w ps) j)) (with.layout.index q)
@@ -84,18 +83,18 @@ module _ (s : Shards) (w : List ℕ) (are : AreWordsOf s w) (rights : Rights) (t
   -- it stands at the target
   pub stored_there : entry_at n t.target ≡ Some (linked rights (entry_at s t.target) e)
   stored_there =
-      entry_after t.target target
+      entry_after t.target target.place target.word
       ∙ ap (λ b. entry_of (unwrap_or (if b then Some put_word else None) (bit_or (slice_index w (index_of s t.target)) (gained (index_of s t.target) (writes (index_of s t.target) put_word ∷ []))))) (eq-eqb (index_of s t.target) (index_of s t.target) refl)
-      ∙ ap (λ o. entry_of (word_of (option_map (linked rights o) (entry_in w (index_of s t.source))))) (are.entries t.target target)
+      ∙ ap (λ o. entry_of (word_of (option_map (linked rights o) (entry_in w (index_of s t.source))))) (are.entries t.target target.place)
       ∙ ap (λ o. entry_of (word_of (option_map (linked rights (entry_at s t.target)) o))) (are.entries t.source source ∙ is)
       ∙ (unpack_gives_back (Some (linked rights (entry_at s t.target) e)) (linked_fits (entry_at s t.target))).1
 
   -- and nothing else changes
   pub stored_elsewhere : (q : Place) → IsPlace s q → (q ≡ t.target → ⊥) → entry_at n q ≡ entry_at s q
-  stored_elsewhere q place apart =
-      entry_after q place
-      ∙ ap (λ b. entry_of (unwrap_or (if b then Some put_word else None) (bit_or (slice_index w (index_of s q)) 0))) (ne_eqb (index_of s t.target) (index_of s q) (λ same. apart (words_are_their_own s q t.target place target (sym same))))
-      ∙ ap entry_of (or_zero_r (slice_index w (index_of s q))) ∙ are.entries q place
+  stored_elsewhere q place apart = same_by_word s n with.layout q (λ has.
+      entry_after q place has
+      ∙ ap (λ b. entry_of (unwrap_or (if b then Some put_word else None) (bit_or (slice_index w (index_of s q)) 0))) (ne_eqb (index_of s t.target) (index_of s q) (λ same. apart (sym (words_are_their_own s t.target q target.place place target.word same))))
+      ∙ ap entry_of (or_zero_r (slice_index w (index_of s q))) ∙ are.entries q place)
 
   -- the page is mapped
   pub page_stored : (t.extends ≡ false → entry_at s t.target ≡ None) → (t.extends ≡ true → (k : Entry) × (entry_at s t.target ≡ Some k) × (k.frame ≡ e.frame)) → IsPageMapped s n rights t e (counts_of (fate_in t) true)
@@ -136,7 +135,7 @@ each_link x xs once (suc zero) d less = (and_parts (is_none_of (puts_of xs) x.pu
 each_link x xs once (suc (suc k)) d less = absurd (omega (arith, less))
 
 -- pages of other spaces have other words
-module _ (s : Shards) (p : Place) (place : IsPlace s p) (rights : Rights) where
+module _ (s : Shards) (p : Place) (place : IsThere s p) (rights : Rights) where
   reads_apart : (from : ℕ) → (from ≡ p.space → ⊥) → (us : List Transfer) → All (λ u. u.source.space ≡ from) us → All (λ u. IsPlace s u.source) us
       → list_all (is_none_of (index_of s p ∷ [])) (map (λ x. x.read) (stores_of s rights us)) ≡ true
   reads_apart from differ [] spaces places = refl
@@ -145,7 +144,7 @@ module _ (s : Shards) (p : Place) (place : IsPlace s p) (rights : Rights) where
     where
       other : (index_of s p == index_of s u.source) ≡ false
       other = ne_eqb (index_of s p) (index_of s u.source) (λ same.
-          differ (sym (spaces 0 u (omega arith)) ∙ sym (ap (λ q. q.space) (words_are_their_own s p u.source place (places 0 u (omega arith)) same))))
+          differ (sym (spaces 0 u (omega arith)) ∙ sym (ap (λ q. q.space) (words_are_their_own s p u.source place.place (places 0 u (omega arith)) place.word same))))
 
       by : (b : Bool) → list_all (is_none_of (index_of s p ∷ [])) (map (λ x. x.read) (stores_of s rights us)) ≡ true
           → list_all (is_none_of (index_of s p ∷ [])) (map (λ x. x.read) (if b then store_of s rights u ∷ stores_of s rights us else stores_of s rights us)) ≡ true
@@ -160,7 +159,7 @@ stores_more s rights t ts b is = ap (λ c. if c then store_of s rights t ∷ sto
 same_store : (s n : Shards) → ((p : Place) → index_of n p ≡ index_of s p) → (rights : Rights) (t : Transfer) → store_of n rights t ≡ store_of s rights t
 same_store s n same rights t = λ i. record { read = same t.source i; put = same t.target i; rights = rights }
 
-module _ (first : Shards) (trees : List Shape) (sound : AreSound first trees) (rights : Rights) (ts : List Transfer) (planned : ArePlanned (limits_in first trees) ts) (ready : All (IsReady (holdings_in first trees) rights) ts) (ahead : List Shape) where
+module _ (first : Shards) (trees : List Shape) (sound : AreSound first trees) (rights : Rights) (ts : List Transfer) (planned : ArePlanned (limits_in first trees) ts) (ready : All (IsReady (holdings_in first trees) rights) ts) (targets : All (λ t. HasWord first t.target) ts) (ahead : List Shape) where
   abbrev h : Holdings
   h = holdings_in first trees
 
@@ -207,7 +206,7 @@ module _ (first : Shards) (trees : List Shape) (sound : AreSound first trees) (r
     mapped_here e is w are next with =
         one_page first trees rights ts i within now ahead counts planned ready so_far next (counts_of (fate_in t) true) (λ none. absurd (cc (none, is)))
         (λ k k_is. subst (λ x. IsPageMapped now next rights t x (counts_of (fate_in t) true)) (same_Some e k (sym is ∙ k_is))
-        (page_stored now w are rights t (source_place first trees rights ts i within now ahead counts planned ready so_far) (target_place first trees rights ts i within now ahead counts planned ready so_far) e is next
+        (page_stored now w are rights t (source_place first trees rights ts i within now ahead counts planned ready so_far) (record { place = target_place first trees rights ts i within now ahead counts planned ready so_far; word = word_kept first now layout t.target (targets i no_transfer within) }) e is next
         (subst (λ x. IsWith now (worked w (piece.Link (x ∷ []) ∷ [])) next) (sym (same_store first now layout.index rights t)) with) free_here (wider_here e is)))
 
   -- the page at a position
@@ -270,7 +269,7 @@ module _ (first : Shards) (trees : List Shape) (sound : AreSound first trees) (r
           let once : are_distinct (puts_of (x ∷ xs)) ≡ true = ap are_distinct (sym (append-nil (puts_of (x ∷ xs)))) ∙ can_both.distinct in
           let each = each_link x xs once in
           let paired = subst (ArePaired so_far.from so_far.to) (drop_more ts i no_transfer within) so_far.are.paired in
-          let target : IsPlace first (page_at i).target = let t_in = planned.within i no_transfer within in record { space = t_in.target_space; page = t_in.target_page } in
+          let target : IsThere first (page_at i).target = let t_in = planned.within i no_transfer within in record { place = record { space = t_in.target_space; page = t_in.target_page }; word = targets i no_transfer within } in
           let spared : spare_held ps qs ≡ true =
           ap (list_all (is_none_of (index_of first (page_at i).target ∷ []))) (append-nil (map (λ y. y.read) xs))
           ∙ reads_apart first (page_at i).target target rights so_far.from (λ same. so_far.differ (same ∙ paired.1)) us (sources_in so_far.from so_far.to us paired.3)

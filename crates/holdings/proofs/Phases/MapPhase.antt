@@ -2,6 +2,8 @@
 use Rattle.std.proofs.Common.{◌≡◌, ℕ, ◌≤◌, true, List, [], length, map, sym, ap, ◌∙◌, subst}
 use Rattle.fpage.specs.declared.rights.Rights.{Rights}
 use Rattle.space.specs.declared.shards.Shards.{Shards}
+use Rattle.space.specs.Shards.{HasWord}
+use Rattle.std.specs.List.{All}
 use Rattle.mapnode.specs.Slices.{pieces}
 use Rattle.maptree.specs.Origins.{Shape}
 use Rattle.pieces.specs.Applied.{worked}
@@ -30,7 +32,7 @@ use Rattle.holdings.proofs.Phases.Counted.{counted_by_words}
 use Rattle.holdings.proofs.Phases.Whole.{both_ends, stores_are_mapped}
 use Rattle.holdings.proofs.Phases.Words.{own_words}
 
-module _ (s : Shards) (trees : List Shape) (sound : AreSound s trees) (old : Contents) (view : contents_of s trees ≡ old) (rights : Rights) (ts : List Transfer) (planned_old : ArePlanned old.limits ts) (ready_old : AreReady old.holdings rights ts) where
+module _ (s : Shards) (trees : List Shape) (sound : AreSound s trees) (old : Contents) (view : contents_of s trees ≡ old) (rights : Rights) (ts : List Transfer) (planned_old : ArePlanned old.limits ts) (ready_old : AreReady old.holdings rights ts) (targets : All (λ t. HasWord s t.target) ts) where
   planned : ArePlanned (limits_in s trees) ts
   planned = subst (λ (c : Contents). ArePlanned c.limits ts) (sym view) planned_old
 
@@ -44,19 +46,19 @@ module _ (s : Shards) (trees : List Shape) (sound : AreSound s trees) (old : Con
     pub stores_distinct : are_distinct (puts_of xs) ≡ true
     stores_distinct =
         let own = own_words s sound.kept.fits.present in
-        ap (λ ys. are_distinct (puts_of ys)) xs_are ∙ puts_distinct s own.0 own.1 rights planned.from planned.to ts planned.paired (both_ends s trees sound ts planned.within)
+        ap (λ ys. are_distinct (puts_of ys)) xs_are ∙ puts_distinct s own.0 own.1 sound.kept.fits.some rights planned.from planned.to ts planned.paired (both_ends s trees sound ts planned.within targets)
 
     module _ (most : ℕ) (some : 1 ≤ most) (ps : List Piece) (ps_are : ps ≡ map piece.Link (pieces (length xs) most xs)) where
       same_pieces : map piece.Link (pieces (length (stores_of s rights ts)) most (stores_of s rights ts)) ≡ ps
       same_pieces = ap (λ ys. map piece.Link (pieces (length ys) most ys)) (sym xs_are) ∙ sym ps_are
 
       pub stores_can : CanBeWorkedIn s ps
-      stores_can w words = subst (CanBeWorked w) same_pieces (stores_are_mapped s trees sound rights ts planned ready w words most some).0
+      stores_can w words = subst (CanBeWorked w) same_pieces (stores_are_mapped s trees sound rights ts planned ready targets w words most some).0
 
       module _ (ls : List Link) (ls_are : ls ≡ links_of s ts) (now : List Shape) (now_is : now ≡ trees) (ahead : List Shape) (linked : AreLinked ls now ahead) (n : Shards) (done : IsWritten s n ps) where
         phase_left : IsPhaseLeft (limits_in s trees) (map_transfers (holdings_in s trees) (record { kind = Map; rights = rights; pairs = [] }) ts (holdings_in s trees)) n ahead
         phase_left =
-            (stores_are_mapped s trees sound rights ts planned ready done.words done.are most some).1 ahead
+            (stores_are_mapped s trees sound rights ts planned ready targets done.words done.are most some).1 ahead
             (subst (λ ks. AreLinked ks trees ahead) ls_are (subst (λ us. AreLinked ls us ahead) now_is linked)) n
             (subst (λ qs. IsWith s (worked done.words qs) n) (sym same_pieces) done.with)
 

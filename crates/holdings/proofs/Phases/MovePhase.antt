@@ -1,6 +1,8 @@
 -- The phase of a GrantItem.
 use Rattle.std.proofs.Common.{◌≡◌, ℕ, ◌≤◌, true, List, length, map, None, sym, ap, ◌∙◌, subst}
 use Rattle.space.specs.declared.shards.Shards.{Shards}
+use Rattle.space.specs.Shards.{HasWord}
+use Rattle.std.specs.List.{All}
 use Rattle.mapnode.specs.Slices.{pieces}
 use Rattle.maptree.specs.Origins.{Shape}
 use Rattle.model.specs.Grant.{renamed}
@@ -30,7 +32,7 @@ use Rattle.holdings.proofs.Phases.Whole.{both_ends, pairs_are_moved}
 use Rattle.holdings.proofs.Phases.Words.{own_words}
 use Rattle.holdings.proofs.Renamings.MovingTrees.{movable}
 
-module _ (s : Shards) (trees : List Shape) (sound : AreSound s trees) (old : Contents) (view : contents_of s trees ≡ old) (ts : List Transfer) (planned_old : ArePlanned old.limits ts) (all_go : AllGo ts) (free_old : AreFree old.holdings ts) where
+module _ (s : Shards) (trees : List Shape) (sound : AreSound s trees) (old : Contents) (view : contents_of s trees ≡ old) (ts : List Transfer) (planned_old : ArePlanned old.limits ts) (all_go : AllGo ts) (free_old : AreFree old.holdings ts) (targets : All (λ t. HasWord s t.target) ts) where
   planned : ArePlanned (limits_in s trees) ts
   planned = subst (λ (c : Contents). ArePlanned c.limits ts) (sym view) planned_old
 
@@ -45,19 +47,19 @@ module _ (s : Shards) (trees : List Shape) (sound : AreSound s trees) (old : Con
     pub pairs_distinct : are_distinct (ends_of xs) ≡ true
     pairs_distinct =
         let own = own_words s sound.kept.fits.present in
-        ap (λ ys. are_distinct (ends_of ys)) xs_are ∙ ends_distinct s own.0 own.1 planned.from planned.to planned.differ ts planned.paired (both_ends s trees sound ts planned.within)
+        ap (λ ys. are_distinct (ends_of ys)) xs_are ∙ ends_distinct s own.0 own.1 sound.kept.fits.some planned.from planned.to planned.differ ts planned.paired (both_ends s trees sound ts planned.within targets)
 
     module _ (most : ℕ) (some : 1 ≤ most) (ps : List Piece) (ps_are : ps ≡ map piece.Move (pieces (length xs) most xs)) where
       same_pieces : map piece.Move (pieces (length (word_pairs s ts)) most (word_pairs s ts)) ≡ ps
       same_pieces = ap (λ ys. map piece.Move (pieces (length ys) most ys)) (sym xs_are) ∙ sym ps_are
 
       pub pairs_can : CanBeWorkedIn s ps
-      pairs_can w words = subst (CanBeWorked w) same_pieces (pairs_are_moved s trees sound ts planned all_go free w words most some).0
+      pairs_can w words = subst (CanBeWorked w) same_pieces (pairs_are_moved s trees sound ts planned all_go free targets w words most some).0
 
       module _ (ls : List Link) (ls_are : ls ≡ links_of s ts) (now : List Shape) (now_is : now ≡ trees) (after : List Shape) (moved : AreRenamed (λ p. last_target ls p None) ls now after) (n : Shards) (done : IsWritten s n ps) where
         phase_left : IsPhaseLeft (limits_in s trees) (renamed (moving_of (holdings_in s trees) ts) (holdings_in s trees)) n after
         phase_left =
-            (pairs_are_moved s trees sound ts planned all_go free done.words done.are most some).1 after
+            (pairs_are_moved s trees sound ts planned all_go free targets done.words done.are most some).1 after
             (subst (λ ks. AreRenamed (λ p. last_target ks p None) ks trees after) ls_are (subst (λ us. AreRenamed (λ p. last_target ls p None) ls us after) now_is moved)) n
             (subst (λ qs. IsWith s (worked done.words qs) n) (sym same_pieces) done.with)
 

@@ -13,12 +13,12 @@ use Rattle.space.specs.declared.shards.Shards.{Shards}
 use Rattle.space.specs.Place.{same_place}
 use Rattle.space.specs.Word.{word_of, entry_of, FrameFits}
 use Rattle.space.specs.Directory.{pages_of}
-use Rattle.space.specs.Shards.{IsPlace, IsLaidOutAs, index_of, entry_at, is_taken}
+use Rattle.space.specs.Shards.{IsPlace, HasWord, IsLaidOutAs, index_of, entry_at, is_taken}
 use Rattle.holdings.specs.Places.{IsWithin}
 use Rattle.holdings.proofs.Contents.Holders.{place_within}
 use Rattle.model.proofs.Renames.{moved_cases}
 use Rattle.space.proofs.Places.{same_self, apart_back}
-use Rattle.space.proofs.ShardWords.{places_have_words, words_are_their_own, entries_fit}
+use Rattle.space.proofs.ShardWords.{held_have_words, words_are_their_own, entries_fit}
 use Rattle.space.proofs.Words.{unpack_gives_back}
 use Rattle.maptree.specs.Origins.{Shape}
 use Rattle.model.specs.Calls.{Limits}
@@ -43,18 +43,18 @@ use Rattle.holdings.specs.Inner.Links.{links_of, last_target}
 use Rattle.holdings.specs.Inner.Renamings.{AreRenamed, IsPageMoved}
 use Rattle.holdings.specs.Inner.Planning.{word_pair, word_pairs}
 use Rattle.holdings.specs.Inner.Sound.{AreSound}
-use Rattle.holdings.proofs.Contents.WordChanges.{place_kept}
+use Rattle.holdings.proofs.Contents.WordChanges.{place_kept, word_kept, same_by_word}
 use Rattle.holdings.proofs.Links.LinkedTrees.{no_transfer}
 use Rattle.holdings.proofs.Renamings.MovedPages.{AreWordsMoved}
 use Rattle.holdings.proofs.Renamings.MovingWords.{AreMoving, none_moved, ends_apart, source_place, target_place, source_lost, source_stood, step, all_moved}
 use Rattle.holdings.proofs.Renamings.MovingTrees.{pairs_within, all_left, all_sound, same_limits}
 use Rattle.holdings.proofs.Stripping.Walks.{same_layouts}
-use Rattle.holdings.specs.Inner.Words.{AreWordsOf, IsWith}
+use Rattle.holdings.specs.Inner.Words.{AreWordsOf, IsThere, IsWith}
 use Rattle.holdings.proofs.Phases.Words.{with_words}
 
 -- ---- one pair
 
-module _ (s : Shards) (w : List ℕ) (are : AreWordsOf s w) (t : Transfer) (source : IsPlace s t.source) (target : IsPlace s t.target) (ends : same_place t.source t.target ≡ false) (e : Entry) (is : entry_at s t.source ≡ Some e)
+module _ (s : Shards) (w : List ℕ) (are : AreWordsOf s w) (t : Transfer) (source : IsPlace s t.source) (target : IsThere s t.target) (ends : same_place t.source t.target ≡ false) (e : Entry) (is : entry_at s t.source ≡ Some e)
     (n : Shards) (with : IsWith s (worked w (piece.Move (word_pair s t ∷ []) ∷ [])) n) where
   -- what is put
   abbrev put_word : ℕ
@@ -64,34 +64,36 @@ module _ (s : Shards) (w : List ℕ) (are : AreWordsOf s w) (t : Transfer) (sour
   abbrev written_there : ℕ → Option ℕ
   written_there i = if index_of s t.source == i then Some 0 else if index_of s t.target == i then Some put_word else None
 
-  entry_after : (q : Place) → IsPlace s q → entry_at n q ≡ entry_of (unwrap_or (written_there (index_of s q)) (bit_or (slice_index w (index_of s q)) 0))
-  entry_after q place =
-      let has = places_have_words s q place in
+  entry_after : (q : Place) → IsPlace s q → HasWord s q → entry_at n q ≡ entry_of (unwrap_or (written_there (index_of s q)) (bit_or (slice_index w (index_of s q)) 0))
+  entry_after q place has =
       let i = index_of s q in
       let ps = piece.Move (word_pair s t ∷ []) ∷ [] in
       sym (with.words.entries q (place_kept s n with.layout q place)) ∙ ap (λ j. entry_of (slice_index (worked w ps) j)) (with.layout.index q)
       ∙ ap (λ v. entry_of (slice_index v i)) (worked_all w ps)
       ∙ ap entry_of (word_at 0 w (flat_map (effects w) ps) i (omega (arith, has, are.count)) ∙ ap (λ j. word_after (slice_index w i) j (flat_map (effects w) ps)) (zero-add i))
 
-  apart_words : (p q : Place) → IsPlace s p → IsPlace s q → same_place p q ≡ false → (index_of s p == index_of s q) ≡ false
-  apart_words p q p_in q_in apart = ne_eqb (index_of s p) (index_of s q) (λ same. cc (apart, ap (λ x. same_place x q) (words_are_their_own s p q p_in q_in same), same_self q))
+  source_word : HasWord s t.source
+  source_word = held_have_words s t.source e is
+
+  apart_words : (p q : Place) → IsPlace s p → HasWord s p → IsPlace s q → same_place p q ≡ false → (index_of s p == index_of s q) ≡ false
+  apart_words p q p_in p_has q_in apart = ne_eqb (index_of s p) (index_of s q) (λ same. cc (apart, ap (λ x. same_place x q) (words_are_their_own s p q p_in q_in p_has same), same_self q))
 
   moved_fits : FrameFits (Some (without_status e))
   moved_fits = λ k same. let fits : e.frame < 2 ^ 24 = entries_fit s t.source e is in subst (λ f. f < 2 ^ 24) (cc same) fits
 
   pub page_of_pair : IsPageMoved s n t.source t.target e (counts_of goes true)
   page_of_pair = record {
-    gone = entry_after t.source source
+    gone = entry_after t.source source source_word
         ∙ ap (λ b. entry_of (unwrap_or (if b then Some 0 else if index_of s t.target == index_of s t.source then Some put_word else None) (bit_or (slice_index w (index_of s t.source)) 0))) (eq-eqb (index_of s t.source) (index_of s t.source) refl);
-    there = entry_after t.target target
-        ∙ ap (λ b. entry_of (unwrap_or (if b then Some 0 else if index_of s t.target == index_of s t.target then Some put_word else None) (bit_or (slice_index w (index_of s t.target)) 0))) (apart_words t.source t.target source target ends)
+    there = entry_after t.target target.place target.word
+        ∙ ap (λ b. entry_of (unwrap_or (if b then Some 0 else if index_of s t.target == index_of s t.target then Some put_word else None) (bit_or (slice_index w (index_of s t.target)) 0))) (apart_words t.source t.target source source_word target.place ends)
         ∙ ap (λ b. entry_of (unwrap_or (if b then Some put_word else None) (bit_or (slice_index w (index_of s t.target)) 0))) (eq-eqb (index_of s t.target) (index_of s t.target) refl)
         ∙ ap (λ o. entry_of (word_of (option_map without_status o))) (are.entries t.source source ∙ is) ∙ (unpack_gives_back (Some (without_status e)) moved_fits).1;
-    elsewhere = λ q place not_source not_target.
-        entry_after q place
-        ∙ ap (λ b. entry_of (unwrap_or (if b then Some 0 else if index_of s t.target == index_of s q then Some put_word else None) (bit_or (slice_index w (index_of s q)) 0))) (apart_words t.source q source place (apart_back q t.source not_source))
-        ∙ ap (λ b. entry_of (unwrap_or (if b then Some put_word else None) (bit_or (slice_index w (index_of s q)) 0))) (apart_words t.target q target place (apart_back q t.target not_target))
-        ∙ ap entry_of (or_zero_r (slice_index w (index_of s q))) ∙ are.entries q place;
+    elsewhere = λ q place not_source not_target. same_by_word s n with.layout q (λ has.
+        entry_after q place has
+        ∙ ap (λ b. entry_of (unwrap_or (if b then Some 0 else if index_of s t.target == index_of s q then Some put_word else None) (bit_or (slice_index w (index_of s q)) 0))) (apart_words t.source q source source_word place (apart_back q t.source not_source))
+        ∙ ap (λ b. entry_of (unwrap_or (if b then Some put_word else None) (bit_or (slice_index w (index_of s q)) 0))) (apart_words t.target q target.place target.word place (apart_back q t.target not_target))
+        ∙ ap entry_of (or_zero_r (slice_index w (index_of s q))) ∙ are.entries q place);
     present = with.present;
     layout = with.layout;
     counted = refl;
@@ -131,7 +133,7 @@ pairs_more s t ts b is = ap (λ c. if c then word_pair s t ∷ word_pairs s ts e
 same_pair : (s n : Shards) → ((p : Place) → index_of n p ≡ index_of s p) → (t : Transfer) → word_pair n t ≡ word_pair s t
 same_pair s n same t = λ i. record { taken = same t.source i; put = same t.target i }
 
-module _ (first : Shards) (trees : List Shape) (sound : AreSound first trees) (ts : List Transfer) (planned : ArePlanned (limits_in first trees) ts) (all_go : AllGo ts) (free : All (λ t. at (holdings_in first trees) t.target ≡ None) ts) where
+module _ (first : Shards) (trees : List Shape) (sound : AreSound first trees) (ts : List Transfer) (planned : ArePlanned (limits_in first trees) ts) (all_go : AllGo ts) (free : All (λ t. at (holdings_in first trees) t.target ≡ None) ts) (targets : All (λ t. HasWord first t.target) ts) where
   abbrev h : Holdings
   h = holdings_in first trees
 
@@ -170,6 +172,7 @@ module _ (first : Shards) (trees : List Shape) (sound : AreSound first trees) (t
     present = present;
     spaces = layout.spaces ∙ words.spaces;
     bits = layout.bits ∙ words.bits;
+    count = layout.count ∙ words.count;
     forth = λ p e p_in is. same (moved_to (moving_of h ts) p) (place_now (moved_to (moving_of h ts) p) (goes_within p p_in (moved_cases (moving_of h ts) p))) ∙ words.forth p e p_in is;
     back = λ q x q_in is. words.back q x q_in (sym (same q (place_now q q_in)) ∙ is);
   }
@@ -220,7 +223,7 @@ module _ (first : Shards) (trees : List Shape) (sound : AreSound first trees) (t
           let spared = all_held_apart (flat_map changes ps) qs refl (changes_apart w ps qs can_both) (folds_of_others_apart w ps qs can_both) in
           let can_rest = others_can w ps qs each can_both spared in
           let middle = with_words now so_far.words.present (worked w ps) (ap length (worked_all w ps) ∙ length_words 0 w (flat_map (effects w) ps) ∙ are.count) can_rest.packs in
-          let moved = page_of_pair now w are (page_at i) (source_place limits first trees sound ts planned all_go free i no_transfer within now counts so_far) (target_place limits first trees sound ts planned all_go free i no_transfer within now counts so_far)
+          let moved = page_of_pair now w are (page_at i) (source_place limits first trees sound ts planned all_go free i no_transfer within now counts so_far) (record { place = target_place limits first trees sound ts planned all_go free i no_transfer within now counts so_far; word = word_kept first now layout (page_at i).target (targets i no_transfer within) })
           (ends_apart limits first trees sound ts planned all_go free i no_transfer within now counts so_far) e.0 e.1 middle.0
           (subst (λ y. IsWith now (worked w (piece.Move (y ∷ []) ∷ [])) middle.0) (sym (same_pair first now layout.index (page_at i))) middle.1) in
           go (i + 1) (omega (arith, whole)) middle.0 (add_counts counts (counts_of goes true))

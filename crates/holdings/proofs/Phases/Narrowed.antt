@@ -16,8 +16,8 @@ use Rattle.space.specs.Place.{same_place}
 use Rattle.space.specs.Word.{word_of, entry_of, FrameFits}
 use Rattle.space.specs.Entries.{narrowed, with_status}
 use Rattle.space.specs.Shards.{IsPlace, index_of, entry_at}
-use Rattle.space.proofs.Places.{same_or_apart, same_self}
-use Rattle.space.proofs.ShardWords.{places_have_words, words_are_their_own, entries_fit}
+use Rattle.space.proofs.Places.{same_or_apart, same_self, same_is}
+use Rattle.space.proofs.ShardWords.{words_are_their_own, entries_fit}
 use Rattle.space.proofs.Words.{unpack_gives_back, pack_gains_status}
 use Rattle.pieces.specs.Contents.{StripContent}
 use Rattle.pieces.specs.Effects.{Effect, gained, written, word_after, words_after}
@@ -29,9 +29,9 @@ use Rattle.pieces.proofs.AllSteps.{word_at, worked_all}
 use Rattle.pieces.proofs.InOrder.{gained_append}
 use Rattle.pieces.proofs.WholeStrips.{over, written_over, over_append, narrows, folding, strip_is, folds_write_nothing, narrows_gain_nothing}
 use Rattle.holdings.specs.Places.{any_of}
-use Rattle.holdings.proofs.Contents.WordChanges.{place_kept}
+use Rattle.holdings.proofs.Contents.WordChanges.{place_kept, same_by_word, there_if_held}
 use Rattle.holdings.proofs.Stripping.Walks.{walked, narrowed_frame}
-use Rattle.holdings.specs.Inner.Words.{AreWordsOf, IsWith}
+use Rattle.holdings.specs.Inner.Words.{AreWordsOf, IsThere, IsWith}
 
 -- ---- entries that lose
 
@@ -50,11 +50,20 @@ pub narrowed_fits : (mask : Rights) (o : Option Entry) → FrameFits o → Frame
 narrowed_fits mask None fits = λ e is. absurd (cc is)
 narrowed_fits mask (Some k) fits = λ e is. let same = narrowed_frame true mask k e is in subst (λ n. n < 2 ^ 24) same (fits k refl)
 
+-- one of some pages whose words are there
+there_among : {s : Shards} (ps : List Place) → All (IsThere s) ps → (p : Place) → any_of ps p ≡ true → IsThere s p
+there_among [] there p among = absurd (cc among)
+there_among {s} (q ∷ qs) there p among = by (same_place p q) refl among (there_among {s = s} qs (λ k d less. there (suc k) d (omega (arith, less))) p)
+  where
+    by : (b : Bool) → same_place p q ≡ b → (b || any_of qs p) ≡ true → (any_of qs p ≡ true → IsThere s p) → IsThere s p
+    by true same _ later = subst (IsThere s) (sym (same_is p q same)) (there 0 q (omega arith))
+    by false _ rest later = later rest
+
 -- ---- what narrows write
 
 module _ (s : Shards) (w : List ℕ) (p : Place) (place : IsPlace s p) where
   -- what is written at a place that may be one of these, which all lose the same
-  all_lose : (qs : List Place) → All (IsPlace s) qs → (a : Rights) (later : Option ℕ)
+  all_lose : (qs : List Place) → All (IsThere s) qs → (a : Rights) (later : Option ℕ)
       → over (index_of s p) (narrows w (map (index_of s) qs) (replicate (length qs) a)) later ≡ (if any_of qs p then Some (word_of (narrowed_by a (entry_in w (index_of s p)))) else later)
   all_lose [] places a later = refl
   all_lose (q ∷ qs) places a later = by (same_or_apart p q) (all_lose qs (λ k d less. places (suc k) d (omega (arith, less))) a later)
@@ -65,11 +74,11 @@ module _ (s : Shards) (w : List ℕ) (p : Place) (place : IsPlace s p) where
           ≡ (if same_place p q || any_of qs p then Some (word_of (narrowed_by a (entry_in w (index_of s p)))) else later)
       by (inl same) rest = rw (sym same, eq-eqb (index_of s p) (index_of s p) refl, same_self p) refl
       by (inr apart) rest =
-          rw (apart, ne_eqb (index_of s q) (index_of s p) (λ same. cc (apart, ap (λ x. same_place x q) (words_are_their_own s p q place (places 0 q (omega arith)) (sym same)), same_self q))) rest
+          rw (apart, ne_eqb (index_of s q) (index_of s p) (λ same. cc (apart, ap (λ x. same_place x q) (sym (words_are_their_own s q p (places 0 q (omega arith)).place place (places 0 q (omega arith)).word same)), same_self q))) rest
 
 -- ---- a strip of some pages, of which the first may be spared
 
-module _ (s : Shards) (w : List ℕ) (are : AreWordsOf s w) (c : Place) (rest : List Place) (places : All (IsPlace s) (c ∷ rest)) (a : Rights) (f : Bool)
+module _ (s : Shards) (w : List ℕ) (are : AreWordsOf s w) (c : Place) (rest : List Place) (places : All (IsThere s) (c ∷ rest)) (a : Rights) (f : Bool)
     (rights : (p : Place) (e : Entry) → IsPlace s p → entry_at s p ≡ Some e → is_empty e.rights ≡ false) where
   -- the indexes of their words, and what each loses
   abbrev lost_at : List ℕ
@@ -91,7 +100,7 @@ module _ (s : Shards) (w : List ℕ) (are : AreWordsOf s w) (c : Place) (rest : 
           ≡ (if same_place p c then Some (word_of (narrowed_by (if not f then no_rights else a) (entry_in w (index_of s p)))) else if any_of rest p then Some (word_of (narrowed_by a (entry_in w (index_of s p)))) else None)
       by (inl same) later = rw (sym same, eq-eqb (index_of s p) (index_of s p) refl, same_self p) refl
       by (inr apart) later =
-          rw (apart, ne_eqb (index_of s c) (index_of s p) (λ same. cc (apart, ap (λ x. same_place x c) (words_are_their_own s p c place (places 0 c (omega arith)) (sym same)), same_self c))) later
+          rw (apart, ne_eqb (index_of s c) (index_of s p) (λ same. cc (apart, ap (λ x. same_place x c) (sym (words_are_their_own s c p (places 0 c (omega arith)).place place (places 0 c (omega arith)).word same)), same_self c))) later
 
   -- what a word says that was written so
   unpacked : (mask : Rights) (p : Place) → IsPlace s p → entry_of (word_of (narrowed_by mask (entry_in w (index_of s p)))) ≡ narrowed_by mask (entry_at s p)
@@ -153,23 +162,23 @@ module _ (s : Shards) (w : List ℕ) (are : AreWordsOf s w) (c : Place) (rest : 
     gains : (i : ℕ) → gained i after ≡ gained i (folding w k.fold found)
     gains i = gained_append i lost (folding w k.fold found) ∙ ap (λ b. bit_or b (gained i (folding w k.fold found))) (narrows_gain_nothing w i lost_at lost_rights) ∙ or_zero_l (gained i (folding w k.fold found))
 
-    entry_after : (p : Place) → IsPlace s p → entry_at n p ≡ entry_of (word_after (slice_index w (index_of s p)) (index_of s p) after)
-    entry_after p place =
-        let has = places_have_words s p place in
+    entry_after : (p : Place) → IsThere s p → entry_at n p ≡ entry_of (word_after (slice_index w (index_of s p)) (index_of s p) after)
+    entry_after p there =
         let i = index_of s p in
-        sym (with.words.entries p (place_kept s n with.layout p place)) ∙ ap (λ j. entry_of (slice_index (worked w (piece.Strip k ∷ [])) j)) (with.layout.index p)
+        sym (with.words.entries p (place_kept s n with.layout p there.place)) ∙ ap (λ j. entry_of (slice_index (worked w (piece.Strip k ∷ [])) j)) (with.layout.index p)
         ∙ ap (λ v. entry_of (slice_index v i)) (worked_all w (piece.Strip k ∷ []) ∙ ap (words_after w) (append-nil (effects w (piece.Strip k)) ∙ steps_are))
-        ∙ ap entry_of (word_at 0 w after i (omega (arith, has, are.count)) ∙ ap (λ j. word_after (slice_index w i) j after) (zero-add i))
+        ∙ ap entry_of (word_at 0 w after i (omega (arith, there.word, are.count)) ∙ ap (λ j. word_after (slice_index w i) j after) (zero-add i))
 
     -- the pages have lost
     pub lost_inside : (p : Place) → IsPlace s p → any_of (c ∷ rest) p ≡ true → entry_at n p ≡ walked true (f || not (same_place p c)) a (entry_at s p)
-    lost_inside p place among = entry_after p place ∙ inside after p place (same_written (index_of s p)) among
+    lost_inside p place among = entry_after p (there_among (c ∷ rest) places p among) ∙ inside after p place (same_written (index_of s p)) among
 
     -- a page whose word is no fold word stays
     pub kept_outside : (p : Place) → IsPlace s p → any_of (c ∷ rest) p ≡ false → ((i : ℕ) → k.fold ≡ Some i → (i ≡ index_of s p → ⊥)) → entry_at n p ≡ entry_at s p
     kept_outside p place none apart =
-        entry_after p place ∙ ap entry_of (outside after p place (same_written (index_of s p)) none ∙ ap (bit_or (slice_index w (index_of s p))) (gains (index_of s p) ∙ by k.fold apart) ∙ or_zero_r (slice_index w (index_of s p)))
-        ∙ are.entries p place
+        same_by_word s n with.layout p (λ has.
+        entry_after p (record { place = place; word = has }) ∙ ap entry_of (outside after p place (same_written (index_of s p)) none ∙ ap (bit_or (slice_index w (index_of s p))) (gains (index_of s p) ∙ by k.fold apart) ∙ or_zero_r (slice_index w (index_of s p)))
+        ∙ are.entries p place)
       where
         by : (fold : Option ℕ) → ((i : ℕ) → fold ≡ Some i → (i ≡ index_of s p → ⊥)) → gained (index_of s p) (folding w fold found) ≡ 0
         by None apart = refl
@@ -177,11 +186,11 @@ module _ (s : Shards) (w : List ℕ) (are : AreWordsOf s w) (c : Place) (rest : 
 
     -- the page of the fold word gains the status
     pub gained_outside : (p : Place) → IsPlace s p → any_of (c ∷ rest) p ≡ false → k.fold ≡ Some (index_of s p) → is_some (entry_at s p) ≡ true → entry_at n p ≡ option_map (with_status found) (entry_at s p)
-    gained_outside p place none is held =
-        let has = places_have_words s p place in
+    gained_outside p place none is is_held =
+        let there = there_if_held s p place is_held in
         let word = slice_index w (index_of s p) in
         let gain : gained (index_of s p) after ≡ status_bits found =
         gains (index_of s p) ∙ ap (λ fold. gained (index_of s p) (folding w fold found)) is ∙ ap (λ b. bit_or (if b then status_bits found else 0) 0) (eq-eqb (index_of s p) (index_of s p) refl) ∙ or_zero_r (status_bits found) in
-        entry_after p place ∙ ap entry_of (outside after p place (same_written (index_of s p)) none ∙ ap (bit_or word) gain)
-        ∙ (pack_gains_status word found (are.packs (index_of s p) 0 (omega (arith, has, are.count))) (λ gone. cc (held, ap is_some (sym (are.entries p place)), ap (λ x. is_some (entry_of x)) gone))).2
+        entry_after p there ∙ ap entry_of (outside after p place (same_written (index_of s p)) none ∙ ap (bit_or word) gain)
+        ∙ (pack_gains_status word found (are.packs (index_of s p) 0 (omega (arith, there.word, are.count))) (λ gone. cc (is_held, ap is_some (sym (are.entries p place)), ap (λ x. is_some (entry_of x)) gone))).2
         ∙ ap (option_map (with_status found)) (are.entries p place)

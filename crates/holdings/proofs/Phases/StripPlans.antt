@@ -1,5 +1,5 @@
 -- A planned strip can be worked, and is the strip of the definition.
-use Rattle.std.proofs.Common.{◌≡◌, ℕ, zero, suc, ◌-◌, ◌<◌, nat_lt, true, false, Bool, ◌&&◌, ◌||◌, not, List, [], ◌∷◌, ◌++◌, length, map, Option, Some, None, get_or, refl, sym, ap, ◌∙◌, subst, arith, ◌⊎◌, inl, inr, pow_pos}
+use Rattle.std.proofs.Common.{◌≡◌, ℕ, zero, suc, ◌<◌, nat_lt, true, false, Bool, ◌&&◌, ◌||◌, not, List, [], ◌∷◌, ◌++◌, length, map, Option, Some, None, get_or, refl, sym, ap, ◌∙◌, subst, arith, ◌⊎◌, inl, inr}
 use Rattle.std.specs.Prelude.{is_some, ◌==◌}
 use Rattle.std.specs.List.{All, list_any, list_all, flat_map, slice_range}
 use Rattle.std.specs.Option.{option_to_list}
@@ -14,7 +14,7 @@ use Rattle.space.specs.declared.shards.Shards.{Shards}
 use Rattle.space.specs.Place.{same_place}
 use Rattle.space.specs.Shards.{IsPlace, index_of, entry_at}
 use Rattle.space.proofs.Places.{same_is, same_self}
-use Rattle.space.proofs.ShardWords.{places_have_words, words_are_their_own}
+use Rattle.space.proofs.ShardWords.{words_are_their_own}
 use Rattle.mapnode.specs.declared.node.Node.{Node}
 use Rattle.maptree.specs.Origins.{Shape}
 use Rattle.model.specs.Holdings.{PlaceSet}
@@ -47,8 +47,8 @@ use Rattle.holdings.proofs.Trees.Chains.{among_at}
 use Rattle.holdings.proofs.Stripping.Frames.{loose_from, listed_kept, find_kept, kept_listed}
 use Rattle.holdings.proofs.Stripping.Outer.{outer_word, outer_strip}
 use Rattle.holdings.proofs.Stripping.Sequences.{AreStripped}
-use Rattle.holdings.proofs.Stripping.Walks.{standing_place}
-use Rattle.holdings.specs.Inner.Words.{AreWordsOf, IsWith}
+use Rattle.holdings.proofs.Stripping.Walks.{standing_there}
+use Rattle.holdings.specs.Inner.Words.{AreWordsOf, IsThere, IsWith}
 use Rattle.holdings.proofs.Phases.StrippedRun.{slice_of_map, each_listed, whole_indexes}
 use Rattle.holdings.proofs.Phases.StrippedRuns.{changes_of_strips, runs_stripped, status_found}
 
@@ -56,7 +56,7 @@ use Rattle.holdings.proofs.Phases.StrippedRuns.{changes_of_strips, runs_stripped
 
 -- distinct places have distinct indexes
 module _ (s : Shards) where
-  pub apart_index : (p : Place) (ps : List Place) → IsPlace s p → All (IsPlace s) ps → any_of ps p ≡ false → is_none_of (map (index_of s) ps) (index_of s p) ≡ true
+  pub apart_index : (p : Place) (ps : List Place) → IsPlace s p → All (IsThere s) ps → any_of ps p ≡ false → is_none_of (map (index_of s) ps) (index_of s p) ≡ true
   apart_index p [] place places none = refl
   apart_index p (q ∷ ps) place places none = by (same_place p q) refl none (apart_index p ps place (λ k d less. places (suc k) d (omega (arith, less))))
     where
@@ -64,14 +64,14 @@ module _ (s : Shards) where
           → (not (index_of s q == index_of s p) && is_none_of (map (index_of s) ps) (index_of s p)) ≡ true
       by true same none rest = absurd (cc none)
       by false apart none rest =
-          rw (ne_eqb (index_of s q) (index_of s p) (λ same. cc (apart, ap (λ x. same_place x q) (words_are_their_own s p q place (places 0 q (omega arith)) (sym same)), same_self q))) (rest none)
+          rw (ne_eqb (index_of s q) (index_of s p) (λ same. cc (apart, ap (λ x. same_place x q) (sym (words_are_their_own s q p (places 0 q (omega arith)).place place (places 0 q (omega arith)).word same)), same_self q))) (rest none)
 
-  pub distinct_indexes : (ps : List Place) → All (IsPlace s) ps → come_once ps ≡ true → are_distinct (map (index_of s) ps) ≡ true
+  pub distinct_indexes : (ps : List Place) → All (IsThere s) ps → come_once ps ≡ true → are_distinct (map (index_of s) ps) ≡ true
   distinct_indexes [] places once = refl
   distinct_indexes (p ∷ ps) places once =
       let parts = and_parts (list_all (λ q. not (same_place p q)) ps) (come_once ps) once in
-      let others : All (IsPlace s) ps = λ k d less. places (suc k) d (omega (arith, less)) in
-      and_from _ _ (apart_index p ps (places 0 p (omega arith)) others (none_of ps parts.0)) (distinct_indexes ps others parts.1)
+      let others : All (IsThere s) ps = λ k d less. places (suc k) d (omega (arith, less)) in
+      and_from _ _ (apart_index p ps (places 0 p (omega arith)).place others (none_of ps parts.0)) (distinct_indexes ps others parts.1)
     where
       none_of : (qs : List Place) → list_all (λ q. not (same_place p q)) qs ≡ true → any_of qs p ≡ false
       none_of [] all = refl
@@ -147,33 +147,33 @@ module _ (s : Shards) (trees : List Shape) (sound : AreSound s trees) (set : Pla
   strips = strips_of_runs s a f plans
 
   -- each place of a run has a word
-  run_places : (plan : RunPlan) → IsRunPlan trees plan → All (IsPlace s) (all_places plan.parts)
+  run_places : (plan : RunPlan) → IsRunPlan trees plan → All (IsThere s) (all_places plan.parts)
   run_places plan is =
       let os = links_in trees plan.frame in
-      subst (All (IsPlace s)) (sym (is.places ∙ slice_of_map os plan.run.start plan.run.end)) (each_listed (IsPlace s) (slice_range os plan.run.start plan.run.end) (λ p among.
+      subst (All (IsThere s)) (sym (is.places ∙ slice_of_map os plan.run.start plan.run.end)) (each_listed (IsThere s) (slice_range os plan.run.start plan.run.end) (λ p among.
       let at = among_at os plan.run.start plan.run.end p p among in
-      standing_place s trees plan.frame (loose_from s trees sound) p (subst (λ q. is_listed trees plan.frame q ≡ true) at.4 (listed_at os at.0 p at.3))))
+      standing_there s trees plan.frame (loose_from s trees sound) p (subst (λ q. is_listed trees plan.frame q ≡ true) at.4 (listed_at os at.0 p at.3))))
 
-  places_have : (plans : List RunPlan) → All (IsRunPlan trees) plans → All (IsPlace s) (places_of_runs plans)
+  places_have : (plans : List RunPlan) → All (IsRunPlan trees) plans → All (IsThere s) (places_of_runs plans)
   places_have [] runs = λ k d less. absurd (omega (arith, less))
-  places_have (plan ∷ plans) runs = All-append (IsPlace s) (all_places plan.parts) (places_of_runs plans) (run_places plan (runs 0 plan (omega arith))) (places_have plans (λ k d less. runs (suc k) d (omega (arith, less))))
+  places_have (plan ∷ plans) runs = All-append (IsThere s) (all_places plan.parts) (places_of_runs plans) (run_places plan (runs 0 plan (omega arith))) (places_have plans (λ k d less. runs (suc k) d (omega (arith, less))))
 
   -- and so has the origin of a run, which is held
-  origin_has : (plan : RunPlan) → IsRunPlan trees plan → (o : Place) → plan.origin ≡ Some o → IsPlace s o × (is_some (entry_in w (index_of s o)) ≡ true)
+  origin_has : (plan : RunPlan) → IsRunPlan trees plan → (o : Place) → plan.origin ≡ Some o → IsThere s o × (is_some (entry_in w (index_of s o)) ≡ true)
   origin_has plan is o there =
       let listed = is.origin.stands o there in
-      let place = standing_place s trees plan.frame (loose_from s trees sound) o listed in
+      let there = standing_there s trees plan.frame (loose_from s trees sound) o listed in
       let e = frame_from plan.frame (entry_at s o) (sound.pruned.held plan.frame o listed) in
-      (place, ap is_some (are.entries o place ∙ e.1))
+      (there, ap is_some (are.entries o there.place ∙ e.1))
 
   each_origin : (test : ℕ → Bool) → ((plan : RunPlan) (o : Place) → IsRunPlan trees plan → plan.origin ≡ Some o → any_of (places_of_runs plans) o ≡ false → test (index_of s o) ≡ true)
       → All (λ plan. (o : Place) → plan.origin ≡ Some o → test (index_of s o) ≡ true) plans
   each_origin test holds = λ k d less o is. holds (get_or plans k d) o (planned.runs k d less) is (planned.outer k d less o is)
 
-  indexes_within : (ps : List Place) → All (IsPlace s) ps → list_all (λ i. nat_lt i (length w)) (map (index_of s) ps) ≡ true
+  indexes_within : (ps : List Place) → All (IsThere s) ps → list_all (λ i. nat_lt i (length w)) (map (index_of s) ps) ≡ true
   indexes_within [] places = refl
   indexes_within (p ∷ ps) places =
-      let has = places_have_words s p (places 0 p (omega arith)) in
+      let has = (places 0 p (omega arith)).word in
       and_from _ _ (lt-ltb (index_of s p) (length w) (omega (arith, has, are.count))) (indexes_within ps (λ k d less. places (suc k) d (omega (arith, less))))
 
   -- the pieces can be worked beside one another
@@ -186,20 +186,18 @@ module _ (s : Shards) (trees : List Shape) (sound : AreSound s trees) (set : Pla
         packs = are.packs;
         within = named_pass (λ i. nat_lt i (length w)) strips (ap (list_all (λ i. nat_lt i (length w))) where_changed ∙ indexes_within (places_of_runs plans) places)
             (folds_pass s a f (λ i. nat_lt i (length w)) plans (each_origin (λ i. nat_lt i (length w)) (λ plan o is there _.
-            let has = places_have_words s o (origin_has plan is o there).0 in lt-ltb (index_of s o) (length w) (omega (arith, has, are.count)))));
+            let has = (origin_has plan is o there).0.word in lt-ltb (index_of s o) (length w) (omega (arith, has, are.count)))));
         entries = ap (list_all (λ i. is_some (entry_in w i))) (held_are_folds strips) ∙ folds_pass s a f (λ i. is_some (entry_in w i)) plans (each_origin (λ i. is_some (entry_in w i)) (λ plan o is there _. (origin_has plan is o there).1));
         distinct = ap are_distinct where_changed ∙ distinct_indexes s (places_of_runs plans) places planned.once;
         apart = ap (λ is. list_all (is_none_of is) (flat_map folds (map piece.Strip strips))) where_changed
             ∙ folds_pass s a f (is_none_of (map (index_of s) (places_of_runs plans))) plans (each_origin (is_none_of (map (index_of s) (places_of_runs plans)))
-            (λ plan o is there none. apart_index s o (places_of_runs plans) (origin_has plan is o there).0 places none));
+            (λ plan o is there none. apart_index s o (places_of_runs plans) (origin_has plan is o there).0.place places none));
         alike = are_strips strips;
       }
     where
       some_words : 0 < length w
       some_words =
-          let first : Place = record { space = 0; page = 0 } in
-          let has = places_have_words s first (record { space = omega (arith, s.limits.some); page = pow_pos (s.bits - 12) }) in
-          omega (arith, has, are.count)
+          omega (arith, sound.kept.fits.some, are.count)
 
   -- worked, they are the strip of the set
   module _ (each : All IsPiece (map piece.Strip strips)) (new : Shards) (with : IsWith s (worked w (map piece.Strip strips)) new) where
@@ -254,6 +252,7 @@ module _ (s : Shards) (trees : List Shape) (sound : AreSound s trees) (set : Pla
             spaces = refl;
             bits = refl;
             present = stripped_runs.loose.fits.present;
+            some = stripped_runs.loose.fits.some;
             count = refl;
             frame = λ p e within is. subst (λ n. e.frame < n) (sym count) (stripped_runs.loose.fits.frame p e (subst (λ l. IsWithin l p) limits_left within) is);
             listed = λ p e within is. (origins_left e.frame p (ap is_some is)).0 ∙ stripped_runs.loose.fits.listed p e (subst (λ l. IsWithin l p) limits_left within) is;
@@ -305,9 +304,9 @@ nodes_from_places P (n ∷ ns) all (suc k) d less = nodes_from_places P ns (λ j
 
 -- what is asked of the nodes of all strips of a plan
 module _ (s : Shards) (trees : List Shape) (sound : AreSound s trees) (set : PlaceSet) (plans : List RunPlan) (planned : IsStripPlan s trees set plans) (a : Rights) (f : Bool) (w : List ℕ) (are : AreWordsOf s w) where
-  pub nodes_have_words : All (λ n. IsPlace s n.place) (joined_strips (strips_of_runs s a f plans)).nodes
-  nodes_have_words = nodes_from_places (IsPlace s) (joined_strips (strips_of_runs s a f plans)).nodes
-      (subst (All (IsPlace s)) (sym (runs_nodes s a f plans)) (places_have s trees sound set plans planned a f w are plans planned.runs))
+  pub nodes_have_words : All (λ n. IsThere s n.place) (joined_strips (strips_of_runs s a f plans)).nodes
+  nodes_have_words = nodes_from_places (IsThere s) (joined_strips (strips_of_runs s a f plans)).nodes
+      (subst (All (IsThere s)) (sym (runs_nodes s a f plans)) (places_have s trees sound set plans planned a f w are plans planned.runs))
 
   pub indexes_once : are_distinct (joined_strips (strips_of_runs s a f plans)).indexes ≡ true
   indexes_once = ap are_distinct (runs_indexes s a f plans) ∙ distinct_indexes s (places_of_runs plans) (places_have s trees sound set plans planned a f w are plans planned.runs) planned.once

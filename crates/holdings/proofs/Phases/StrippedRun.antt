@@ -16,7 +16,7 @@ use Rattle.space.specs.Place.{same_place}
 use Rattle.space.proofs.Places.{same_self}
 use Rattle.space.specs.Word.{is_pack}
 use Rattle.space.specs.Entries.{status_of, with_status}
-use Rattle.space.specs.Shards.{IsPlace, IsLaidOutAs, index_of, entry_at}
+use Rattle.space.specs.Shards.{IsPlace, HasWord, IsLaidOutAs, index_of, entry_at}
 use Rattle.space.proofs.ShardWords.{words_are_their_own}
 use Rattle.std.proofs.lemmas.Option.{same_Some}
 use Rattle.mapnode.specs.declared.node.Node.{Node}
@@ -44,8 +44,8 @@ use Rattle.holdings.specs.Inner.Planning.{strip_of, strips_of_run, all_places}
 use Rattle.holdings.specs.Inner.Sound.{AreLoose}
 use Rattle.holdings.proofs.Contents.Holders.{present_within}
 use Rattle.holdings.proofs.Trees.Chains.{is_among, among_at, place_at_drop}
-use Rattle.holdings.proofs.Stripping.Walks.{IsStripped, IsWalked, walked, same_taken, over_more, over_none, status_held, standing_place, run_without_origin, run_with_origin}
-use Rattle.holdings.specs.Inner.Words.{AreWordsOf, IsWith}
+use Rattle.holdings.proofs.Stripping.Walks.{IsStripped, IsWalked, walked, same_taken, over_more, over_none, status_held, standing_place, standing_there, run_without_origin, run_with_origin}
+use Rattle.holdings.specs.Inner.Words.{AreWordsOf, IsThere, IsWith}
 use Rattle.holdings.proofs.Phases.Words.{with_words}
 use Rattle.holdings.proofs.Phases.Narrowed.{lost_inside, kept_outside, gained_outside}
 
@@ -119,11 +119,11 @@ join_turned r t = same_rights (join r t) (join t r) (λ a. has-join r t a ∙ or
 
 module _ (old : Shards) (trees : List Shape) (loose : AreLoose old trees) (w : List ℕ) (are : AreWordsOf old w) (c : Place) (a : Rights) (f : Bool) where
   -- the status in the words of some pages is that over them
-  status_of_places : (qs : List Place) → All (IsPlace old) qs → status_in w (map (index_of old) qs) ≡ status_over (any_of qs) (holdings_in old trees)
+  status_of_places : (qs : List Place) → All (IsThere old) qs → status_in w (map (index_of old) qs) ≡ status_over (any_of qs) (holdings_in old trees)
   status_of_places [] places = sym (over_none (holdings_in old trees) (lawful_parts (holdings_in old trees) loose.lawful) (any_of []) (λ p. refl))
   status_of_places (q ∷ qs) places =
       let h = holdings_in old trees in
-      let place = places 0 q (omega arith) in
+      let place = (places 0 q (omega arith)).place in
       ap (join (status_of (entry_in w (index_of old q)))) (status_of_places qs (λ k d less. places (suc k) d (omega (arith, less)))) ∙ join_turned (status_of (entry_in w (index_of old q))) (status_over (any_of qs) h)
       ∙ ap (join (status_over (any_of qs) h)) (ap status_of (are.entries q place) ∙ sym (status_held old trees loose c a f q place))
       ∙ sym (over_more h (lawful_parts h loose.lawful) (any_of qs) (any_of (q ∷ qs)) q (λ p. or_turned (same_place p q) (any_of qs p)))
@@ -190,10 +190,10 @@ module _ (old : Shards) (trees : List Shape) (loose : AreLoose old trees) (frame
   among_is : (p : Place) → any_of (c ∷ behind) p ≡ is_among (links_in trees frame) run.start run.end p
   among_is p = ap (λ ps. any_of ps p) places_are ∙ any_of_places (slice_range (links_in trees frame) run.start run.end) p
 
-  places : All (IsPlace old) (c ∷ behind)
-  places = subst (All (IsPlace old)) (sym places_are) (each_listed (IsPlace old) (slice_range (links_in trees frame) run.start run.end) (λ p among.
+  places : All (IsThere old) (c ∷ behind)
+  places = subst (All (IsThere old)) (sym places_are) (each_listed (IsThere old) (slice_range (links_in trees frame) run.start run.end) (λ p among.
       let at = among_at (links_in trees frame) run.start run.end p p among in
-      standing_place old trees frame loose p (subst (λ q. is_listed trees frame q ≡ true) at.4 (listed_at (links_in trees frame) at.0 p at.3))))
+      standing_there old trees frame loose p (subst (λ q. is_listed trees frame q ≡ true) at.4 (listed_at (links_in trees frame) at.0 p at.3))))
 
   first : (d : Place) → place_at (links_in trees frame) run.start d ≡ c
   first d =
@@ -255,6 +255,9 @@ module _ (old : Shards) (trees : List Shape) (loose : AreLoose old trees) (frame
     o_place : IsPlace old o
     o_place = standing_place old trees frame loose o (is_origin.stands o is)
 
+    o_word : HasWord old o
+    o_word = loose.words frame o (is_origin.stands o is)
+
     o_apart : any_of (c ∷ behind) o ≡ false
     o_apart = among_is o ∙ apart o is
 
@@ -279,7 +282,7 @@ module _ (old : Shards) (trees : List Shape) (loose : AreLoose old trees) (frame
             ∙ sym (lost_inside old w are c behind places a f rights (run_strip None) (its_indexes None) (its_masks None) m m_with q q_place among)
         by q_place false none =
             kept_outside old w are c behind places a f rights (run_strip (Some (index_of old o))) (its_indexes (Some (index_of old o))) (its_masks (Some (index_of old o))) new folded q q_place none
-            (λ i i_is same. differ (words_are_their_own old q o q_place o_place (sym same ∙ sym (same_Some (index_of old o) i i_is))))
+            (λ i i_is same. differ (sym (words_are_their_own old o q o_place q_place o_word (same_Some (index_of old o) i i_is ∙ same))))
             ∙ sym (kept_outside old w are c behind places a f rights (run_strip None) (its_indexes None) (its_masks None) m m_with q q_place none (λ i nothing. absurd (cc nothing)))
 
     with_origin : IsStripped old trees c a f new status

@@ -2,7 +2,7 @@
 use Rattle.std.proofs.Common.{◌≡◌, ℕ, List, [], ◌∷◌, length, map, get_or, refl, sym, ap, ◌∙◌, subst}
 use Rattle.std.specs.List.{All}
 use Rattle.space.specs.declared.shards.Shards.{Shards}
-use Rattle.space.specs.Shards.{IsPlace, IsLaidOutAs}
+use Rattle.space.specs.Shards.{HasWord, IsLaidOutAs}
 use Rattle.maptree.specs.Origins.{Shape}
 use Rattle.pieces.specs.Contents.{StripContent}
 use Rattle.pieces.specs.Values.{value, kept_nodes}
@@ -19,7 +19,7 @@ use Rattle.holdings.specs.Inner.Sound.{IsSound, AreSound}
 use Rattle.holdings.specs.Inner.Words.{IsWith}
 use Rattle.holdings.proofs.Contents.Holders.{place_within}
 use Rattle.holdings.proofs.Phases.Accessed.{all_accessed, all_answered}
-use Rattle.holdings.proofs.Phases.Beside.{touches_can, links_can, moves_can, link_can, move_can}
+use Rattle.holdings.proofs.Phases.Beside.{EndsStand, touches_can, links_can, moves_can, link_can, move_can}
 use Rattle.holdings.proofs.Phases.KeptNodes.{strips_keep}
 use Rattle.holdings.proofs.Phases.Linked.{all_linked}
 use Rattle.holdings.proofs.Phases.Moved.{pairs_moved}
@@ -31,20 +31,22 @@ same_limits : (s n : Shards) (trees : List Shape) → IsLaidOutAs s n → limits
 same_limits s n trees layout = λ i. record { spaces = layout.spaces i; bits = layout.bits i; frames = length trees }
 
 -- both ends of each transfer have words
-pub both_ends : (s : Shards) (trees : List Shape) → AreSound s trees → (ts : List Transfer) → All (IsTransferWithin (limits_in s trees)) ts → All (λ t. IsPlace s t.source × IsPlace s t.target) ts
-both_ends s trees sound ts within k d less = let t = within k d less in (record { space = t.source_space; page = t.source_page }, record { space = t.target_space; page = t.target_page })
+pub both_ends : (s : Shards) (trees : List Shape) → AreSound s trees → (ts : List Transfer) → All (IsTransferWithin (limits_in s trees)) ts → All (λ t. HasWord s t.target) ts → EndsStand s ts
+both_ends s trees sound ts within targets k d less =
+    let t = within k d less in
+    (record { space = t.source_space; page = t.source_page }, record { place = record { space = t.target_space; page = t.target_page }; word = targets k d less })
 
 -- ---- accesses
 
 pub touches_are_accesses : TouchesAreAccesses
-touches_are_accesses s trees sound w are ts within most some =
+touches_are_accesses s trees sound w are ts within there most some =
     let limits = limits_in s trees in
     let xs = map (word_access s) ts in
     let whole = touches_in_pieces w most some xs ∙ words_in_order w are.packs xs in (
-      touches_can s w are ts (λ k d less. place_within limits s trees sound.kept.fits (get_or ts k d).0 (within k d less)) most some,
-      answers_in_pieces w most some xs ∙ answers_one_by_one w are.packs xs ∙ all_answered limits trees ts within s sound w are,
+      touches_can s w are sound.kept.fits.some ts (λ k d less. record { place = place_within limits s trees sound.kept.fits (get_or ts k d).0 (within k d less); word = there k d less }) most some,
+      answers_in_pieces w most some xs ∙ answers_one_by_one w are.packs xs ∙ all_answered limits trees ts within s there sound w are,
       λ new with.
-          let left = all_accessed limits trees ts within s sound w are new (subst (λ v. IsWith s v new) whole with) in
+          let left = all_accessed limits trees ts within s there sound w are new (subst (λ v. IsWith s v new) whole with) in
           let same = same_limits s new trees with.layout in
           record { left = ap (λ l. holdings_of l new trees) same ∙ left.left; limits_stay = same; sound = subst (λ l. IsSound l new trees) (sym same) left.sound },
     )
@@ -81,19 +83,19 @@ planned_strips_are_strips s trees sound set plans planned revoked flush w are = 
 -- ---- links and moves
 
 pub stores_are_mapped : StoresAreMapped
-stores_are_mapped s trees sound rights ts planned ready w are most some =
-    let ends = both_ends s trees sound ts planned.within in (
-      links_can s w are rights planned.from planned.to ts planned.paired ends most some,
+stores_are_mapped s trees sound rights ts planned ready targets w are most some =
+    let ends = both_ends s trees sound ts planned.within targets in (
+      links_can s w are sound.kept.fits.some rights planned.from planned.to ts planned.paired ends most some,
       λ ahead linked new with.
-          let all = all_linked s trees sound rights ts planned ready ahead w are linked (link_can s w are rights planned.from planned.to ts planned.paired ends) new (subst (λ v. IsWith s v new) (links_in_pieces w most some (stores_of s rights ts)) with) in
+          let all = all_linked s trees sound rights ts planned ready targets ahead w are linked (link_can s w are sound.kept.fits.some rights planned.from planned.to ts planned.paired ends) new (subst (λ v. IsWith s v new) (links_in_pieces w most some (stores_of s rights ts)) with) in
           record { left = all.left; limits_stay = all.same_limits; sound = all.is_sound },
     )
 
 pub pairs_are_moved : PairsAreMoved
-pairs_are_moved s trees sound ts planned all_go free w are most some =
-    let ends = both_ends s trees sound ts planned.within in (
-      moves_can s w are planned.from planned.to planned.differ ts planned.paired ends most some,
+pairs_are_moved s trees sound ts planned all_go free targets w are most some =
+    let ends = both_ends s trees sound ts planned.within targets in (
+      moves_can s w are sound.kept.fits.some planned.from planned.to planned.differ ts planned.paired ends most some,
       λ after renamed new with.
-          let all = pairs_moved s trees sound ts planned all_go free w are (move_can s w are planned.from planned.to planned.differ ts planned.paired ends) new (subst (λ v. IsWith s v new) (moves_in_pieces w most some (word_pairs s ts)) with) after renamed in
+          let all = pairs_moved s trees sound ts planned all_go free targets w are (move_can s w are sound.kept.fits.some planned.from planned.to planned.differ ts planned.paired ends) new (subst (λ v. IsWith s v new) (moves_in_pieces w most some (word_pairs s ts)) with) after renamed in
           record { left = all.left; limits_stay = all.limits_stay; sound = all.is_sound },
     )

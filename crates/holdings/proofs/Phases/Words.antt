@@ -1,5 +1,5 @@
 -- Shards with other words in the place of their own.
-use Rattle.std.proofs.Common.{◌≡◌, ℕ, List, length, sym, ap, ◌∙◌}
+use Rattle.std.proofs.Common.{◌≡◌, ℕ, List, length, sym, ap, ◌∙◌, arith}
 use Rattle.std.specs.Prelude.{IsFalse}
 use Rattle.std.specs.List.{AllPass}
 use Rattle.std.specs.Option.{option_map}
@@ -48,6 +48,7 @@ module _ (limits : Limits) (old new : Shards) (trees : List Shape) (fits : IsFit
     spaces = layout.spaces ∙ fits.spaces;
     bits = layout.bits ∙ fits.bits;
     present = present;
+    some = omega (arith, fits.some, layout.count);
     count = fits.count;
     frame = λ p e within is. fits.frame p e within (sym (same_within p within) ∙ is);
     listed = λ p e within is. fits.listed p e within (sym (same_within p within) ∙ is);

@@ -8,7 +8,7 @@ use Rattle.space.specs.declared.place.Place.{Place}
 use Rattle.space.specs.declared.place.Entry.{Entry}
 use Rattle.space.specs.declared.shards.Shards.{Shards}
 use Rattle.space.specs.Place.{same_place}
-use Rattle.space.specs.Shards.{IsPlace, entry_at}
+use Rattle.space.specs.Shards.{entry_at}
 use Rattle.space.proofs.Places.{same_is, same_self}
 use Rattle.maptree.specs.Origins.{Origins, Shape, AreRising, are_once, place_at, origin_in}
 use Rattle.maptree.proofs.Cuttings.{split_at}
@@ -27,7 +27,8 @@ use Rattle.holdings.proofs.Contents.Listing.{within_from_place}
 use Rattle.holdings.proofs.Contents.WordChanges.{frame_from}
 use Rattle.holdings.proofs.Trees.Chains.{is_among, among_at, below_among}
 use Rattle.holdings.proofs.Stripping.Frames.{loose_from}
-use Rattle.holdings.proofs.Stripping.Walks.{standing_place, place_any}
+use Rattle.holdings.proofs.Stripping.Walks.{standing_there, place_any}
+use Rattle.holdings.specs.Inner.Words.{IsThere}
 use Rattle.holdings.proofs.Phases.StrippedRun.{slice_of_map, each_listed}
 use Rattle.holdings.proofs.Planned.Parts.{once_parts}
 
@@ -211,11 +212,11 @@ module _ (s : Shards) (trees : List Shape) (sound : AreSound s trees) where
   -- each run has words of its own
   pub have_words : (plan : RunPlan) → IsRunPlan trees plan → are_once (links_in trees plan.frame) ≡ true → HaveWords s plan.origin (all_places plan.parts)
   have_words plan is once = record {
-    places = subst (All (IsPlace s)) (sym (is.places ∙ slice_of_map os plan.run.start plan.run.end)) (each_listed (IsPlace s) (slice_range os plan.run.start plan.run.end) (λ p among.
+    places = subst (All (IsThere s)) (sym (is.places ∙ slice_of_map os plan.run.start plan.run.end)) (each_listed (IsThere s) (slice_range os plan.run.start plan.run.end) (λ p among.
         let at = among_at os plan.run.start plan.run.end p p among in
-        standing_place s trees plan.frame loose p (subst (λ q. is_listed trees plan.frame q ≡ true) at.4 (listed_at os at.0 p at.3))));
+        standing_there s trees plan.frame loose p (subst (λ q. is_listed trees plan.frame q ≡ true) at.4 (listed_at os at.0 p at.3))));
     once = ap come_once is.places ∙ (once_slice (map (λ o. o.0) os) plan.run.start plan.run.end (omega (arith, is.some)) (once_drop (map (λ o. o.0) os) 0 plan.run.start (omega arith) (once_in_tree os once))).0;
-    origin_stands = λ o there. standing_place s trees plan.frame loose o (is.origin.stands o there);
+    origin_stands = λ o there. standing_there s trees plan.frame loose o (is.origin.stands o there);
     apart = origin_apart plan is;
   }
     where

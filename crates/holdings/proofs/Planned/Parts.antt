@@ -9,7 +9,8 @@ use Rattle.fpage.specs.declared.rights.Rights.{Rights}
 use Rattle.space.specs.declared.place.Place.{Place}
 use Rattle.space.specs.declared.shards.Shards.{Shards}
 use Rattle.space.specs.Place.{same_place}
-use Rattle.space.specs.Shards.{IsPlace, index_of}
+use Rattle.space.specs.Shards.{index_of}
+use Rattle.holdings.specs.Inner.Words.{IsThere}
 use Rattle.mapnode.specs.declared.node.Node.{Node}
 use Rattle.maptree.specs.Origins.{Origins}
 use Rattle.maptree.proofs.Cuttings.{drop_drop, take_more}
@@ -56,12 +57,12 @@ all_second P (x ∷ xs) ys all = all_second P xs ys (λ j e l. all (suc j) e (om
 -- ---- what is known of the words of one part
 
 pub record HasWords (s : Shards) (origin : Option Place) (part : List Node) : Type 0 where
-  pub places : All (λ n. IsPlace s n.place) part
+  pub places : All (λ n. IsThere s n.place) part
   pub distinct : are_distinct (map (λ n. index_of s n.place) part) ≡ true
   pub apart : is_fold_apart (option_map (index_of s) origin) (map (λ n. index_of s n.place) part) ≡ true
 
-module _ (s : Shards) (origin : Option Place) (standing : (o : Place) → origin ≡ Some o → IsPlace s o) where
-  pub of_part : (part : List Node) → All (IsPlace s) (map (λ n. n.place) part) → come_once (map (λ n. n.place) part) ≡ true
+module _ (s : Shards) (origin : Option Place) (standing : (o : Place) → origin ≡ Some o → IsThere s o) where
+  pub of_part : (part : List Node) → All (IsThere s) (map (λ n. n.place) part) → come_once (map (λ n. n.place) part) ≡ true
       → ((o : Place) → origin ≡ Some o → any_of (map (λ n. n.place) part) o ≡ false) → HasWords s origin part
   of_part part places once apart = record {
     places = each part places;
@@ -69,7 +70,7 @@ module _ (s : Shards) (origin : Option Place) (standing : (o : Place) → origin
     apart = by origin standing apart;
   }
     where
-      each : (part : List Node) → All (IsPlace s) (map (λ n. n.place) part) → All (λ n. IsPlace s n.place) part
+      each : (part : List Node) → All (IsThere s) (map (λ n. n.place) part) → All (λ n. IsThere s n.place) part
       each [] all k d less = absurd (omega (arith, less))
       each (n ∷ ns) all zero d less = all 0 n.place (omega arith)
       each (n ∷ ns) all (suc k) d less = each ns (λ j e l. all (suc j) e (omega (arith, l))) k d (omega (arith, less))
@@ -78,9 +79,9 @@ module _ (s : Shards) (origin : Option Place) (standing : (o : Place) → origin
       indexes [] = refl
       indexes (n ∷ ns) = ap (λ is. index_of s n.place ∷ is) (indexes ns)
 
-      by : (o : Option Place) → ((q : Place) → o ≡ Some q → IsPlace s q) → ((q : Place) → o ≡ Some q → any_of (map (λ n. n.place) part) q ≡ false) → is_fold_apart (option_map (index_of s) o) (map (λ n. index_of s n.place) part) ≡ true
+      by : (o : Option Place) → ((q : Place) → o ≡ Some q → IsThere s q) → ((q : Place) → o ≡ Some q → any_of (map (λ n. n.place) part) q ≡ false) → is_fold_apart (option_map (index_of s) o) (map (λ n. index_of s n.place) part) ≡ true
       by None stands none = refl
-      by (Some o) stands none = ap (λ is. is_none_of is (index_of s o)) (indexes part) ∙ apart_index s o (map (λ n. n.place) part) (stands o refl) places (none o refl)
+      by (Some o) stands none = ap (λ is. is_none_of is (index_of s o)) (indexes part) ∙ apart_index s o (map (λ n. n.place) part) (stands o refl).place places (none o refl)
 
 -- ---- the strips so far
 
@@ -174,6 +175,6 @@ module _ (s : Shards) (a : Rights) (flush : Bool) (origin : Option Place) where
       let here = map (λ (n : Node). n.place) part in
       let whole : ps ≡ before ++ (here ++ next) = sym so_far.places ∙ ap (λ qs. before ++ qs) joined in
       of_part s origin have.origin_stands part
-      (all_first (IsPlace s) here next (all_second (IsPlace s) before (here ++ next) (subst (All (IsPlace s)) whole have.places)))
+      (all_first (IsThere s) here next (all_second (IsThere s) before (here ++ next) (subst (All (IsThere s)) whole have.places)))
       (once_parts here next (once_parts before (here ++ next) (ap come_once (sym whole) ∙ have.once)).1).0
       (λ o is. (none_parts here next o (none_parts before (here ++ next) o (ap (λ qs. any_of qs o) (sym whole) ∙ have.apart o is)).1).0)

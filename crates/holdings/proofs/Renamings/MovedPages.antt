@@ -1,5 +1,5 @@
 -- Pages that move all at once: their places are replaced in the trees, and their words move.
-use Rattle.std.proofs.Common.{◌≡◌, ℕ, ◌<◌, true, false, Bool, ◌||◌, List, [], ◌∷◌, length, Option, Some, None, refl, sym, ap, ◌∙◌, subst, ◌⊎◌, inl, inr, if◌then◌else◌}
+use Rattle.std.proofs.Common.{◌≡◌, ℕ, ◌<◌, true, false, Bool, ◌||◌, List, [], ◌∷◌, length, Option, Some, None, refl, sym, ap, ◌∙◌, subst, ◌⊎◌, inl, inr, if◌then◌else◌, arith}
 use Rattle.std.specs.Prelude.{IsFalse}
 use Rattle.std.specs.Option.{option_map, option_and_then}
 use Rattle.std.specs.FinMap.Entries.{find}
@@ -10,7 +10,7 @@ use Rattle.space.specs.declared.place.Place.{Place}
 use Rattle.space.specs.declared.place.Entry.{Entry}
 use Rattle.space.specs.declared.shards.Shards.{Shards}
 use Rattle.space.specs.Place.{place_cmp, same_place}
-use Rattle.space.specs.Shards.{spaces_of, bits_of, entry_at, is_taken}
+use Rattle.space.specs.Shards.{word_count, spaces_of, bits_of, entry_at, is_taken}
 use Rattle.space.proofs.Places.{same_self, same_or_apart}
 use Rattle.maptree.specs.Origins.{Shape, Origins, origin_in}
 use Rattle.maptree.specs.Renamings.{replaced_by, all_renamed, StayApart}
@@ -109,6 +109,7 @@ pub record AreWordsMoved (limits : Limits) (es : List Pair) (old new : Shards) :
   pub present : IsFalse (is_taken new)
   pub spaces : spaces_of new ≡ spaces_of old
   pub bits : bits_of new ≡ bits_of old
+  pub count : word_count new ≡ word_count old
   pub forth : (p : Place) (e : Entry) → IsWithin limits p → entry_at old p ≡ Some e → entry_at new (moved_to es p) ≡ Some (entry_moved es p e)
   pub back : (q : Place) (x : Entry) → IsWithin limits q → entry_at new q ≡ Some x → CameFrom limits es old q
 
@@ -266,6 +267,7 @@ module _ (limits : Limits) (old : Shards) (trees : List Shape) (from to : ℕ) (
           spaces = words.spaces ∙ sound.kept.fits.spaces;
           bits = words.bits ∙ sound.kept.fits.bits;
           present = words.present;
+          some = omega (arith, sound.kept.fits.some, words.count);
           count = count ∙ sound.kept.fits.count;
           frame = frame_after;
           listed = listed_after;

@@ -149,6 +149,7 @@ module _ (limits : Limits) (old : Shards) (trees : List Shape) (sound : IsSound 
       present = sound.kept.fits.present;
       spaces = refl;
       bits = refl;
+      count = refl;
       forth = λ p e within stood. stood;
       back = λ q x within stood. record { place = q; entry = x; within = within; stood = stood; to = refl };
     };
@@ -342,7 +343,7 @@ module _ (limits : Limits) (old : Shards) (trees : List Shape) (sound : IsSound 
               other p (inr (none, stays)) to = as_last p none ∙ one_other (pair_of t) p (apart_back p t.source (ap (λ y. same_place y t.source) (sym stays ∙ to) ∙ not_source)) ∙ sym stays
 
       moved_words : AreWordsMoved limits more old next
-      moved_words = record { present = m.present; spaces = m.layout.spaces ∙ words.spaces; bits = m.layout.bits ∙ words.bits; forth = forth; back = back }
+      moved_words = record { present = m.present; spaces = m.layout.spaces ∙ words.spaces; bits = m.layout.bits ∙ words.bits; count = m.layout.count ∙ words.count; forth = forth; back = back }
 
       pub step_moved : (all : Counts) → all ≡ add_counts counts one → AreMoving limits h old ts (i + 1) next all
       step_moved all all_is =

@@ -40,6 +40,7 @@ use Rattle.holdings.proofs.Stripping.Walks.{place_any}
 use Rattle.holdings.proofs.Stripping.Sequences.{AreStripped, rising_at}
 use Rattle.holdings.proofs.Stripping.Outer.{outer_word, outer_strip}
 use Rattle.holdings.proofs.Contents.WordChanges.{frame_from, place_kept}
+use Rattle.space.proofs.ShardWords.{held_have_words}
 
 -- sound words and trees are loose
 pub loose_from : (shards : Shards) (trees : List Shape) → AreSound shards trees → AreLoose shards trees
@@ -47,6 +48,7 @@ loose_from shards trees sound = record {
   fits = sound.kept.fits;
   within = sound.pruned.within;
   frames = λ frame p e listed is. let k = frame_from frame (entry_at shards p) (sound.pruned.held frame p listed) in by e k.0 (sym is ∙ k.1) k.2;
+  words = λ frame p listed. let k = frame_from frame (entry_at shards p) (sound.pruned.held frame p listed) in held_have_words shards p k.0 k.1;
   lawful = sound.kept.lawful;
 }
   where
@@ -356,6 +358,7 @@ module _ (shards : Shards) (trees : List Shape) (sound : AreSound shards trees) 
             spaces = refl;
             bits = refl;
             present = done.loose.fits.present;
+            some = done.loose.fits.some;
             count = refl;
             frame = λ p e within is. subst (λ n. e.frame < n) (sym set.count) (done.loose.fits.frame p e (subst (λ l. IsWithin l p) limits_new within) is);
             listed = λ p e within is. (tree_there e.frame (or_not e.frame) p (ap is_some is)).0 ∙ done.loose.fits.listed p e (subst (λ l. IsWithin l p) limits_new within) is;

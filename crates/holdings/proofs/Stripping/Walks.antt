@@ -44,7 +44,8 @@ use Rattle.std.proofs.lemmas.List.{length-drop}
 use Rattle.std.proofs.Math.Bool.{or-false}
 use Rattle.holdings.proofs.Contents.Holders.{held_within, absent_within, origin_within}
 use Rattle.holdings.proofs.Trees.Chains.{is_among, among_at, place_at_drop, below_among, entry_held}
-use Rattle.holdings.proofs.Contents.WordChanges.{place_kept}
+use Rattle.holdings.proofs.Contents.WordChanges.{place_kept, word_kept}
+use Rattle.holdings.specs.Inner.Words.{IsThere}
 
 -- ---- unions of status
 
@@ -227,6 +228,7 @@ loose_after old new trees loose lost lawful = record {
     spaces = refl;
     bits = refl;
     present = lost.present;
+    some = omega (arith, loose.fits.some, lost.layout.count);
     count = refl;
     frame = λ p e within is. let k = lost.frames p (place p within) e is in subst (λ n. n < length trees) k.2 (loose.fits.frame p k.0 (back p within) k.1);
     listed = λ p e within is. let k = lost.frames p (place p within) e is in subst (λ n. is_listed trees n p ≡ true) k.2 (loose.fits.listed p k.0 (back p within) k.1);
@@ -236,6 +238,7 @@ loose_after old new trees loose lost lawful = record {
       let inside = within_from_place (limits_in old trees) p (loose.within frame p listed) in
       let k = lost.frames p (record { space = inside.space; page = inside.page }) e is in
       sym k.2 ∙ loose.frames frame p k.0 listed k.1;
+  words = λ frame p listed. word_kept old new lost.layout p (loose.words frame p listed);
   lawful = lawful;
 }
   where
@@ -410,11 +413,15 @@ place_any [] i d e within = absurd (omega (arith, within))
 place_any (o ∷ os) zero d e within = refl
 place_any (o ∷ os) (suc i) d e within = place_any os i d e (omega (arith, within))
 
--- a place that stands in a tree has a word
+-- a place that stands in a tree is one
 pub standing_place : (shards : Shards) (trees : List Shape) (frame : ℕ) → AreLoose shards trees → (p : Place) → is_listed trees frame p ≡ true → IsPlace shards p
 standing_place shards trees frame loose p stands = let inside = within_from_place (limits_in shards trees) p (loose.within frame p stands) in record { space = inside.space; page = inside.page }
 
--- a listed place has a word
+-- and its shard is there
+pub standing_there : (shards : Shards) (trees : List Shape) (frame : ℕ) → AreLoose shards trees → (p : Place) → is_listed trees frame p ≡ true → IsThere shards p
+standing_there shards trees frame loose p stands = record { place = standing_place shards trees frame loose p stands; word = loose.words frame p stands }
+
+-- a listed place is one
 pub listed_place : (shards : Shards) (trees : List Shape) (frame : ℕ) → AreLoose shards trees → (i : ℕ) (p : Place) → i < length (links_in trees frame) → ((d : Place) → place_at (links_in trees frame) i d ≡ p) → IsPlace shards p
 listed_place shards trees frame loose i p within at =
     standing_place shards trees frame loose p (subst (λ q. is_listed trees frame q ≡ true) (at p) (listed_at (links_in trees frame) i p within))

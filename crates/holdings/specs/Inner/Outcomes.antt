@@ -1,14 +1,11 @@
--- The outcome of a pair, from one tree, and those of the first pages of an item.
+-- The outcome of a pair, from one tree.
 use Rattle.std.specs.Option.{option_map_or}
-use Rattle.std.specs.Prelude.{◌≡◌, ℕ, ◌<◌, true, ◌&&◌, false, List, length, get_or}
+use Rattle.std.specs.Prelude.{◌≡◌, true, ◌&&◌, false}
 use Rattle.fpage.specs.declared.item.ItemKind.{ItemKind}
 use Rattle.space.specs.Place.{same_place}
 use Rattle.space.specs.declared.place.Place.{Place}
 use Rattle.maptree.specs.Origins.{Origins, origin_in, LeadsTo}
-use Rattle.model.specs.Holdings.{Holdings}
-use Rattle.model.specs.Items.{is_map, fate}
-use Rattle.holdings.specs.Sending.{fate_of_outcome, job_of_pages, page_on}
-use Rattle.holdings.specs.declared.item_pages.ItemPages.{ItemPages}
+use Rattle.model.specs.Items.{is_map}
 use Rattle.holdings.specs.declared.outcome.Outcome.{Outcome}
 use Rattle.holdings.specs.declared.outcome.Outcome.TheVariants as outcome
 
@@ -18,8 +15,3 @@ pub record IsOutcomeIn (os : Origins) (kind : ItemKind) (source target : Place) 
   pub origin : LeadsTo os 1 source target → o ≡ outcome.Origin
   pub extends : (LeadsTo os 1 source target → ⊥) → (is_map kind && option_map_or (same_place source) (origin_in os target) false) ≡ true → o ≡ outcome.Extends
   pub goes : (LeadsTo os 1 source target → ⊥) → (is_map kind && option_map_or (same_place source) (origin_in os target) false) ≡ false → o ≡ outcome.Goes
-
--- the outcomes of the first pages of an item
-pub record AreOutcomesUpTo (h : Holdings) (p : ItemPages) (i : ℕ) (os : List Outcome) : Type 0 where
-  pub count : length os ≡ i
-  pub each : (k : ℕ) (d : Outcome) → k < i → fate_of_outcome (get_or os k d) ≡ fate h (job_of_pages p) (page_on p.source k, page_on p.target k)

@@ -6,6 +6,7 @@ use Rattle.fpage.specs.declared.rights.Access.{Access}
 use Rattle.fpage.specs.declared.rights.Rights.{Rights}
 use Rattle.space.specs.declared.place.Place.{Place}
 use Rattle.space.specs.declared.shards.Shards.{Shards}
+use Rattle.space.specs.Shards.{HasWord}
 use Rattle.mapnode.specs.Slices.{pieces}
 use Rattle.maptree.specs.Origins.{Shape}
 use Rattle.model.specs.Calls.{Limits}
@@ -39,7 +40,7 @@ pub record IsPhaseLeft (limits : Limits) (holdings : Holdings) (shards : Shards)
 -- accesses in pieces are those accesses in list order
 abbrev pub TouchesAreAccesses : Type 0
 TouchesAreAccesses =
-    (s : Shards) (trees : List Shape) → AreSound s trees → (w : List ℕ) → AreWordsOf s w → (ts : List (Place × Access)) → All (λ t. IsWithin (limits_in s trees) t.0) ts → (most : ℕ) → 1 ≤ most
+    (s : Shards) (trees : List Shape) → AreSound s trees → (w : List ℕ) → AreWordsOf s w → (ts : List (Place × Access)) → All (λ t. IsWithin (limits_in s trees) t.0) ts → All (λ t. HasWord s t.0) ts → (most : ℕ) → 1 ≤ most
     → let ps = map piece.Touch (pieces (length (map (word_access s) ts)) most (map (word_access s) ts)) in
     CanBeWorked w ps × (flat_map (λ p. (value w p).answers) ps ≡ access_answers (holdings_in s trees) ts)
     × ((new : Shards) → IsWith s (worked w ps) new → IsPhaseLeft (limits_in s trees) (touched_all (holdings_in s trees) ts) new trees)
@@ -64,7 +65,7 @@ PlannedStripsAreStrips =
 -- the stores of a MapItem, in pieces, are its pages mapped, where the trees have the new mappings
 abbrev pub StoresAreMapped : Type 0
 StoresAreMapped =
-    (s : Shards) (trees : List Shape) → AreSound s trees → (rights : Rights) (ts : List Transfer) → ArePlanned (limits_in s trees) ts → AreReady (holdings_in s trees) rights ts → (w : List ℕ) → AreWordsOf s w → (most : ℕ) → 1 ≤ most
+    (s : Shards) (trees : List Shape) → AreSound s trees → (rights : Rights) (ts : List Transfer) → ArePlanned (limits_in s trees) ts → AreReady (holdings_in s trees) rights ts → All (λ t. HasWord s t.target) ts → (w : List ℕ) → AreWordsOf s w → (most : ℕ) → 1 ≤ most
     → let ps = map piece.Link (pieces (length (stores_of s rights ts)) most (stores_of s rights ts)) in
     CanBeWorked w ps
     × ((ahead : List Shape) → AreLinked (links_of s ts) trees ahead → (new : Shards) → IsWith s (worked w ps) new
@@ -73,7 +74,7 @@ StoresAreMapped =
 -- the pairs of a GrantItem, in pieces, are its pages moved, where the trees have the new places
 abbrev pub PairsAreMoved : Type 0
 PairsAreMoved =
-    (s : Shards) (trees : List Shape) → AreSound s trees → (ts : List Transfer) → ArePlanned (limits_in s trees) ts → AllGo ts → AreFree (holdings_in s trees) ts → (w : List ℕ) → AreWordsOf s w → (most : ℕ) → 1 ≤ most
+    (s : Shards) (trees : List Shape) → AreSound s trees → (ts : List Transfer) → ArePlanned (limits_in s trees) ts → AllGo ts → AreFree (holdings_in s trees) ts → All (λ t. HasWord s t.target) ts → (w : List ℕ) → AreWordsOf s w → (most : ℕ) → 1 ≤ most
     → let ps = map piece.Move (pieces (length (word_pairs s ts)) most (word_pairs s ts)) in
     CanBeWorked w ps
     × ((after : List Shape) → AreRenamed (λ p. last_target (links_of s ts) p None) (links_of s ts) trees after → (new : Shards) → IsWith s (worked w ps) new

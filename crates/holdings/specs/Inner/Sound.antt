@@ -1,6 +1,6 @@
 -- What words and trees keep while a database is not halted.
 use Rattle.std.specs.Prelude.{◌≡◌, ℕ, ◌<◌, true, List, length, Some, IsFalse}
-use Rattle.space.specs.Shards.{entry_at, spaces_of, bits_of, is_taken}
+use Rattle.space.specs.Shards.{HasWord, word_count, entry_at, spaces_of, bits_of, is_taken}
 use Rattle.space.specs.declared.place.Entry.{Entry}
 use Rattle.space.specs.declared.place.Place.{Place}
 use Rattle.space.specs.declared.shards.Shards.{Shards}
@@ -17,6 +17,8 @@ pub record IsFitting (limits : Limits) (shards : Shards) (trees : List Shape) : 
   pub spaces : spaces_of shards ≡ limits.spaces
   pub bits : bits_of shards ≡ limits.bits
   pub present : IsFalse (is_taken shards)
+  -- some shard is there, since some page was held at the start
+  pub some : 0 < word_count shards
   -- as many trees as frames
   pub count : length trees ≡ limits.frames
   -- each held place has one of the frames
@@ -50,4 +52,6 @@ pub record AreLoose (shards : Shards) (trees : List Shape) : Type 0 where
   pub fits : IsFitting (limits_in shards trees) shards trees
   pub within : (frame : ℕ) (p : Place) → is_listed trees frame p ≡ true → is_place (limits_in shards trees) p ≡ true
   pub frames : (frame : ℕ) (p : Place) (e : Entry) → is_listed trees frame p ≡ true → entry_at shards p ≡ Some e → e.frame ≡ frame
+  -- and its shard is there
+  pub words : (frame : ℕ) (p : Place) → is_listed trees frame p ≡ true → HasWord shards p
   pub lawful : is_lawful (holdings_in shards trees) ≡ true

@@ -6,6 +6,7 @@ use Rattle.fpage.specs.declared.rights.Rights.{Rights}
 use Rattle.space.specs.declared.place.Place.{Place}
 use Rattle.space.specs.declared.shards.Shards.{Shards}
 use Rattle.space.specs.Shards.{IsPlace}
+use Rattle.holdings.specs.Inner.Words.{IsThere}
 use Rattle.maptree.specs.Origins.{Origins, Shape, AreOuterRuns, AreRising, IsRun, are_once}
 use Rattle.maptree.specs.Cuts.{outside, kept_of}
 use Rattle.mapnode.specs.declared.node.Node.{Node}
@@ -57,9 +58,9 @@ pub record HaveRuns (trees : List Shape) (f : FrameRuns) : Type 0 where
 
 -- each of some pages has its own word, and the origin, which is none of them, has another
 pub record HaveWords (s : Shards) (origin : Option Place) (ps : List Place) : Type 0 where
-  pub places : All (IsPlace s) ps
+  pub places : All (IsThere s) ps
   pub once : come_once ps ≡ true
-  pub origin_stands : (o : Place) → origin ≡ Some o → IsPlace s o
+  pub origin_stands : (o : Place) → origin ≡ Some o → IsThere s o
   pub apart : (o : Place) → origin ≡ Some o → any_of ps o ≡ false
 
 -- the pages of a tree from a position up to another

@@ -8,7 +8,7 @@ use Rattle.maptree.specs.Origins.{Origins, Shape, origin_in}
 use Rattle.holdings.specs.Inner.Derivation.{stands_in}
 use Rattle.holdings.specs.Inner.Held.{links_in}
 
--- there is one for each word that is in use, and those of pages of so many frames stand there
+-- there is one for each word, and those of pages of so many frames stand there
 pub record AreOrigins (shards : Shards) (trees : List Shape) (frames : ℕ) (origins : List (Option Place)) : Type 0 where
   pub count : length origins ≡ length (words_of shards)
   pub stand : (p : Place) (e : Entry) (d : Option Place) → IsPlace shards p → entry_at shards p ≡ Some e → e.frame < frames

@@ -3,7 +3,7 @@ use Rattle.std.specs.Prelude.{◌≡◌, ℕ, List, length, map, slice_index, Is
 use Rattle.std.specs.List.{AllPass}
 use Rattle.space.specs.declared.place.Place.{Place}
 use Rattle.space.specs.declared.shards.Shards.{Shards}
-use Rattle.space.specs.Shards.{IsPlace, index_of, word_count, entry_at, is_taken, IsLaidOutAs}
+use Rattle.space.specs.Shards.{IsPlace, HasWord, index_of, word_count, entry_at, is_taken, IsLaidOutAs}
 use Rattle.space.specs.Word.{is_pack, entry_of}
 use Rattle.pieces.specs.Applied.{worked}
 use Rattle.pieces.specs.Gathering.{IsGathered}
@@ -12,7 +12,12 @@ use Rattle.pieces.specs.Values.{value}
 use Rattle.pieces.specs.declared.gathering.Gathered.{Gathered}
 use Rattle.pieces.specs.declared.piece.Piece.{Piece}
 
--- words of shards: as many, packs, and each place's word says what stands there
+-- a page of one of the spaces whose shard is there
+pub record IsThere (s : Shards) (p : Place) : Type 0 where
+  pub place : IsPlace s p
+  pub word : HasWord s p
+
+-- words of shards: as many, packs, and each place's word says what stands there; nothing does where there is none
 pub record AreWordsOf (s : Shards) (w : List ℕ) : Type 0 where
   pub count : length w ≡ word_count s
   pub packs : AllPass is_pack w

@@ -2,5 +2,5 @@
 use Rattle.holdings.specs.Inner.WordOrigins.{AreOrigins}
 use Rattle.holdings.proofs.origins.origins_by_word.Given as goal
 
-abbrev pub invariant-loop-tree : goal.invariant-loop-tree
-invariant-loop-tree l = AreOrigins l.shards l.trees l.tree-index l.origins.items
+abbrev pub invariant-loop-frame : goal.invariant-loop-frame
+invariant-loop-frame l = AreOrigins l.shards l.trees l.frame l.origins.items

@@ -3,7 +3,8 @@ use Rattle.std.proofs.Common.{◌≡◌, ℕ, ◌+◌, ◌<◌, ◌≤◌, ◌++
 use Rattle.std.specs.List.{All}
 use Rattle.std.proofs.lemmas.List.{length-map}
 use Rattle.space.specs.declared.shards.Shards.{Shards}
-use Rattle.space.specs.Shards.{IsPlace, index_of}
+use Rattle.space.specs.Shards.{index_of}
+use Rattle.holdings.specs.Inner.Words.{IsThere}
 use Rattle.mapnode.specs.declared.node.Node.{Node}
 use Rattle.pieces.specs.Contents.{is_fold_apart}
 use Rattle.pieces.specs.Distinct.{are_distinct}
@@ -54,7 +55,7 @@ next_of c =
     }
 
 pub indexes-requires : goal.indexes-requires
-indexes-requires c = subst (All (λ n. IsPlace c.args.shards.now n.place)) (sym c.deref.ensures.value) (next_of c).words.places
+indexes-requires c = subst (All (λ n. IsThere c.args.shards.now n.place)) (sym c.deref.ensures.value) (next_of c).words.places
 
 -- the indexes of the part's words
 abbrev indexes_of : Shards → List Node → List ℕ

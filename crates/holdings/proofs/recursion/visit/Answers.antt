@@ -131,3 +131,8 @@ returns-clause-loose c = (visited c c.node.result.place).loose
 
 pub returns-clause-layout : goal.returns-clause-layout
 returns-clause-layout c = (visited c c.node.result.place).layout
+
+pub loop-page-2-init : goal.loop-page-2-init
+loop-page-2-init c =
+    let end : c.loop-i.i ≡ c.args.run.now.end = omega (arith, c.loop-i-test.false, c.loop-i.auto.i-end, c.requires.some) in
+    subst (λ n. IsVisiting c.args.shards.now c.args.trees.now c.args.frame c.args.run.now.start c.node.result.place c.args.revoked c.args.flush n c.loop-i.begun.items c.loop-i.shards c.loop-i.status) end c.loop-i.invariant

@@ -9,6 +9,10 @@ pub returns-clause-whole_run : goal.returns-clause-whole_run
 unfolding digits next_record strip_bom records_from
 returns-clause-whole_run c = refl
 
+pub returns-clause-run_of_largest_spaces : goal.returns-clause-run_of_largest_spaces
+unfolding digits next_record strip_bom records_from
+returns-clause-run_of_largest_spaces c = refl
+
 pub returns-clause-run_of_header_alone : goal.returns-clause-run_of_header_alone
 unfolding digits next_record strip_bom records_from
 returns-clause-run_of_header_alone c = refl

@@ -1,9 +1,9 @@
 -- The laws of shards.
-use Rattle.space.proofs.ShardWords.{places_have_words, words_are_their_own, entries_fit, shards_have_words, words_have_shards}
+use Rattle.space.proofs.ShardWords.{held_have_words, words_are_their_own, entries_fit, shards_have_words, words_have_shards}
 use Rattle.space.proofs.laws.shard_words.Goals as goal
 
-pub returns-clause-places_have_words : goal.returns-clause-places_have_words
-returns-clause-places_have_words c = places_have_words
+pub returns-clause-held_have_words : goal.returns-clause-held_have_words
+returns-clause-held_have_words c = held_have_words
 
 pub returns-clause-words_are_their_own : goal.returns-clause-words_are_their_own
 returns-clause-words_are_their_own c = words_are_their_own

@@ -10,8 +10,9 @@ use Rattle.pieces.specs.declared.piece.Piece.TheVariants as piece
 use Rattle.pieces.specs.declared.touch.WordAccess.{WordAccess}
 use Rattle.holdings.specs.Contents.{Contents, AreAccessed}
 use Rattle.holdings.specs.Places.{IsWithin}
+use Rattle.holdings.specs.Inner.Faults.{is_there, with_faults}
 use Rattle.holdings.specs.Inner.Held.{contents_of}
-use Rattle.holdings.proofs.Phases.AccessPhase.{no_access, accesses_can, accesses_left, accesses_sound, accesses_answered}
+use Rattle.holdings.proofs.Phases.AccessPhase.{accesses_can, nothing_touched, all_faults, accesses_left, accesses_sound, accesses_answered}
 use Rattle.holdings.proofs.holdings.Holdings.access_all.Goals as goal
 
 -- the pieces are those of the accesses' words
@@ -37,17 +38,21 @@ returns g c =
     let d = c.self.inside in
     let within = subst (λ (s : Contents). All (λ (t : Place × Access). IsWithin s.limits t.0) c.args.accesses.now) (sym c.self.view_is) c.requires.within in
     let are = are_pieces c.in_ok-list.list.items _ c.piece_length.result c.in_ok-pieces.pieces.items c.in_ok-list.ensures c.in_ok-pieces.ensures in
-    subst (λ (old : Contents). AreAccessed old c.args.accesses.now (contents_of c.work_phase.new.shards d.trees.items, c.in_ok-found.found.answers)) c.self.view_is
+    subst (λ (old : Contents). AreAccessed old c.args.accesses.now (contents_of c.work_phase.new.shards d.trees.items, c.in_ok-answers-2.answers)) c.self.view_is
     (record {
       left = accesses_left d.shards d.trees.items c.self.invariant c.args.accesses.now within c.piece_length.result c.piece_length.ensures c.in_ok-pieces.pieces.items are c.work_phase.new.shards c.in_ok-found.found c.in_ok-found.ensures;
-      answers = accesses_answered d.shards d.trees.items c.self.invariant c.args.accesses.now within c.piece_length.result c.piece_length.ensures c.in_ok-pieces.pieces.items are c.work_phase.new.shards c.in_ok-found.found c.in_ok-found.ensures;
+      answers = c.in_ok-answers-2.ensures ∙ ap (with_faults (map (is_there c.work_phase.new.shards) c.args.accesses.now)) c.deref.ensures.value ∙ accesses_answered d.shards d.trees.items c.self.invariant c.args.accesses.now within c.piece_length.result c.piece_length.ensures c.in_ok-pieces.pieces.items are c.work_phase.new.shards c.in_ok-found.found c.in_ok-found.ensures;
     })
 
 pub returns-then-is_empty : goal.returns-then-is_empty
 returns-then-is_empty g c =
     let d = c.self.inside in
+    let within = subst (λ (s : Contents). All (λ (t : Place × Access). IsWithin s.limits t.0) c.args.accesses.now) (sym c.self.view_is) c.requires.within in
     let are = are_pieces c.in_ok-list.list.items _ c.piece_length.result c.in_ok-pieces.pieces.items c.in_ok-list.ensures c.in_ok-pieces.ensures in
     let empty = eqb-true c.in_ok-pieces.pieces.len 0 (sym c.is_empty.ensures ∙ c.if-is_empty.true) in
-    let none = no_access d.shards c.args.accesses.now c.piece_length.result (ap length (sym are) ∙ sym c.in_ok-pieces.pieces.ok.0 ∙ empty) in
-    subst (λ (ts : List (Place × Access)). AreAccessed c.args.self ts (contents_of d.shards d.trees.items, c.new.result)) (sym none)
-    (record { left = c.self.view_is; answers = c.new.ensures.items })
+    let none = sym c.in_ok-pieces.pieces.ok.0 ∙ empty in
+    subst (λ (old : Contents). AreAccessed old c.args.accesses.now (contents_of d.shards d.trees.items, c.in_ok-answers.answers)) c.self.view_is
+    (record {
+      left = nothing_touched d.shards d.trees.items c.self.invariant c.args.accesses.now within c.piece_length.result c.piece_length.ensures c.in_ok-pieces.pieces.items are none;
+      answers = c.in_ok-answers.ensures ∙ all_faults d.shards d.trees.items c.self.invariant c.args.accesses.now within c.piece_length.result c.piece_length.ensures c.in_ok-pieces.pieces.items are none;
+    })

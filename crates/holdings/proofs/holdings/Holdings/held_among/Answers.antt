@@ -14,54 +14,47 @@ use Rattle.holdings.proofs.Contents.Consistent.{consistent}
 use Rattle.holdings.proofs.Contents.HeldAmong.{next_kept, entries_held, none_held}
 use Rattle.holdings.proofs.holdings.Holdings.held_among.Goals as goal
 
-module _ (space page more end : ℕ) (some : page < end) (most : more ≤ end - page) where
-  -- the next page lies no further than the end
-  bounded : page + more ≤ end
-  bounded = omega (arith, some, most)
+module _ (space page next end : ℕ) (from : page ≤ next) (most : next ≤ end) (s : Shards) (trees : List Shape) (held : Contents) (is : contents_of s trees ≡ held) (less : space < held.limits.spaces) (within : end ≤ pages_of held.limits.bits) where
+  abbrev pages : List Place
+  pages = pages_from space page (next - page)
 
-  -- and so do the pages up to there
-  pages_bounded : (last : ℕ) → end ≤ last → page + (page + more - page) ≤ last
-  pages_bounded last within = omega (arith, some, most, within)
+  less_in : space < (limits_in s trees).spaces
+  less_in = subst (λ (h : Contents). space < h.limits.spaces) (sym is) less
 
-  fewer : (k : ℕ) → k < page + more - page → k < more
-  fewer k less = omega (arith, less)
+  within_in : page + (next - page) ≤ pages_of (limits_in s trees).bits
+  within_in = up (pages_of (limits_in s trees).bits) (subst (λ (h : Contents). end ≤ pages_of h.limits.bits) (sym is) within)
+    where
+      up : (last : ℕ) → end ≤ last → page + (next - page) ≤ last
+      up last inside = omega (arith, from, most, inside)
 
-  module _ (s : Shards) (trees : List Shape) (held : Contents) (is : contents_of s trees ≡ held) (less : space < held.limits.spaces) (within : end ≤ pages_of held.limits.bits) where
-    abbrev pages : List Place
-    pages = pages_from space page (page + more - page)
+  -- those with an entry are those that are held
+  looked_at : filter (has_entry s) pages ≡ filter (is_held held.holdings) pages
+  looked_at = entries_held s trees space page (next - page) less_in within_in ∙ ap (λ (h : Contents). filter (is_held h.holdings) pages) is
 
-    less_in : space < (limits_in s trees).spaces
-    less_in = subst (λ (h : Contents). space < h.limits.spaces) (sym is) less
-
-    within_in : page + (page + more - page) ≤ pages_of (limits_in s trees).bits
-    within_in = pages_bounded (pages_of (limits_in s trees).bits) (subst (λ (h : Contents). end ≤ pages_of h.limits.bits) (sym is) within)
-
-    -- those with an entry are those that are held
-    looked_at : filter (has_entry s) pages ≡ filter (is_held held.holdings) pages
-    looked_at = entries_held s trees space page (page + more - page) less_in within_in ∙ ap (λ (h : Contents). filter (is_held h.holdings) pages) is
-
-    -- where none has an entry, none is held
-    passed_over : ((k : ℕ) → k < more → entry_at s (record { space = space; page = page + k }) ≡ None) → filter (is_held held.holdings) pages ≡ []
-    passed_over absent = ap (λ (h : Contents). filter (is_held h.holdings) pages) (sym is) ∙ none_held s trees space page (page + more - page) less_in within_in (λ k on. absent k (fewer k on))
-
-pub loop-page-preserved-in_ok-add_held : goal.loop-page-preserved-in_ok-add_held
-loop-page-preserved-in_ok-add_held c =
-    let page = c.loop-page.page in
-    let more = c.pages_in_shard.result in
-    let so_far = c.loop-page.places.items in
-    let looked = looked_at c.args.space page more c.args.pages.end c.loop-page-test.true c.pages_in_shard.ensures.most c.self.inside.shards c.self.inside.trees.items c.args.self.now c.self.view_is c.requires.space c.requires.pages in
-    next_kept (is_held c.args.self.now.holdings) c.args.space page (page + more) c.args.pages.end so_far c.add_held.new.places.items _ (omega arith)
-    (bounded c.args.space page more c.args.pages.end c.loop-page-test.true c.pages_in_shard.ensures.most) (c.in_ok-add_held.ensures ∙ ap (λ (ps : List Place). so_far ++ ps) looked) c.loop-page.invariant
+  -- where none has an entry, none is held
+  passed_over : ((p : Place) → p.space ≡ space → page ≤ p.page → p.page < next → entry_at s p ≡ None) → filter (is_held held.holdings) pages ≡ []
+  passed_over absent =
+      ap (λ (h : Contents). filter (is_held h.holdings) pages) (sym is)
+      ∙ none_held s trees space page (next - page) less_in within_in (λ k on. absent (record { space = space; page = page + k }) refl (omega arith) (omega (arith, on)))
 
 pub loop-page-preserved : goal.loop-page-preserved
 loop-page-preserved c =
+    let s = c.self.inside.shards in
+    let trees = c.self.inside.trees.items in
+    let held = c.args.self.now in
+    let space = c.args.space in
     let page = c.loop-page.page in
-    let more = c.pages_in_shard.result in
+    let first = c.min-first.result in
+    let next = first + c.pages_in_shard.result in
+    let end = c.args.pages.end in
     let so_far = c.loop-page.places.items in
-    let passed = passed_over c.args.space page more c.args.pages.end c.loop-page-test.true c.pages_in_shard.ensures.most c.self.inside.shards c.self.inside.trees.items c.args.self.now c.self.view_is c.requires.space c.requires.pages
-    (λ k less. c.if-has.ensures.absent refl (record { space = c.args.space; page = page + k }) refl (c.pages_in_shard.ensures.shard k less)) in
-    next_kept (is_held c.args.self.now.holdings) c.args.space page (page + more) c.args.pages.end so_far so_far _ (omega arith)
-    (bounded c.args.space page more c.args.pages.end c.loop-page-test.true c.pages_in_shard.ensures.most) (sym (append-nil so_far) ∙ ap (λ (ps : List Place). so_far ++ ps) (sym passed)) c.loop-page.invariant
+    let from : page ≤ first = omega (arith, c.min-first.ensures, c.first_from.ensures.from, c.loop-page-test.true) in
+    let most : first ≤ end = omega (arith, c.min-first.ensures) in
+    let last : next ≤ end = omega (arith, most, c.pages_in_shard.ensures.most) in
+    let passed = passed_over space page first end from most s trees held c.self.view_is c.requires.space c.requires.pages (λ p same after before. c.first_from.ensures.absent p same after (omega (arith, before, c.min-first.ensures))) in
+    let looked = looked_at space first next end (omega arith) last s trees held c.self.view_is c.requires.space c.requires.pages in
+    let gap = next_kept (is_held held.holdings) space page first end so_far so_far _ from most (sym (append-nil so_far) ∙ ap (λ (ps : List Place). so_far ++ ps) (sym passed)) c.loop-page.invariant in
+    next_kept (is_held held.holdings) space first next end so_far c.add_held.new.places.items _ (omega arith) last (c.in_ok-add_held.ensures ∙ ap (λ (ps : List Place). so_far ++ ps) looked) gap
 
 -- what is held is consistent, whatever is returned
 pub returns-in_err-add_held-clause-consistent : goal.returns-in_err-add_held-clause-consistent

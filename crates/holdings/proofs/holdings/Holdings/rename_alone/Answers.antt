@@ -1,5 +1,5 @@
 -- The trees first, and then word by word.
-use Rattle.std.proofs.Common.{◌≡◌, ◌+◌, List, None, length, refl, sym, ap, subst, arith}
+use Rattle.std.proofs.Common.{◌≡◌, ◌∙◌, ◌+◌, List, None, length, refl, sym, ap, subst, arith}
 use Rattle.std.proofs.lemmas.List.{with_items_is}
 use Rattle.maptree.specs.Origins.{Shape}
 use Rattle.holdings.specs.Contents.{Contents, AreMoved}
@@ -12,119 +12,146 @@ use Rattle.holdings.specs.Inner.Renamings.{AreMovable, AreRenamed}
 use Rattle.holdings.proofs.Links.LinkedTrees.{no_transfer}
 use Rattle.holdings.proofs.Renamings.MovingWords.{AreMoving, none_moved, ends_apart, source_place, target_place, step, one_counts, all_moved}
 use Rattle.holdings.proofs.Renamings.MovingTrees.{movable, all_left, all_sound, same_limits}
+use Rattle.std.proofs.Common.{Option, Some, None, refl}
+use Rattle.space.specs.declared.place.Place.{Place}
+use Rattle.space.specs.declared.place.Entry.{Entry}
+use Rattle.space.specs.declared.shards.Shards.{Shards}
+use Rattle.space.specs.Shards.{HasWord, entry_at}
+use Rattle.model.specs.Items.{Counts}
+use Rattle.holdings.specs.Inner.Links.{IsPageLost}
+use Rattle.holdings.specs.Inner.Renamings.{IsPageMoved}
+use Rattle.holdings.proofs.Contents.WordChanges.{word_kept}
+use Rattle.holdings.proofs.Contents.SameEntries.{made_says, same_contents, sound_stays}
 use Rattle.holdings.proofs.holdings.Holdings.rename_alone.Goals as goal
+
+-- shards that are there stay
+words_stay : (old new : Shards) (source target : Place) (counts : Counts) → (entry_at old source ≡ None → IsPageLost old new counts) → ((e : Entry) → entry_at old source ≡ Some e → IsPageMoved old new source target e counts)
+    → (p : Place) → HasWord old p → HasWord new p
+words_stay old new source target counts lost mapped p has = by (entry_at old source) refl
+  where
+    by : (o : Option Entry) → entry_at old source ≡ o → HasWord new p
+    by None is = subst (λ s. HasWord s p) (sym (lost is).same) has
+    by (Some e) is = word_kept old new (mapped e is).layout p has
 
 pub rename_all-requires-clause-movable : goal.rename_all-requires-clause-movable
 rename_all-requires-clause-movable c =
-    let s = c.self.inside.shards in
+    let s = c.make_targets.new.shards in
     let t = c.self.inside.trees.items in
     let limits = limits_in s t in
     let ts = c.args.transfers.now in
-    let planned = subst (λ (h : Contents). ArePlanned h.limits ts) (sym c.self.view_is) c.requires.planned in
-    let free = subst (λ (h : Contents). AreFree h.holdings ts) (sym c.self.view_is) c.requires.free in
+    let planned = subst (λ (h : Contents). ArePlanned h.limits ts) (sym (same_contents c.self.inside.shards c.make_targets.new.shards c.self.inside.trees.items (made_says c.self.inside.shards c.make_targets.new.shards c.in_ok-make_targets.ensures.made c.in_ok-make_targets.ensures.present) ∙ c.self.view_is)) c.requires.planned in
+    let free = subst (λ (h : Contents). AreFree h.holdings ts) (sym (same_contents c.self.inside.shards c.make_targets.new.shards c.self.inside.trees.items (made_says c.self.inside.shards c.make_targets.new.shards c.in_ok-make_targets.ensures.made c.in_ok-make_targets.ensures.present) ∙ c.self.view_is)) c.requires.free in
     subst (λ (now : List Shape). AreMovable now (links_of s ts)) (sym c.deref_mut.ensures.value)
-    (movable limits s t c.self.invariant ts planned c.requires.all_go free (sym c.self.invariant.kept.fits.count))
+    (movable limits s t (sound_stays c.self.inside.shards c.make_targets.new.shards c.self.inside.trees.items (made_says c.self.inside.shards c.make_targets.new.shards c.in_ok-make_targets.ensures.made c.in_ok-make_targets.ensures.present) c.self.invariant) ts planned c.requires.all_go free (sym (sound_stays c.self.inside.shards c.make_targets.new.shards c.self.inside.trees.items (made_says c.self.inside.shards c.make_targets.new.shards c.in_ok-make_targets.ensures.made c.in_ok-make_targets.ensures.present) c.self.invariant).kept.fits.count))
 
 pub loop-transfer-init : goal.loop-transfer-init
 loop-transfer-init c =
-    let s = c.self.inside.shards in
+    let s = c.make_targets.new.shards in
     let t = c.self.inside.trees.items in
     let limits = limits_in s t in
     let ts = c.args.transfers.now in
-    let planned = subst (λ (h : Contents). ArePlanned h.limits ts) (sym c.self.view_is) c.requires.planned in
-    let free = subst (λ (h : Contents). AreFree h.holdings ts) (sym c.self.view_is) c.requires.free in
-    subst (λ (h : Contents). AreMoving h.limits h.holdings s ts 0 s (counts_of c.none-worked.result)) c.self.view_is
-    (subst (AreMoving limits (holdings_in s t) s ts 0 s) (sym c.none-worked.ensures) (none_moved limits s t c.self.invariant ts planned c.requires.all_go free))
+    let planned = subst (λ (h : Contents). ArePlanned h.limits ts) (sym (same_contents c.self.inside.shards c.make_targets.new.shards c.self.inside.trees.items (made_says c.self.inside.shards c.make_targets.new.shards c.in_ok-make_targets.ensures.made c.in_ok-make_targets.ensures.present) ∙ c.self.view_is)) c.requires.planned in
+    let free = subst (λ (h : Contents). AreFree h.holdings ts) (sym (same_contents c.self.inside.shards c.make_targets.new.shards c.self.inside.trees.items (made_says c.self.inside.shards c.make_targets.new.shards c.in_ok-make_targets.ensures.made c.in_ok-make_targets.ensures.present) ∙ c.self.view_is)) c.requires.free in
+    record {
+      moving =
+          subst (λ (h : Contents). AreMoving h.limits h.holdings s ts 0 s (counts_of c.none-worked.result)) (same_contents c.self.inside.shards c.make_targets.new.shards c.self.inside.trees.items (made_says c.self.inside.shards c.make_targets.new.shards c.in_ok-make_targets.ensures.made c.in_ok-make_targets.ensures.present) ∙ c.self.view_is)
+          (subst (AreMoving limits (holdings_in s t) s ts 0 s) (sym c.none-worked.ensures) (none_moved limits s t (sound_stays c.self.inside.shards c.make_targets.new.shards c.self.inside.trees.items (made_says c.self.inside.shards c.make_targets.new.shards c.in_ok-make_targets.ensures.made c.in_ok-make_targets.ensures.present) c.self.invariant) ts planned c.requires.all_go free));
+      there = c.in_ok-make_targets.ensures.there;
+    }
 
 pub move_page-one-requires-clause-source : goal.move_page-one-requires-clause-source
 move_page-one-requires-clause-source c =
-    let s = c.self.inside.shards in
+    let s = c.make_targets.new.shards in
     let t = c.self.inside.trees.items in
     let limits = limits_in s t in
     let ts = c.args.transfers.now in
-    let planned = subst (λ (h : Contents). ArePlanned h.limits ts) (sym c.self.view_is) c.requires.planned in
-    let free = subst (λ (h : Contents). AreFree h.holdings ts) (sym c.self.view_is) c.requires.free in
-    let so_far = subst (λ (h : Contents). AreMoving h.limits h.holdings s ts c.loop-transfer.transfer-index c.loop-transfer.shards (counts_of c.loop-transfer.worked)) (sym c.self.view_is) c.loop-transfer.invariant in
-    source_place limits s t c.self.invariant ts planned c.requires.all_go free c.loop-transfer.transfer-index no_transfer c.loop-transfer-test.true c.loop-transfer.shards (counts_of c.loop-transfer.worked) so_far
+    let planned = subst (λ (h : Contents). ArePlanned h.limits ts) (sym (same_contents c.self.inside.shards c.make_targets.new.shards c.self.inside.trees.items (made_says c.self.inside.shards c.make_targets.new.shards c.in_ok-make_targets.ensures.made c.in_ok-make_targets.ensures.present) ∙ c.self.view_is)) c.requires.planned in
+    let free = subst (λ (h : Contents). AreFree h.holdings ts) (sym (same_contents c.self.inside.shards c.make_targets.new.shards c.self.inside.trees.items (made_says c.self.inside.shards c.make_targets.new.shards c.in_ok-make_targets.ensures.made c.in_ok-make_targets.ensures.present) ∙ c.self.view_is)) c.requires.free in
+    let so_far = subst (λ (h : Contents). AreMoving h.limits h.holdings s ts c.loop-transfer.transfer-index c.loop-transfer.shards (counts_of c.loop-transfer.worked)) (sym (same_contents c.self.inside.shards c.make_targets.new.shards c.self.inside.trees.items (made_says c.self.inside.shards c.make_targets.new.shards c.in_ok-make_targets.ensures.made c.in_ok-make_targets.ensures.present) ∙ c.self.view_is)) c.loop-transfer.invariant.moving in
+    source_place limits s t (sound_stays c.self.inside.shards c.make_targets.new.shards c.self.inside.trees.items (made_says c.self.inside.shards c.make_targets.new.shards c.in_ok-make_targets.ensures.made c.in_ok-make_targets.ensures.present) c.self.invariant) ts planned c.requires.all_go free c.loop-transfer.transfer-index no_transfer c.loop-transfer-test.true c.loop-transfer.shards (counts_of c.loop-transfer.worked) so_far
 
 pub move_page-one-requires-clause-target : goal.move_page-one-requires-clause-target
 move_page-one-requires-clause-target c =
-    let s = c.self.inside.shards in
+    let s = c.make_targets.new.shards in
     let t = c.self.inside.trees.items in
     let limits = limits_in s t in
     let ts = c.args.transfers.now in
-    let planned = subst (λ (h : Contents). ArePlanned h.limits ts) (sym c.self.view_is) c.requires.planned in
-    let free = subst (λ (h : Contents). AreFree h.holdings ts) (sym c.self.view_is) c.requires.free in
-    let so_far = subst (λ (h : Contents). AreMoving h.limits h.holdings s ts c.loop-transfer.transfer-index c.loop-transfer.shards (counts_of c.loop-transfer.worked)) (sym c.self.view_is) c.loop-transfer.invariant in
-    target_place limits s t c.self.invariant ts planned c.requires.all_go free c.loop-transfer.transfer-index no_transfer c.loop-transfer-test.true c.loop-transfer.shards (counts_of c.loop-transfer.worked) so_far
+    let planned = subst (λ (h : Contents). ArePlanned h.limits ts) (sym (same_contents c.self.inside.shards c.make_targets.new.shards c.self.inside.trees.items (made_says c.self.inside.shards c.make_targets.new.shards c.in_ok-make_targets.ensures.made c.in_ok-make_targets.ensures.present) ∙ c.self.view_is)) c.requires.planned in
+    let free = subst (λ (h : Contents). AreFree h.holdings ts) (sym (same_contents c.self.inside.shards c.make_targets.new.shards c.self.inside.trees.items (made_says c.self.inside.shards c.make_targets.new.shards c.in_ok-make_targets.ensures.made c.in_ok-make_targets.ensures.present) ∙ c.self.view_is)) c.requires.free in
+    let so_far = subst (λ (h : Contents). AreMoving h.limits h.holdings s ts c.loop-transfer.transfer-index c.loop-transfer.shards (counts_of c.loop-transfer.worked)) (sym (same_contents c.self.inside.shards c.make_targets.new.shards c.self.inside.trees.items (made_says c.self.inside.shards c.make_targets.new.shards c.in_ok-make_targets.ensures.made c.in_ok-make_targets.ensures.present) ∙ c.self.view_is)) c.loop-transfer.invariant.moving in
+    target_place limits s t (sound_stays c.self.inside.shards c.make_targets.new.shards c.self.inside.trees.items (made_says c.self.inside.shards c.make_targets.new.shards c.in_ok-make_targets.ensures.made c.in_ok-make_targets.ensures.present) c.self.invariant) ts planned c.requires.all_go free c.loop-transfer.transfer-index no_transfer c.loop-transfer-test.true c.loop-transfer.shards (counts_of c.loop-transfer.worked) so_far
 
 pub move_page-one-requires-clause-apart : goal.move_page-one-requires-clause-apart
 move_page-one-requires-clause-apart c =
-    let s = c.self.inside.shards in
+    let s = c.make_targets.new.shards in
     let t = c.self.inside.trees.items in
     let limits = limits_in s t in
     let ts = c.args.transfers.now in
-    let planned = subst (λ (h : Contents). ArePlanned h.limits ts) (sym c.self.view_is) c.requires.planned in
-    let free = subst (λ (h : Contents). AreFree h.holdings ts) (sym c.self.view_is) c.requires.free in
-    let so_far = subst (λ (h : Contents). AreMoving h.limits h.holdings s ts c.loop-transfer.transfer-index c.loop-transfer.shards (counts_of c.loop-transfer.worked)) (sym c.self.view_is) c.loop-transfer.invariant in
-    ends_apart limits s t c.self.invariant ts planned c.requires.all_go free c.loop-transfer.transfer-index no_transfer c.loop-transfer-test.true c.loop-transfer.shards (counts_of c.loop-transfer.worked) so_far
+    let planned = subst (λ (h : Contents). ArePlanned h.limits ts) (sym (same_contents c.self.inside.shards c.make_targets.new.shards c.self.inside.trees.items (made_says c.self.inside.shards c.make_targets.new.shards c.in_ok-make_targets.ensures.made c.in_ok-make_targets.ensures.present) ∙ c.self.view_is)) c.requires.planned in
+    let free = subst (λ (h : Contents). AreFree h.holdings ts) (sym (same_contents c.self.inside.shards c.make_targets.new.shards c.self.inside.trees.items (made_says c.self.inside.shards c.make_targets.new.shards c.in_ok-make_targets.ensures.made c.in_ok-make_targets.ensures.present) ∙ c.self.view_is)) c.requires.free in
+    let so_far = subst (λ (h : Contents). AreMoving h.limits h.holdings s ts c.loop-transfer.transfer-index c.loop-transfer.shards (counts_of c.loop-transfer.worked)) (sym (same_contents c.self.inside.shards c.make_targets.new.shards c.self.inside.trees.items (made_says c.self.inside.shards c.make_targets.new.shards c.in_ok-make_targets.ensures.made c.in_ok-make_targets.ensures.present) ∙ c.self.view_is)) c.loop-transfer.invariant.moving in
+    ends_apart limits s t (sound_stays c.self.inside.shards c.make_targets.new.shards c.self.inside.trees.items (made_says c.self.inside.shards c.make_targets.new.shards c.in_ok-make_targets.ensures.made c.in_ok-make_targets.ensures.present) c.self.invariant) ts planned c.requires.all_go free c.loop-transfer.transfer-index no_transfer c.loop-transfer-test.true c.loop-transfer.shards (counts_of c.loop-transfer.worked) so_far
 
 pub move_page-one-requires-clause-present : goal.move_page-one-requires-clause-present
-move_page-one-requires-clause-present c = c.loop-transfer.invariant.words.present
+move_page-one-requires-clause-present c = c.loop-transfer.invariant.moving.words.present
 
 pub plus-worked-requires : goal.plus-worked-requires
 plus-worked-requires c =
-    let s = c.self.inside.shards in
+    let s = c.make_targets.new.shards in
     let t = c.self.inside.trees.items in
     let limits = limits_in s t in
     let ts = c.args.transfers.now in
-    let planned = subst (λ (h : Contents). ArePlanned h.limits ts) (sym c.self.view_is) c.requires.planned in
-    let free = subst (λ (h : Contents). AreFree h.holdings ts) (sym c.self.view_is) c.requires.free in
-    let so_far = subst (λ (h : Contents). AreMoving h.limits h.holdings s ts c.loop-transfer.transfer-index c.loop-transfer.shards (counts_of c.loop-transfer.worked)) (sym c.self.view_is) c.loop-transfer.invariant in
-    one_counts limits s t c.self.invariant ts planned c.requires.all_go free c.loop-transfer.transfer-index no_transfer c.loop-transfer-test.true c.loop-transfer.shards (counts_of c.loop-transfer.worked) so_far c.move_page-one.new.shards (counts_of c.move_page-one.result) c.move_page-one.ensures.lost c.move_page-one.ensures.moved
+    let planned = subst (λ (h : Contents). ArePlanned h.limits ts) (sym (same_contents c.self.inside.shards c.make_targets.new.shards c.self.inside.trees.items (made_says c.self.inside.shards c.make_targets.new.shards c.in_ok-make_targets.ensures.made c.in_ok-make_targets.ensures.present) ∙ c.self.view_is)) c.requires.planned in
+    let free = subst (λ (h : Contents). AreFree h.holdings ts) (sym (same_contents c.self.inside.shards c.make_targets.new.shards c.self.inside.trees.items (made_says c.self.inside.shards c.make_targets.new.shards c.in_ok-make_targets.ensures.made c.in_ok-make_targets.ensures.present) ∙ c.self.view_is)) c.requires.free in
+    let so_far = subst (λ (h : Contents). AreMoving h.limits h.holdings s ts c.loop-transfer.transfer-index c.loop-transfer.shards (counts_of c.loop-transfer.worked)) (sym (same_contents c.self.inside.shards c.make_targets.new.shards c.self.inside.trees.items (made_says c.self.inside.shards c.make_targets.new.shards c.in_ok-make_targets.ensures.made c.in_ok-make_targets.ensures.present) ∙ c.self.view_is)) c.loop-transfer.invariant.moving in
+    one_counts limits s t (sound_stays c.self.inside.shards c.make_targets.new.shards c.self.inside.trees.items (made_says c.self.inside.shards c.make_targets.new.shards c.in_ok-make_targets.ensures.made c.in_ok-make_targets.ensures.present) c.self.invariant) ts planned c.requires.all_go free c.loop-transfer.transfer-index no_transfer c.loop-transfer-test.true c.loop-transfer.shards (counts_of c.loop-transfer.worked) so_far c.move_page-one.new.shards (counts_of c.move_page-one.result) c.move_page-one.ensures.lost c.move_page-one.ensures.moved
 
 pub loop-transfer-preserved : goal.loop-transfer-preserved
 loop-transfer-preserved c =
-    let s = c.self.inside.shards in
+    let s = c.make_targets.new.shards in
     let t = c.self.inside.trees.items in
     let limits = limits_in s t in
     let ts = c.args.transfers.now in
-    let planned = subst (λ (h : Contents). ArePlanned h.limits ts) (sym c.self.view_is) c.requires.planned in
-    let free = subst (λ (h : Contents). AreFree h.holdings ts) (sym c.self.view_is) c.requires.free in
-    let so_far = subst (λ (h : Contents). AreMoving h.limits h.holdings s ts c.loop-transfer.transfer-index c.loop-transfer.shards (counts_of c.loop-transfer.worked)) (sym c.self.view_is) c.loop-transfer.invariant in
-    subst (λ (h : Contents). AreMoving h.limits h.holdings s ts (c.loop-transfer.transfer-index + 1) c.move_page-one.new.shards (counts_of c.plus-worked.result)) c.self.view_is
-    (step limits s t c.self.invariant ts planned c.requires.all_go free c.loop-transfer.transfer-index no_transfer c.loop-transfer-test.true c.loop-transfer.shards (counts_of c.loop-transfer.worked) so_far c.move_page-one.new.shards (counts_of c.move_page-one.result) c.move_page-one.ensures.lost c.move_page-one.ensures.moved (counts_of c.plus-worked.result) c.plus-worked.ensures)
+    let planned = subst (λ (h : Contents). ArePlanned h.limits ts) (sym (same_contents c.self.inside.shards c.make_targets.new.shards c.self.inside.trees.items (made_says c.self.inside.shards c.make_targets.new.shards c.in_ok-make_targets.ensures.made c.in_ok-make_targets.ensures.present) ∙ c.self.view_is)) c.requires.planned in
+    let free = subst (λ (h : Contents). AreFree h.holdings ts) (sym (same_contents c.self.inside.shards c.make_targets.new.shards c.self.inside.trees.items (made_says c.self.inside.shards c.make_targets.new.shards c.in_ok-make_targets.ensures.made c.in_ok-make_targets.ensures.present) ∙ c.self.view_is)) c.requires.free in
+    let so_far = subst (λ (h : Contents). AreMoving h.limits h.holdings s ts c.loop-transfer.transfer-index c.loop-transfer.shards (counts_of c.loop-transfer.worked)) (sym (same_contents c.self.inside.shards c.make_targets.new.shards c.self.inside.trees.items (made_says c.self.inside.shards c.make_targets.new.shards c.in_ok-make_targets.ensures.made c.in_ok-make_targets.ensures.present) ∙ c.self.view_is)) c.loop-transfer.invariant.moving in
+    record {
+      moving =
+          subst (λ (h : Contents). AreMoving h.limits h.holdings s ts (c.loop-transfer.transfer-index + 1) c.move_page-one.new.shards (counts_of c.plus-worked.result)) (same_contents c.self.inside.shards c.make_targets.new.shards c.self.inside.trees.items (made_says c.self.inside.shards c.make_targets.new.shards c.in_ok-make_targets.ensures.made c.in_ok-make_targets.ensures.present) ∙ c.self.view_is)
+          (step limits s t (sound_stays c.self.inside.shards c.make_targets.new.shards c.self.inside.trees.items (made_says c.self.inside.shards c.make_targets.new.shards c.in_ok-make_targets.ensures.made c.in_ok-make_targets.ensures.present) c.self.invariant) ts planned c.requires.all_go free c.loop-transfer.transfer-index no_transfer c.loop-transfer-test.true c.loop-transfer.shards (counts_of c.loop-transfer.worked) so_far c.move_page-one.new.shards (counts_of c.move_page-one.result) c.move_page-one.ensures.lost c.move_page-one.ensures.moved (counts_of c.plus-worked.result) c.plus-worked.ensures);
+      there = λ k d less. words_stay c.loop-transfer.shards c.move_page-one.new.shards _ _ _ c.move_page-one.ensures.lost c.move_page-one.ensures.moved _ (c.loop-transfer.invariant.there k d less);
+    }
 
 pub invariant_of-result : goal.invariant_of-result
 invariant_of-result c =
-    let s = c.self.inside.shards in
+    let s = c.make_targets.new.shards in
     let t = c.self.inside.trees.items in
     let limits = limits_in s t in
     let ts = c.args.transfers.now in
-    let planned = subst (λ (h : Contents). ArePlanned h.limits ts) (sym c.self.view_is) c.requires.planned in
-    let free = subst (λ (h : Contents). AreFree h.holdings ts) (sym c.self.view_is) c.requires.free in
-    let so_far = subst (λ (h : Contents). AreMoving h.limits h.holdings s ts c.loop-transfer.transfer-index c.loop-transfer.shards (counts_of c.loop-transfer.worked)) (sym c.self.view_is) c.loop-transfer.invariant in
+    let planned = subst (λ (h : Contents). ArePlanned h.limits ts) (sym (same_contents c.self.inside.shards c.make_targets.new.shards c.self.inside.trees.items (made_says c.self.inside.shards c.make_targets.new.shards c.in_ok-make_targets.ensures.made c.in_ok-make_targets.ensures.present) ∙ c.self.view_is)) c.requires.planned in
+    let free = subst (λ (h : Contents). AreFree h.holdings ts) (sym (same_contents c.self.inside.shards c.make_targets.new.shards c.self.inside.trees.items (made_says c.self.inside.shards c.make_targets.new.shards c.in_ok-make_targets.ensures.made c.in_ok-make_targets.ensures.present) ∙ c.self.view_is)) c.requires.free in
+    let so_far = subst (λ (h : Contents). AreMoving h.limits h.holdings s ts c.loop-transfer.transfer-index c.loop-transfer.shards (counts_of c.loop-transfer.worked)) (sym (same_contents c.self.inside.shards c.make_targets.new.shards c.self.inside.trees.items (made_says c.self.inside.shards c.make_targets.new.shards c.in_ok-make_targets.ensures.made c.in_ok-make_targets.ensures.present) ∙ c.self.view_is)) c.loop-transfer.invariant.moving in
     let all = all_moved limits (holdings_in s t) s ts c.loop-transfer.transfer-index c.loop-transfer.shards (counts_of c.loop-transfer.worked) c.loop-transfer-test.false so_far in
     let renamed = subst (λ (now : List Shape). AreRenamed (λ p. last_target (links_of s ts) p None) (links_of s ts) now c.rename_all.new.trees) c.deref_mut.ensures.value c.in_ok-rename_all.ensures in
     let count : length c.rename_all.new.trees ≡ c.self.inside.trees.len = omega (arith, c.rename_all.auto.trees, ap length c.deref_mut.ensures.value, c.self.inside.trees.ok.0) in
     let same = with_items_is c.self.inside.trees c.rename_all.new.trees count in
-    subst (AreSound c.loop-transfer.shards) (sym same) (all_sound s t c.self.invariant ts planned c.requires.all_go free c.loop-transfer.shards c.rename_all.new.trees (links_of s ts) refl renamed all.0)
+    subst (AreSound c.loop-transfer.shards) (sym same) (all_sound s t (sound_stays c.self.inside.shards c.make_targets.new.shards c.self.inside.trees.items (made_says c.self.inside.shards c.make_targets.new.shards c.in_ok-make_targets.ensures.made c.in_ok-make_targets.ensures.present) c.self.invariant) ts planned c.requires.all_go free c.loop-transfer.shards c.rename_all.new.trees (links_of s ts) refl renamed all.0)
 
 pub returns : goal.returns
 returns c =
-    let s = c.self.inside.shards in
+    let s = c.make_targets.new.shards in
     let t = c.self.inside.trees.items in
     let limits = limits_in s t in
     let ts = c.args.transfers.now in
-    let planned = subst (λ (h : Contents). ArePlanned h.limits ts) (sym c.self.view_is) c.requires.planned in
-    let free = subst (λ (h : Contents). AreFree h.holdings ts) (sym c.self.view_is) c.requires.free in
-    let so_far = subst (λ (h : Contents). AreMoving h.limits h.holdings s ts c.loop-transfer.transfer-index c.loop-transfer.shards (counts_of c.loop-transfer.worked)) (sym c.self.view_is) c.loop-transfer.invariant in
+    let planned = subst (λ (h : Contents). ArePlanned h.limits ts) (sym (same_contents c.self.inside.shards c.make_targets.new.shards c.self.inside.trees.items (made_says c.self.inside.shards c.make_targets.new.shards c.in_ok-make_targets.ensures.made c.in_ok-make_targets.ensures.present) ∙ c.self.view_is)) c.requires.planned in
+    let free = subst (λ (h : Contents). AreFree h.holdings ts) (sym (same_contents c.self.inside.shards c.make_targets.new.shards c.self.inside.trees.items (made_says c.self.inside.shards c.make_targets.new.shards c.in_ok-make_targets.ensures.made c.in_ok-make_targets.ensures.present) ∙ c.self.view_is)) c.requires.free in
+    let so_far = subst (λ (h : Contents). AreMoving h.limits h.holdings s ts c.loop-transfer.transfer-index c.loop-transfer.shards (counts_of c.loop-transfer.worked)) (sym (same_contents c.self.inside.shards c.make_targets.new.shards c.self.inside.trees.items (made_says c.self.inside.shards c.make_targets.new.shards c.in_ok-make_targets.ensures.made c.in_ok-make_targets.ensures.present) ∙ c.self.view_is)) c.loop-transfer.invariant.moving in
     let all = all_moved limits (holdings_in s t) s ts c.loop-transfer.transfer-index c.loop-transfer.shards (counts_of c.loop-transfer.worked) c.loop-transfer-test.false so_far in
     let renamed = subst (λ (now : List Shape). AreRenamed (λ p. last_target (links_of s ts) p None) (links_of s ts) now c.rename_all.new.trees) c.deref_mut.ensures.value c.in_ok-rename_all.ensures in
     let count : length c.rename_all.new.trees ≡ c.self.inside.trees.len = omega (arith, c.rename_all.auto.trees, ap length c.deref_mut.ensures.value, c.self.inside.trees.ok.0) in
     let same = with_items_is c.self.inside.trees c.rename_all.new.trees count in
-    let left = all_left s t c.self.invariant ts planned c.requires.all_go free c.loop-transfer.shards c.rename_all.new.trees (links_of s ts) refl renamed all.0 in
-    let kept = same_limits s t c.self.invariant ts planned c.requires.all_go free c.loop-transfer.shards c.rename_all.new.trees (links_of s ts) refl renamed all.0 in
+    let left = all_left s t (sound_stays c.self.inside.shards c.make_targets.new.shards c.self.inside.trees.items (made_says c.self.inside.shards c.make_targets.new.shards c.in_ok-make_targets.ensures.made c.in_ok-make_targets.ensures.present) c.self.invariant) ts planned c.requires.all_go free c.loop-transfer.shards c.rename_all.new.trees (links_of s ts) refl renamed all.0 in
+    let kept = same_limits s t (sound_stays c.self.inside.shards c.make_targets.new.shards c.self.inside.trees.items (made_says c.self.inside.shards c.make_targets.new.shards c.in_ok-make_targets.ensures.made c.in_ok-make_targets.ensures.present) c.self.invariant) ts planned c.requires.all_go free c.loop-transfer.shards c.rename_all.new.trees (links_of s ts) refl renamed all.0 in
     subst (λ (now : List Shape). AreMoved c.args.self ts (contents_of c.loop-transfer.shards now, c.loop-transfer.worked)) (sym same)
-    (subst (λ (old : Contents). AreMoved old ts (contents_of c.loop-transfer.shards c.rename_all.new.trees, c.loop-transfer.worked)) c.self.view_is
+    (subst (λ (old : Contents). AreMoved old ts (contents_of c.loop-transfer.shards c.rename_all.new.trees, c.loop-transfer.worked)) (same_contents c.self.inside.shards c.make_targets.new.shards c.self.inside.trees.items (made_says c.self.inside.shards c.make_targets.new.shards c.in_ok-make_targets.ensures.made c.in_ok-make_targets.ensures.present) ∙ c.self.view_is)
     (record { left = λ i. record { limits = kept i; holdings = left i }; counted = all.1 }))

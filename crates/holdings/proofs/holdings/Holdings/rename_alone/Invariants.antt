@@ -1,7 +1,13 @@
--- The words of the pages so far moved.
+-- The words of the pages so far moved, and the shards of all targets.
+use Rattle.std.proofs.Common.{ℕ, ◌<◌, length, get_or}
+use Rattle.space.specs.Shards.{HasWord}
 use Rattle.holdings.specs.Meaning.{counts_of}
+use Rattle.holdings.specs.declared.transfer.Transfer.{Transfer}
 use Rattle.holdings.proofs.Renamings.MovingWords.{AreMoving}
 use Rattle.holdings.proofs.holdings.Holdings.rename_alone.Given as goal
 
 abbrev pub invariant-loop-transfer : goal.invariant-loop-transfer
-invariant-loop-transfer l = AreMoving l.fn.self.limits l.fn.self.holdings l.initial.shards l.transfers l.transfer-index l.shards (counts_of l.worked)
+invariant-loop-transfer l = record {
+  moving : AreMoving l.fn.self.limits l.fn.self.holdings l.initial.shards l.transfers l.transfer-index l.shards (counts_of l.worked);
+  there : (k : ℕ) (d : Transfer) → k < length l.transfers → HasWord l.shards (get_or l.transfers k d).target;
+}

@@ -16,7 +16,7 @@ returns-clause-set c =
     let s = c.args.self.now in
     let place = c.requires.place in
     let word = c.in-Some.word in
-    let stood : entry_of word ≡ entry_at s c.args.place = ap entry_of (c.in-Some.ensures.word ∙ ap (slice_index (words_of s)) c.index-index.ensures.index) in
+    let stood : entry_of word ≡ entry_at s c.args.place = ap entry_of (c.in-Some.ensures.word ∙ ap (slice_index (words_of s)) c.find-index.ensures) in
     let gains = pack_gains_status word c.args.status c.in-Some.ensures.pack c.if-word-eq0.false in
     let says = ap (λ bits. entry_of (bit_or word bits)) c.word_bits.ensures ∙ gains.2 ∙ ap (option_map (with_status c.args.status)) stood in
-    subst (IsSetAt s c.put.new.self c.args.place) says (c.put.ensures.set c.args.place (record { space = place.space; page = place.page }) (sym c.index-index.ensures.index))
+    subst (IsSetAt s c.put.new.self c.args.place) says (c.put.ensures.set c.args.place (record { space = place.space; page = place.page }) (sym c.find-index.ensures))

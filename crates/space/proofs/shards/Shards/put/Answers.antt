@@ -16,7 +16,7 @@ returns-clause-set c p place is =
     let within = words_reach s old held (index_of s p) (rw is c.requires.within) in
     let back = pack_gives_back c.args.word c.requires.pack in
     record {
-      there = rw (← is) (subst (λ w. entry_of (slice_index (slice_set old.items (index_of s p) w) (index_of s p)) ≡ entry_of c.args.word) back.1 (set_there s old held p place (entry_of c.args.word) back.0 within));
+      there = rw (← is) (subst (λ w. entry_of (slice_index (slice_set old.items (index_of s p) w) (index_of s p)) ≡ entry_of c.args.word) back.1 (set_there s old held p place within (entry_of c.args.word) back.0));
       elsewhere = rw (← is) (subst (λ w. (q : Place) → IsPlace s q → (q ≡ p → ⊥) → entry_of (slice_index (slice_set old.items (index_of s p) w) (index_of s q)) ≡ entry_at s q) back.1
-          (set_elsewhere s old held p place (entry_of c.args.word) back.0));
+          (set_elsewhere s old held p place within (entry_of c.args.word) back.0));
     }

@@ -1,19 +1,14 @@
--- The words reach the place, which changes nothing, and then its word is written.
-use Rattle.std.proofs.Common.{◌∙◌, sym, ap, ◌+◌, ◌*◌, ◌/◌}
-use Rattle.std.specs.Option.{option_copied_mut}
-use Rattle.space.proofs.ShardWords.{stays_filled}
+-- A word that is there is written; where none is, nothing stands and nothing is to.
+use Rattle.std.proofs.Common.{◌∙◌, sym, ap, arith}
+use Rattle.std.specs.Option.{option_copied}
+use Rattle.space.proofs.ShardWords.{unset, words_are_all}
 use Rattle.space.proofs.shards.Shards.set.Goals as goal
 
-pub returns-clause-set : goal.returns-clause-set
-returns-clause-set c =
+pub returns-then-index-len-clause-set : goal.returns-then-index-len-clause-set
+returns-then-index-len-clause-set c = c.write.ensures.set c.args.place c.requires.place (sym c.find-index.ensures)
+
+pub returns-else-index-len-clause-set : goal.returns-else-index-len-clause-set
+returns-else-index-len-clause-set c =
     let s = c.args.self.now in
-    let place = c.requires.place in
-    let held = sym c.as_mut.ensures.value ∙ ap option_copied_mut c.unwrap.ensures in
-    let up_to = (c.index-index.result / 64 + 1) * 64 in
-    let set = c.write.ensures.set c.args.place (record { space = place.space; page = place.page }) (sym c.index-index.ensures.index) in
-    record {
-      there = set.there;
-      elsewhere = λ q q_place apart.
-          set.elsewhere q (record { space = q_place.space; page = q_place.page }) apart
-          ∙ stays_filled s c.unwrap.result.now held up_to c.fill.new.words.items c.fill.ensures.items q;
-    }
+    let held = sym c.as_ref.ensures.value ∙ ap option_copied c.unwrap.ensures in
+    unset s c.args.place c.args.entry c.requires.has (λ has. absurd (omega (arith, has, c.find-index.ensures, words_are_all s c.unwrap.result.now held, c.len.ensures, c.unwrap.result.now.ok.0, c.if-index-len.false)))

@@ -1,0 +1,37 @@
+-- The directory of shards: which are there, and where.
+use Rattle.std.specs.Prelude.{◌≡◌, ℕ, ◌+◌}
+use Rattle.space.specs.declared.directory.Directory.{Directory}
+use Rattle.space.specs.Leaves as leaves
+
+-- the position of a shard that is not there
+abbrev pub nowhere : ℕ
+nowhere = leaves.nowhere
+
+-- how many shards there can be
+abbrev pub most_of : Directory → ℕ
+most_of d = d.most
+
+-- how many are there
+abbrev pub count_of : Directory → ℕ
+count_of d = d.count
+
+-- the leaf of a run of 128 shards
+abbrev pub leaf_in : Directory → ℕ → ℕ
+leaf_in d run = leaves.leaf_at d.leaves.items run
+
+-- the position of a shard
+abbrev pub position_in : Directory → ℕ → ℕ
+position_in d shard = leaves.position_at d.leaves.items d.positions.items shard
+
+-- each shard is where it was
+pub record IsSame (old new : Directory) : Type 0 where
+  pub most : most_of new ≡ most_of old
+  pub count : count_of new ≡ count_of old
+  pub positions : (shard : ℕ) → position_in new shard ≡ position_in old shard
+
+-- a shard was added behind the others
+pub record IsAdded (old new : Directory) (shard : ℕ) : Type 0 where
+  pub most : most_of new ≡ most_of old
+  pub count : count_of new ≡ count_of old + 1
+  pub there : position_in new shard ≡ count_of old
+  pub elsewhere : (other : ℕ) → (other ≡ shard → ⊥) → position_in new other ≡ position_in old other

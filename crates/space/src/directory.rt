@@ -1,0 +1,135 @@
+//! Where the words of each shard stand.
+
+ghost use Rattle.std.specs.Prelude.{◌≡◌};
+ghost use Rattle.space.specs.Leaves.{IsDirectory};
+
+use std::alloc::{AllocError, Global};
+
+/// How many shards one leaf finds.
+const LEAF_SHARDS: usize = 128;
+
+/// Stands for the position of a shard that is not there.
+const NOWHERE: u32 = u32::MAX;
+
+/// Where the words of each shard stand, counted in shards. A shard gets its position when it is added: the next one.
+///
+/// Positions stand in leaves of 128 shards each. A leaf is made with the first of its shards; until then the empty leaf stands for
+/// it, which comes first and in which no shard is there.
+#[derive(Drop)]
+pub struct Directory {
+    /// How many shards there can be, by number.
+    most: u32,
+    /// How many are there.
+    count: u32,
+    /// Which leaf finds the shards of each run of 128.
+    leaves: Vec<u32>,
+    /// The positions of the shards of each leaf, leaf behind leaf.
+    positions: Vec<u32>,
+    ghost found: { IsDirectory most count leaves.items positions.items },
+}
+
+impl Directory {
+    ghost use Rattle.std.specs.Prelude.{◌≡◌, ℕ, ◌+◌, ◌/◌, ◌<◌, ◌≤◌, ◌^◌, length, slice_index, IfOk, OnOk, OnErr, IsTrue, ◌↔◌};
+    ghost use Rattle.space.specs.Positions.{nowhere, most_of, count_of, position_in, leaf_in, IsAdded, IsSame};
+
+    /// A directory of so many shards, none of which is there.
+    ///
+    /// Fails where memory is refused.
+    pub fn new(alloc: Global, most: u32) -> Result<Self, AllocError>
+        requires few { most ≤ 2 ^ 23 }
+        ensures most { IfOk result (λ d. most_of d ≡ most) }
+        ensures count { IfOk result (λ d. count_of d ≡ 0) }
+        ensures none { IfOk result (λ d. (shard : ℕ) → position_in d shard ≡ nowhere) }
+    {
+        let runs = (most as usize).div_ceil(LEAF_SHARDS);
+        let leaves = vec![in alloc; 0; runs]?;
+        let positions = vec![in alloc; NOWHERE; LEAF_SHARDS]?;
+        Ok(Directory {
+            most,
+            count: 0,
+            leaves,
+            positions,
+        })
+    }
+
+    /// How many shards are there.
+    pub fn count(&self) -> u32
+        ensures count { result ≡ count_of self.now }
+        ensures few { count_of self.now ≤ most_of self.now }
+    {
+        self.count
+    }
+
+    /// Where the words of a shard stand; `NOWHERE` where it is not there.
+    pub fn position(&self, shard: usize) -> u32
+        requires { shard < most_of self.now }
+        ensures { result ≡ position_in self.now shard }
+    {
+        let leaf = self.leaves[shard / LEAF_SHARDS] as usize;
+        self.positions[leaf * LEAF_SHARDS + shard % LEAF_SHARDS]
+    }
+
+    /// Adds a shard that is not there, at the position behind the others.
+    ///
+    /// Fails where memory is refused; then each shard is where it was.
+    pub fn add(&mut self, shard: usize) -> Result<(), AllocError>
+        requires within { shard < most_of self.old }
+        requires absent { position_in self.old shard ≡ nowhere }
+        ensures ok { OnOk result (IsAdded self.old self.new shard) }
+        ensures err { OnErr result (IsSame self.old self.new) }
+    {
+        self.add_leaf(shard / LEAF_SHARDS)?;
+        self.put(shard);
+        Ok(())
+    }
+
+    /// Has a leaf of its own for a run of shards, if there is none yet.
+    fn add_leaf(&mut self, run: usize) -> Result<(), AllocError>
+        requires within { run < length self.old.leaves.items }
+        ensures same { IsSame self.old self.new }
+        ensures leaf { OnOk result (0 < leaf_in self.new run) }
+    {
+        if self.leaves[run] != 0 {
+            return Ok(());
+        }
+        let len = self.positions.len();
+        self.positions.resize(len + LEAF_SHARDS, NOWHERE)?;
+        self.leaves[run] = (len / LEAF_SHARDS) as u32;
+        Ok(())
+    }
+
+    /// Puts the next position at a shard whose leaf is there.
+    fn put(&mut self, shard: usize)
+        requires within { shard < most_of self.old }
+        requires absent { position_in self.old shard ≡ nowhere }
+        requires leaf { 0 < leaf_in self.old (shard / 128) }
+        ensures { IsAdded self.old self.new shard }
+    {
+        let leaf = self.leaves[shard / LEAF_SHARDS] as usize;
+        self.positions[leaf * LEAF_SHARDS + shard % LEAF_SHARDS] = self.count;
+        self.count += 1;
+    }
+
+    /// The first shard from one on that is there, or the end of those that are asked for. A leaf in which none is there is passed
+    /// over whole.
+    pub fn next(&self, from: usize, end: usize) -> usize
+        requires from { from ≤ end }
+        requires end { end ≤ most_of self.now }
+        ensures from { from ≤ result }
+        ensures end { result ≤ end }
+        ensures there { result < end → position_in self.now result < count_of self.now }
+        ensures skipped { (shard : ℕ) → from ≤ shard → shard < result → position_in self.now shard ≡ nowhere }
+    {
+        let mut shard = from;
+        while shard < end {
+            if self.leaves[shard / LEAF_SHARDS] == 0 {
+                shard = (shard / LEAF_SHARDS + 1) * LEAF_SHARDS;
+            } else if self.position(shard) == NOWHERE {
+                shard += 1;
+            } else {
+                return shard;
+            }
+        }
+        end
+    }
+}
