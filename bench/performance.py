@@ -32,6 +32,11 @@ from workers import CALLS, SPACES as REVOKED_SPACES, mapped, revocation  # noqa:
 RUNS = 3
 MILLION = 1_000_000
 SMALLEST = "l4map,1,2,18,1"
+SPARSE = "l4map,1,512,32,64"  # spaces of 1,048,576 pages, of which few are held
+DENSE = "l4map,1,2,32,1048576"  # all pages of a space are held
+LARGEST = "l4map,1,512,32,1048576"
+FEW_PAGES = "l4map,1,3,32,10"
+LARGE_PAGES = 1 << 20
 ONE_FRAME = "l4map,1,512,24,1"
 LAST = 511  # the last space
 MANY = 20_000  # calls of a kind, where they are short
@@ -41,7 +46,35 @@ FUNCTIONS = 12  # that a profile tells
 
 # What l4map may take beside the text of its trace: bytes a mapping, bytes an access of a run of accesses, and bytes at all.
 A_MAPPING, AN_ACCESS, BESIDE = 64, 32, 8 << 20
+# A mapping that has a shard of 64 words to itself, and a leaf of the directory; and what the audit takes for its words.
+A_SPARSE_MAPPING = A_MAPPING + 512 + 512 + 64 * 12
+A_ROOT = 32  # a page that a frame has at the start, where there are many
 A_CALL = 65_536  # accesses that are one call at most
+
+
+def sparse(pages):
+    """So many pages of 512 large spaces, each from the last one of its frame: mapped and accessed one by one. Then items and words
+    name whole spaces, nearly all of whose pages are absent, and the last one revokes all."""
+    chance, last = random.Random(7), [(0, frame) for frame in range(64)]
+    for number in range(pages):
+        sender, page = last[number % 64]
+        receiver = (sender + chance.randrange(1, 512)) % 512
+        target = chance.randrange(LARGE_PAGES)
+        yield f"send,{sender},{receiver},10,{target:x}008,{page:x}0c7"
+        yield f"access,{receiver},{target:x}000,w"
+        if receiver:
+            last[number % 64] = (receiver, target)
+    for space in range(0, 512, 32):
+        yield f"send,{space},{space + 1},10,8,16"
+        yield f"unmap,{space},0,10"
+    yield "unmap,0,0,17"
+
+
+def dense():
+    """All pages of a large space are mapped, and revoked."""
+    yield "send,0,1,10,8,17"
+    yield "unmap,0,0,12"
+    yield "unmap,0,0,17"
 
 
 class Compared(NamedTuple):
@@ -54,6 +87,7 @@ class Compared(NamedTuple):
     mappings: int = PAGES
     accesses_in_a_row: int = 0
     header: str = HEADER
+    a_mapping: int = A_MAPPING
 
 
 def compared():
@@ -66,8 +100,11 @@ def compared():
     yield Compared("`spread`: 100,000 records of 16 pages", spread(100_000), 2.5, PAGES + 511 * 16)
     yield Compared("`single`: one frame at 131,072 pages more", single(64 * PAGES), 3, PAGES + 32 * PAGES)
     yield Compared("`audit` of 1,028,096 mappings", audit(250), 2, 251 * PAGES)
-    yield Compared("a header alone, the largest limits", [], 1.5)
+    yield Compared("a header alone, 512 spaces of 24 bits and 4,096 frames", [], 1.5)
     yield Compared("a header alone, the smallest limits", [], 1.5, 1, header=SMALLEST)
+    yield Compared("`sparse`: 10,000 pages of 512 spaces of 32 bits", sparse(10_000), 1, 10_000, 63, SPARSE, A_SPARSE_MAPPING)
+    yield Compared("`dense`: 1,048,576 pages mapped and revoked", dense(), 2.5, 2 * LARGE_PAGES, header=DENSE)
+    yield Compared("`all roots`: 1,048,576 frames and no record", [], 2, LARGE_PAGES, header=LARGEST, a_mapping=A_ROOT)
 
 
 class Ran(NamedTuple):
@@ -173,7 +210,7 @@ def compare(bench):
         progress(it.name)
         trace = bench.trace(it.records, it.header)
         ours, plain = bench.in_turn(trace)
-        allowed = os.path.getsize(trace) + A_MAPPING * it.mappings + AN_ACCESS * it.accesses_in_a_row + BESIDE
+        allowed = os.path.getsize(trace) + it.a_mapping * it.mappings + AN_ACCESS * it.accesses_in_a_row + BESIDE
         times = f"{median(ours):,.1f}", f"{least(ours):,.1f}", f"{median(plain):,.1f}", f"{least(plain):,.1f}"
         ratio = f"{median(ours) / median(plain):.2f}", f"{it.aim:g}"
         row(it.name, *times, *ratio, mib(peak(ours)), mib(allowed / 1024), mib(peak(plain)))
@@ -309,6 +346,45 @@ def workers(bench):
         row(str(number), f"{(whole - made) / len(CALLS):,.1f}")
 
 
+def few_held():
+    """Ten pages of a large space, far apart."""
+    return [send(0, 1, frame, frame * 104_857) for frame in range(10)]
+
+
+def thinly_held():
+    """A page at 1,000 places of 511 large spaces."""
+    chance = random.Random(11)
+    return [send(0, chance.randrange(1, 512), 0, chance.randrange(LARGE_PAGES)) for _ in range(1_000)]
+
+
+def large_spaces(bench):
+    """The fifth table: what spaces of 2^32 bytes cost of which little is held, and one that is held whole."""
+
+    def taken(header, records):
+        runs = [bench.run(bench.ours, bench.trace(records, header)) for _ in range(2 * RUNS)]
+        return min(run.processor for run in runs), min(run.peak for run in runs)
+
+    head("In spaces of 1,048,576 pages", "l4map", "at most")
+    progress("large spaces")
+    (small, small_peak), (large, large_peak) = taken(SMALLEST, []), taken("l4map,1,512,32,1", [])
+    row("start of 512 spaces, times that of two spaces of 64 pages", f"{large / small:.2f}", "1.5")
+    row("and MiB more", mib(large_peak - small_peak), "1")
+    start = taken(FEW_PAGES, few_held())[0]
+    for name, record in (("31 items", "send,1,2,10" + 31 * ",8,17"), ("64 words", "unmap,1,3f" + 64 * ",10")):
+        whole = taken(FEW_PAGES, [*few_held(), *1_000 * [record]])[0]
+        row(f"a record of {name}, each a whole space of which 10 pages are held", f"{whole - start:,.1f} us", "50 us")
+    audited, audited_peak = taken("l4map,1,512,32,1", thinly_held())
+    row("1,000 mappings over 511 spaces, made and audited", f"{audited - large:,.2f} ms", "2 ms")
+    row("bytes a mapping of these", f"{(audited_peak - large_peak) * 1024 / 1_000:,.0f}", f"{A_SPARSE_MAPPING:,}")
+    for count in (1, 4, 64):
+        progress(f"dense, {count} workers")
+        words, trace = [bench.ours[0], "--workers", str(count)], bench.trace(dense(), DENSE)
+        clock = statistics.median(bench.run(words, trace, f"dense_{count}.txt").clock for _ in range(RUNS))
+        if not filecmp.cmp(bench.path("dense_1.txt"), bench.path(f"dense_{count}.txt"), shallow=False):
+            sys.exit(f"performance.py: {count} workers write other bytes")
+        row(f"`dense` by {count} workers, by the clock", f"{clock:,.1f} ms", "")
+
+
 def given_up(rounds):
     """All pages go to space 1, which gives up one after another; again and again."""
     for _ in range(rounds):
@@ -352,7 +428,7 @@ def main():
             profiles(bench)
             return
         print(f"medians of {RUNS} runs; {version_of_rustc()}; {os.cpu_count()} processors\n")
-        for table in (compare, growth, one_page, workers):
+        for table in (compare, growth, one_page, workers, large_spaces):
             table(bench)
             print()
 

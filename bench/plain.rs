@@ -20,6 +20,8 @@ type Rights = u8;
 type Name = &'static str;
 
 const PAGE_BITS: u32 = 12;
+/// How many bits of a place are its page.
+const PLACE_BITS: u32 = 20;
 const ALL: Rights = 7;
 const MOST_ITEMS: usize = 31;
 /// The number of no mapping.
@@ -27,7 +29,7 @@ const NONE: u32 = u32::MAX;
 const BLOCK: usize = 1 << 16;
 
 fn place_of(space: u32, page: u32) -> Place {
-    space << PAGE_BITS | page
+    space << PLACE_BITS | page
 }
 
 fn main() -> ExitCode {
@@ -238,7 +240,7 @@ fn limits<R: Read>(header: &Records<R>) -> Result<Limits, Name> {
     }
     let number = |field| decimal(header.field(field), 7).ok_or("BadHeader");
     let (spaces, bits, frames) = (number(2)?, number(3)?, number(4)?);
-    if !(2..=512).contains(&spaces) || !(18..=24).contains(&bits) || !(1..=1 << (bits - PAGE_BITS)).contains(&frames) {
+    if !(2..=512).contains(&spaces) || !(18..=32).contains(&bits) || !(1..=1 << (bits - PAGE_BITS)).contains(&frames) {
         return Err("BadLimits");
     }
     Ok(Limits { spaces, bits, frames })
@@ -284,7 +286,7 @@ fn item(words: &[u32], bits: u32) -> Result<Item, Name> {
 /// A mapping, and where it stands in the tree.
 struct Mapping {
     place: Place,
-    frame: u16,
+    frame: u32,
     /// Those of one that is gone are empty.
     rights: Rights,
     status: Rights,
@@ -329,7 +331,7 @@ impl Database {
     fn new(limits: &Limits) -> Database {
         let mut database = Database::default();
         for frame in 0..limits.frames {
-            database.link(place_of(0, frame), frame as u16, ALL, NONE);
+            database.link(place_of(0, frame), frame, ALL, NONE);
         }
         database
     }
@@ -348,7 +350,7 @@ impl Database {
     }
 
     /// Makes a mapping, as the first one below its origin.
-    fn link(&mut self, place: Place, frame: u16, rights: Rights, origin: u32) {
+    fn link(&mut self, place: Place, frame: u32, rights: Rights, origin: u32) {
         let number = self.free.pop().unwrap_or(self.mappings.len() as u32);
         let behind = if origin == NONE { NONE } else { std::mem::replace(&mut self.at_mut(origin).first, number) };
         if behind != NONE {
@@ -559,7 +561,7 @@ impl<W: Write> Replay<W> {
             _ => return Err("BadRecord"),
         };
         self.check_space(space)?;
-        if address >> self.limits.bits != 0 {
+        if u64::from(address) >> self.limits.bits != 0 {
             return Err("OutOfSpace");
         }
         let is_ok = self.database.access(place_of(space, address >> PAGE_BITS), right, marks);
@@ -711,9 +713,9 @@ impl<W: Write> Output<W> {
     }
 
     fn place(&mut self, place: Place, between: &[u8]) {
-        self.number(place >> PAGE_BITS);
+        self.number(place >> PLACE_BITS);
         self.text(between);
-        self.number(place & ((1 << PAGE_BITS) - 1));
+        self.number(place & ((1 << PLACE_BITS) - 1));
     }
 
     fn end_line(&mut self) -> io::Result<()> {
