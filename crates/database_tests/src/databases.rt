@@ -14,7 +14,6 @@ use calls::{
 };
 use crew::{Crew, NoGate};
 use mapdb::{Database, DbError, Limits, SendReply};
-use space::Place;
 use std::alloc::{AllocError, Global};
 use std::process::Abort;
 use std::test::Fail;
@@ -103,28 +102,6 @@ fn refuses_limits_that_are_not_served(rt: HostRuntime) {
         };
         assert_equal(&rt, made(rt.alloc(), limits), expected, "limits");
     }
-}
-
-/// The pages of a space from one on that hold something come one after another.
-#[test]
-fn tells_the_next_page_that_is_held(rt: HostRuntime) -> Result<(), Fail> {
-    let rows = [
-        (0, 0, Some((0, 0))),
-        (0, 1, Some((0, 1))),
-        (0, 16_383, Some((0, 16_383))),
-        (0, 16_384, None),
-        (1, 0, None),
-        (1, 1_048_575, None),
-        (1, 1_048_576, None),
-        (0, u32::MAX, None),
-    ];
-    let database = Database::new(rt.alloc(), 2, 32, 16_384)?;
-    for (space, page, found) in rows {
-        let expected = found.map(|(space, page)| Place { space, page });
-        let found = database.next_held(space, page);
-        assert_equal(&rt, found, Ok(expected), "next");
-    }
-    Ok(())
 }
 
 /// Looks at how an error is written.
