@@ -863,7 +863,7 @@ REFUSALS = {"BadSize", "Misaligned", "OutOfSpace", "NotAnItem", "BadControl", "N
 
 
 def random_of_bits(cases, program, bits):
-    """Traces of spaces of so many bits: with as many spaces and frames as there can be, with each refusal, and without one."""
+    """Traces of spaces of so many bits: of as many spaces and frames as there can be, with each refusal and without."""
 
     def made(arguments):
         return run([program, *f"random --seed 1 --bits {bits} --shape fpages {arguments}".split()]).stdout
@@ -924,7 +924,7 @@ def check_many(cases, program):
 
 
 def check_large(cases, program):
-    """As many spaces of 32 bits as there can be, of which two hold a page; then as many frames. Each run has a minute."""
+    """As many spaces of 32 bits as there can be, of which two hold a page; then as many frames. A run has a minute."""
     with tempfile.TemporaryDirectory() as room:
         records = ["l4map,1,512,32,1", "send,0,511,10,fffff008,c6"]
         path = written(room, "spaces.csv", records)

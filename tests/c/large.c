@@ -1,5 +1,5 @@
-/* Spaces of 32 bits, of which a few pages are held: what lies at their ends, and what is said of all pages at once. Every
- * line is compared by c_library.py with one that was worked out by hand. */
+/* Spaces of 32 bits, of which a few pages are held: what lies at their ends, and what is said of all pages at once.
+ * Every line is compared by c_library.py with one that was worked out by hand. */
 
 #include "arena.h"
 #include "l4map.h"
