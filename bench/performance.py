@@ -53,8 +53,8 @@ A_CALL = 65_536  # accesses that are one call at most
 
 
 def sparse(pages):
-    """So many pages of 512 large spaces, each from the last one of its frame: mapped and accessed one by one. Then items
-    and words name whole spaces, nearly all of whose pages are absent, and the last one revokes all."""
+    """So many pages of 512 large spaces, each from the last one of its frame: mapped and accessed one by one. Then
+    items and words name whole spaces, nearly all of whose pages are absent, and the last one revokes all."""
     chance, last = random.Random(7), [(0, frame) for frame in range(64)]
     for number in range(pages):
         sender, page = last[number % 64]

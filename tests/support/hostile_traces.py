@@ -258,7 +258,7 @@ def many_spaces_with_every_page_held():
 
 
 def many_spaces_given_up():
-    """All pages of 512 spaces of 24 bits are held. Space 0 gives all up by one word, which returns R and X: none is left."""
+    """All pages of 512 spaces of 24 bits are held. Space 0 gives all up by one word, which returns R and X."""
     trace = Dialogue(SPACES, 24, PAGES)
     every_page_of_many_spaces(trace)
     trace.ask("unmap,0,40,17", "unmap 00000015")

@@ -621,8 +621,8 @@ mod tests {
         assert_eq!(database.access(Space(0), 0x1ffff, Access::Write), Ok(true));
     }
 
-    /// The last address is 0xffffffff. The mapping of its page is the sixteenth, the last of those that are asked for at
-    /// once.
+    /// The last address is 0xffffffff. The mapping of its page is the sixteenth, the last of those that are asked for
+    /// at once.
     #[test]
     fn the_last_page_of_the_largest_space() {
         let limits = Limits {
