@@ -19,7 +19,7 @@ WholeRun =
     ∷ codes "1,3,0,r--,---,0:0"
     ∷ codes "end 3 0" ∷ []))
 
--- the last page of a space of 2^32 bytes, and the last byte of an address
+-- the last page of a space of 2^32 bytes is mapped, written and asked for its status
 abbrev pub RunOfLargestSpaces : Type 0
 RunOfLargestSpaces =
     output_of (lines

@@ -200,12 +200,16 @@ module _ (s : Shards) (place : Place) (is_place : IsPlace s place) where
         let position : position_in s.directory (shard_of s.bits p) < count_of s.directory = rw shard low in
         omega (arith, position)
 
-    pub page_absent : ((k : ℕ) → shard_of s.bits place ≤ k → k < found → position_in s.directory k ≡ nowhere)
-        → (p : Place) → p.space ≡ place.space → place.page ≤ p.page → p.page < (found - before) * 64 → entry_at s p ≡ None
-    page_absent skipped p same after below =
+    pub page_skipped : ((k : ℕ) → shard_of s.bits place ≤ k → k < found → position_in s.directory k ≡ nowhere)
+        → (p : Place) → p.space ≡ place.space → place.page ≤ p.page → p.page < (found - before) * 64 → HasWord s p → ⊥
+    page_skipped skipped p same after below has =
         let spaces : p.space * shards_in ≡ before = ap (λ n. n * shards_in) same in
         let away = skipped (shard_of s.bits p) (omega (arith, spaces, after)) (omega (arith, spaces, below, from)) in
-        absent_unless s p (λ has. absurd (omega (arith, has, away, few_there s.directory.most s.directory.count s.directory.leaves.items s.directory.positions.items s.directory.found, s.directory.found.few)))
+        absurd (omega (arith, has, away, few_there s.directory.most s.directory.count s.directory.leaves.items s.directory.positions.items s.directory.found, s.directory.found.few))
+
+    pub page_absent : ((k : ℕ) → shard_of s.bits place ≤ k → k < found → position_in s.directory k ≡ nowhere)
+        → (p : Place) → p.space ≡ place.space → place.page ≤ p.page → p.page < (found - before) * 64 → entry_at s p ≡ None
+    page_absent skipped p same after below = absent_unless s p (page_skipped skipped p same after below)
 
 pub held_have_words : HeldHaveWords
 held_have_words s p e is = elim (within_or_past (index_of s p) (word_count s)) as (λ _. HasWord s p) [

@@ -31,8 +31,8 @@ has_leaf leaves run = nat_lt 0 (leaf_at leaves run)
 abbrev pub is_there : List ℕ → List ℕ → ℕ → Bool
 is_there leaves positions shard = not (position_at leaves positions shard == nowhere)
 
--- leaves of 128 positions each, the first of which is empty; each run has that one or one of its own; and shards that are there have
--- each a position of its own, below their number
+-- leaves of 128 positions each, the first of which is empty; each run has that one or one of its own; and shards that
+-- are there have each a position of its own, below their number
 pub record IsDirectory (most count : ℕ) (leaves positions : List ℕ) : Type 0 where
   pub few : most ≤ 2 ^ 23
   pub runs : length leaves ≡ div_ceil most 128

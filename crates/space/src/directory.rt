@@ -13,8 +13,8 @@ const NOWHERE: u32 = u32::MAX;
 
 /// Where the words of each shard stand, counted in shards. A shard gets its position when it is added: the next one.
 ///
-/// Positions stand in leaves of 128 shards each. A leaf is made with the first of its shards; until then the empty leaf stands for
-/// it, which comes first and in which no shard is there.
+/// Positions stand in leaves of 128 shards each. A leaf is made with the first of its shards; until then the empty leaf
+/// stands for it, which comes first and in which no shard is there.
 #[derive(Drop)]
 pub struct Directory {
     /// How many shards there can be, by number.
@@ -110,8 +110,8 @@ impl Directory {
         self.count += 1;
     }
 
-    /// The first shard from one on that is there, or the end of those that are asked for. A leaf in which none is there is passed
-    /// over whole.
+    /// The first shard from one on that is there, or the end of those that are asked for. A leaf in which none is there is
+    /// passed over whole.
     pub fn next(&self, from: usize, end: usize) -> usize
         requires from { from ≤ end }
         requires end { end ≤ most_of self.now }

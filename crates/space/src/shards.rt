@@ -31,8 +31,9 @@ pub struct Narrowed {
 
 /// A map from places to entries, kept as entry words (profile).
 ///
-/// The words lie in shards of 64 pages of one space, one shard behind another, in the order in which they were made. A directory tells
-/// where those of a place stand, if its shard is there; all other pages are absent. Only `new` and `make` take memory.
+/// The words lie in shards of 64 pages of one space, one shard behind another, in the order in which they were made. A
+/// directory tells where those of a place stand, if its shard is there; all other pages are absent. Only `new` and
+/// `make` take memory.
 #[derive(Drop)]
 pub struct Shards {
     spaces: u32,
@@ -56,13 +57,14 @@ impl Shards {
     ghost use Rattle.space.specs.Positions.{most_of};
     ghost use Rattle.space.specs.Shards.{spaces_of, bits_of, IsPlace, HasWord, word_count, index_of, is_taken, words_of, entry_at, IsLaidOutAs, IsMade, AreOnlyMade, IsSetAt, are_beside};
 
-    /// Spaces of `2^bits` bytes in which every page is absent.
+    /// Spaces of `2^bits` bytes in which every page is absent. No shard is there.
     ///
     /// Refused, where memory is: `NoMemory`.
     pub fn new(alloc: Global, spaces: u32, bits: u32) -> Result<Self, NoMemory>
         requires { AreLimits spaces bits }
         ensures spaces { IfOk result (λ s. spaces_of s ≡ spaces) }
         ensures bits { IfOk result (λ s. bits_of s ≡ bits) }
+        ensures empty { IfOk result (λ s. word_count s ≡ 0) }
         ensures absent { IfOk result (λ s. (p : Place) → IsPlace s p → entry_at s p ≡ None) }
         ensures present { IfOk result (λ s. IsFalse (is_taken s)) }
     {
@@ -133,7 +135,8 @@ impl Shards {
         1 << (self.bits - SHARD_BITS)
     }
 
-    /// Has the shards of some places there. What stands at each place stays, and each shard that is there is where it was.
+    /// Has the shards of some places there. What stands at each place stays, and each shard that is there is where it
+    /// was.
     ///
     /// Refused, where memory is: `NoMemory`; then the same is so, and some of the shards may be there.
     pub fn make(&mut self, places: &[Place]) -> Result<(), NoMemory>
@@ -183,8 +186,8 @@ impl Shards {
         Ok(())
     }
 
-    /// Whether the shard of a place is there, that is the words of the 64 pages of its space among which it is. Where it is not, each of
-    /// these pages is absent.
+    /// Whether the shard of a place is there, that is the words of the 64 pages of its space among which it is. Where it
+    /// is not, each of these pages is absent.
     pub fn has(&self, place: Place) -> bool
         requires place { IsPlace self.now place }
         ensures there { IsTrue result ↔ HasWord self.now place }
@@ -193,13 +196,14 @@ impl Shards {
         self.directory.position(self.shard(place)) < self.directory.count()
     }
 
-    /// The first page of a space, from a page on, whose shard is there; the end of the space where there is none. All pages before it
-    /// are absent. What is not there is passed over in runs of 8,192 pages.
+    /// The first page of a space, from a page on, whose shard is there; the end of the space where there is none. No page
+    /// before it has its shard there, so all are absent. What is not there is passed over in runs of 8,192 pages.
     pub fn first_from(&self, place: Place) -> u32
         requires place { IsPlace self.now place }
         ensures from { place.page ≤ result }
         ensures end { result ≤ pages_of (bits_of self.now) }
         ensures there { result < pages_of (bits_of self.now) → HasWord self.now (record { space = place.space; page = result }) }
+        ensures skipped { (p : Place) → p.space ≡ place.space → place.page ≤ p.page → p.page < result → HasWord self.now p → ⊥ }
         ensures absent { (p : Place) → p.space ≡ place.space → place.page ≤ p.page → p.page < result → entry_at self.now p ≡ None }
     {
         let from = self.shard(place);

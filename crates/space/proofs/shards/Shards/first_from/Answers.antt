@@ -2,7 +2,7 @@
 use Rattle.std.proofs.Common.{◌∙◌, subst, arith, ◌<◌}
 use Rattle.space.specs.Directory.{shard_of}
 use Rattle.space.specs.Positions.{position_in, count_of}
-use Rattle.space.proofs.ShardWords.{shard_before, page_end, page_there, page_absent}
+use Rattle.space.proofs.ShardWords.{shard_before, page_end, page_there, page_skipped, page_absent}
 use Rattle.space.proofs.shards.Shards.first_from.Goals as goal
 
 pub next-found-requires-clause-from : goal.next-found-requires-clause-from
@@ -30,6 +30,13 @@ returns-clause-there c =
     (page_there c.args.self.now c.args.place c.requires.place c.next-found.result (rw (← c.shard-from.ensures.shard) c.next-found.ensures.from)
     (rw (← c.shards_before-before.ensures, ← c.shards_in_space.ensures) c.next-found.ensures.end)
     (rw (← c.shards_before-before.ensures, ← c.shards_in_space.ensures) c.next-found.ensures.there))
+
+pub returns-clause-skipped : goal.returns-clause-skipped
+returns-clause-skipped c =
+    rw c.shards_before-before.ensures
+    (page_skipped c.args.self.now c.args.place c.requires.place c.next-found.result (rw (← c.shard-from.ensures.shard) c.next-found.ensures.from)
+    (rw (← c.shards_before-before.ensures, ← c.shards_in_space.ensures) c.next-found.ensures.end)
+    (rw (← c.shard-from.ensures.shard) c.next-found.ensures.skipped))
 
 pub returns-clause-absent : goal.returns-clause-absent
 returns-clause-absent c =
