@@ -100,8 +100,8 @@ impl<'a> Mappings<'a> {
         }
     }
 
-    /// The first mapping of a space from a page on; none where no page from there on holds anything. It passes over shards
-    /// that are not there without a look at their pages, but for the rest of the first one.
+    /// The first mapping of a space from a page on; none where no page from there on holds anything. It passes over
+    /// shards that are not there without a look at their pages, but for the rest of the first one.
     pub fn next_from(&self, from: Place) -> Option<Mapping>
         ensures next { MatchOption result (held_from self.now from.space from.page ≡ [])
             (λ m. held_from self.now from.space from.page ≡ mapped_of m ∷ held_from self.now from.space (m.place.page + 1)) }

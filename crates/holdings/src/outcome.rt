@@ -33,7 +33,7 @@ pub enum Outcome {
 }
 
 impl Holdings {
-    ghost use Rattle.std.specs.Prelude.{◌≡◌, ℕ, ◌<◌, ◌≤◌, None};
+    ghost use Rattle.std.specs.Prelude.{◌≡◌, ℕ, ◌/◌, ◌<◌, ◌≤◌, None};
     ghost use Rattle.model.specs.Holdings.{at};
     ghost use Rattle.model.specs.Items.{fate};
     ghost use Rattle.holdings.specs.Contents.{IsConsistent};
@@ -53,8 +53,8 @@ impl Holdings {
         outcome_of(shards, trees, pages.kind, pages.rights, source, target)
     }
 
-    /// The next pages of an item, from one on, whose sources may be held: those of one shard that is there. The sources of
-    /// all pages before them are absent. It passes over shards that are not there without a look at their pages.
+    /// The next pages of an item, from one on, whose sources may be held: those of one shard that is there. The sources
+    /// of all pages before them are absent. It passes over shards that are not there without a look at their pages.
     pub fn next_sources(&self, pages: &ItemPages, from: u32) -> Range<u32>
         requires pages { AreItemPages self.now.limits pages.now }
         requires within { from < pages.now.count }
@@ -63,6 +63,8 @@ impl Holdings {
         ensures further { from < result.end }
         ensures end { result.end ≤ pages.now.count }
         ensures absent { (i : ℕ) → from ≤ i → i < result.start → at self.now.holdings (page_on pages.now.source i) ≡ None }
+        ensures shard { (i : ℕ) → result.start ≤ i → i < result.end
+            → (page_on pages.now.source i).page / 64 ≡ (page_on pages.now.source result.start).page / 64 }
         ensures consistent { IsConsistent self.now }
     {
         let shards = &self.shards;
