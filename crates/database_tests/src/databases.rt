@@ -9,11 +9,12 @@ mod unmaps;
 
 use crate::assertions::assert_equal;
 use calls::{
-    ALL, Case, NO_PAIRS, NONE, READ, READ_EXECUTE, READ_WRITE, Step, WRITE_EXECUTE, expect,
+    ALL, Case, NO_PAIRS, NONE, READ, READ_EXECUTE, READ_WRITE, Step, WRITE_EXECUTE, expect, work,
     work_case,
 };
 use crew::{Crew, NoGate};
 use mapdb::{Database, DbError, Limits, SendReply};
+use space::Place;
 use std::alloc::{AllocError, Global};
 use std::process::Abort;
 use std::test::Fail;
@@ -153,5 +154,41 @@ fn maps_a_page_on(rt: HostRuntime) -> Result<(), Fail> {
         frames: 3,
     };
     work_case(&rt, rt.alloc(), &crew, limits, &[], &MAPPED_ON, false)?;
+    Ok(())
+}
+
+/// The first held page of a space, from a page on.
+fn next_held(
+    rt: &impl Abort,
+    database: &Database,
+    space: u16,
+    page: u32,
+) -> Result<Option<Place>, DbError> {
+    let limits = database.limits();
+    assert!(rt; u32::from(space) < limits.spaces);
+    database.next_held(space, page)
+}
+
+/// A page that is found.
+fn held(space: u16, page: u32) -> Option<Place> {
+    Some(Place { space, page })
+}
+
+#[test]
+fn finds_the_first_held_page_from_a_page_on(rt: HostRuntime) -> Result<(), Fail> {
+    let crew = Crew::new(&rt, 1, 256, &NoGate);
+    let mut database = Database::new(rt.alloc(), 3, 32, 2)?;
+    let step = Step::Map((0, 1), (1, 1_048_575));
+    work(&rt, &mut database, rt.alloc(), &crew, &step, false)?;
+    assert_equal(&rt, next_held(&rt, &database, 0, 0)?, held(0, 0), "0:0");
+    assert_equal(&rt, next_held(&rt, &database, 0, 1)?, held(0, 1), "0:1");
+    assert_equal(&rt, next_held(&rt, &database, 0, 2)?, None, "0:2");
+    let last = held(1, 1_048_575);
+    assert_equal(&rt, next_held(&rt, &database, 1, 0)?, last, "1:0");
+    let found = next_held(&rt, &database, 1, 1_048_575)?;
+    assert_equal(&rt, found, last, "1:1048575");
+    let found = next_held(&rt, &database, 1, 1_048_576)?;
+    assert_equal(&rt, found, None, "behind space 1");
+    assert_equal(&rt, next_held(&rt, &database, 2, 0)?, None, "2:0");
     Ok(())
 }

@@ -123,8 +123,8 @@ impl Database {
         Ok(held.origin(place))
     }
 
-    /// The first page of a space, from one on, that holds something; none where no page from there on does. Its time goes
-    /// with what is held or was, and not with the pages in between.
+    /// The first page of a space, from one on, that holds something; none where no page from there on does. Its time
+    /// goes with what is held or was, and not with the pages in between.
     ///
     /// Refused where the database is halted, `Halted`. Takes no memory.
     pub fn next_held(&self, space: u16, page: u32) -> Result<Option<Place>, DbError>

@@ -34,8 +34,8 @@ fn packs_and_unpacks_each_word_of_the_table(rt: HostRuntime) {
     assert_equal(&rt, unpack(absent), None, "absent");
 }
 
-/// Makes the shard of one place, sets the place, and lets its word change while the words are away; another place of another
-/// shard stays absent.
+/// Makes the shard of one place, sets the place, and lets its word change while the words are away; another place of
+/// another shard stays absent.
 fn goes_round(
     rt: &(impl AllocGlobal + Abort),
     spaces: u32,
