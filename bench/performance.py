@@ -2,12 +2,14 @@
 """l4map with one worker beside a plain program in Rust, on the same traces, in turn; and how the cost of l4map grows.
 
     bench/performance.py [--profile] [PROGRAM]
+    bench/performance.py --beside OTHER [PROGRAM]
 
 PROGRAM is crates/l4map/out/l4map, which build.sh makes, if it is not given. The other is plain.rs, built here by `rustc -O`, as is
 launch.rs, by which both are started. Both must write the same bytes. Printed are tables in Markdown: processor time (the user's
 and the system's) of three runs each, and the peak memory. Nothing here has a threshold: the aims stand beside what was measured.
 
-With --profile it prints instead in which functions of l4map the time of an access and of an unmap goes. That needs `perf`.
+With --profile it prints instead in which functions of l4map the time of an access and of an unmap goes. That needs `perf`. With
+--beside it prints instead what another l4map takes on the traces of the first table, of spaces that both serve, in turn.
 """
 
 import filecmp
@@ -30,6 +32,7 @@ from bench import (  # noqa: E402
 from workers import CALLS, SPACES as REVOKED_SPACES, mapped, revocation  # noqa: E402
 
 RUNS = 3
+RUNS_BESIDE = 7
 MILLION = 1_000_000
 SMALLEST = "l4map,1,2,18,1"
 SPARSE = "l4map,1,512,32,64"  # spaces of 1,048,576 pages, of which few are held
@@ -411,21 +414,42 @@ def profiles(bench):
     profile(bench, "Unmaps of one page", given_up(64))
 
 
+def beside(bench, other):
+    """Two programs l4map on each trace of spaces of 24 bits or fewer, in turn."""
+    head("Trace", "other ms", "least", "ms", "least", "times", "other MiB", "MiB")
+    for it in compared():
+        if it.header in (SPARSE, DENSE, LARGEST):
+            continue
+        progress(it.name)
+        trace, theirs, ours = bench.trace(it.records, it.header), [], []
+        for _ in range(RUNS_BESIDE):
+            theirs.append(bench.run([other, *ONE_WORKER], trace, "theirs.txt"))
+            ours.append(bench.run(bench.ours, trace, "ours.txt"))
+            if not filecmp.cmp(bench.path("ours.txt"), bench.path("theirs.txt"), shallow=False):
+                sys.exit(f"performance.py: the programs write different bytes on {trace}")
+        times = (f"{number:,.1f}" for runs in (theirs, ours) for number in (median(runs), least(runs)))
+        row(it.name, *times, f"{median(ours) / median(theirs):.2f}", mib(peak(theirs)), mib(peak(ours)))
+
+
 def version_of_rustc():
     return subprocess.run(["rustc", "--version"], stdout=subprocess.PIPE, text=True, check=True).stdout.strip()
 
 
 def main():
     words = sys.argv[1:]
-    is_profile = words[:1] == ["--profile"]
+    is_profile, is_beside = words[:1] == ["--profile"], words[:1] == ["--beside"]
+    other = words[1] if is_beside else ""
     default = os.path.join(TOP, "crates", "l4map", "out", "l4map")
-    program = os.path.abspath((words[is_profile:] or [default])[0])
+    program = os.path.abspath((words[is_profile + 2 * is_beside :] or [default])[0])
     if not os.access(program, os.X_OK):
         sys.exit(f"performance.py: there is no program {program}: ./build.sh proves it and builds it")
     with tempfile.TemporaryDirectory() as room:
         bench = Bench(program, room)
         if is_profile:
             profiles(bench)
+            return
+        if is_beside:
+            beside(bench, os.path.abspath(other))
             return
         print(f"medians of {RUNS} runs; {version_of_rustc()}; {os.cpu_count()} processors\n")
         for table in (compare, growth, one_page, workers, large_spaces):
