@@ -438,6 +438,8 @@ def version_of_rustc():
 def main():
     words = sys.argv[1:]
     is_profile, is_beside = words[:1] == ["--profile"], words[:1] == ["--beside"]
+    if is_beside and len(words) < 2:
+        sys.exit("performance.py: --beside wants another program")
     other = words[1] if is_beside else ""
     default = os.path.join(TOP, "crates", "l4map", "out", "l4map")
     program = os.path.abspath((words[is_profile + 2 * is_beside :] or [default])[0])
