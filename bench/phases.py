@@ -14,6 +14,12 @@ and the medians and the least times are printed:
     1 to 2, 1 to 4
                   how many times faster 2 and 4 workers are than one that takes turns
 
+and then the nanoseconds of a look of a watcher, at entries that stand 389 apart:
+
+    alone         while no step is made
+    beside four   the time of a phase that four workers work, from `open` to `close`, for each look that was made in it until
+                  its last piece ended: so a look took less
+
 Nothing here has a threshold.
 """
 
@@ -29,10 +35,11 @@ TEST = "times::works_a_thousand_nodes_or_as_many_as_are_asked_for"
 NODES = [1_048_576]
 RUNS = 3
 CREWS = ["1 worker", "2 workers", "4 workers", "in place"]
+LOOKS = {"looks": "alone", "beside": "beside four"}
 
 
 def told(nodes):
-    """The milliseconds that one run tells, by the length of pieces and the crew."""
+    """The milliseconds that one run tells, by the length of pieces and the crew, and the nanoseconds of a look."""
     text = subprocess.run([TESTS, TEST, str(nodes)], check=True, stdout=subprocess.PIPE, text=True).stdout
     for words in (line.split() for line in text.splitlines()):
         match words:
@@ -40,6 +47,8 @@ def told(nodes):
                 yield (int(length), "1 worker" if workers == "1" else f"{workers} workers"), int(nanos) / 1e6
             case ["phase", "pieces-of", length, "in-place", "ns", nanos]:
                 yield (int(length), "in place"), int(nanos) / 1e6
+            case ["phase", "pieces-of", length, "looks" | "beside" as kind, looks, "ns", nanos] if looks != "0":
+                yield (int(length), LOOKS[kind]), int(nanos) / int(looks)
 
 
 def main():
@@ -57,12 +66,22 @@ def tell(nodes):
             times[key].append(millis)
     print(f"{nodes:,} nodes, ms")
     print()
-    print(f"| Nodes a piece | Of {min(map(len, times.values()))} times | {' | '.join(CREWS)} | 1 to 2 | 1 to 4 |")
-    print("|---|---|" + "---|" * (len(CREWS) + 2))
+    print_table(times, CREWS, [("1 to 2", "2 workers"), ("1 to 4", "4 workers")])
+    print()
+    print(f"{nodes:,} nodes, ns a look")
+    print()
+    print_table(times, LOOKS.values(), [])
+
+
+def print_table(times, columns, ratios):
+    """Prints a table of some columns, and then how many times faster than one worker some others are."""
+    names = [*columns, *(name for name, _ in ratios)]
+    print(f"| Nodes a piece | Of {min(map(len, times.values()))} times | {' | '.join(names)} |")
+    print("|---|---|" + "---|" * len(names))
     for length in sorted({length for length, _ in times}):
         for name, part in [("median", statistics.median), ("least", min)]:
-            row = [part(times[length, crew]) for crew in CREWS]
-            cells = [f"{millis:.1f}" for millis in row] + [f"{row[0] / row[1]:.2f}", f"{row[0] / row[2]:.2f}"]
+            cells = [f"{part(times[length, column]):.1f}" for column in columns]
+            cells += [f"{part(times[length, '1 worker']) / part(times[length, other]):.2f}" for _, other in ratios]
             print(f"| {length:,} | {name} | {' | '.join(cells)} |")
 
 

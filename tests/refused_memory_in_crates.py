@@ -53,11 +53,15 @@ TESTS = {
         "databases::unmaps::revokes_by_recursion",
         "audits::reports_a_small_database",
         "audits::halted::a_halted_database_refuses_every_call",
+        "audits::halted::a_database_that_a_watched_unmap_halted_refuses_every_call",
         "replays::flushes_what_it_has_written_where_memory_runs_out",
     ],
 }
 # Those of them whose calls start threads.
-TESTS_WITH_THREADS = {("database_tests", "audits::halted::a_halted_database_refuses_every_call")}
+TESTS_WITH_THREADS = {
+    ("database_tests", "audits::halted::a_halted_database_refuses_every_call"),
+    ("database_tests", "audits::halted::a_database_that_a_watched_unmap_halted_refuses_every_call"),
+}
 
 # What a test ends with that was refused memory, by a call, or for a list of its own; or a thread.
 REFUSED = {

@@ -9,4 +9,5 @@ pub mod New
 pub mod Asked
 pub mod Replied
 pub mod Called
+pub mod Sent
 pub mod Listed

@@ -23,7 +23,8 @@ impl Handle {
     ghost use Rattle.c_handle.specs.Look.{held_code, held_entry, held_origin};
     ghost use Rattle.c_handle.specs.Asked.{send_asked, unmap_asked, access_asked};
     ghost use Rattle.c_handle.specs.Called.{IsCalledOf};
-    ghost use Rattle.c_handle.specs.Replied.{counts_told, words_told, made_told};
+    ghost use Rattle.c_handle.specs.Replied.{words_told, made_told};
+    ghost use Rattle.c_handle.specs.Sent.{IsSentOf};
     ghost use Rattle.c_handle.specs.Listed.{listed_of};
 
     /// Makes a database of so many spaces of `2^bits` bytes, and of so many frames, which space 0 holds at the start.
@@ -73,7 +74,7 @@ impl Handle {
         words: &[u32],
         reply: &mut SendReply,
     ) -> u32
-        ensures { IsCalledOf counts_told (send_asked from to window words.now) self.old.held reply.old
+        ensures { IsSentOf (send_asked from to window words.now) self.old.held reply.old
             (record { code = result; held = self.new.held; lent = reply.new }) }
     {
         let Some(mut whole) = take(self, alloc) else {

@@ -4,9 +4,9 @@ ghost use Rattle.std.specs.Prelude.{◌≡◌, ◌<◌, ◌^◌, Some};
 ghost use Rattle.model.specs.SendLaws.{total};
 ghost use Rattle.mapdb.specs.Meaning.{counts_of};
 ghost use Rattle.c_handle.specs.Asked.{send_asked};
-ghost use Rattle.c_handle.specs.Called.{IsCalled};
 ghost use Rattle.c_handle.specs.Errors.{result_code};
-ghost use Rattle.c_handle.specs.Replied.{counts_in, counts_told};
+ghost use Rattle.c_handle.specs.Replied.{counts_in};
+ghost use Rattle.c_handle.specs.Sent.{IsSent};
 
 use crate::error::CallError;
 use crew::Alone;
@@ -65,7 +65,7 @@ pub fn send(
     words: &[u32],
     reply: &mut SendReply,
 ) -> Result<(), CallError>
-    ensures { IsCalled counts_told (send_asked from to window words.now database.old.limits) database.old reply.old
+    ensures { IsSent (send_asked from to window words.now database.old.limits) database.old reply.old
         (record { code = result_code result; held = Some database.new; lent = reply.new }) }
 {
     if database.is_halted() {

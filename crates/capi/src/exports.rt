@@ -5,7 +5,8 @@ ghost use Rattle.c_handle.specs.New.{IsMade};
 ghost use Rattle.c_handle.specs.Look.{held_code, held_entry, held_origin};
 ghost use Rattle.c_handle.specs.Asked.{send_asked, unmap_asked, access_asked};
 ghost use Rattle.c_handle.specs.Called.{IsCalledOf};
-ghost use Rattle.c_handle.specs.Replied.{counts_told, words_told, made_told};
+ghost use Rattle.c_handle.specs.Replied.{words_told, made_told};
+ghost use Rattle.c_handle.specs.Sent.{IsSentOf};
 ghost use Rattle.c_handle.specs.Listed.{listed_of};
 
 use c_handle::{EntryReply, Handle, MappingReply, OriginReply, SendReply};
@@ -55,7 +56,7 @@ pub extern "C" fn l4map_send(
     words: &[u32],
     reply: &mut SendReply,
 ) -> u32
-    ensures { IsCalledOf counts_told (send_asked from to window words.now) db.old.held reply.old
+    ensures { IsSentOf (send_asked from to window words.now) db.old.held reply.old
         (record { code = result; held = db.new.held; lent = reply.new }) }
 {
     db.send(alloc, from, to, window, words, reply)

@@ -16,7 +16,9 @@ use Rattle.std.specs.contracts.alloc.Global as global
 use Rattle.std.specs.contracts.impls.GlobalAllocator.TheImpl.{ghosts}
 use denote.Struct.Tuple.{Tuple, TupleAt, type_at}
 use Rattle.turns.specs.contracts.turn.Turn as turn
-use Rattle.turns.proofs.Crosses.{turn_send, open_sync}
+use Rattle.turns.specs.contracts.watcher.Watcher as watcher
+use Rattle.turns.specs.contracts.open.Open as shared
+use Rattle.turns.proofs.Crosses.{turn_send, watcher_send, open_sync}
 use Rattle.crew.specs.declared.hand.Which as Which
 use Rattle.crew.specs.declared.own.Crewed as Crewed
 use Rattle.crew.specs.contracts.hand.Hand as hand
@@ -68,3 +70,8 @@ module _ (a : NamedLft) (T T' T'' : RattleType) (g : Which.Ghosts T.Denot) (g' :
   -- what a worker's thread begins with
   pub closure_send : IsSync T'' → (ν : Sym) (ℓ : Lifetime) (κ : Lft) → IsSend (TupleAt ν (lot.the_row T T' g g' ∷ ShrRef ℓ κ (bench.the_row a T T' T'' g g') ∷ []))
   closure_send y ν ℓ κ = declared_send (type_at ν (lot.the_row T T' g g' ∷ ShrRef ℓ κ (bench.the_row a T T' T'' g g') ∷ [])) (search (lot_send T T' g g', sendable), (search (bench_sync y, sendable), tt))
+
+-- what an observer's thread begins with
+module _ (T : RattleType) where
+  pub observer_send : IsSync T → (ν : Sym) (ℓ ℓ' : Lifetime) (κ κ' : Lft) → IsSend (TupleAt ν (ShrRef ℓ κ T ∷ watcher.the_row ∷ ShrRef ℓ' κ' shared.the_row ∷ []))
+  observer_send y ν ℓ ℓ' κ κ' = declared_send (type_at ν (ShrRef ℓ κ T ∷ watcher.the_row ∷ ShrRef ℓ' κ' shared.the_row ∷ [])) (search (y, sendable), (search (watcher_send, sendable), (search (open_sync, sendable), tt)))

@@ -20,7 +20,8 @@ use Rattle.pieces.specs.Values.{value}
 use Rattle.pieces.specs.declared.piece.Piece.{Piece}
 use Rattle.pieces.proofs.AllSteps.{length_words, worked_all, all_steps}
 use Rattle.pieces.proofs.Packs.{packs_after_steps, pieces_suit}
-use Rattle.turns.specs.Closing.{numbers_of, counts_of, steps_made, AreAll, OneIsWanting}
+use Rattle.turns.specs.Closing.{numbers_of, counts_of, steps_made, AreAll, OneIsWanting, OneWatcherIsWanting}
+use Rattle.turns.specs.Watching.{WatcherContent}
 use Rattle.turns.specs.Posts.{PostContent}
 use Rattle.turns.specs.Sheets.{SheetContent}
 use Rattle.turns.specs.Turns.{steps_to_do, new_turns, done_of}
@@ -214,6 +215,30 @@ none_strange s ts same = all_below (length s.opening.pieces) (numbers_of ts) (no
 -- so none is without a turn
 pub none_wanting : (s : SheetContent) (ts : List PostContent) → AreAll s ts → OneIsWanting s ts → ⊥
 none_wanting s ts all wanting = true≢false (sym wanting.2 ∙ all wanting.0 wanting.1)
+
+-- nor is a watcher wanting, where there is none
+pub no_watchers : (s : SheetContent) (ws : List WatcherContent) → s.opening.watchers ≡ 0 → OneWatcherIsWanting s ws → ⊥
+no_watchers s ws none wanting = let m : ℕ = s.opening.watchers in let k : ℕ = wanting.0 in let less : k < m = wanting.1 in let m0 : m ≡ 0 = none in omega (arith, less, m0)
+
+-- nor where the only one is there
+pub only_watcher : (s : SheetContent) (w : WatcherContent) → s.opening.watchers ≡ 1 → w.number ≡ 0 → OneWatcherIsWanting s (w ∷ []) → ⊥
+only_watcher s w one first wanting =
+    let m : ℕ = s.opening.watchers in let k : ℕ = wanting.0 in let less : k < m = wanting.1 in let m1 : m ≡ 1 = one in
+    let k0 : k ≡ 0 = omega (arith, less, m1) in
+    true≢false (sym wanting.2 ∙ ap (λ t. not t && true) (eq-eqb w.number k (first ∙ sym k0)))
+
+-- the only watcher was lent and came back
+pub record IsOnly (w x : WatcherContent) (left : List WatcherContent) : Type 0 where
+  pub same : x ≡ w
+  pub none : left ≡ []
+
+pub only_one : (all left : List WatcherContent) (w x : WatcherContent) → all ≡ w ∷ [] → all ≡ left ++ x ∷ [] → IsOnly w x left
+only_one all left w x one split = by left (sym one ∙ split)
+  where
+    by : (ys : List WatcherContent) → w ∷ [] ≡ ys ++ x ∷ [] → IsOnly w x ys
+    by [] is = record { same = let e : w ≡ x = cc in sym e; none = refl }
+    by (y ∷ []) is = absurd (cc)
+    by (y ∷ z ∷ ys) is = absurd (cc)
 
 -- ---- steps
 

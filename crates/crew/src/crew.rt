@@ -5,7 +5,9 @@ ghost use Rattle.crew.specs.Worked.{IsWorked};
 use crate::alone::work_alone;
 use crate::error::CrewError;
 use crate::gate::{Gate, NoGate};
+use crate::observe::Observe;
 use crate::shared::work_shared;
+use crate::watched::work_shared_watched;
 use crate::workers::Workers;
 use pieces::{Done, Piece, changed_words};
 use std::alloc::Global;
@@ -86,6 +88,28 @@ pub fn work<R: Threads + Wait, G: Gate>(
         return Ok(worked);
     }
     work_shared(crew.rt, alloc, crew.gate, count, words, pieces)
+}
+
+/// Works all pieces of a phase as `work` does, while an observer looks at the entries with one watcher, on a thread
+/// of its own. The words are always shared, also where one worker is enough. It returns when the observer has
+/// returned too.
+///
+/// Refused: `NoMemory`; `NoWorker`, where a thread could not be started, that of the observer too. Then what was
+/// given is gone.
+pub fn work_watched<R: Threads + Wait, G: Gate, O: Observe>(
+    crew: &Crew<'_, R, G>,
+    alloc: Global,
+    words: Vec<u64>,
+    pieces: Vec<Piece>,
+    observer: &O,
+) -> Result<(Vec<u64>, Vec<Done>), CrewError>
+    requires some { 0 < length pieces.items }
+    requires can { CanBeWorked words.items pieces.items }
+    requires told { O.told observer.now words.items pieces.items }
+    ensures { IfOk result (λ r. IsWorked words.items pieces.items r.0.items r.1.items) }
+{
+    let count = workers_for(crew.workers, pieces.len());
+    work_shared_watched(crew.rt, alloc, crew.gate, observer, count, words, pieces)
 }
 
 /// How many workers so many pieces have: as many as are allowed, but at most one for every eight pieces, and at least one.

@@ -11,13 +11,16 @@ mod gate;
 mod hand;
 mod in_place;
 mod lot;
+mod observe;
 mod own;
 mod settling;
 mod shared;
 mod team;
+mod watched;
 mod workers;
 
-pub use crew::{Crew, work};
+pub use crew::{Crew, work, work_watched};
 pub use error::CrewError;
 pub use gate::{Gate, NoGate};
+pub use observe::Observe;
 pub use workers::{Alone, Workers};

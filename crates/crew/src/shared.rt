@@ -41,14 +41,14 @@ pub fn work_shared<R: Threads + Wait, G: Gate>(
 {
     let (shared, turns) = Open::open(alloc, words, pieces)?;
     let turns = work_turns::<Brand, R, G>(rt, alloc, gate, workers, &shared, turns)?;
-    match shared.close(turns) {
+    match shared.close(turns, Vec::new(alloc)) {
         Ok((words, dones, _)) => Ok((words, dones)),
         Err(_) => unreachable!(),
     }
 }
 
 /// Works the turns of a phase to their end, dealt to so many workers.
-fn work_turns<N: Which + Send + Sync, R: Threads + Wait, G: Gate>(
+pub fn work_turns<N: Which + Send + Sync, R: Threads + Wait, G: Gate>(
     rt: &R,
     alloc: Global,
     gate: &G,

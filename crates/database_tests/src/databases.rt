@@ -4,8 +4,12 @@ mod accesses;
 mod calls;
 mod chains;
 mod frames;
+mod layouts;
+mod looks;
+mod monitors;
 mod together;
 mod unmaps;
+pub mod watched;
 
 use crate::assertions::assert_equal;
 use calls::{

@@ -7,3 +7,4 @@ pub mod Apart
 pub mod Plan
 pub mod Trees
 pub mod StripPhase
+pub mod Observed

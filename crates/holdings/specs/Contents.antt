@@ -15,30 +15,44 @@ use Rattle.model.specs.Records.{are_limits}
 use Rattle.model.specs.Replay.{start}
 use Rattle.model.specs.Strip.{strip, strip_word}
 use Rattle.model.specs.Touch.{can_touch, touch}
+use Rattle.holdings.specs.Layout.{Layout, OnlyGrows, IsLayoutOf}
 use Rattle.holdings.specs.Places.{listing}
 use Rattle.holdings.specs.Sending.{counts_after_flush, map_transfers, moving_of}
 use Rattle.holdings.specs.declared.transfer.Transfer.{Transfer}
 use Rattle.holdings.specs.declared.transfer_counts.TransferCounts.{TransferCounts}
 use Rattle.holdings.specs.Meaning.{counts_of}
 
--- the limits, and what is held
+-- what a caller sees of all that is held
 pub record Contents : Type 0 where
+  -- how many spaces, bits and frames there are
   pub limits : Limits
+  -- which page holds what, and from which page it came
   pub holdings : Holdings
+  -- which places have a word, and at which index
+  pub layout : Layout
 
--- what is true of all that a caller holds: its limits are served, it is listed by rising place, and it is lawful
+-- what is true of all that a caller holds
 pub record IsConsistent (c : Contents) : Type 0 where
+  -- its limits are served
   pub served : are_limits c.limits ≡ true
+  -- it is listed by rising place
   pub listed : c.holdings ≡ listing c.limits (at c.holdings)
+  -- it is lawful
   pub lawful : is_lawful c.holdings ≡ true
+  -- what is held has a word, which stands for no other place
+  pub words : IsLayoutOf c.holdings c.layout
 
--- the start
+-- the start, before any place has a word
 abbrev pub at_start : Limits → Contents
-at_start limits = record { limits = limits; holdings = start limits }
+at_start limits = record { limits = limits; holdings = start limits; layout = [] }
 
--- the same limits, with what a phase left
+-- the same limits and the same layout, with what a phase left
 abbrev pub left_with : Contents → Holdings → Contents
 left_with c h = record c { holdings = h }
+
+-- the same, with the layout that a phase left
+abbrev pub laid_out : Contents → Layout → Contents
+laid_out c layout = record c { layout = layout }
 
 -- frame, rights and status of what is held
 abbrev pub entry_of : Held → Entry
@@ -51,12 +65,20 @@ pub record IsStripped (old : Contents) (pages : PlaceSet) (revoked : Rights) (fl
 
 -- transfers were mapped one after another, and counted
 pub record AreMapped (old : Contents) (ts : List Transfer) (rights : Rights) (r : Contents × TransferCounts) : Type 0 where
-  pub left : r.0 ≡ left_with old (map_transfers old.holdings (record { kind = Map; rights = rights; pairs = [] }) ts old.holdings)
+  -- the limits stay; what is held and which places have a word may change
+  pub left : r.0 ≡ laid_out (left_with old (map_transfers old.holdings (record { kind = Map; rights = rights; pairs = [] }) ts old.holdings)) r.0.layout
+  -- words are made, and none moves
+  pub grows : OnlyGrows old.layout r.0.layout
+  -- how many transfers were linked, extended and lost
   pub counted : counts_of r.1 ≡ counts_after_flush old.holdings ts
 
 -- transfers were moved all at once, and counted
 pub record AreMoved (old : Contents) (ts : List Transfer) (r : Contents × TransferCounts) : Type 0 where
-  pub left : r.0 ≡ left_with old (renamed (moving_of old.holdings ts) old.holdings)
+  -- the limits stay; what is held and which places have a word may change
+  pub left : r.0 ≡ laid_out (left_with old (renamed (moving_of old.holdings ts) old.holdings)) r.0.layout
+  -- words are made, and none moves
+  pub grows : OnlyGrows old.layout r.0.layout
+  -- how many transfers were linked and lost
   pub counted : counts_of r.1 ≡ counts_after_flush old.holdings ts
 
 -- what accesses leave, one after another

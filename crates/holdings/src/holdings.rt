@@ -9,7 +9,7 @@ use std::alloc::Global;
 use std::marker::Model;
 
 /// What is held: which page holds which frame, with which rights and status, and from which page it came. A contract sees
-/// the limits, and the holdings of the definitions.
+/// the limits, the holdings of the definitions, and the layout: which places have a word, and at which index.
 ///
 /// Frame, rights and status of a page are in its word, its origin in the derivation tree of its frame. A call that takes the
 /// holdings by value gives them back as it left them. Where it is refused they are gone, since words and trees may be
@@ -40,8 +40,9 @@ impl Holdings {
     ghost use Rattle.model.specs.Records.{are_limits};
     ghost use Rattle.model.specs.Touch.{can_touch, touch};
     ghost use Rattle.holdings.specs.Meaning.{limits_of};
+    ghost use Rattle.holdings.specs.Layout.{index_in};
     ghost use Rattle.holdings.specs.Places.{IsWithin};
-    ghost use Rattle.holdings.specs.Contents.{IsConsistent, at_start, left_with, entry_of};
+    ghost use Rattle.holdings.specs.Contents.{IsConsistent, at_start, laid_out, left_with, entry_of};
     ghost use Rattle.holdings.specs.Mappings.{AreAbsentFrom, IsNextHeldOf};
 
     /// The holdings at the start: page `i` of space 0 holds frame `i` with all rights, for each frame.
@@ -49,7 +50,7 @@ impl Holdings {
     /// Refused, where memory is: `NoMemory`.
     pub fn new(alloc: Global, limits: &Limits) -> Result<Self, NoMemory>
         requires { are_limits (limits_of limits.now) ≡ true }
-        ensures { IfOk result (λ held. held ≡ at_start (limits_of limits.now)) }
+        ensures { IfOk result (λ held. held ≡ laid_out (at_start (limits_of limits.now)) held.layout) }
     {
         let shards = root_words(alloc, limits)?;
         let trees = root_trees(alloc, limits.frames)?;
@@ -97,6 +98,18 @@ impl Holdings {
             return None;
         };
         tree::origin(&self.trees[entry.frame as usize], place)
+    }
+
+    /// Which word is that of a page; none where no word stands for it. A page that is held has one, and it stays where
+    /// it is: only `map` and `rename` make words, and they move none. Takes no memory.
+    pub fn index(&self, place: Place) -> Option<usize>
+        requires { IsWithin self.now.limits place }
+        ensures { result ≡ index_in self.now.layout place }
+    {
+        if !self.shards.has(place) {
+            return None;
+        }
+        Some(self.shards.index(place))
     }
 
     /// Makes one access, if the page is held with the right for it, and says whether it was.

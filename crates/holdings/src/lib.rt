@@ -34,6 +34,7 @@ mod strip;
 mod transfer;
 mod transfer_counts;
 mod tree;
+mod watched;
 mod writes;
 
 pub use holdings::Holdings;

@@ -148,6 +148,7 @@ fn strip_place(
     ensures left { OnOk result (holdings_in shards.new trees.new ≡ strip (holdings_in shards.old trees.old) (only place) revoked flush) }
     ensures sound { OnOk result (AreSound shards.new trees.new) }
     ensures limits { OnOk result (limits_in shards.new trees.new ≡ limits_in shards.old trees.old) }
+    ensures layout { OnOk result (IsLaidOutAs shards.old shards.new) }
 {
     let tree = &trees[frame];
     let i = tree.find(place).unwrap();

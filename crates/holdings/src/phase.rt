@@ -3,7 +3,8 @@
 ghost use Rattle.std.specs.Prelude.{◌≡◌, ◌<◌, None, length, IfOk, OnOk, IsFalse};
 ghost use Rattle.space.specs.Shards.{is_taken};
 ghost use Rattle.pieces.specs.Gathering.{all_found, fault_in, IsGathered};
-ghost use Rattle.holdings.specs.Inner.Words.{CanBeWorkedIn, IsPhaseWorked};
+ghost use Rattle.crew.specs.Worked.{IsWorked};
+ghost use Rattle.holdings.specs.Inner.Words.{AreWordsOf, CanBeWorkedIn, IsPhaseWorked};
 
 use crew::{CrewError, Workers};
 use pieces::{Done, Gathered, Piece, gather};
@@ -27,9 +28,29 @@ pub fn work_phase<W: Workers>(
     requires can { CanBeWorkedIn shards.old pieces.items }
     ensures { IfOk result (IsPhaseWorked shards.old shards.new pieces.items) }
 {
+    work_phase_by(alloc, shards, pieces, |words, pieces| {
+        workers.work(alloc, words, pieces)
+    })
+}
+
+/// The same by a function that is given the words and the pieces.
+pub fn work_phase_by<F>(
+    alloc: Global,
+    shards: &mut Shards,
+    pieces: Vec<Piece>,
+    work: F,
+) -> Result<Gathered, CrewError>
+where
+    F: FnOnce(Vec<u64>, Vec<Piece>) -> Result<(Vec<u64>, Vec<Done>), CrewError>,
+    requires present { IsFalse (is_taken shards.old) }
+    requires may { (words : _) → AreWordsOf shards.old words.items → F.pre work words pieces }
+    requires does { (words r : _) → AreWordsOf shards.old words.items → F.post work words pieces r
+        → IfOk r (λ w. IsWorked words.items pieces.items w.0.items w.1.items) }
+    ensures { IfOk result (IsPhaseWorked shards.old shards.new pieces.items) }
+{
     let count = pieces.len();
     let words = shards.take_words();
-    let (words, dones) = workers.work(alloc, words, pieces)?;
+    let (words, dones) = work(words, pieces)?;
     shards.put_words(words);
     gathered(alloc, dones, count)
 }

@@ -2,18 +2,23 @@
 
 use crate::holdings::Holdings;
 use crate::one_by_one::Order;
-use crate::phase::work_phase;
+use crate::phase::work_phase_by;
 use crate::planning::{StripPlan, plan_strip};
 use crate::prune::prune_gone;
 use crew::{CrewError, Workers};
 use fpage::Rights;
+use pieces::{Done, Piece};
 use space::Place;
 use std::alloc::Global;
 
 impl Holdings {
-    ghost use Rattle.std.specs.Prelude.{IfOk};
+    ghost use Rattle.std.specs.Prelude.{◌<◌, ◌≤◌, length, IfOk};
     ghost use Rattle.std.specs.List.{All};
+    ghost use Rattle.pieces.specs.Phases.{CanBeWorked};
+    ghost use Rattle.crew.specs.Worked.{IsWorked};
+    ghost use Rattle.model.specs.Strip.{strip};
     ghost use Rattle.holdings.specs.Contents.{IsStripped};
+    ghost use Rattle.holdings.specs.Observing.{IsPhaseOf};
     ghost use Rattle.holdings.specs.Places.{IsWithin, any_of};
 
     /// Takes rights from all that derives from some pages, and with `flush` from these pages too. The status of all of
@@ -39,17 +44,43 @@ impl Holdings {
             let stripped = self.strip_one_by_one(alloc, places, revoked, flush, Order::List)?;
             return Ok(stripped);
         }
+        let most = workers.piece_length();
+        self.strip_in_pieces(alloc, places, revoked, flush, most, |words, pieces| {
+            workers.work(alloc, words, pieces)
+        })
+    }
+
+    /// The same as one phase, if any of the pages is held. A function is given the words and the pieces, and works them.
+    ///
+    /// Refused, where memory is, `NoMemory`, and as the function is.
+    pub(crate) fn strip_in_pieces<F>(
+        self,
+        alloc: Global,
+        places: &[Place],
+        revoked: Rights,
+        flush: bool,
+        most: usize,
+        work: F,
+    ) -> Result<(Self, Rights), CrewError>
+    where
+        F: FnOnce(Vec<u64>, Vec<Piece>) -> Result<(Vec<u64>, Vec<Done>), CrewError>,
+        requires within { All (IsWithin self.limits) places.now }
+        requires most { 1 ≤ most }
+        requires may { (words pieces : _) → IsPhaseOf self.layout self.holdings (strip self.holdings (any_of places.now) revoked flush) words.items pieces.items → F.pre work words pieces }
+        requires does { (words pieces r : _) → 0 < length pieces.items → CanBeWorked words.items pieces.items → F.post work words pieces r
+            → IfOk r (λ w. IsWorked words.items pieces.items w.0.items w.1.items) }
+        ensures { IfOk result (IsStripped self (any_of places.now) revoked flush) }
+    {
         let Holdings {
             mut shards,
             mut trees,
         } = self;
-        let most = workers.piece_length();
         let plan = plan_strip(alloc, &shards, &trees, places, revoked, flush, most)?;
         let StripPlan { frames, pieces } = plan;
         if pieces.is_empty() {
             return Ok((Holdings { shards, trees }, Rights::none()));
         }
-        let found = work_phase(alloc, &mut shards, pieces, workers)?;
+        let found = work_phase_by(alloc, &mut shards, pieces, work)?;
         prune_gone(alloc, &shards, &mut trees, &frames, &found.slices)?;
         Ok((Holdings { shards, trees }, found.status))
     }

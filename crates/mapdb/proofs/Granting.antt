@@ -24,7 +24,8 @@ use Rattle.fpage.specs.declared.item.ItemKind.{ItemKind}
 use Rattle.fpage.specs.declared.item.ItemKind.TheVariants.{Map, Grant}
 use Rattle.holdings.specs.declared.transfer.Transfer.{Transfer}
 use Rattle.holdings.specs.declared.transfer_counts.TransferCounts.{TransferCounts}
-use Rattle.holdings.specs.Contents.{Contents, left_with, IsStripped, AreMapped, AreMoved}
+use Rattle.holdings.specs.Contents.{Contents, laid_out, left_with, IsStripped, AreMapped, AreMoved}
+use Rattle.holdings.specs.Layout.{index_in}
 use Rattle.holdings.specs.Places.{any_of}
 use Rattle.mapdb.specs.declared.plan.End.TheVariants.{Source}
 use Rattle.holdings.specs.Sending.{pair_of, fate_in, AllGo, IsReady, moving_of, counts_after_flush}
@@ -123,13 +124,15 @@ module _ (old : Contents) (lawful : is_lawful old.holdings ≡ true) (rights : R
       let l = lawful_parts h lawful in
       let left = strip h (sources_of (moving_of h ts)) (without all_rights rights) true in
       record {
-        left = moved.left ∙ ap (λ (g : Contents). left_with g (renamed (moving_of g.holdings ts) g.holdings)) sources_stripped ∙ ap (λ es. left_with old (renamed es left)) (after_strip_moving h l rights ts ready);
+        left = moved.left ∙ ap (λ (g : Contents). laid_out (left_with g (renamed (moving_of g.holdings ts) g.holdings)) r.0.layout) sources_stripped
+            ∙ ap (λ es. laid_out (left_with old (renamed es left)) r.0.layout) (after_strip_moving h l rights ts ready);
+        grows = λ p i at. moved.grows p i (ap (λ (g : Contents). index_in g.layout p) sources_stripped ∙ at);
         counted = moved.counted ∙ ap (λ (g : Contents). counts_after_flush g.holdings ts) sources_stripped ∙ after_strip_worked h l rights ts ready;
       }
 
 -- what was mapped is what the definition maps
 pub mapped_after : (old : Contents) (rights : Rights) (ts : List Transfer) (r : Contents × TransferCounts) → AreMapped old ts rights r → AreWorkedBy old Map rights ts r
-mapped_after old rights ts r mapped = record { left = mapped.left; counted = mapped.counted }
+mapped_after old rights ts r mapped = record { left = mapped.left; grows = mapped.grows; counted = mapped.counted }
 
 -- either, by the kind of the item
 pub worked_as : (old : Contents) (kind k : ItemKind) (rights : Rights) (us ts : List Transfer) (r x : Contents × TransferCounts) → kind ≡ k → us ≡ ts → x ≡ r → AreWorkedBy old k rights us r → AreWorkedBy old kind rights ts x

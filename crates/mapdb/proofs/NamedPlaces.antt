@@ -10,6 +10,9 @@ use Rattle.space.specs.declared.place.Place.{Place}
 use Rattle.model.specs.Answers.{pages_in}
 use Rattle.model.specs.Calls.{Limits}
 use Rattle.model.specs.Holdings.{is_held}
+use Rattle.model.specs.Strip.{strip}
+use Rattle.model.proofs.LawfulParts.{lawful_parts}
+use Rattle.model.proofs.StripUnions.{strip_same}
 use Rattle.holdings.specs.Contents.{Contents, IsConsistent, IsStripped}
 use Rattle.holdings.specs.Places.{IsWithin, pages_from, any_of}
 use Rattle.holdings.proofs.Contents.Listing.{in_pages}
@@ -48,6 +51,10 @@ module _ (old : Contents) (space : ℕ) (f : Flexpage) (pages : Range ℕ) (star
   pub named_stripped : IsConsistent old → (revoked : Rights) (flush : Bool) → {E : Type 0} (r : Result (Contents × Rights) E) → IfOk r (IsStripped old (any_of read) revoked flush) → IfOk r (IsStripped old (pages_in space f) revoked flush)
   named_stripped consistent revoked flush (Ok r) is = stripped_same old (any_of read) (pages_in space f) consistent.lawful named_set revoked flush r is
   named_stripped consistent revoked flush (Err e) is = is
+
+  -- and leaves the same
+  pub named_left : IsConsistent old → (revoked : Rights) (flush : Bool) → strip old.holdings (any_of read) revoked flush ≡ strip old.holdings (pages_in space f) revoked flush
+  named_left consistent revoked flush = strip_same old.holdings (lawful_parts old.holdings consistent.lawful) (any_of read) (pages_in space f) named_set revoked flush
 
 -- ---- of one page
 

@@ -16,7 +16,8 @@ use Rattle.model.proofs.StripAt.{lawful_strip}
 use Rattle.holdings.specs.declared.item_pages.ItemPages.{ItemPages}
 use Rattle.holdings.specs.declared.transfer.Transfer.{Transfer}
 use Rattle.holdings.specs.declared.transfer_counts.TransferCounts.{TransferCounts}
-use Rattle.holdings.specs.Contents.{Contents, left_with, IsConsistent, IsStripped}
+use Rattle.holdings.specs.Contents.{Contents, laid_out, left_with, IsConsistent, IsStripped}
+use Rattle.holdings.specs.Layout.{OnlyGrows, index_in}
 use Rattle.holdings.specs.Meaning as phase
 use Rattle.holdings.specs.Places.{any_of}
 use Rattle.holdings.specs.Sending.{job_of_pages, AreItemPages, ArePlanned, AllGo, AreReady, counts_after_flush}
@@ -63,10 +64,14 @@ module _ (old : Contents) (p : ItemPages) (consistent : IsConsistent old) (pages
 
     module _ (done : Contents × TransferCounts) (by_phase : AreWorkedBy flushed p.kind p.rights the_transfers done) (first : Counts) (first_is : first ≡ counts_before_flush old.holdings the_job the_job.pairs) where
       -- what is left is that of the definition
-      pub left_then : done.0 ≡ left_with old (item_answer old.holdings the_job).left
+      pub left_then : done.0 ≡ laid_out (left_with old (item_answer old.holdings the_job).left) done.0.layout
       left_then =
           let left = ap (after_flush p.kind p.rights the_transfers) flushed_is ∙ left_is old.holdings lawful p pages.differ in
-          by_phase.left ∙ (λ i. record { limits = same_limits i; holdings = left i })
+          by_phase.left ∙ (λ i. record { limits = same_limits i; holdings = left i; layout = done.0.layout })
+
+      -- the flush moves no word, and makes none
+      pub grows_then : OnlyGrows old.layout done.0.layout
+      grows_then p i at = by_phase.grows p i (ap (λ (c : Contents). index_in c.layout p) is ∙ at)
 
       -- and so are the counts
       pub counts_then : add_counts first (phase.counts_of done.1) ≡ (item_answer old.holdings the_job).counts

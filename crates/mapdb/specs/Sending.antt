@@ -16,7 +16,8 @@ use Rattle.model.specs.Strip.{strip}
 use Rattle.holdings.specs.declared.item_pages.ItemPages.{ItemPages}
 use Rattle.holdings.specs.declared.transfer.Transfer.{Transfer}
 use Rattle.holdings.specs.declared.transfer_counts.TransferCounts.{TransferCounts}
-use Rattle.holdings.specs.Contents.{Contents, left_with}
+use Rattle.holdings.specs.Contents.{Contents, laid_out, left_with}
+use Rattle.holdings.specs.Layout.{OnlyGrows}
 use Rattle.holdings.specs.Meaning as phase
 use Rattle.holdings.specs.Sending.{page_on, job_of_pages, map_transfers, moving_of, counts_after_flush}
 use Rattle.mapdb.specs.declared.plan.End.{End}
@@ -86,10 +87,18 @@ after_flush Grant rights ts h = renamed (moving_of h ts) (strip h (sources_of (m
 
 -- the phase after the flush left this, and counted its transfers
 pub record AreWorkedBy (old : Contents) (kind : ItemKind) (rights : Rights) (ts : List Transfer) (r : Contents × TransferCounts) : Type 0 where
-  pub left : r.0 ≡ left_with old (after_flush kind rights ts old.holdings)
+  -- the limits stay; what is held and which places have a word may change
+  pub left : r.0 ≡ laid_out (left_with old (after_flush kind rights ts old.holdings)) r.0.layout
+  -- words are made, and none moves
+  pub grows : OnlyGrows old.layout r.0.layout
+  -- how many transfers were linked, extended and lost
   pub counted : phase.counts_of r.1 ≡ counts_after_flush old.holdings ts
 
 -- items left this, and were counted so
 pub record IsSent (old : Contents) (left : Holdings) (counts : Counts) (r : Contents × SendReply) : Type 0 where
-  pub left_is : r.0 ≡ left_with old left
+  -- the limits stay; what is held and which places have a word may change
+  pub left_is : r.0 ≡ laid_out (left_with old left) r.0.layout
+  -- words are made, and none moves
+  pub grows : OnlyGrows old.layout r.0.layout
+  -- what became of the pages
   pub counted : counts_of r.1 ≡ counts

@@ -9,36 +9,46 @@ use Rattle.model.specs.Recursion.{recur}
 use Rattle.model.specs.Replay.{start}
 use Rattle.model.specs.Strip.{strip, strip_word}
 use Rattle.holdings.specs.Contents.{Contents}
+use Rattle.holdings.specs.Layout.{Layout}
 use Rattle.mapdb.specs.declared.error.DbError.{DbError}
 use Rattle.mapdb.specs.declared.error.DbError.TheVariants.{NoSuchSpace, SameSpace, NoWindow, NoMemory, NoWorker, Halted}
 
--- its limits, what is held, and whether it was halted by a call that ran out of memory, or that had no worker; then nothing is held
+-- a database; once it is halted nothing is held, and no place has a word
 pub record State : Type 0 where
+  -- how many spaces, bits and frames there are
   pub limits : Limits
+  -- which page holds what, and from which page it came
   pub holdings : Holdings
+  -- which places have a word, and at which index
+  pub layout : Layout
+  -- whether a call ran out of memory, or had no worker
   pub is_halted : Bool
 
 -- what the fields of a database say
 abbrev pub state_of : Limits → Option Contents → State
-state_of limits None = record { limits = limits; holdings = []; is_halted = true }
-state_of limits (Some c) = record { limits = limits; holdings = c.holdings; is_halted = false }
+state_of limits None = record { limits = limits; holdings = []; layout = []; is_halted = true }
+state_of limits (Some c) = record { limits = limits; holdings = c.holdings; layout = c.layout; is_halted = false }
 
 -- what is held has these limits
 abbrev pub AreLimitsOf : Limits → Option Contents → Type 0
 AreLimitsOf limits None = Unit {0}
 AreLimitsOf limits (Some c) = c.limits ≡ limits
 
--- a new database
+-- a new database, before any place has a word
 abbrev pub new_state : Limits → State
-new_state limits = record { limits = limits; holdings = start limits; is_halted = false }
+new_state limits = record { limits = limits; holdings = start limits; layout = []; is_halted = false }
 
 -- after a call that ran out of memory, or that had no worker
 abbrev pub halted : State → State
-halted s = record s { holdings = []; is_halted = true }
+halted s = record s { holdings = []; layout = []; is_halted = true }
 
 -- after a call that changed what is held
 abbrev pub left_with : State → Holdings → State
 left_with s h = record s { holdings = h }
+
+-- the same, with the layout that a call left
+abbrev pub laid_out : State → Layout → State
+laid_out s layout = record s { layout = layout }
 
 -- an answer of a call that changes nothing: that it is halted, or this
 abbrev pub unless_halted : {A : Type 0} → State → A → Result A DbError

@@ -1,15 +1,17 @@
 use crate::error::DbError;
 use crate::item::work_items;
 use crate::reply::SendReply;
-use crate::unmap::{unmap_words, unmap_words_by_recursion};
-use crew::Workers;
+use crate::unmap::{unmap_words, unmap_words_by_recursion, unmap_words_watched};
+use crew::{Crew, Gate, Observe, Workers};
 use fpage::{Access, Control, Fpage, Item, Rights};
 use holdings::{Holdings, Limits, Mapping, Mappings};
 use space::{Entry, Place};
 use std::alloc::Global;
 use std::marker::Model;
+use std::sync::Wait;
+use std::thread::Threads;
 
-/// A mapping database. A contract sees its limits, its holdings, and whether it is halted.
+/// A mapping database. A contract sees its limits, its holdings, the layout of its words, and whether it is halted.
 ///
 /// A call that runs out of memory, or that cannot start a thread, halts the database: what it held is gone, and every later
 /// call is refused.
@@ -33,7 +35,9 @@ impl Model for Database {
 
 impl Database {
     ghost use Rattle.std.specs.Prelude.{◌≡◌, ◌≤◌, ◌↔◌, ◌⊎◌, true, false, map, option_map};
-    ghost use Rattle.std.specs.Prelude.{◌<◌, IfOk, OnOk, IfErr, OnErr, IsErrOf, MatchOption};
+    ghost use Rattle.std.specs.Prelude.{ℕ, ◌<◌, ◌+◌, List, length, take, IfOk, OnOk, IfErr, OnErr, IsErrOf, MatchOption};
+    ghost use Rattle.pieces.specs.declared.piece.Piece.{Piece};
+    ghost use Rattle.holdings.specs.Observing.{IsPhaseOf};
     ghost use Rattle.std.specs.List.{All};
     ghost use Rattle.model.specs.Holdings.{at, origin_at};
     ghost use Rattle.model.specs.Records.{are_limits};
@@ -42,12 +46,13 @@ impl Database {
     ghost use Rattle.fpage.specs.Fpage.{IsFpageOf};
     ghost use Rattle.model.specs.Lawful.{is_lawful};
     ghost use Rattle.holdings.specs.Meaning.{limits_of};
+    ghost use Rattle.holdings.specs.Layout.{IsLayoutOf, OnlyGrows, index_in};
     ghost use Rattle.holdings.specs.Places.{IsWithin, listing};
     ghost use Rattle.holdings.specs.Mappings.{mapped_of, AreAbsentFrom, IsNextHeldOf};
     ghost use Rattle.space.specs.Directory.{pages_of};
     ghost use Rattle.holdings.specs.Contents.{entry_of};
     ghost use Rattle.mapdb.specs.Meaning.{counts_of};
-    ghost use Rattle.mapdb.specs.State.{new_state, halted, left_with, unless_halted, refusal, unmap_refusal, IsRefused};
+    ghost use Rattle.mapdb.specs.State.{new_state, halted, laid_out, left_with, unless_halted, refusal, unmap_refusal, IsRefused};
     ghost use Rattle.holdings.specs.Contents.{touched_all, access_answers};
     ghost use Rattle.mapdb.specs.State.{unmap_status, unmap_left, plain_status, plain_left};
     ghost use Rattle.mapdb.specs.declared.error.DbError.TheVariants.{BadLimits, NoSuchSpace, NoMemory, NoWorker, Halted};
@@ -60,7 +65,7 @@ impl Database {
             ↔ (are_limits (record { spaces = spaces; bits = bits; frames = frames }) ≡ false) }
         ensures errors { IfErr result (λ e. (e ≡ BadLimits) ⊎ (e ≡ NoMemory)) }
         ensures ok { IfOk result (λ database.
-            database ≡ new_state (record { spaces = spaces; bits = bits; frames = frames })) }
+            database ≡ laid_out (new_state (record { spaces = spaces; bits = bits; frames = frames })) database.layout) }
     {
         let limits = Limits {
             spaces,
@@ -83,6 +88,7 @@ impl Database {
         ensures served { self.now.is_halted ≡ false → are_limits self.now.limits ≡ true }
         ensures held { self.now.holdings ≡ listing self.now.limits (at self.now.holdings) }
         ensures lawful { self.now.is_halted ≡ false → is_lawful self.now.holdings ≡ true }
+        ensures layout { IsLayoutOf self.now.holdings self.now.layout }
     {
         match &self.held {
             Some(held) => held.limits(),
@@ -139,6 +145,20 @@ impl Database {
             return Err(DbError::Halted);
         };
         Ok(held.next_held(space, page))
+    }
+
+    /// Which word is that of a page in each `Open` that a watched unmap makes, from now until the next send; none exactly
+    /// where no word stands for the page there. A page that is held has a word. A send may make words, and moves none.
+    ///
+    /// Refused where the database is halted, `Halted`. Takes no memory.
+    pub fn index(&self, place: Place) -> Result<Option<usize>, DbError>
+        requires { IsWithin self.now.limits place }
+        ensures { result ≡ unless_halted self.now (index_in self.now.layout place) }
+    {
+        let Some(held) = &self.held else {
+            return Err(DbError::Halted);
+        };
+        Ok(held.index(place))
     }
 
     /// A reader of every mapping, by rising place. To make it takes time by what is held, and not by how many pages there are.
@@ -222,8 +242,9 @@ impl Database {
         ensures limits { self.new.limits ≡ self.old.limits }
         ensures counts { IfOk result (λ reply.
             counts_of reply ≡ (send_answer from to window.now items.now self.old.holdings).counts) }
-        ensures left { OnOk result (
-            self.new ≡ left_with self.old (send_answer from to window.now items.now self.old.holdings).left) }
+        ensures left { OnOk result (self.new ≡ laid_out
+            (left_with self.old (send_answer from to window.now items.now self.old.holdings).left) self.new.layout) }
+        ensures grows { OnOk result (OnlyGrows self.old.layout self.new.layout) }
     {
         if self.held.is_none() {
             return Err(DbError::Halted);
@@ -304,6 +325,48 @@ impl Database {
         let held = unmap_words(alloc, held, space, flush, fpages, status, workers)?;
         self.held = Some(held);
         Ok(())
+    }
+
+    /// The same as `unmap`, by a crew, while an observer looks at the entries: once for each word of which a page is
+    /// held, on a thread of its own. What it may require says of each page what its word is, by the index that `index`
+    /// tells, before this word of the unmap and after it.
+    ///
+    /// Refused as `unmap` is; `NoWorker` also where a thread of the observer could not be started.
+    pub fn unmap_watched<R: Threads + Wait, G: Gate, O: Observe>(
+        &mut self,
+        alloc: Global,
+        space: u16,
+        control: Control,
+        fpages: &[Fpage],
+        crew: &Crew<'_, R, G>,
+        observer: &O,
+    ) -> Result<Vec<Rights>, DbError>
+        requires bits { All (IsFpageOf self.old.limits.bits) fpages.now }
+        requires told { (i : ℕ) (words : List ℕ) (pieces : List Piece) → i < length fpages.now
+            → IsPhaseOf self.old.layout (unmap_left space control.flush (take i fpages.now) self.old.holdings)
+            (unmap_left space control.flush (take (i + 1) fpages.now) self.old.holdings) words pieces
+            → O.told observer.now words pieces }
+        ensures refused { IsRefused (unmap_refusal self.old space) self.old self.new result }
+        ensures no_memory { IsErrOf result NoMemory → self.new ≡ halted self.old }
+        ensures no_worker { IsErrOf result NoWorker → self.new ≡ halted self.old }
+        ensures status { IfOk result (λ status.
+            status.items ≡ unmap_status space control.flush fpages.now self.old.holdings) }
+        ensures left { OnOk result (self.new ≡
+            left_with self.old (unmap_left space control.flush fpages.now self.old.holdings)) }
+    {
+        if self.held.is_none() {
+            return Err(DbError::Halted);
+        }
+        if u32::from(space) >= self.limits().spaces {
+            return Err(DbError::NoSuchSpace);
+        }
+        let held = self.held.take().unwrap();
+        let flush = control.is_flush();
+        let (held, status) = unmap_words_watched(
+            alloc, held, space, flush, fpages, crew, observer,
+        )?;
+        self.held = Some(held);
+        Ok(status)
     }
 
     /// The same as `unmap`, by recursion on the calling thread: page by page of those that an fpage names and that are still

@@ -6,11 +6,13 @@ ghost use Rattle.fpage.specs.Fpage.{IsFpageOf};
 ghost use Rattle.holdings.specs.Contents.{left_with};
 ghost use Rattle.mapdb.specs.State.{unmap_status, unmap_left};
 
-use crew::{CrewError, Workers};
+use crew::{Crew, CrewError, Gate, Observe, Workers};
 use fpage::{Fpage, Rights};
 use holdings::Holdings;
 use space::{NoMemory, Place};
 use std::alloc::{AllocError, Global};
+use std::sync::Wait;
+use std::thread::Threads;
 
 /// Works the words of an unmap one after another. Each tells the status of its pages and of all that derives from them, and
 /// these lose its rights; with `flush` the pages themselves do. What they tell is put in place of what the list had.
@@ -113,4 +115,63 @@ fn unmap_word_by_recursion(
 {
     let places = held.held_among(alloc, space, fpage.pages())?;
     held.strip_by_recursion(alloc, &places, fpage.rights(), flush)
+}
+
+ghost use Rattle.std.specs.Prelude.{ℕ, ◌+◌, List, length, take};
+ghost use Rattle.pieces.specs.declared.piece.Piece.{Piece};
+ghost use Rattle.model.specs.Strip.{strip};
+ghost use Rattle.holdings.specs.Observing.{IsPhaseOf};
+
+/// Works the words of an unmap as `unmap_words` does, while an observer looks at the entries: once for each word of
+/// which a page is held.
+///
+/// Refused, where memory or a worker is: `NoMemory`; `NoWorker`, also where a thread of the observer is.
+pub fn unmap_words_watched<R: Threads + Wait, G: Gate, O: Observe>(
+    alloc: Global,
+    held: Holdings,
+    space: u16,
+    flush: bool,
+    fpages: &[Fpage],
+    crew: &Crew<'_, R, G>,
+    observer: &O,
+) -> Result<(Holdings, Vec<Rights>), CrewError>
+    requires space { space < held.limits.spaces }
+    requires fpages { All (IsFpageOf held.limits.bits) fpages.now }
+    requires told { (i : ℕ) (words : List ℕ) (pieces : List Piece) → i < length fpages.now
+        → IsPhaseOf held.layout (unmap_left space flush (take i fpages.now) held.holdings) (unmap_left space flush (take (i + 1) fpages.now) held.holdings) words pieces
+        → O.told observer.now words pieces }
+    ensures left { IfOk result (λ r. r.0 ≡ left_with held (unmap_left space flush fpages.now held.holdings)) }
+    ensures status { IfOk result (λ r. r.1.items ≡ unmap_status space flush fpages.now held.holdings) }
+{
+    let mut held = held;
+    let mut status = Vec::with_capacity(alloc, fpages.len())?;
+    for fpage in fpages {
+        let (left, word) = unmap_word_watched(alloc, held, space, flush, fpage, crew, observer)?;
+        held = left;
+        status.push(word).map_err(AllocError::from)?;
+    }
+    Ok((held, status))
+}
+
+/// Works one word of a watched unmap.
+///
+/// Refused, where memory or a worker is: `NoMemory`, `NoWorker`.
+fn unmap_word_watched<R: Threads + Wait, G: Gate, O: Observe>(
+    alloc: Global,
+    held: Holdings,
+    space: u16,
+    flush: bool,
+    fpage: &Fpage,
+    crew: &Crew<'_, R, G>,
+    observer: &O,
+) -> Result<(Holdings, Rights), CrewError>
+    requires space { space < held.limits.spaces }
+    requires fpage { IsFpageOf held.limits.bits fpage.now }
+    requires told { (words : List ℕ) (pieces : List Piece)
+        → IsPhaseOf held.layout held.holdings (strip held.holdings (pages_in space fpage.now) fpage.now.rights flush) words pieces
+        → O.told observer.now words pieces }
+    ensures { IfOk result (IsStripped held (pages_in space fpage.now) fpage.now.rights flush) }
+{
+    let places = held.held_among(alloc, space, fpage.pages())?;
+    held.strip_watched(alloc, &places, fpage.rights(), flush, crew, observer)
 }

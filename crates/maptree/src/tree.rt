@@ -127,6 +127,7 @@ impl Tree {
     }
 
     /// The position of the origin of a node; none for a root.
+    #[inline(always)]
     pub fn origin_of(&self, i: usize) -> Option<usize>
         requires { i < length self.now.links }
         ensures before { IfSome result (λ r. r < i) }

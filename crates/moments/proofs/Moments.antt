@@ -10,8 +10,9 @@ use Rattle.model.specs.Calls.{Limits, Request, unmap, no_such_space}
 use Rattle.model.specs.Answers.{answer, pages_in, unless_refused, unmap_answer, unmapped_answer}
 use Rattle.model.specs.Replay.{replay, start}
 use Rattle.model.specs.Records.{Fields, Trace, are_limits, bad_limits, checked_limits, request, trace_of, trace_of_records, with_limits}
+use Rattle.holdings.specs.Layout.{Layout}
 use Rattle.holdings.specs.Mappings.{mapped_of}
-use Rattle.mapdb.specs.State.{State, IsRefused, error_of, left_with, new_state, unmap_left, unmap_refusal}
+use Rattle.mapdb.specs.State.{State, IsRefused, error_of, laid_out, left_with, new_state, unmap_left, unmap_refusal}
 use Rattle.mapdb.specs.declared.error.DbError.{DbError}
 use Rattle.mapdb.specs.declared.error.DbError.TheVariants.{NoSuchSpace, Halted}
 use Rattle.trace.specs.Unread.{Unread, IsOpened, first_request}
@@ -76,11 +77,16 @@ count_is bytes u n head count =
 -- ---- databases
 
 -- one record more
-pub left_step : (s d : State) (rows left : List Fields) (i : ℕ) → left ≡ drop i rows → d ≡ left_with s (left_by s.limits (take i rows) s.holdings)
-    → left_with d (left_by d.limits (take 1 left) d.holdings) ≡ left_with s (left_by s.limits (take (i + 1) rows) s.holdings)
-left_step s d rows left i left_is d_is =
-    (λ j. left_with (d_is j) (left_by (d_is j).limits (take 1 (left_is j)) (d_is j).holdings))
-    ∙ ap (left_with s) (left_more s.limits i 1 rows s.holdings)
+pub left_step : (s d : State) (layout : Layout) (rows left : List Fields) (i : ℕ) → left ≡ drop i rows
+    → d ≡ laid_out (left_with s (left_by s.limits (take i rows) s.holdings)) d.layout
+    → laid_out (left_with d (left_by d.limits (take 1 left) d.holdings)) layout ≡ laid_out (left_with s (left_by s.limits (take (i + 1) rows) s.holdings)) layout
+left_step s d layout rows left i left_is d_is =
+    (λ j. laid_out (left_with (d_is j) (left_by (d_is j).limits (take 1 (left_is j)) (d_is j).holdings)) layout)
+    ∙ ap (λ h. laid_out (left_with s h) layout) (left_more s.limits i 1 rows s.holdings)
+
+-- what leaves the layout leaves some layout
+pub settled : (s new : State) (h : Holdings) → new ≡ left_with s h → new ≡ laid_out (left_with s h) new.layout
+settled s new h is = is ∙ ap (laid_out (left_with s h)) (sym (ap (λ (t : State). t.layout) is))
 
 -- what an unmap that was answered leaves
 pub unmapped : {A : Type 0} (s new : State) (space : ℕ) (f : Bool) (words : List ℕ) (fpages : List Flexpage) (r : Result A DbError) → length fpages ≡ length words
@@ -104,16 +110,16 @@ unmapped {A} s new space f words fpages (Err e) same refused left why = by s.is_
 -- what is held around a record
 pub moment_is : (bytes : List ℕ) (at count earlier : ℕ) (u u1 : Unread) (d0 d1 d2 : State) (m : Moment)
     → IsOpened bytes u → are_limits u.limits ≡ true → IsRecordCount bytes count → m.records ≡ min at count → earlier ≡ m.records - 1
-    → d0 ≡ new_state u.limits → u1.records ≡ drop earlier u.records → d1 ≡ left_with d0 (left_by d0.limits (take earlier u.records) d0.holdings)
-    → d2 ≡ left_with d1 (left_by d1.limits (take (m.records - earlier) u1.records) d1.holdings)
+    → d0 ≡ laid_out (new_state u.limits) d0.layout → u1.records ≡ drop earlier u.records → d1 ≡ laid_out (left_with d0 (left_by d0.limits (take earlier u.records) d0.holdings)) d1.layout
+    → d2 ≡ laid_out (left_with d1 (left_by d1.limits (take (m.records - earlier) u1.records) d1.holdings)) d2.layout
     → map mapped_of m.before.items ≡ d1.holdings → map mapped_of m.after.items ≡ d2.holdings → IsMoment bytes at m
 moment_is bytes at count earlier u u1 d0 d1 d2 m head served counted records earlier_is d0_is left d1_is d2_is before after =
     let trace = trace_behind u in
     let holds : State → Holdings = λ s. s.holdings in
-    let first : d1 ≡ left_with (new_state u.limits) (left_by u.limits (take earlier u.records) (start u.limits)) =
-    d1_is ∙ (λ j. left_with (d0_is j) (left_by (d0_is j).limits (take earlier u.records) (d0_is j).holdings)) in
-    let second : d2 ≡ left_with (new_state u.limits) (left_by u.limits (take (m.records - earlier) (drop earlier u.records)) (left_by u.limits (take earlier u.records) (start u.limits))) =
-    d2_is ∙ (λ j. left_with (first j) (left_by (first j).limits (take (m.records - earlier) (left j)) (first j).holdings)) in
+    let first : d1 ≡ laid_out (left_with (new_state u.limits) (left_by u.limits (take earlier u.records) (start u.limits))) d1.layout =
+    d1_is ∙ (λ j. laid_out (left_with (d0_is j) (left_by (d0_is j).limits (take earlier u.records) (d0_is j).holdings)) d1.layout) in
+    let second : d2 ≡ laid_out (left_with (new_state u.limits) (left_by u.limits (take (m.records - earlier) (drop earlier u.records)) (left_by u.limits (take earlier u.records) (start u.limits)))) d2.layout =
+    d2_is ∙ (λ j. laid_out (left_with (first j) (left_by (first j).limits (take (m.records - earlier) (left j)) (first j).holdings)) d2.layout) in
     let whole : earlier + (m.records - earlier) ≡ m.records = omega (arith, earlier_is) in
     record {
       trace = trace;

@@ -8,7 +8,7 @@ ghost use Rattle.model.specs.Answers.{answer};
 ghost use Rattle.model.specs.Records.{are_limits};
 ghost use Rattle.holdings.specs.Meaning.{limits_of};
 ghost use Rattle.holdings.specs.Places.{IsWithin};
-ghost use Rattle.mapdb.specs.State.{left_with, new_state};
+ghost use Rattle.mapdb.specs.State.{laid_out, left_with, new_state};
 ghost use Rattle.mapdb.specs.declared.error.DbError.TheVariants.{NoSuchSpace};
 ghost use Rattle.trace.specs.Meaning.{IsWithinLimits, request_of};
 ghost use Rattle.moments.specs.Moment.{left_by};
@@ -24,7 +24,8 @@ use trace::{Call, Refusal, TraceReader};
 /// A database at the start.
 pub fn start(alloc: Global, limits: &Limits) -> Result<Database, ShowError>
     ensures served { OnOk result (are_limits (limits_of limits.now) ≡ true) }
-    ensures new { IfOk result (λ database. database ≡ new_state (limits_of limits.now)) }
+    ensures new { IfOk result (λ database.
+        database ≡ laid_out (new_state (limits_of limits.now)) database.layout) }
 {
     match Database::new(alloc, limits.spaces, limits.bits, limits.frames) {
         Ok(database) => Ok(database),
@@ -42,8 +43,8 @@ pub fn answer_records(
 ) -> Result<(), ShowError>
     requires running { database.old.is_halted ≡ false }
     ensures taken { OnOk result (reader.new.records ≡ drop most reader.old.records) }
-    ensures left { OnOk result (database.new ≡ left_with database.old
-        (left_by database.old.limits (take most reader.old.records) database.old.holdings)) }
+    ensures left { OnOk result (database.new ≡ laid_out (left_with database.old
+        (left_by database.old.limits (take most reader.old.records) database.old.holdings)) database.new.layout) }
 {
     let limits = database.limits();
     for i in 0..most {
@@ -67,8 +68,8 @@ fn answer_next(
     requires served { are_limits (limits_of limits.now) ≡ true }
     requires some { 0 < length reader.old.records }
     ensures taken { OnOk result (reader.new.records ≡ drop 1 reader.old.records) }
-    ensures left { OnOk result (database.new ≡ left_with database.old
-        (left_by database.old.limits (take 1 reader.old.records) database.old.holdings)) }
+    ensures left { OnOk result (database.new ≡ laid_out (left_with database.old
+        (left_by database.old.limits (take 1 reader.old.records) database.old.holdings)) database.new.layout) }
 {
     let Ok(asked) = reader.next_call(limits) else {
         return Err(ShowError::NoMemory);
@@ -88,8 +89,8 @@ fn answer_record(
 ) -> Result<(), ShowError>
     requires running { database.old.is_halted ≡ false }
     requires within { IfOk asked.now (IsWithinLimits database.old.limits) }
-    ensures left { OnOk result (database.new ≡ left_with database.old
-        (answer database.old.limits database.old.holdings (request_of asked.now)).left) }
+    ensures left { OnOk result (database.new ≡ laid_out (left_with database.old
+        (answer database.old.limits database.old.holdings (request_of asked.now)).left) database.new.layout) }
 {
     match asked {
         Err(_) => Ok(()),
@@ -141,8 +142,8 @@ fn send_items(
 ) -> Result<(), ShowError>
     requires window { IsFpageOf database.old.limits.bits window.now }
     requires items { All (λ item. IsFpageOf database.old.limits.bits item.sent) items.now }
-    ensures left { OnOk result (database.new ≡ left_with database.old
-        (answer database.old.limits database.old.holdings (Ok (send from to window.now items.now))).left) }
+    ensures left { OnOk result (database.new ≡ laid_out (left_with database.old
+        (answer database.old.limits database.old.holdings (Ok (send from to window.now items.now))).left) database.new.layout) }
 {
     match database.send(alloc, from, to, window, items, &Alone) {
         Ok(_) | Err(DbError::NoSuchSpace | DbError::SameSpace | DbError::NoWindow) => Ok(()),

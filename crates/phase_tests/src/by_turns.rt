@@ -1,6 +1,6 @@
 //! Phases worked turn by turn, and closed in the middle.
 
-ghost use Rattle.std.specs.Prelude.{◌≡◌, ◌⊎◌, ◌∷◌, [], Some, IfOk, IfSome};
+ghost use Rattle.std.specs.Prelude.{◌≡◌, ◌⊎◌, ◌<◌, ◌∷◌, [], Some, length, IfOk, IfSome};
 ghost use Rattle.std.specs.List.{All};
 ghost use Rattle.pieces.specs.Phases.{CanBeWorked};
 
@@ -12,7 +12,7 @@ use space::{NoMemory, Place};
 use std::alloc::{AllocError, Global};
 use std::process::Abort;
 use std::test::Fail;
-use turns::{NotAll, Open, Progress, Turn, Unended};
+use turns::{NotAll, Open, Progress, Turn, Unended, Watcher};
 
 /// The right to read.
 const R: Rights = Rights {
@@ -37,7 +37,9 @@ const X: Rights = Rights {
 
 /// Two strips of one node each, with a common fold word.
 pub(crate) fn two_strips(alloc: Global) -> Result<(Vec<u64>, Vec<Piece>), NoMemory>
-    ensures { IfOk result (λ r. CanBeWorked r.0.items r.1.items) }
+    ensures can { IfOk result (λ r. CanBeWorked r.0.items r.1.items) }
+    ensures words { IfOk result (λ r. length r.0.items ≡ 3) }
+    ensures some { IfOk result (λ r. 0 < length r.1.items) }
 {
     let words = Vec::from_slice(alloc, &[0x1_0000_0507, 0x1_0000_0527, 0x1_0000_0537])?;
     let first = strip_of(alloc, 1, 1, Rights::none())?;
@@ -47,7 +49,11 @@ pub(crate) fn two_strips(alloc: Global) -> Result<(Vec<u64>, Vec<Piece>), NoMemo
 }
 
 /// A list of two pieces.
-fn two_pieces(alloc: Global, first: Piece, second: Piece) -> Result<Vec<Piece>, AllocError>
+pub(crate) fn two_pieces(
+    alloc: Global,
+    first: Piece,
+    second: Piece,
+) -> Result<Vec<Piece>, AllocError>
     ensures { IfOk result (λ pieces. pieces.items ≡ first ∷ second ∷ []) }
 {
     let mut pieces = Vec::with_capacity(alloc, 2)?;
@@ -57,7 +63,12 @@ fn two_pieces(alloc: Global, first: Piece, second: Piece) -> Result<Vec<Piece>, 
 }
 
 /// A strip of the node of a space, whose word stands at an index. Its status goes to word 0.
-fn strip_of(alloc: Global, space: u16, index: usize, mask: Rights) -> Result<Strip, NoMemory>
+pub(crate) fn strip_of(
+    alloc: Global,
+    space: u16,
+    index: usize,
+    mask: Rights,
+) -> Result<Strip, NoMemory>
     requires { index ≡ 1 ⊎ index ≡ 2 }
     ensures { IfOk result (λ s. s ≡ record { nodes = record { place = record { space = space; page = 0 }; depth = 1 } ∷ []; masks = mask ∷ []; indexes = index ∷ []; fold = Some 0 }) }
 {
@@ -199,7 +210,7 @@ fn closed(
     let (words, pieces) = phase.begin(alloc)?;
     let (phase, turns) = Open::open(alloc, words, pieces)?;
     let turns = step_each(alloc, &phase, turns, first, others)?;
-    match phase.close(turns) {
+    match phase.close(turns, Vec::new(alloc)) {
         Ok(end) => Ok(end),
         Err(_) => Err(NoMemory),
     }
@@ -334,11 +345,24 @@ pub(crate) fn with_last(
 }
 
 /// A phase of two turns is closed once both are there, and not without one.
-fn closes_with_both(rt: &impl Abort, phase: Open, turns: Vec<Turn>) -> Result<(), AllocError>
-    requires { All (λ t. t.sheet ≡ phase) turns.items }
+fn closes_with_both(
+    rt: &impl Abort,
+    phase: Open,
+    turns: Vec<Turn>,
+    watchers: Vec<Watcher>,
+) -> Result<(), AllocError>
+    requires turns { All (λ t. t.sheet ≡ phase) turns.items }
+    requires watchers { All (λ w. w.sheet ≡ phase) watchers.items }
 {
     let (turns, last) = without_last(&phase, turns);
-    let Err(NotAll { shared, turns }) = phase.close(turns) else {
+    let Err(
+        NotAll {
+            shared,
+            turns,
+            watchers,
+        },
+    ) = phase.close(turns, watchers)
+    else {
         panic!(rt; "a turn was wanting")
     };
     assert_equal(
@@ -348,7 +372,7 @@ fn closes_with_both(rt: &impl Abort, phase: Open, turns: Vec<Turn>) -> Result<()
         "turns, and the last",
     );
     let turns = with_last(&shared, turns, last)?;
-    let Ok((end, _, unended)) = shared.close(turns) else {
+    let Ok((end, _, unended)) = shared.close(turns, watchers) else {
         panic!(rt; "all turns were there")
     };
     assert_equal(
@@ -363,8 +387,8 @@ fn closes_with_both(rt: &impl Abort, phase: Open, turns: Vec<Turn>) -> Result<()
 #[test]
 fn a_phase_is_closed_once_all_turns_are_there(rt: HostRuntime) -> Result<(), Fail> {
     let (words, pieces) = two_strips(rt.alloc())?;
-    let (phase, turns) = Open::open(rt.alloc(), words, pieces)?;
-    closes_with_both(&rt, phase, turns)?;
+    let (phase, turns, watchers) = Open::open_watched(rt.alloc(), words, pieces, 1)?;
+    closes_with_both(&rt, phase, turns, watchers)?;
     let (end, dones, unended) = closed(rt.alloc(), Phase::NoPieces, 0, 0)?;
     assert_equal(&rt, end.as_slice(), [0x1_0000_0507].as_slice(), "no pieces");
     assert_equal(&rt, (dones.len(), unended.len()), (0, 0), "no pieces");
@@ -423,7 +447,7 @@ pub(crate) fn closed_with(
 {
     let turns = with_last(&phase, Vec::new(alloc), Some(second))?;
     let turns = with_last(&phase, turns, Some(first))?;
-    match phase.close(turns) {
+    match phase.close(turns, Vec::new(alloc)) {
         Ok(end) => Ok(end),
         Err(_) => Err(NoMemory),
     }

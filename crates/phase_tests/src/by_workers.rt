@@ -448,7 +448,7 @@ impl<'a, R: Threads + Wait> Workers for Held<'a, R> {
 }
 
 /// Waits until a count is not 0, giving the processor away, or for some seconds.
-fn wait_for(count: &AtomicU64) {
+pub(crate) fn wait_for(count: &AtomicU64) {
     for _ in 0..10_000_000u64 {
         if count.load(Ordering::SeqCst) != 0 {
             return;

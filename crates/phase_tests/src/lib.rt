@@ -8,6 +8,8 @@ mod by_turns;
 #[cfg(test)]
 mod by_workers;
 #[cfg(test)]
+mod observers;
+#[cfg(test)]
 mod piecewise;
 #[cfg(test)]
 mod random;
@@ -17,3 +19,5 @@ mod readiness;
 mod threads;
 #[cfg(test)]
 mod times;
+#[cfg(test)]
+mod watchers;

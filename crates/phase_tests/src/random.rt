@@ -472,7 +472,7 @@ fn closed<R: Threads + Sync>(
 {
     let (phase, turns) = Open::open(alloc, words, pieces)?;
     let turns = step_all(rt, alloc, &phase, turns, steps)?;
-    match phase.close(turns) {
+    match phase.close(turns, Vec::new(alloc)) {
         Ok(end) => Ok(end),
         Err(_) => Err(NoMemory),
     }

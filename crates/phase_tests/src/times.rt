@@ -1,12 +1,13 @@
 //! What phases cost that a crew works. Where a number of nodes is asked for behind the test's name, it tells how many nanoseconds the
-//! work took, by so many workers and in place: bench/phases.py reads these lines.
+//! work took, by so many workers and in place: bench/phases.py reads these lines. It also tells what a million looks
+//! of a watcher took, and how many looks were made beside four workers.
 
 ghost use Rattle.std.specs.Prelude.{◌≡◌, ◌<◌, ◌≤◌, length, IfOk};
 ghost use Rattle.pieces.specs.Distinct.{is_none_of};
 ghost use Rattle.pieces.specs.Phases.{CanBeWorked};
 
 use crate::assertions::assert_equal;
-use crew::{Crew, Gate, NoGate, work};
+use crew::{Crew, Gate, NoGate, Observe, work, work_watched};
 use fpage::Rights;
 use mapnode::{Node, Slice};
 use pieces::{Piece, Strip, are_distinct, can_be_worked};
@@ -20,7 +21,7 @@ use std::test::Fail;
 use std::thread::Threads;
 use std::time::Instant;
 use std::{env, io};
-use turns::{Open, Turn};
+use turns::{Open, Turn, Watcher};
 
 /// The right to write, which all nodes lose.
 const W: Rights = Rights {
@@ -42,6 +43,11 @@ const LEFT: u64 = 0x1_0000_0505;
 /// How often each crew is timed.
 const RUNS: u32 = 5;
 
+/// How many looks are timed at most, and how far apart the entries are that are looked at one after another.
+const LOOKS: u64 = 1_000_000;
+
+const APART: usize = 389;
+
 /// How many nodes a piece has.
 const LENGTHS: [usize; 3] = [256, 1_024, 4_096];
 
@@ -56,6 +62,28 @@ impl Gate for Counter {
 
     fn end(&self, _worker: usize, _turn: &Turn, _shared: &Open) {
         self.ended.fetch_add(1, Ordering::SeqCst);
+    }
+}
+
+/// Looks at the entries of a phase until all of its pieces have ended.
+#[derive(Drop)]
+struct Looker<'a> {
+    gate: &'a Counter,
+    pieces: u64,
+    looks: AtomicU64,
+    /// How many of them found a page.
+    held: AtomicU64,
+}
+
+impl Observe for Looker<'_> {
+    ghost use Rattle.std.specs.Prelude.{◌≤◌, length};
+
+    ghost told = { λ looker words pieces. 0 ≤ length words };
+
+    fn observe(&self, watcher: &mut Watcher, shared: &Open) {
+        let (looks, held) = look_until(shared, watcher, &self.gate.ended, self.pieces);
+        self.looks.store(looks, Ordering::SeqCst);
+        self.held.store(held, Ordering::SeqCst);
     }
 }
 
@@ -209,6 +237,84 @@ fn times_in_place<R: Runtime + Threads + Wait + Abort>(
     Ok(nanos)
 }
 
+/// Looks at entries until so many pieces have ended: how many looks were made, and how many of them found a page. None
+/// is absent in these phases.
+fn look_until(shared: &Open, watcher: &mut Watcher, ended: &AtomicU64, pieces: u64) -> (u64, u64)
+    requires { watcher.old.sheet ≡ shared.now }
+    ensures { (watcher.new.sheet ≡ watcher.old.sheet) × (watcher.new.number ≡ watcher.old.number) }
+{
+    let words = shared.words();
+    let mut looks = 0_u64;
+    let mut held = 0_u64;
+    let mut index = 0_usize;
+    for _ in 0..LOOKS {
+        if ended.load(Ordering::SeqCst) == pieces {
+            break;
+        }
+        looks = looks.wrapping_add(1);
+        if index < words && watcher.look(shared, index).is_some() {
+            held = held.wrapping_add(1);
+        }
+        index = index.wrapping_add(APART);
+        if index >= words {
+            index = index.wrapping_sub(words);
+        }
+    }
+    (looks, held)
+}
+
+/// The nanoseconds of many looks at entries of a phase, of which no step is made.
+fn times_looks<R: Runtime + Abort>(rt: &R, alloc: Global, size: Size) -> Result<u128, Fail> {
+    let (words, pieces) = phase(alloc, size)?;
+    let (shared, _turns, mut watchers) = Open::open_watched(alloc, words, pieces, 1)?;
+    let Some(mut watcher) = watchers.pop() else {
+        panic!(rt; "a watcher was given")
+    };
+    let none = AtomicU64::new(0);
+    let start = Instant::now(rt)?;
+    let seen = look_until(&shared, &mut watcher, &none, 1);
+    let nanos = since(rt, start)?;
+    assert_equal(
+        rt,
+        seen,
+        (LOOKS, LOOKS),
+        "looks, and those that found a page",
+    );
+    Ok(nanos)
+}
+
+/// The nanoseconds that four workers take while somebody looks, and how many looks are made meanwhile.
+fn times_beside<R: Runtime + Threads + Wait + Abort>(
+    rt: &R,
+    alloc: Global,
+    size: Size,
+) -> Result<(u128, u64), Fail> {
+    let gate = Counter {
+        ended: AtomicU64::new(0),
+    };
+    let looker = Looker {
+        gate: &gate,
+        pieces: size.pieces() as u64,
+        looks: AtomicU64::new(0),
+        held: AtomicU64::new(0),
+    };
+    let crew = Crew::new(rt, 4, size.most.max(1), &gate);
+    let (words, pieces) = phase(alloc, size)?;
+    let start = Instant::now(rt)?;
+    let worked = work_watched(&crew, alloc, words, pieces, &looker)?;
+    let nanos = since(rt, start)?;
+    let (words, _) = worked;
+    are_stripped(rt, &words, size);
+    let looks = looker.looks.load(Ordering::SeqCst);
+    assert_equal(
+        rt,
+        looker.held.load(Ordering::SeqCst),
+        looks,
+        "looks that found a page",
+    );
+    Ok((nanos, looks))
+}
+
 /// The nanoseconds that 1, 2 and 4 workers take by turns, and one in place, in this order.
 fn times_each<R: Runtime + Threads + Wait + Abort>(
     rt: &R,
@@ -234,6 +340,10 @@ fn tells<R: Runtime + Threads + Wait + Abort>(
         println!(rt; "phase pieces-of {most} workers {workers} ns {nanos}")?;
     }
     println!(rt; "phase pieces-of {most} in-place ns {in_place}")?;
+    let looks = times_looks(rt, alloc, size)?;
+    println!(rt; "phase pieces-of {most} looks {LOOKS} ns {looks}")?;
+    let (nanos, looks) = times_beside(rt, alloc, size)?;
+    println!(rt; "phase pieces-of {most} beside {looks} ns {nanos}")?;
     Ok(())
 }
 
@@ -261,6 +371,8 @@ fn works_a_thousand_nodes_or_as_many_as_are_asked_for(rt: HostRuntime) -> Result
                 most: 16,
             };
             times_each(&rt, rt.alloc(), size)?;
+            times_looks(&rt, rt.alloc(), size)?;
+            times_beside(&rt, rt.alloc(), size)?;
             Ok(())
         }
     }

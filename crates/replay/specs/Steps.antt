@@ -9,7 +9,7 @@ use Rattle.model.specs.Answers.{answer}
 use Rattle.model.specs.Replay.{Told, replay, start}
 use Rattle.model.specs.Records.{Fields, are_limits, request}
 use Rattle.model.specs.Text.{reply_lines}
-use Rattle.mapdb.specs.State.{State, new_state}
+use Rattle.mapdb.specs.State.{State, laid_out, new_state}
 use Rattle.trace.specs.Meaning.{reply_of}
 use Rattle.trace.specs.Unread.{Unread}
 use Rattle.replay.specs.declared.answer.Replies.{Replies}
@@ -88,7 +88,7 @@ StopsAmong number replies lines old new was is Unreadable = ⊥
 -- a database at the start, whose limits are served
 pub record IsStarted (limits : Limits) (database : State) : Type 0 where
   pub served : are_limits limits ≡ true
-  pub new : database ≡ new_state limits
+  pub new : database ≡ laid_out (new_state limits) database.layout
 
 -- why there is no database
 abbrev pub StartsNot : Limits → RunError → Type 0

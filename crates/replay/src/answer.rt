@@ -10,7 +10,7 @@ ghost use Rattle.model.specs.Records.{are_limits};
 ghost use Rattle.holdings.specs.Contents.{access_answers, touched_all};
 ghost use Rattle.holdings.specs.Meaning.{limits_of};
 ghost use Rattle.holdings.specs.Places.{IsWithin};
-ghost use Rattle.mapdb.specs.State.{left_with, IsRefused, unmap_refusal, unmap_status, unmap_left};
+ghost use Rattle.mapdb.specs.State.{laid_out, left_with, IsRefused, unmap_refusal, unmap_status, unmap_left};
 ghost use Rattle.trace.specs.Meaning.{reply_of, request_of, IsWithinLimits};
 ghost use Rattle.trace.specs.Unread.{past, first_request, access_in};
 ghost use Rattle.replay.specs.Steps.{AreAsked, replies_of, told_of, told_behind};
@@ -57,7 +57,8 @@ pub fn answer_first<W: Workers>(
     ensures told { IfOk result (λ replies.
         told_of database.old.limits (take (length (replies_of replies)) trace.old.records) database.old.holdings
         ≡ record { replies = replies_of replies; last = database.new.holdings }) }
-    ensures keeps { OnOk result (database.new ≡ left_with database.old database.new.holdings) }
+    ensures keeps { OnOk result (
+        database.new ≡ laid_out (left_with database.old database.new.holdings) database.new.layout) }
 {
     let limits = database.limits();
     let asked = trace.next_call(&limits)?;
@@ -86,7 +87,8 @@ fn answer_call<W: Workers>(
     ensures told { IfOk result (λ replies.
         told_behind database.old.limits (request_of asked.now) (take (length (replies_of replies) - 1) trace.old.records) database.old.holdings
         ≡ record { replies = replies_of replies; last = database.new.holdings }) }
-    ensures keeps { OnOk result (database.new ≡ left_with database.old database.new.holdings) }
+    ensures keeps { OnOk result (
+        database.new ≡ laid_out (left_with database.old database.new.holdings) database.new.layout) }
 {
     match asked {
         Err(refusal) => Ok(Replies::One(Reply::Refused(*refusal))),
@@ -204,7 +206,8 @@ fn send_items<W: Workers>(
     requires items { All (λ item. IsFpageOf database.old.limits.bits item.sent) items.now }
     ensures ok { IfOk result (λ reply. answer database.old.limits database.old.holdings (Ok (send from to window.now items.now))
         ≡ record { reply = reply_of reply; left = database.new.holdings }) }
-    ensures keeps { OnOk result (database.new ≡ left_with database.old database.new.holdings) }
+    ensures keeps { OnOk result (
+        database.new ≡ laid_out (left_with database.old database.new.holdings) database.new.layout) }
 {
     match database.send(alloc, from, to, window, items, workers) {
         Ok(reply) => Ok(Reply::Sent(reply)),

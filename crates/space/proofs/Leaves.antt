@@ -5,7 +5,7 @@ use Rattle.std.specs.Int.{div_ceil}
 use Rattle.std.proofs.lemmas.Bool.{eq-eqb, eqb-true, ltb-true, ltb-false, lt-ltb}
 use Rattle.std.proofs.lemmas.Grind.{div_ceil_times}
 use Rattle.std.proofs.lemmas.List.{length-append, length-replicate, length-set, get_or-set_same, get_or-set_other, get_or_past, get_or-replicate, get_or_append_left, get_or-append_right}
-use Rattle.space.specs.Leaves.{nowhere, leaf_at, slot_of, position_at, count_up, has_leaf, is_there, IsDirectory}
+use Rattle.space.specs.Leaves.{nowhere, leaf_at, slot_of, position_at, count_up, has_leaf, is_there, AreInOrder, IsDirectory}
 
 pub same_or_not : (i j : ℕ) → (i ≡ j) ⊎ (i ≡ j → ⊥)
 same_or_not i j = by (i == j) refl
@@ -44,6 +44,13 @@ count_none f zero none = refl
 count_none f (suc n) none =
     let last : one_more (f n) ≡ 0 = ap one_more (none n (omega arith)) in
     let rest : count_up f n ≡ 0 = count_none f n (λ k less. none k (omega (arith, less))) in
+    omega (arith, last, rest)
+
+pub count_all : (f : ℕ → Bool) (n : ℕ) → ((k : ℕ) → k < n → f k ≡ true) → count_up f n ≡ n
+count_all f zero all = refl
+count_all f (suc n) all =
+    let last : one_more (f n) ≡ 1 = ap one_more (all n (omega arith)) in
+    let rest : count_up f n ≡ n = count_all f n (λ k less. all k (omega (arith, less))) in
     omega (arith, last, rest)
 
 pub count_more : (f g : ℕ → Bool) (n k : ℕ) → k < n → f k ≡ false → g k ≡ true → ((j : ℕ) → (j ≡ k → ⊥) → g j ≡ f j) → count_up g n ≡ count_up f n + 1
@@ -95,6 +102,47 @@ new_directory most leaves positions few leaves_are positions_are = record {
 
     nowhere_at : (shard : ℕ) → position_at leaves positions shard ≡ nowhere
     nowhere_at shard = let slot : slot_of leaves shard ≡ shard % 128 = omega (arith, first (shard / 128)) in ap (slice_index positions) slot ∙ empty (shard % 128) (omega arith)
+
+-- one with a leaf for each run
+module _ (most : ℕ) (leaves positions : List ℕ) (few : most ≤ 2 ^ 15) (runs : length leaves ≡ div_ceil most 128) (order : AreInOrder leaves)
+    (positions_are : positions ≡ replicate ((div_ceil most 128 + 1) * 128) nowhere) where
+  long : length positions ≡ (length leaves + 1) * 128
+  long = ap length positions_are ∙ length-replicate ((div_ceil most 128 + 1) * 128) nowhere ∙ ap (λ n. (n + 1) * 128) (sym runs)
+
+  none_past : (run : ℕ) → length leaves ≤ run → leaf_at leaves run ≡ 0
+  none_past run past = get_or_past leaves run 0 past
+
+  leaf_within : (run : ℕ) → leaf_at leaves run * 128 + 128 ≤ length positions
+  leaf_within run = elim (within_or_past run (length leaves)) as (λ _. leaf_at leaves run * 128 + 128 ≤ length positions) [
+    | inl within ↦ omega (arith, within, order run within, long)
+    | inr past ↦ omega (arith, none_past run past, long)
+  ]
+
+  filled : (slot : ℕ) → slot < length positions → slice_index positions slot ≡ nowhere
+  filled slot within =
+      ap (λ xs. slice_index xs slot) positions_are ∙ read_filled_with ((div_ceil most 128 + 1) * 128) slot nowhere (omega (arith, within, long, runs))
+
+  pub dense_nowhere : (shard : ℕ) → position_at leaves positions shard ≡ nowhere
+  dense_nowhere shard = filled (slot_of leaves shard) (omega (arith, leaf_within (shard / 128)))
+
+  pub dense_directory : IsDirectory most 0 leaves positions
+  dense_directory = record {
+    few = omega (arith, few);
+    runs = runs;
+    leaf_count = long ∙ ap (λ n. (n + 1) * 128) (sym (count_all (has_leaf leaves) (length leaves) (λ k less. lt-ltb 0 (leaf_at leaves k) (omega (arith, order k less)))));
+    within = leaf_within;
+    own = λ i j some same. elim (within_or_past i (length leaves)) as (λ _. i ≡ j) [
+      | inl i_in ↦ elim (within_or_past j (length leaves)) as (λ _. i ≡ j) [
+        | inl j_in ↦ omega (arith, order i i_in, order j j_in, same)
+        | inr j_past ↦ absurd (omega (arith, some, same, none_past j j_past))
+      ]
+      | inr i_past ↦ absurd (omega (arith, some, none_past i i_past))
+    ];
+    empty = λ slot less. filled slot (omega (arith, less, long));
+    shard_count = sym (count_none (is_there leaves positions) most (λ k less. ap (λ n. not (n == nowhere)) (dense_nowhere k)));
+    placed = λ shard there. absurd (there (dense_nowhere shard));
+    apart = λ j k there same. absurd (omega (arith, there));
+  }
 
 module _ (most count : ℕ) (leaves positions : List ℕ) (found : IsDirectory most count leaves positions) where
   -- no more shards are there than there can be

@@ -31,6 +31,10 @@ has_leaf leaves run = nat_lt 0 (leaf_at leaves run)
 abbrev pub is_there : List ℕ → List ℕ → ℕ → Bool
 is_there leaves positions shard = not (position_at leaves positions shard == nowhere)
 
+-- each run has a leaf of its own, in the order of the runs, behind the first leaf
+abbrev pub AreInOrder : List ℕ → Type 0
+AreInOrder leaves = (run : ℕ) → run < length leaves → leaf_at leaves run ≡ run + 1
+
 -- leaves of 128 positions each, the first of which is empty; each run has that one or one of its own; and shards that
 -- are there have each a position of its own, below their number
 pub record IsDirectory (most count : ℕ) (leaves positions : List ℕ) : Type 0 where

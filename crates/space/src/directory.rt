@@ -1,12 +1,16 @@
 //! Where the words of each shard stand.
 
-ghost use Rattle.std.specs.Prelude.{◌≡◌};
-ghost use Rattle.space.specs.Leaves.{IsDirectory};
+ghost use Rattle.std.specs.Prelude.{◌≡◌, ◌≤◌, ◌^◌, length, IsTrue, IfOk};
+ghost use Rattle.space.specs.Leaves.{IsDirectory, AreInOrder};
 
 use std::alloc::{AllocError, Global};
 
 /// How many shards one leaf finds.
 const LEAF_SHARDS: usize = 128;
+
+/// With so many shards at most each run of them has its leaf from the start: 128 KiB. Then a position is found without
+/// a look at the leaves.
+const DENSE_SHARDS: u32 = 1 << 15;
 
 /// Stands for the position of a shard that is not there.
 const NOWHERE: u32 = u32::MAX;
@@ -21,11 +25,14 @@ pub struct Directory {
     most: u32,
     /// How many are there.
     count: u32,
+    /// Whether each run of 128 shards has its leaf, and the leaves stand in the order of the runs.
+    is_dense: bool,
     /// Which leaf finds the shards of each run of 128.
     leaves: Vec<u32>,
     /// The positions of the shards of each leaf, leaf behind leaf.
     positions: Vec<u32>,
     ghost found: { IsDirectory most count leaves.items positions.items },
+    ghost dense: { IsTrue is_dense → AreInOrder leaves.items },
 }
 
 impl Directory {
@@ -41,12 +48,46 @@ impl Directory {
         ensures count { IfOk result (λ d. count_of d ≡ 0) }
         ensures none { IfOk result (λ d. (shard : ℕ) → position_in d shard ≡ nowhere) }
     {
+        if most <= DENSE_SHARDS {
+            Directory::dense(alloc, most)
+        } else {
+            Directory::sparse(alloc, most)
+        }
+    }
+
+    /// The same, with a leaf for each run.
+    fn dense(alloc: Global, most: u32) -> Result<Self, AllocError>
+        requires few { most ≤ 2 ^ 15 }
+        ensures most { IfOk result (λ d. most_of d ≡ most) }
+        ensures count { IfOk result (λ d. count_of d ≡ 0) }
+        ensures none { IfOk result (λ d. (shard : ℕ) → position_in d shard ≡ nowhere) }
+    {
+        let runs = (most as usize).div_ceil(LEAF_SHARDS);
+        let leaves = leaves_in_order(alloc, runs)?;
+        let positions = vec![in alloc; NOWHERE; (runs + 1) * LEAF_SHARDS]?;
+        Ok(Directory {
+            most,
+            count: 0,
+            is_dense: true,
+            leaves,
+            positions,
+        })
+    }
+
+    /// The same, with the empty leaf alone.
+    fn sparse(alloc: Global, most: u32) -> Result<Self, AllocError>
+        requires few { most ≤ 2 ^ 23 }
+        ensures most { IfOk result (λ d. most_of d ≡ most) }
+        ensures count { IfOk result (λ d. count_of d ≡ 0) }
+        ensures none { IfOk result (λ d. (shard : ℕ) → position_in d shard ≡ nowhere) }
+    {
         let runs = (most as usize).div_ceil(LEAF_SHARDS);
         let leaves = vec![in alloc; 0; runs]?;
         let positions = vec![in alloc; NOWHERE; LEAF_SHARDS]?;
         Ok(Directory {
             most,
             count: 0,
+            is_dense: false,
             leaves,
             positions,
         })
@@ -65,6 +106,9 @@ impl Directory {
         requires { shard < most_of self.now }
         ensures { result ≡ position_in self.now shard }
     {
+        if self.is_dense {
+            return self.positions[LEAF_SHARDS + shard];
+        }
         let leaf = self.leaves[shard / LEAF_SHARDS] as usize;
         self.positions[leaf * LEAF_SHARDS + shard % LEAF_SHARDS]
     }
@@ -132,4 +176,17 @@ impl Directory {
         }
         end
     }
+}
+
+/// The leaf of each of so many runs, in their order, behind the empty leaf.
+fn leaves_in_order(alloc: Global, runs: usize) -> Result<Vec<u32>, AllocError>
+    requires few { runs ≤ 2 ^ 16 }
+    ensures count { IfOk result (λ leaves. length leaves.items ≡ runs) }
+    ensures order { IfOk result (λ leaves. AreInOrder leaves.items) }
+{
+    let mut leaves = Vec::with_capacity(alloc, runs)?;
+    for run in 0..runs {
+        leaves.push(run as u32 + 1)?;
+    }
+    Ok(leaves)
 }

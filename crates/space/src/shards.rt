@@ -32,8 +32,8 @@ pub struct Narrowed {
 /// A map from places to entries, kept as entry words (profile).
 ///
 /// The words lie in shards of 64 pages of one space, one shard behind another, in the order in which they were made. A
-/// directory tells where those of a place stand, if its shard is there; all other pages are absent. Only `new` and
-/// `make` take memory.
+/// directory tells where those of a place stand, if its shard is there; all other pages are absent. Only `new`, `make`
+/// and `make_one` take memory.
 #[derive(Drop)]
 pub struct Shards {
     spaces: u32,

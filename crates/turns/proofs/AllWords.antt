@@ -65,9 +65,9 @@ all_are_within n k d less =
     subst (λ i. i < n) (sym (get_or-range_with_len 0 n k d low)) (omega (arith, low))
 
 -- a phase whose words are all shared
-pub all_phase : (w : List ℕ) (ps : List Piece) → All IsPiece ps → CanBeWorked w ps → IsPhase (record { words = w; pieces = ps; at = range_with_len 0 (length w) })
-all_phase w ps each can =
-    phase w ps (range_with_len 0 (length w)) each can (range_distinct 0 (length w))
+pub all_phase : (w : List ℕ) (ps : List Piece) (m : ℕ) → All IsPiece ps → CanBeWorked w ps → IsPhase (record { words = w; pieces = ps; at = range_with_len 0 (length w); watchers = m })
+all_phase w ps m each can =
+    phase w ps (range_with_len 0 (length w)) m each can (range_distinct 0 (length w))
     (λ i there. among i (passes_there (λ j. nat_lt j (length w)) (flat_map changes ps) i (changes_within w ps can) there))
     (λ i there. among i (passes_there (λ j. nat_lt j (length w)) (flat_map common ps) i (common_within w ps can) there))
   where
@@ -98,3 +98,7 @@ one_of_all_put_back k n before words shared word less found so_far =
     let within : k < length (range_with_len 0 n) = subst (λ m. k < m) (sym (length-range_with_len 0 n)) less in
     let same : k ≡ 0 + k = omega arith in
     ap (λ i. set words i word) (same ∙ sym (get_or-range_with_len 0 n k 0 less)) ∙ one_put_back k before words (range_with_len 0 n) shared word within found so_far
+
+-- each index of a word is among them
+pub is_there : (n i : ℕ) → i < n → is_none_of (range_with_len 0 n) i ≡ false
+is_there n i less = in_range 0 n i (omega arith) (omega (arith, less))

@@ -23,9 +23,12 @@ use Rattle.turns.specs.contracts.open.Open as shared
 use Rattle.turns.specs.contracts.open.Open.TheInside as shared_inside
 use Rattle.turns.specs.contracts.sheet.Sheet as sheet
 use Rattle.turns.specs.contracts.sheet.Sheet.TheInside as sheet_inside
+use Rattle.turns.specs.contracts.starts.Starts as starts
 use Rattle.turns.specs.contracts.post.Post as post
 use Rattle.turns.specs.contracts.work.Work as work
 use Rattle.turns.specs.contracts.turn.Turn as turn
+use Rattle.turns.specs.contracts.watcher.Watcher as watcher
+use Rattle.turns.specs.contracts.receipt.Receipt as receipt
 use Rattle.turns.specs.contracts.turn.Turn.TheInside as inside
 
 pub post_send : IsSend post.the_row
@@ -64,14 +67,25 @@ table_sync =
     declared_sync (table.the_type unit view.the_row fixed.the_row rule.the_row global.the_row rules_of.ghosts heaps.ghosts)
     (shared_sync unit view.the_row fixed.the_row rule.the_row rules_of.ghosts (search sendable), (search sendable, (search sendable, (lease_sync u64 global.the_row heaps.ghosts (search sendable) (search (sendable, crosses)), (lease_sync unit global.the_row heaps.ghosts (search sendable) (search (sendable, crosses)), (search (sendable, crosses) depth 20, tt))))))
 
+starts_sync : IsSync starts.the_row
+starts_sync = search (sendable, crosses) depth 20
+
 sheet_inside_sync : IsSync sheet_inside.the_row
-sheet_inside_sync = declared_sync sheet_inside.the_type (table_sync, (search (sendable, crosses) depth 20, (search (sendable, crosses) depth 20, (search (sendable, crosses) depth 20, (search sendable, tt)))))
+sheet_inside_sync = declared_sync sheet_inside.the_type (table_sync, (search (sendable, crosses) depth 20, (search (sendable, crosses) depth 20, (search (sendable, crosses) depth 20, (search sendable, (starts_sync, tt))))))
 
 pub sheet_sync : IsSync sheet.the_row
 sheet_sync = search (sheet_inside_sync, view_sync)
 
 open_inside_sync : IsSync shared_inside.the_row
-open_inside_sync = declared_sync shared_inside.the_type (sheet_sync, (search (sendable, crosses) depth 20, (search (sendable, crosses) depth 20, (search (sendable, crosses) depth 20, (search (sendable, crosses) depth 20, tt)))))
+open_inside_sync = declared_sync shared_inside.the_type (sheet_sync, (search (sendable, crosses) depth 20, (search (sendable, crosses) depth 20, (search (sendable, crosses) depth 20, (search (sendable, crosses) depth 20, (search (sendable, crosses) depth 20, tt))))))
 
 pub open_sync : IsSync shared.the_row
 open_sync = search (open_inside_sync, view_sync)
+
+pub watcher_send : IsSend watcher.the_row
+unfolding types.Keyed.entry denote.Memory.part_of
+watcher_send = search rules
+
+pub receipt_send : IsSend receipt.the_row
+unfolding types.Keyed.entry denote.Memory.part_of
+receipt_send = search rules

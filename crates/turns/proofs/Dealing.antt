@@ -6,6 +6,7 @@ use Rattle.std.proofs.lemmas.List.FromFn.{length-range_with_len}
 use Rattle.turns.specs.Posts.{PostContent}
 use Rattle.turns.specs.Sheets.{SheetContent}
 use Rattle.turns.specs.Turns.{new_turns}
+use Rattle.turns.specs.Watching.{WatcherContent, new_watchers}
 use Rattle.turns.specs.Views.{first_of, behind_first}
 
 -- so many pieces from one on, with no step done
@@ -46,3 +47,18 @@ pub turns_of : (s : SheetContent) (q n : ℕ) → All (λ (t : PostContent). t.s
 turns_of s q zero k d less = absurd (omega (arith, less))
 turns_of s q (suc n) zero d less = refl
 turns_of s q (suc n) (suc k) d less = turns_of s (q + 1) n k d (omega (arith, less))
+
+-- ---- watchers
+
+-- one watcher more
+pub watchers_more : (s : SheetContent) (k : ℕ) → new_watchers s (k + 1) ≡ new_watchers s k ++ record { sheet = s; number = k; notes = [] } ∷ []
+watchers_more s k = ap (map watcher) (range_more 0 k) ∙ map-append watcher (range_with_len 0 k) ((0 + k) ∷ []) ∙ ap (λ n. map watcher (range_with_len 0 k) ++ watcher n ∷ []) (let z : 0 + k ≡ k = omega arith in z)
+  where
+    watcher : ℕ → WatcherContent
+    watcher n = record { sheet = s; number = n; notes = [] }
+
+-- they are of this phase
+pub watchers_of : (s : SheetContent) (q n : ℕ) → All (λ (w : WatcherContent). w.sheet ≡ s) (map (λ k. record { sheet = s; number = k; notes = [] }) (range_with_len q n))
+watchers_of s q zero k d less = absurd (omega (arith, less))
+watchers_of s q (suc n) zero d less = refl
+watchers_of s q (suc n) (suc k) d less = watchers_of s (q + 1) n k d (omega (arith, less))

@@ -23,7 +23,7 @@ pub adders_append : (i : ℕ) (es fs : List Effect) → adders i (es ++ fs) ≡ 
 adders_append i [] fs = sym (zero-add (adders i fs))
 adders_append i (e ∷ es) fs = let m = adders_append i es fs in let a : ℕ = adds_here i e in let b : ℕ = adders i (es ++ fs) in let c : ℕ = adders i es in let d : ℕ = adders i fs in let m' : b ≡ c + d = m in omega arith
 
-take_writers : (i n : ℕ) (es : List Effect) → writers i (take n es) ≤ writers i es
+pub take_writers : (i n : ℕ) (es : List Effect) → writers i (take n es) ≤ writers i es
 take_writers i zero es = omega arith
 take_writers i (suc n) [] = omega arith
 take_writers i (suc n) (e ∷ es) = let m = take_writers i n es in let a : ℕ = writes_here i e in let b : ℕ = writers i (take n es) in let c : ℕ = writers i es in let m' : b ≤ c = m in omega arith

@@ -3,6 +3,9 @@ pub mod Sums
 pub mod Raising
 pub mod Moves
 pub mod Entering
+pub mod Looking
+pub mod Changes
+pub mod Moments
 pub mod Closing
 pub mod SharedBits
 pub mod Seats

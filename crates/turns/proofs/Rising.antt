@@ -1,11 +1,12 @@
 -- Numbers sorted, each once.
-use Rattle.std.proofs.Common.{◌≡◌, ℕ, zero, suc, ◌+◌, ◌<◌, ◌≤◌, Bool, true, false, ◌&&◌, ◌||◌, not, List, [], ◌∷◌, ◌++◌, length, get_or, refl, ap, ◌∙◌, sym, subst, arith}
+use Rattle.std.proofs.Common.{◌≡◌, ⊎_elim, ℕ, zero, suc, ◌+◌, ◌-◌, ◌<◌, ◌≤◌, Bool, true, false, ◌&&◌, ◌||◌, not, List, [], ◌∷◌, ◌++◌, length, get_or, refl, ap, ◌∙◌, sym, subst, arith}
 use Rattle.std.specs.Prelude.{◌==◌}
 use Rattle.std.specs.List.{list_any, list_all, Contains, dedup}
 use Rattle.std.specs.List.Sorted.{IsPermutation, IsStrictlyIncreasing}
 use Rattle.std.proofs.Math.Dec.{eqb}
-use Rattle.std.proofs.lemmas.Bool.{eqb-true, eq-eqb, ne_eqb, true≢false}
-use Rattle.std.proofs.lemmas.List.Kept.{Contains-dedup_nat}
+use Rattle.std.proofs.lemmas.Bool.{cases_lt, eqb-true, eq-eqb, ne_eqb, true≢false}
+use Rattle.std.proofs.lemmas.List.{get_or_default}
+use Rattle.std.proofs.lemmas.List.Kept.{AllPairs-from_increasing, Contains-dedup_nat}
 use Rattle.std.proofs.lemmas.List.Sorted.{list_any-IsPermutation}
 use Rattle.pieces.specs.Distinct.{is_none_of, are_distinct}
 
@@ -43,6 +44,12 @@ all_there xs ys zs order is i there =
     let found = Contains-dedup_nat ys i (contains_of ys i sorted) in
     ap (λ ws. is_none_of ws i) is ∙ of_contains (dedup eqb ys) i found.0 found.1 found.2
 
+-- where each number of a list is, there is one if that list has any
+pub some_there : (xs ys : List ℕ) → ((i : ℕ) → is_none_of xs i ≡ false → is_none_of ys i ≡ false) → 0 < length xs → 0 < length ys
+some_there [] ys there some = absurd (omega (arith, some))
+some_there (x ∷ xs) [] there some = absurd (true≢false (there x (ap (λ t. not t && is_none_of xs x) (eq-eqb x x refl))))
+some_there (x ∷ xs) (y ∷ ys) there some = omega arith
+
 -- ---- rising numbers
 
 tail_rises : (x : ℕ) (xs : List ℕ) → IsStrictlyIncreasing (x ∷ xs) → IsStrictlyIncreasing xs
@@ -61,6 +68,30 @@ rising_distinct (x ∷ xs) rises = by (is_none_of xs x) (above x xs x (tail_rise
     by : (t : Bool) → t ≡ true → are_distinct xs ≡ true → (t && are_distinct xs) ≡ true
     by true is h = h
     by false is h = absurd (cc)
+
+-- a number of which those before a position are below, and that at the position is above, is none of rising numbers
+pub none_between : (xs : List ℕ) (x k : ℕ) → IsStrictlyIncreasing xs → k ≤ length xs → (0 < k → get_or xs (k - 1) 0 < x) → (k < length xs → x < get_or xs k 0) → is_none_of xs x ≡ true
+none_between xs x k rises within before behind = none (is_none_of xs x) refl
+  where
+    none : (t : Bool) → is_none_of xs x ≡ t → t ≡ true
+    none true is = refl
+    none false is =
+        let there = contains_of xs x is in
+        let m : ℕ = there.0 in
+        let a : ℕ = get_or xs m 0 in
+        let b : ℕ = get_or xs (k - 1) 0 in
+        let c : ℕ = get_or xs k 0 in
+        let e : a ≡ x = sym (get_or_default xs m x 0 there.1) ∙ there.2 in
+        absurd (⊎_elim
+        (λ (low : m < k). let lt : b < x = before (omega (arith, low)) in ⊎_elim
+        (λ (l : m < k - 1). let less : a < b = AllPairs-from_increasing xs rises m (k - 1) 0 l (omega (arith, low, within)) in omega (arith, lt, less, e))
+        (λ (l : k - 1 ≤ m). let same : m ≡ k - 1 = omega (arith, low, l) in let f : a ≡ b = ap (λ n. get_or xs n 0) same in omega (arith, lt, e, f))
+        (cases_lt m (k - 1)))
+        (λ (high : k ≤ m). let lt : x < c = behind (omega (arith, high, there.1)) in ⊎_elim
+        (λ (l : k < m). let less : c < a = AllPairs-from_increasing xs rises k m 0 l there.1 in omega (arith, lt, less, e))
+        (λ (l : m ≤ k). let same : m ≡ k = omega (arith, high, l) in let f : a ≡ c = ap (λ n. get_or xs n 0) same in omega (arith, lt, e, f))
+        (cases_lt k m))
+        (cases_lt m k))
 
 -- ---- two lists, one behind the other
 

@@ -1,19 +1,20 @@
 -- Seats at shared words.
-use Rattle.std.proofs.Common.{◌≡◌, ℕ, ◌<◌, false, List, [], length, get_or, Some, ap, ◌∙◌, sym, subst}
+use Rattle.std.proofs.Common.{◌≡◌, ℕ, ◌<◌, true, false, List, [], length, get_or, Some, refl, ap, ◌∙◌, sym, subst}
 use Rattle.std.specs.Prelude.{slice_get}
 use Rattle.std.proofs.lemmas.Option.{slice_get_within, get_or_from_slice_get}
 use Rattle.atomic_table.specs.Seated.{TableId}
 use Rattle.atomic_table.specs.Table.{State, Me, Allows, Splits, Joins, Seen}
 use Rattle.pieces.specs.Distinct.{is_none_of}
 use Rattle.pieces.specs.Effects.{Effect, done, words_after}
-use Rattle.turns.specs.Rules.{steps_in, IsNext, IsMade, index_of, made, next_step}
+use Rattle.turns.specs.Rules.{steps_in, word_in, IsNext, IsMade, IsLooked, index_of, made, next_step}
 use Rattle.turns.specs.Sheets.{SheetContent, IsSheet, IsSeat, replaced}
-use Rattle.turns.specs.Views.{count_in, names_in, first_only, others_of, joined, spent}
+use Rattle.turns.specs.Views.{count_in, names_in, first_only, others_of, told, joined, spent}
 use Rattle.turns.specs.declared.view.Opening.{Opening}
 use Rattle.turns.specs.Tables.{Ruled}
 use Rattle.turns.specs.declared.view.View.{View}
 use Rattle.turns.proofs.Closing.{closes}
-use Rattle.turns.proofs.Replacing.{put_back_words}
+use Rattle.turns.proofs.Looking.{looks, tells, fewest, fewest_noted, fewest_of}
+use Rattle.turns.proofs.Replacing.{put_back_words, stays_same}
 use Rattle.turns.proofs.Moves.{allows, deals, takes_back}
 
 -- the word of the next step is shared
@@ -70,3 +71,46 @@ pub finished : (s : SheetContent) (ws is : List ℕ) → IsSheet s ws is → (en
 finished s ws is sheet end k v seen names shared_words same =
     ap (λ js. replaced ws js shared_words) (sym sheet.at) ∙ ap (λ us. replaced us s.opening.at shared_words) (sym sheet.words)
     ∙ put_back_words s.opening sheet.phase.opening (λ p. count_in p v.counts) shared_words (sym same ∙ closes s.opening end.words end.views k v seen.0 seen.1 names)
+
+-- a seat that only knows may be dealt
+pub splits_told : (s : SheetContent) (ws is : List ℕ) → IsSheet s ws is → (seat_id : ℕ) (id : TableId) (me : Me (Unit {0}) View) → IsSeat s id me
+    → (id ≡ s.id) × (0 < s.id.words) × Splits {S = Unit {0}} (Ruled s.opening) seat_id me.0 me.0 (told me.0)
+splits_told s ws is sheet seat_id id me seat = (seat.id, some_words s ws is sheet, tells s.opening seat_id me.0)
+
+-- a seat may look
+pub may_look : (s : SheetContent) (ws is : List ℕ) → IsSheet s ws is → (slots seat_id : ℕ) (id : TableId) (me : Me (Unit {0}) View) → IsSeat s id me → (j i : ℕ) → slice_get is j ≡ Some i
+    → (id ≡ s.id) × (j < s.id.words) × Allows (Ruled s.opening) slots seat_id me j (λ n. n) (λ found after. (after.1 ≡ me.1) × IsLooked (get_or me.0.opening.at j 0) me.0 found after.0)
+may_look s ws is sheet slots seat_id id me seat j i at = (
+  seat.id,
+  below s ws is sheet j i at,
+  subst
+      (λ k. Allows (Ruled s.opening) slots seat_id me j (λ n. n) (λ found after. (after.1 ≡ me.1) × IsLooked k me.0 found after.0))
+      (sym (placed s ws is sheet id me seat j i at))
+      (looks s.opening slots seat_id me.0 me.1 j i seat.opening (ap (λ js. slice_get js j) sheet.at ∙ at)),
+)
+
+-- it stays one when it looks
+pub stays_looked : (s : SheetContent) (id new : TableId) (me after : Me (Unit {0}) View) (i word : ℕ) → IsSeat s id me → new ≡ id → after.1 ≡ me.1 → IsLooked i me.0 word after.0 → IsSeat s new after
+stays_looked s id new me after i word seat same empty look = record {
+  id = same ∙ seat.id;
+  opening = ap (λ (v : View). v.opening) look.view ∙ seat.opening;
+  live = ap (λ (v : View). v.live) look.view ∙ seat.live;
+  empty = empty ∙ seat.empty;
+}
+
+-- a word that is not shared is at any moment as it was at opening
+pub looks_elsewhere : (s : SheetContent) (ws is : List ℕ) → IsSheet s ws is → (id : TableId) (me : Me (Unit {0}) View) → IsSeat s id me → (i : ℕ) → is_none_of is i ≡ true → IsLooked i me.0 (get_or ws i 0) me.0
+looks_elsewhere s ws is sheet id me seat i none = record {
+  counts = fewest me.0.notes;
+  no_earlier = fewest_noted me.0.notes;
+  found =
+      ap (λ us. get_or us i 0) (sym sheet.words) ∙ stays_same s.opening sheet.phase.opening (fewest me.0.notes) i (ap (λ js. is_none_of js i) sheet.at ∙ none)
+      ∙ ap (λ o. word_in o (fewest me.0.notes) i) (sym seat.opening);
+  noted = λ p less more all. fewest_of me.0.notes more all p;
+  kept = λ more all. all;
+  view = refl;
+}
+
+-- at which words a seat is
+pub sheet_is : (s : SheetContent) (id : TableId) (me : Me (Unit {0}) View) → IsSeat s id me → record { id = id; opening = me.0.opening } ≡ s
+sheet_is s id me seat = λ i. record { id = seat.id i; opening = seat.opening i }

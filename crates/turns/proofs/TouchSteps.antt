@@ -192,7 +192,7 @@ suit_take w zero es suit = tt
 suit_take w (suc n) [] suit = tt
 suit_take w (suc n) (e ∷ es) suit = (suit.0, suit_take w n es suit.1)
 
-done_suit : (w : List ℕ) (q : ℕ) (counts : ℕ → ℕ) (ps : List Piece) → list_all (λ i. is_some (entry_in w i)) (flat_map held ps) ≡ true → AllSuit w (done_from q counts (map (effects w) ps))
+pub done_suit : (w : List ℕ) (q : ℕ) (counts : ℕ → ℕ) (ps : List Piece) → list_all (λ i. is_some (entry_in w i)) (flat_map held ps) ≡ true → AllSuit w (done_from q counts (map (effects w) ps))
 done_suit w q counts [] there = tt
 done_suit w q counts (p ∷ ps) there =
     let parts = all_split (λ i. is_some (entry_in w i)) (held p) (flat_map held ps) there in

@@ -9,11 +9,13 @@ use Rattle.turns.specs.Posts.{PostContent}
 use Rattle.turns.specs.Sheets.{SheetContent}
 use Rattle.turns.specs.Turns.{steps_to_do}
 use Rattle.turns.specs.Views.{count_in}
+use Rattle.turns.specs.Watching.{WatcherContent}
 use Rattle.turns.specs.declared.open.Unended.{Unended}
 
 -- room for what the turns hand in
-pub record HasRoom (s : SheetContent) (flags : Vec Bool Global) (dones : Vec DoneContent Global) (unended : Vec Unended Global) : Type 0 where
+pub record HasRoom (s : SheetContent) (flags watcher_flags : Vec Bool Global) (dones : Vec DoneContent Global) (unended : Vec Unended Global) : Type 0 where
   pub flag_each : length flags.items ≡ length s.opening.pieces
+  pub watcher_each : length watcher_flags.items ≡ s.opening.watchers
   pub no_done : dones.items ≡ []
   pub done_each : length s.opening.pieces ≤ vec_capacity dones
   pub none_unended : unended.items ≡ []
@@ -43,6 +45,18 @@ AreAll s ts = (p : ℕ) → p < length s.opening.pieces → is_none_of (numbers_
 abbrev pub OneIsWanting : SheetContent → List PostContent → Type 0
 OneIsWanting s ts = (p : ℕ) × (p < length s.opening.pieces) × (is_none_of (numbers_of ts) p ≡ true)
 
--- the pieces of turns are flagged, and no others
-abbrev pub AreMarked : List Bool → List PostContent → Type 0
-AreMarked flags ts = (p : ℕ) → p < length flags → (d : Bool) → slice_index_or flags p d ≡ not (is_none_of (numbers_of ts) p)
+-- the numbers of watchers
+abbrev pub watcher_numbers : List WatcherContent → List ℕ
+watcher_numbers ws = map (λ w. w.number) ws
+
+-- each watcher of the phase is among these
+abbrev pub AreAllWatchers : SheetContent → List WatcherContent → Type 0
+AreAllWatchers s ws = (n : ℕ) → n < s.opening.watchers → is_none_of (watcher_numbers ws) n ≡ false
+
+-- one is not
+abbrev pub OneWatcherIsWanting : SheetContent → List WatcherContent → Type 0
+OneWatcherIsWanting s ws = (n : ℕ) × (n < s.opening.watchers) × (is_none_of (watcher_numbers ws) n ≡ true)
+
+-- these numbers are flagged, and no others
+abbrev pub AreMarked : List Bool → List ℕ → Type 0
+AreMarked flags ns = (p : ℕ) → p < length flags → (d : Bool) → slice_index_or flags p d ≡ not (is_none_of ns p)

@@ -1,14 +1,21 @@
 -- The laws of the rule.
-use Rattle.std.specs.Prelude.{◌≡◌, ◌↔◌, ◌⊎◌, ℕ, ◌<◌, List, [], true, length, map, slice_index, slice_get, Some}
+use Rattle.std.specs.Prelude.{◌≡◌, ◌↔◌, ◌⊎◌, ℕ, ◌<◌, ◌≤◌, List, [], true, false, length, map, slice_index, slice_get, Option, Some}
 use Rattle.std.specs.Int.{bit_at}
-use Rattle.atomic_table.specs.Table.{Allows, Splits, Joins, opening}
+use Rattle.atomic_table.specs.Table.{Allows, Enters, Splits, Joins, opening}
 use mathlib.Core.Option.{some}
 use lib.ListN.{get_elem?}
+use Rattle.fpage.specs.declared.rights.Rights.{Rights}
+use Rattle.pieces.specs.Distinct.{is_none_of}
 use Rattle.pieces.specs.Effects.{Effect, adds}
+use Rattle.pieces.specs.Phases.{changes}
+use Rattle.pieces.specs.declared.piece.Piece.{Piece}
 use Rattle.turns.specs.Writers.{all_writers}
-use Rattle.turns.specs.Views.{count_in, names_in, counted, first_view, first_only, others_of, joined, spent}
-use Rattle.turns.specs.Rules.{steps_in, words_in, Holds, IsOpening, IsNext, IsMade, index_of, made}
+use Rattle.turns.specs.Views.{count_in, names_in, counted, first_view, first_only, others_of, told, entered, joined, spent}
+use Rattle.turns.specs.Rules.{steps_in, words_in, Holds, IsOpening, IsNext, IsMade, IsLooked, index_of, made}
+use Rattle.turns.specs.Sheets.{IsPhase}
 use Rattle.turns.specs.Tables.{Ruled}
+use Rattle.turns.specs.Watching.{entry_with, entry_before, entry_after, WatcherContent, IsMoment, KnowsMore}
+use Rattle.turns.specs.Works.{step_count}
 use Rattle.turns.specs.declared.view.Opening.{Opening}
 use Rattle.turns.specs.declared.view.View.{View}
 
@@ -62,3 +69,38 @@ abbrev pub BitsOfSharedWordsAreTold : Type 0
 BitsOfSharedWordsAreTold =
     (o : Opening) (words : List ℕ) (views : List View) (j i b : ℕ) → Holds o words views → slice_get o.at j ≡ Some i → all_writers i (steps_in o) ≡ 0
     → (IsSet (slice_index words j) b ↔ (IsSet (slice_index o.words i) b ⊎ IsAddedAt o (counted views) i b))
+
+-- ---- watchers
+
+-- a seat may come that has no piece and knows nothing yet
+abbrev pub EnteringKeepsTheRule : Type 0
+EnteringKeepsTheRule = (o : Opening) (slots word : ℕ) → Enters {S = Unit {0}} (Ruled o) slots word (λ found v. v ≡ entered (first_view o))
+
+-- a seat may look at any shared word: the word stays, and the seat finds it as it is with the steps that are done at this moment
+abbrev pub LooksKeepTheRule : Type 0
+LooksKeepTheRule =
+    (o : Opening) (slots id : ℕ) (v : View) (held : List (ℕ × Unit {0})) (j i : ℕ) → v.opening ≡ o → slice_get o.at j ≡ Some i
+    → Allows (Ruled o) slots id (v, held) j (λ n. n) (λ found after. (after.1 ≡ held) × IsLooked i v found after.0)
+
+-- a seat may be dealt that has no piece and knows what another counts
+abbrev pub TellingKeepsTheRule : Type 0
+TellingKeepsTheRule = (o : Opening) (id : ℕ) (v : View) → Splits {S = Unit {0}} (Ruled o) id v v (told v)
+
+-- with whatever steps done, an entry is as before all steps, or it is as after all of them and stays so, whatever steps come more
+abbrev pub ChangesAreForGood : Type 0
+ChangesAreForGood =
+    (o : Opening) → IsPhase o → (counts : ℕ → ℕ) (i : ℕ) → i < length o.words
+    → (entry_with o counts i ≡ entry_before o i)
+    ⊎ ((more : ℕ → ℕ) → ((p : ℕ) → p < length o.pieces → counts p ≤ more p) → entry_with o more i ≡ entry_after o i)
+
+-- with all steps of a piece done, each entry that it narrows, puts or takes is as after all steps
+abbrev pub EndedPiecesHaveChanged : Type 0
+EndedPiecesHaveChanged =
+    (o : Opening) → IsPhase o → (p : ℕ) (q : Piece) → slice_get o.pieces p ≡ Some q → (i : ℕ) → is_none_of (changes q) i ≡ false → (counts : ℕ → ℕ) → step_count o.words q ≤ counts p
+    → entry_with o counts i ≡ entry_after o i
+
+-- of two looks of a watcher, at whatever entries, the later is of no earlier moment
+abbrev pub MomentsGoOn : Type 0
+MomentsGoOn =
+    (w v u x : WatcherContent) (i j : ℕ) (e f : Option (ℕ × Rights)) (first : IsMoment w i e v) → KnowsMore v u → (later : IsMoment u j f x) → (p : ℕ) → p < length w.sheet.opening.pieces
+    → first.counts p ≤ later.counts p

@@ -6,5 +6,6 @@ pub mod Sheets
 pub mod Posts
 pub mod Works
 pub mod Turns
+pub mod Watching
 pub mod Closing
 pub mod Laws

@@ -1,6 +1,5 @@
 -- The rule of shared words: they are those at opening with the steps that all seats together count.
-use Rattle.std.specs.Prelude.{◌≡◌, ℕ, ◌<◌, ◌≤◌, true, false, List, [], ◌∷◌, map, slice_index, slice_get, bit_or, Option, None, Some}
-use Rattle.std.specs.List.{All}
+use Rattle.std.specs.Prelude.{◌≡◌, ℕ, ◌<◌, ◌≤◌, true, false, List, [], ◌∷◌, length, map, slice_index, slice_get, bit_or, Option, None, Some}
 use Rattle.std.specs.Option.{option_and_then}
 use mathlib.Core.Option.{some}
 use lib.ListN.{get_elem?}
@@ -8,7 +7,7 @@ use Rattle.pieces.specs.Distinct.{is_none_of, are_distinct}
 use Rattle.pieces.specs.Effects.{Effect, keeps, adds, writes, done, word_after}
 use Rattle.pieces.specs.Steps.{effects}
 use Rattle.turns.specs.Writers.{AreApart}
-use Rattle.turns.specs.Views.{count_in, names_in, counted, named, raised}
+use Rattle.turns.specs.Views.{count_in, names_in, counted, named, raised, AtLeast, IsNoted}
 use Rattle.turns.specs.declared.view.Opening.{Opening}
 use Rattle.turns.specs.declared.view.View.{View}
 
@@ -33,7 +32,7 @@ pub record Holds (o : Opening) (words : List ℕ) (views : List View) : Type 0 w
   -- all seats are of this phase
   pub same : (k : ℕ) (v : View) → get_elem? views k ≡ some v → v.live ≡ true → v.opening ≡ o
   -- what a seat noted is still so: counts only grow
-  pub noted : (k : ℕ) (v : View) → get_elem? views k ≡ some v → All (λ n. n.1 ≤ counted views n.0) v.notes
+  pub noted : (k : ℕ) (v : View) → get_elem? views k ≡ some v → AtLeast v.notes (counted views)
 
 -- ---- one step
 
@@ -76,3 +75,17 @@ pub record IsMade (i : ℕ) (v : View) (word : ℕ) (w : View) : Type 0 where
   pub counts : ℕ → ℕ
   pub agree : AgreeWith v counts
   pub found : word ≡ word_in v.opening counts i
+
+-- ---- one look
+
+-- what a look at the word at an index found and leaves: that word with so many steps of each piece done
+pub record IsLooked (i : ℕ) (v : View) (word : ℕ) (w : View) : Type 0 where
+  -- no fewer than the seat knew of
+  pub counts : ℕ → ℕ
+  pub no_earlier : AtLeast v.notes counts
+  pub found : word ≡ word_in v.opening counts i
+  -- from then on it knows of these, and of what it knew
+  pub noted : (p : ℕ) → p < length v.opening.pieces → IsNoted w.notes p (counts p)
+  pub kept : (more : ℕ → ℕ) → AtLeast w.notes more → AtLeast v.notes more
+  -- nothing else changes
+  pub view : w ≡ record v { notes = w.notes }

@@ -1,6 +1,7 @@
 -- The shared words of a phase, as contracts see them.
 use Rattle.std.specs.Prelude.{◌≡◌, ℕ, ◌<◌, true, List, [], ◌∷◌, length, map, slice_set}
 use Rattle.std.specs.List.{All}
+use Rattle.std.specs.List.Sorted.{IsStrictlyIncreasing}
 use Rattle.std.specs.Option.{option_to_list}
 use Rattle.pieces.specs.declared.piece.Piece.{Piece}
 use Rattle.pieces.specs.declared.piece.Piece.TheVariants as piece
@@ -31,6 +32,8 @@ pub record IsSheet (s : SheetContent) (ws is : List ℕ) : Type 0 where
   pub slots : s.id.slots ≡ 0
   pub some : 0 < length is
   pub within : All (λ i. i < length ws) is
+  -- where somebody watches, a word is found by a search among rising indexes
+  pub rise : 0 < s.opening.watchers → IsStrictlyIncreasing is
 
 -- a seat at these words
 pub record IsSeat (s : SheetContent) (table : TableId) (me : Me (Unit {0}) View) : Type 0 where

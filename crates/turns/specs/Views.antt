@@ -1,6 +1,6 @@
 -- What seats know: how many steps were done of the pieces that they have.
 use Rattle.std.specs.Prelude.{ℕ, ◌+◌, ◌≤◌, ◌==◌, true, false, List, [], ◌∷◌, ◌++◌, length, map, if◌then◌else◌}
-use Rattle.std.specs.List.{range_with_len}
+use Rattle.std.specs.List.{All, range_with_len}
 use Rattle.turns.specs.declared.view.Opening.{Opening}
 use Rattle.turns.specs.declared.view.View.{View}
 
@@ -35,6 +35,14 @@ behind_first (c ∷ cs) = cs
 abbrev pub none_done : ℕ → List (ℕ × ℕ)
 none_done n = map (λ p. (p, 0)) (range_with_len 0 n)
 
+-- what was noted is so: at least so many steps are done
+abbrev pub AtLeast : List (ℕ × ℕ) → (ℕ → ℕ) → Type 0
+AtLeast notes counts = All (λ n. n.1 ≤ counts n.0) notes
+
+-- by these notes at least so many steps of a piece are done
+abbrev pub IsNoted : List (ℕ × ℕ) → ℕ → ℕ → Type 0
+IsNoted notes p k = (counts : ℕ → ℕ) → AtLeast notes counts → k ≤ counts p
+
 -- ---- views
 
 -- how many steps of a piece all seats together count
@@ -66,13 +74,17 @@ others_of v = record v { counts = behind_first v.counts }
 abbrev pub joined : View → View → View
 joined v w = record v { counts = v.counts ++ w.counts; notes = v.notes ++ w.notes }
 
+-- a seat is dealt that has no piece, and knows what the other counts
+abbrev pub told : View → View
+told v = record v { counts = []; notes = v.notes ++ v.counts }
+
 -- a seat that has no piece yet
 abbrev pub entered : View → View
 entered v = record v { counts = [] }
 
 -- a phase of nothing
 abbrev pub no_opening : Opening
-no_opening = record { words = []; pieces = []; at = [] }
+no_opening = record { words = []; pieces = []; at = []; watchers = 0 }
 
 -- what that other is left with
 abbrev pub spent : View

@@ -1,15 +1,19 @@
 //! A phase whose words are shared.
 
-ghost use Rattle.std.specs.Prelude.{◌≡◌, true, false, [], length, IfOk};
+ghost use Rattle.std.specs.Prelude.{◌≡◌, ℕ, ◌<◌, ◌≤◌, Bool, true, false, [], length, slice_index_or, IfOk};
 ghost use Rattle.std.specs.List.{All};
-ghost use Rattle.turns.specs.Closing.{AreAll, OneIsWanting, AreMarked};
+ghost use Rattle.std.specs.List.Sorted.{IsStrictlyIncreasing};
+ghost use Rattle.turns.specs.Closing.{AreAll, AreAllWatchers, OneIsWanting, OneWatcherIsWanting, AreMarked, numbers_of, watcher_numbers};
 ghost use Rattle.turns.specs.Views.{none_done};
-ghost use Rattle.turns.specs.Sheets.{IsSeat};
+ghost use Rattle.turns.specs.Sheets.{IsPhase, IsSeat};
+ghost use Rattle.turns.specs.Tables.{indexes_of};
 ghost use Rattle.turns.specs.Turns.{new_turns};
+ghost use Rattle.turns.specs.Watching.{new_watchers};
 
-use crate::sharing::shared_indexes;
+use crate::sharing::{Indexes, shared_indexes, watched_indexes};
 use crate::sheet::{Seat, Sheet};
 use crate::turn::Turn;
+use crate::watcher::Watcher;
 use pieces::{Done, Piece, are_pieces, changed_words};
 use space::NoMemory;
 use std::alloc::{AllocError, Global};
@@ -21,8 +25,9 @@ use std::snapshot::Snapshot;
 pub struct Open {
     sheet: Sheet,
     alloc: Global,
-    /// Room for `close`: a flag for each piece, and what the turns hand in.
+    /// Room for `close`: a flag for each piece and for each watcher, and what the turns hand in.
     flags: Vec<bool>,
+    watcher_flags: Vec<bool>,
     dones: Vec<Done>,
     unended: Vec<Unended>,
 }
@@ -36,7 +41,7 @@ impl Model for Open {
 
     ghost view = { λ o. o.sheet };
 
-    ghost invariant = { λ o. HasRoom o.sheet o.flags o.dones o.unended };
+    ghost invariant = { λ o. HasRoom o.sheet o.flags o.watcher_flags o.dones o.unended };
 }
 
 /// A turn that had steps left when its phase was closed.
@@ -48,20 +53,22 @@ pub struct Unended {
     pub steps: usize,
 }
 
-/// A turn is wanting, so the phase is not closed. All that was given comes back.
+/// A turn or a watcher is wanting, so the phase is not closed. All that was given comes back.
 #[derive(Drop)]
 pub struct NotAll {
     pub shared: Open,
     pub turns: Vec<Turn>,
+    pub watchers: Vec<Watcher>,
 }
 
 impl Open {
-    ghost use Rattle.std.specs.Prelude.{◌≡◌, length, IfOk, IfErr, OnOk, OnErr};
+    ghost use Rattle.std.specs.Prelude.{◌≡◌, ◌⊎◌, length, IfOk, IfErr, OnOk, OnErr};
     ghost use Rattle.std.specs.List.{All, flat_map};
     ghost use Rattle.pieces.specs.Applied.{applied};
     ghost use Rattle.pieces.specs.Phases.{CanBeWorked};
     ghost use Rattle.turns.specs.Turns.{new_turns, done_of};
-    ghost use Rattle.turns.specs.Closing.{unended_of, steps_made, AreAll, OneIsWanting};
+    ghost use Rattle.turns.specs.Closing.{unended_of, steps_made, AreAll, AreAllWatchers, OneIsWanting, OneWatcherIsWanting};
+    ghost use Rattle.turns.specs.Watching.{new_watchers};
 
     /// Shares the words that the pieces of a phase name, and gives one turn for each piece, in their order.
     ///
@@ -76,50 +83,80 @@ impl Open {
         ensures pieces { IfOk result (λ r. r.0.opening.pieces ≡ pieces.items) }
         ensures turns { IfOk result (λ r. r.1.items ≡ new_turns r.0 (length pieces.items)) }
         ensures of { IfOk result (λ r. All (λ t. t.sheet ≡ r.0) r.1.items) }
+        ensures unwatched { IfOk result (λ r. r.0.opening.watchers ≡ 0) }
     {
         are_pieces(&pieces);
-        let opening = Snapshot::of(&pieces);
         let (at, own) = shared_indexes(alloc, &words, &pieces)?;
-        let (sheet, seat) = Sheet::lay(alloc, words, opening, at, own)?;
-        let flags = vec![in alloc; false; pieces.len()]?;
-        let dones = Vec::with_capacity(alloc, pieces.len())?;
-        let unended = Vec::with_capacity(alloc, pieces.len())?;
-        let turns = deal(alloc, &sheet, seat, pieces)?;
-        let open = Open {
-            sheet,
-            alloc,
-            flags,
-            dones,
-            unended,
-        };
-        Ok((open, turns))
+        Ok(share(alloc, words, pieces, at, own, 0)?)
+    }
+
+    /// Shares the words as `open` does, and also gives so many watchers. They are numbered from 0.
+    ///
+    /// Refused, where memory is: `NoMemory`. Then what was given is gone.
+    pub fn open_watched(
+        alloc: Global,
+        words: Vec<u64>,
+        pieces: Vec<Piece>,
+        watchers: usize,
+    ) -> Result<(Open, Vec<Turn>, Vec<Watcher>), NoMemory>
+        requires { CanBeWorked words.items pieces.items }
+        ensures words { IfOk result (λ r. r.0.opening.words ≡ words.items) }
+        ensures pieces { IfOk result (λ r. r.0.opening.pieces ≡ pieces.items) }
+        ensures turns { IfOk result (λ r. r.1.items ≡ new_turns r.0 (length pieces.items)) }
+        ensures of { IfOk result (λ r. All (λ t. t.sheet ≡ r.0) r.1.items) }
+        ensures watched { IfOk result (λ r. r.0.opening.watchers ≡ watchers) }
+        ensures watchers { IfOk result (λ r. r.2.items ≡ new_watchers r.0 watchers) }
+        ensures watchers_of { IfOk result (λ r. All (λ w. w.sheet ≡ r.0) r.2.items) }
+    {
+        are_pieces(&pieces);
+        let at = watched_indexes(alloc, &words, &pieces)?;
+        let (shared, turns) = share(alloc, words, pieces, at, 0, watchers)?;
+        let watchers = deal_watchers(alloc, shared.sheet(), watchers)?;
+        Ok((shared, turns, watchers))
+    }
+
+    /// How many words there are.
+    pub fn words(&self) -> usize
+        ensures { result ≡ length self.now.opening.words }
+    {
+        self.sheet.len()
     }
 
     /// Ends the sharing. The words are those at opening with exactly the steps that the turns made, in whatever order they made
     /// them: also in the middle of their pieces. Each turn hands in what its piece found out, or how many steps were done.
     ///
-    /// They are turns of this phase. With all turns it takes no memory.
+    /// They are turns and watchers of this phase. With all of them it takes no memory.
     ///
-    /// Refused, where a turn is wanting: `NotAll`. Then all that was given comes back.
-    pub fn close(mut self, turns: Vec<Turn>) -> Result<(Vec<u64>, Vec<Done>, Vec<Unended>), NotAll>
+    /// Refused, where a turn or a watcher is wanting: `NotAll`. Then all that was given comes back.
+    pub fn close(
+        mut self,
+        turns: Vec<Turn>,
+        watchers: Vec<Watcher>,
+    ) -> Result<(Vec<u64>, Vec<Done>, Vec<Unended>), NotAll>
         requires of { All (λ t. t.sheet ≡ self) turns.items }
+        requires watchers { All (λ w. w.sheet ≡ self) watchers.items }
         ensures words { IfOk result (λ r. r.0.items ≡ applied self.opening.words self.opening.pieces (steps_made turns.items)) }
         ensures dones { IfOk result (λ r. r.1.items ≡ flat_map done_of turns.items) }
         ensures unended { IfOk result (λ r. r.2.items ≡ flat_map unended_of turns.items) }
         ensures all { OnOk result (AreAll self turns.items) }
-        ensures wanting { OnErr result (OneIsWanting self turns.items) }
-        ensures handed_back { IfErr result (λ e. (e.shared ≡ self) × (e.turns.items ≡ turns.items)) }
+        ensures all_watchers { OnOk result (AreAllWatchers self watchers.items) }
+        ensures wanting { OnErr result (OneIsWanting self turns.items ⊎ OneWatcherIsWanting self watchers.items) }
+        ensures handed_back { IfErr result (λ e. (e.shared ≡ self) × (e.turns.items ≡ turns.items) × (e.watchers.items ≡ watchers.items)) }
     {
-        if is_one_wanting(&self.sheet, &mut self.flags, &turns) {
+        if is_one_wanting(&self.sheet, &mut self.flags, &turns)
+            || is_watcher_wanting(&self.sheet, &mut self.watcher_flags, &watchers)
+        {
             return Err(NotAll {
                 shared: self,
                 turns,
+                watchers,
             });
         }
         let Open {
             sheet,
             alloc,
             flags: _,
+            watcher_flags: _,
             mut dones,
             mut unended,
         } = self;
@@ -144,6 +181,44 @@ impl Open {
     {
         &self.sheet
     }
+}
+
+/// Shares the words at some indexes, of which so many stand in front that one piece alone has a step about, and gives
+/// one turn for each piece.
+fn share(
+    alloc: Global,
+    words: Vec<u64>,
+    pieces: Vec<Piece>,
+    at: Indexes,
+    own: usize,
+    watchers: usize,
+) -> Result<(Open, Vec<Turn>), AllocError>
+    requires phase { IsPhase (record { words = words.items; pieces = pieces.items; at = indexes_of (length words.items) at; watchers = watchers }) }
+    requires some { 0 < length (indexes_of (length words.items) at) }
+    requires within { All (λ i. i < length words.items) (indexes_of (length words.items) at) }
+    requires rise { 0 < watchers → IsStrictlyIncreasing (indexes_of (length words.items) at) }
+    ensures words { IfOk result (λ r. r.0.opening.words ≡ words.items) }
+    ensures pieces { IfOk result (λ r. r.0.opening.pieces ≡ pieces.items) }
+    ensures watched { IfOk result (λ r. r.0.opening.watchers ≡ watchers) }
+    ensures turns { IfOk result (λ r. r.1.items ≡ new_turns r.0 (length pieces.items)) }
+    ensures of { IfOk result (λ r. All (λ t. t.sheet ≡ r.0) r.1.items) }
+{
+    let opening = Snapshot::of(&pieces);
+    let (sheet, seat) = Sheet::lay(alloc, words, opening, at, own, watchers)?;
+    let flags = vec![in alloc; false; pieces.len()]?;
+    let watcher_flags = vec![in alloc; false; watchers]?;
+    let dones = Vec::with_capacity(alloc, pieces.len())?;
+    let unended = Vec::with_capacity(alloc, pieces.len())?;
+    let turns = deal(alloc, &sheet, seat, pieces)?;
+    let open = Open {
+        sheet,
+        alloc,
+        flags,
+        watcher_flags,
+        dones,
+        unended,
+    };
+    Ok((open, turns))
 }
 
 /// A turn for each piece.
@@ -171,6 +246,19 @@ fn deal(
     Ok(turns)
 }
 
+/// So many watchers, which are all of the phase.
+fn deal_watchers(alloc: Global, sheet: &Sheet, count: usize) -> Result<Vec<Watcher>, AllocError>
+    requires { sheet.now.opening.watchers ≡ count }
+    ensures watchers { IfOk result (λ watchers. watchers.items ≡ new_watchers sheet.now count) }
+    ensures of { IfOk result (λ watchers. All (λ w. w.sheet ≡ sheet.now) watchers.items) }
+{
+    let mut watchers = Vec::with_capacity(alloc, count)?;
+    for number in 0..count {
+        watchers.push(Watcher::new(sheet, sheet.enter(), number))?;
+    }
+    Ok(watchers)
+}
+
 /// Whether a piece has no turn among these.
 fn is_one_wanting(sheet: &Sheet, flags: &mut [bool], turns: &[Turn]) -> bool
     requires each { length flags.old ≡ length sheet.now.opening.pieces }
@@ -181,11 +269,33 @@ fn is_one_wanting(sheet: &Sheet, flags: &mut [bool], turns: &[Turn]) -> bool
 {
     clear(flags);
     mark(sheet, flags, turns);
+    first_unmarked(flags) < flags.len()
+}
+
+/// Whether a watcher of the phase is none of these.
+fn is_watcher_wanting(sheet: &Sheet, flags: &mut [bool], watchers: &[Watcher]) -> bool
+    requires each { length flags.old ≡ sheet.now.opening.watchers }
+    requires of { All (λ w. w.sheet ≡ sheet.now) watchers.now }
+    ensures each { length flags.new ≡ length flags.old }
+    ensures yes { result ≡ true → OneWatcherIsWanting sheet.now watchers.now }
+    ensures no { result ≡ false → AreAllWatchers sheet.now watchers.now }
+{
+    clear(flags);
+    mark_watchers(sheet, flags, watchers);
+    first_unmarked(flags) < flags.len()
+}
+
+/// Where the first flag stands that is not set; the number of flags where all are.
+fn first_unmarked(flags: &[bool]) -> usize
+    ensures within { result ≤ length flags.now }
+    ensures before { (q : ℕ) → q < result → (d : Bool) → slice_index_or flags.now q d ≡ true }
+    ensures here { result < length flags.now → (d : Bool) → slice_index_or flags.now result d ≡ false }
+{
     let mut p = 0;
     while p < flags.len() && flags[p] {
         p += 1;
     }
-    p < flags.len()
+    p
 }
 
 /// Takes all flags away.
@@ -204,10 +314,24 @@ fn mark(sheet: &Sheet, flags: &mut [bool], turns: &[Turn])
     requires none { AreMarked flags.old [] }
     requires of { All (λ t. t.sheet ≡ sheet.now) turns.now }
     ensures each { length flags.new ≡ length flags.old }
-    ensures marked { AreMarked flags.new turns.now }
+    ensures marked { AreMarked flags.new (numbers_of turns.now) }
 {
     let _ = sheet;
     for turn in turns {
         flags[turn.piece()] = true;
+    }
+}
+
+/// Flags the numbers of watchers.
+fn mark_watchers(sheet: &Sheet, flags: &mut [bool], watchers: &[Watcher])
+    requires each { length flags.old ≡ sheet.now.opening.watchers }
+    requires none { AreMarked flags.old [] }
+    requires of { All (λ w. w.sheet ≡ sheet.now) watchers.now }
+    ensures each { length flags.new ≡ length flags.old }
+    ensures marked { AreMarked flags.new (watcher_numbers watchers.now) }
+{
+    let _ = sheet;
+    for watcher in watchers {
+        flags[watcher.number()] = true;
     }
 }

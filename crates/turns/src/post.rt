@@ -28,6 +28,7 @@ impl Post {
     ghost use Rattle.pieces.specs.Effects.{keeps, adds, writes};
     ghost use Rattle.turns.specs.Posts.{next_of, IsFound};
     ghost use Rattle.turns.specs.Sheets.{IsSeat};
+    ghost use Rattle.turns.specs.Views.{IsNoted};
 
     /// The post of a piece of which no step was done.
     pub(crate) fn new(sheet: &Sheet, seat: Seat, number: usize) -> Post
@@ -95,6 +96,15 @@ impl Post {
         let found = sheet.write(&mut self.seat, index, word, hint);
         self.steps += 1;
         found
+    }
+
+    /// A seat that has no piece, and knows how many steps of this one were done.
+    pub(crate) fn tell(&mut self, sheet: &Sheet) -> Seat
+        requires of { self.old.sheet ≡ sheet.now }
+        ensures same { self.new ≡ self.old }
+        ensures told { IsSeat sheet.now result.table_id result.me × IsNoted result.me.0.notes self.old.number self.old.steps }
+    {
+        sheet.tell(&mut self.seat)
     }
 
     /// The seat.

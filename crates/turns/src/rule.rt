@@ -5,7 +5,8 @@ use atomic_table::{Join, Play, Split, TableRule};
 use pieces::Piece;
 use std::snapshot::Snapshot;
 
-/// What the table is told once, when it is made: words, pieces and shared indexes, as contracts see them. It has no bytes.
+/// What the table is told once, when it is made: words, pieces, shared indexes and the number of watchers, as
+/// contracts see them. It has no bytes.
 #[derive(Drop)]
 pub struct Fixed {
     /// The words at opening.
@@ -14,6 +15,8 @@ pub struct Fixed {
     pub pieces: Snapshot<Vec<Piece>>,
     /// Which words are shared.
     pub at: Snapshot<Indexes>,
+    /// How many watchers there are.
+    pub watchers: Snapshot<usize>,
 }
 
 /// The shared words are those at opening with the steps that all seats together count.
@@ -36,6 +39,16 @@ impl Play<(), View> for Made {
     ghost use Rattle.turns.specs.Rules.{IsMade};
 
     ghost then = { λ step me found after. (after.1 ≡ me.1) × IsMade (slice_index me.0.opening.at step.word) me.0 found after.0 };
+}
+
+/// A look at a word. The seat knows from then on how many steps of each piece were done by then.
+pub(crate) struct Looked;
+
+impl Play<(), View> for Looked {
+    ghost use Rattle.std.specs.Prelude.{◌≡◌, slice_index};
+    ghost use Rattle.turns.specs.Rules.{IsLooked};
+
+    ghost then = { λ step me found after. (after.1 ≡ me.1) × IsLooked (slice_index me.0.opening.at step.word) me.0 found after.0 };
 }
 
 /// A seat has no piece twice.
@@ -67,6 +80,17 @@ impl Split<View> for Dealt {
     ghost left = { others_of };
 
     ghost right = { first_only };
+}
+
+/// A seat is dealt that has no piece and knows what the other counts.
+pub(crate) struct Told;
+
+impl Split<View> for Told {
+    ghost use Rattle.turns.specs.Views.{told};
+
+    ghost left = { λ v. v };
+
+    ghost right = { told };
 }
 
 /// A seat takes back what another has.

@@ -2,6 +2,7 @@
 
 ghost use Rattle.std.specs.Prelude.{◌≡◌, ◌<◌, ◌++◌, ℕ, Bool, true, false, length, map, IfOk, OnOk};
 ghost use Rattle.std.specs.List.{All, flat_map, list_all};
+ghost use Rattle.std.specs.List.Sorted.{IsStrictlyIncreasing};
 ghost use Rattle.std.specs.Option.{option_to_list};
 ghost use Rattle.pieces.specs.Distinct.{is_none_of, are_distinct};
 ghost use Rattle.pieces.specs.Phases.{CanBeWorked, IsPiece, changes};
@@ -51,7 +52,7 @@ pub(crate) fn shared_indexes(
 ) -> Result<(Indexes, usize), AllocError>
     requires each { All IsPiece pieces.now }
     requires can { CanBeWorked words.now pieces.now }
-    ensures phase { IfOk result (λ r. IsPhase (record { words = words.now; pieces = pieces.now; at = indexes_of (length words.now) r.0 })) }
+    ensures phase { IfOk result (λ r. IsPhase (record { words = words.now; pieces = pieces.now; at = indexes_of (length words.now) r.0; watchers = 0 })) }
     ensures some { IfOk result (λ r. 0 < length (indexes_of (length words.now) r.0)) }
     ensures within { IfOk result (λ r. All (λ i. i < length words.now) (indexes_of (length words.now) r.0)) }
 {
@@ -60,6 +61,25 @@ pub(crate) fn shared_indexes(
     }
     let (at, own) = listed_indexes(alloc, pieces)?;
     Ok((Indexes::Listed(at), own))
+}
+
+/// The words that are shared where somebody watches: those that the steps of pieces are about. They rise, so that a
+/// look finds its word in few steps.
+pub(crate) fn watched_indexes(
+    alloc: Global,
+    words: &[u64],
+    pieces: &[Piece],
+) -> Result<Indexes, AllocError>
+    requires each { All IsPiece pieces.now }
+    requires can { CanBeWorked words.now pieces.now }
+    ensures phase { IfOk result (λ r. (n : ℕ) → IsPhase (record { words = words.now; pieces = pieces.now; at = indexes_of (length words.now) r; watchers = n })) }
+    ensures some { IfOk result (λ r. 0 < length (indexes_of (length words.now) r)) }
+    ensures within { IfOk result (λ r. All (λ i. i < length words.now) (indexes_of (length words.now) r)) }
+    ensures rise { IfOk result (λ r. IsStrictlyIncreasing (indexes_of (length words.now) r)) }
+{
+    let _ = words;
+    let (at, _) = listed_indexes(alloc, pieces)?;
+    Ok(Indexes::Listed(rising(at)))
 }
 
 /// Whether pieces that change words side by side change at least half of these, as far as some of the pieces tell.
@@ -140,6 +160,7 @@ fn common_indexes(alloc: Global, pieces: &[Piece]) -> Result<Vec<usize>, AllocEr
 
 /// The same indexes, rising, each once.
 fn rising(mut at: Vec<usize>) -> Vec<usize>
+    ensures rise { IsStrictlyIncreasing result.items }
     ensures distinct { are_distinct result.items ≡ true }
     ensures all { (i : ℕ) → is_none_of at.items i ≡ false → is_none_of result.items i ≡ false }
     ensures kept { (test : ℕ → Bool) → list_all test at.items ≡ true → list_all test result.items ≡ true }

@@ -1,14 +1,16 @@
 //! The shared words of a phase. Nothing but this file calls `atomic_table`.
 
-ghost use Rattle.std.specs.Prelude.{◌≡◌, ◌<◌, false, Some, length, map, slice_get, slice_index, IfOk};
+ghost use Rattle.std.specs.Prelude.{◌≡◌, ◌<◌, true, false, Some, length, map, slice_get, slice_index, IfOk, MatchOption};
 ghost use Rattle.std.specs.List.{All, range_with_len};
+ghost use Rattle.std.specs.List.Sorted.{IsStrictlyIncreasing};
 ghost use Rattle.std.specs.Slots.{slots_items, slots_len, IsFull};
 ghost use Rattle.pieces.specs.Distinct.{is_none_of};
 ghost use Rattle.turns.specs.Sheets.{replaced};
 ghost use Rattle.turns.specs.Tables.{indexes_of, listed};
 
-use crate::rule::{Dealt, Entered, Fixed, Made, Once, Rule, TakenBack};
+use crate::rule::{Dealt, Entered, Fixed, Looked, Made, Once, Rule, TakenBack, Told};
 use crate::sharing::Indexes;
+use crate::starts::Starts;
 use crate::view::View;
 use atomic_table::{Closed, Table};
 use pieces::Piece;
@@ -31,7 +33,10 @@ pub(crate) struct Sheet {
     /// Those that are listed, as they were at opening: a step finds its own here beside those of the steps around it.
     then: Vec<u64>,
     /// How many of these stand in front that one piece alone has a step about. The others rise. No proof rests on it.
+    /// Where somebody watches, all rise.
     own: usize,
+    /// Where a look begins to search for its word, where somebody watches.
+    starts: Starts,
 }
 
 impl Model for Sheet {
@@ -51,9 +56,10 @@ impl Model for Sheet {
 impl Sheet {
     ghost use Rattle.std.specs.Prelude.{◌≡◌, ℕ, ◌<◌, ◌++◌, [], length, slice_index, IfOk};
     ghost use Rattle.std.specs.List.{All};
+    ghost use Rattle.std.specs.List.Sorted.{IsStrictlyIncreasing};
     ghost use Rattle.pieces.specs.Effects.{keeps, adds, writes, done, words_after};
-    ghost use Rattle.turns.specs.Views.{count_in, names_in, none_done, first_of, behind_first, HasOnce};
-    ghost use Rattle.turns.specs.Rules.{IsNext, IsMade, steps_in};
+    ghost use Rattle.turns.specs.Views.{count_in, names_in, none_done, first_of, behind_first, told, HasOnce};
+    ghost use Rattle.turns.specs.Rules.{IsNext, IsMade, IsLooked, steps_in};
     ghost use Rattle.turns.specs.Sheets.{IsPhase, IsSeat};
     ghost use Rattle.turns.specs.Tables.{indexes_of};
 
@@ -64,19 +70,23 @@ impl Sheet {
         pieces: Snapshot<Vec<Piece>>,
         at: Indexes,
         own: usize,
+        watchers: usize,
     ) -> Result<(Sheet, Seat), AllocError>
-        requires phase { IsPhase (record { words = words.items; pieces = pieces.value.items; at = indexes_of (length words.items) at }) }
+        requires phase { IsPhase (record { words = words.items; pieces = pieces.value.items; at = indexes_of (length words.items) at; watchers = watchers }) }
         requires some { 0 < length (indexes_of (length words.items) at) }
         requires within { All (λ i. i < length words.items) (indexes_of (length words.items) at) }
-        ensures opening { IfOk result (λ r. r.0.opening ≡ record { words = words.items; pieces = pieces.value.items; at = indexes_of (length words.items) at }) }
+        requires rise { 0 < watchers → IsStrictlyIncreasing (indexes_of (length words.items) at) }
+        ensures opening { IfOk result (λ r. r.0.opening ≡ record { words = words.items; pieces = pieces.value.items; at = indexes_of (length words.items) at; watchers = watchers }) }
         ensures seat { IfOk result (λ r. IsSeat r.0 r.1.table_id r.1.me × (r.1.me.0.counts ≡ none_done (length pieces.value.items))) }
     {
         let fixed = Fixed {
             words: Snapshot::of(&words),
             pieces,
             at: Snapshot::of(&at),
+            watchers: Snapshot::of(&watchers),
         };
         let then = gathered(alloc, &words, at.listed())?;
+        let starts = search_starts(alloc, &at, words.len(), watchers)?;
         let (table, seat) = Table::of_words(alloc, shared_words(&words, &then, &at), &fixed)?;
         Ok((
             Sheet {
@@ -85,6 +95,7 @@ impl Sheet {
                 at,
                 then,
                 own,
+                starts,
             },
             seat,
         ))
@@ -99,9 +110,18 @@ impl Sheet {
         self.table.shared.split_seat::<Dealt>(seat)
     }
 
+    /// Deals a seat that has no piece, and knows what the other counts.
+    pub(crate) fn tell(&self, seat: &mut Seat) -> Seat
+        requires { IsSeat self.now seat.old.table_id seat.old.me }
+        ensures same { (seat.new.table_id ≡ seat.old.table_id) × (seat.new.me ≡ seat.old.me) }
+        ensures told { IsSeat self.now result.table_id result.me × (result.me.0 ≡ told seat.old.me.0) }
+    {
+        self.table.shared.split_seat::<Told>(seat)
+    }
+
     /// A seat that has no piece.
     pub(crate) fn enter(&self) -> Seat
-        ensures { IsSeat self.now result.table_id result.me × (result.me.0.counts ≡ []) }
+        ensures { IsSeat self.now result.table_id result.me × (result.me.0.counts ≡ []) × (result.me.0.notes ≡ []) }
     {
         let (_, seat) = self.table.shared.load_new_seat::<Entered>(0);
         seat
@@ -111,7 +131,7 @@ impl Sheet {
     pub(crate) fn collect(&self, seat: &mut Seat, other: Seat)
         requires seat { IsSeat self.now seat.old.table_id seat.old.me }
         requires other { IsSeat self.now other.table_id other.me }
-        ensures { IsSeat self.now seat.new.table_id seat.new.me × (seat.new.me.0.counts ≡ seat.old.me.0.counts ++ other.me.0.counts) }
+        ensures { IsSeat self.now seat.new.table_id seat.new.me × (seat.new.me.0.counts ≡ seat.old.me.0.counts ++ other.me.0.counts) × (seat.new.me.0.notes ≡ seat.old.me.0.notes ++ other.me.0.notes) }
     {
         self.table.shared.join_seat::<TakenBack>(seat, other);
     }
@@ -137,6 +157,7 @@ impl Sheet {
             at,
             then: _,
             own: _,
+            starts: _,
         } = self;
         let closed = table.close_with(seat);
         put_back(&mut words, &at, &closed);
@@ -153,6 +174,21 @@ impl Sheet {
     {
         let at = place(&self.at, &self.words, self.own, index, hint);
         self.table.shared.load::<Made>(seat, at)
+    }
+
+    /// Finds the word at an index as it is, for a watcher. A word that is not shared is as it was at opening: no step
+    /// is about it.
+    pub(crate) fn peek(&self, seat: &mut Seat, index: usize) -> u64
+        requires seat { IsSeat self.now seat.old.table_id seat.old.me }
+        requires watched { 0 < self.now.opening.watchers }
+        requires within { index < length self.now.opening.words }
+        ensures seat { IsSeat self.now seat.new.table_id seat.new.me }
+        ensures looked { IsLooked index seat.old.me.0 result seat.new.me.0 }
+    {
+        match shared_place(&self.at, &self.words, &self.starts, index) {
+            Some(at) => self.table.shared.load::<Looked>(seat, at),
+            None => self.words[index],
+        }
     }
 
     /// Adds bits to the word at an index, which is the next step of a seat's piece. Returns the word as it was.
@@ -184,6 +220,13 @@ impl Sheet {
         let _ = self.words.len();
     }
 
+    /// How many words there are.
+    pub(crate) fn len(&self) -> usize
+        ensures { result ≡ length self.now.opening.words }
+    {
+        self.words.len()
+    }
+
     /// The words at opening, for contracts alone.
     pub(crate) fn opening(&self) -> Snapshot<Vec<u64>>
         ensures { result.value.items ≡ self.now.opening.words }
@@ -210,6 +253,19 @@ impl Sheet {
         }
         self.words[index]
     }
+}
+
+/// Where looks of so many watchers begin to search among the words that are shared, of so many.
+fn search_starts(
+    alloc: Global,
+    at: &Indexes,
+    words: usize,
+    watchers: usize,
+) -> Result<Starts, AllocError> {
+    if watchers == 0 {
+        return Ok(Starts::none(alloc));
+    }
+    Starts::among(alloc, at.listed(), words)
 }
 
 /// The words at some indexes.
@@ -279,6 +335,37 @@ fn place(at: &Indexes, words: &[u64], rising: usize, index: usize, hint: usize) 
     match at {
         Indexes::All => index,
         Indexes::Listed(at) => position(at, rising, index, hint),
+    }
+}
+
+/// Where the word at an index stands among those that are shared, if it is shared.
+fn shared_place(at: &Indexes, words: &[u64], starts: &Starts, index: usize) -> Option<usize>
+    requires rise { IsStrictlyIncreasing (indexes_of (length words.now) at.now) }
+    requires within { index < length words.now }
+    ensures { MatchOption result (is_none_of (indexes_of (length words.now) at.now) index ≡ true) (λ k. slice_get (indexes_of (length words.now) at.now) k ≡ Some index) }
+{
+    match at {
+        Indexes::All => Some(index),
+        Indexes::Listed(at) => listed_place(at, starts.start(index), index),
+    }
+}
+
+/// Where an index stands among these, if it does. The search begins at a position, and goes back and then on from there.
+fn listed_place(at: &[usize], start: usize, index: usize) -> Option<usize>
+    requires rise { IsStrictlyIncreasing at.now }
+    ensures { MatchOption result (is_none_of at.now index ≡ true) (λ k. slice_get at.now k ≡ Some index) }
+{
+    let mut k = start.min(at.len());
+    while k > 0 && at[k - 1] >= index {
+        k -= 1;
+    }
+    while k < at.len() && at[k] < index {
+        k += 1;
+    }
+    if k < at.len() && at[k] == index {
+        Some(k)
+    } else {
+        None
     }
 }
 

@@ -2,6 +2,7 @@
 
 use crate::open::Open;
 use crate::post::Post;
+use crate::receipt::Receipt;
 use crate::sheet::{Seat, Sheet};
 use crate::work::Work;
 use pieces::{Done, Piece};
@@ -45,6 +46,7 @@ impl Turn {
     ghost use Rattle.turns.specs.Sheets.{IsSeat};
     ghost use Rattle.turns.specs.declared.turn.Progress.TheVariants.{More};
     ghost use Rattle.turns.specs.Turns.{steps_to_do, progress_of, done_of};
+    ghost use Rattle.turns.specs.Watching.{receipt_of};
 
     /// The turn of a piece of which no step was done.
     pub(crate) fn new(
@@ -97,6 +99,22 @@ impl Turn {
         ensures ended { self.new.steps ≡ steps_to_do self.new }
     {
         self.work.step_to_end(&mut self.post, shared.sheet());
+    }
+
+    /// A receipt for its piece, if all steps were done.
+    ///
+    /// It is a turn of this phase. It takes no memory, and waits for nobody.
+    pub fn receipt(&mut self, shared: &Open) -> Option<Receipt>
+        requires of { self.old.sheet ≡ shared.now }
+        ensures same { self.new ≡ self.old }
+        ensures receipt { result ≡ receipt_of self.old }
+    {
+        if !self.has_ended() {
+            return None;
+        }
+        let sheet = shared.sheet();
+        let seat = self.post.tell(sheet);
+        Some(Receipt::new(sheet, seat, self.post.number()))
     }
 
     /// Gives up its seat, and what its piece found out, if all steps were done.

@@ -10,6 +10,8 @@ pub struct Opening {
     pub pieces: LinkedList<Piece>,
     /// The indexes of the words that are shared: all, or those that pieces have steps about.
     pub at: LinkedList<usize>,
+    /// How many watchers there are.
+    pub watchers: usize,
 }
 
 /// What a seat knows.
@@ -18,7 +20,7 @@ pub struct View {
     pub opening: Opening,
     /// The pieces that it has, by their numbers, and how many steps of each were done.
     pub counts: LinkedList<(usize, usize)>,
-    /// Of pieces that others have: at least so many steps were done.
+    /// Of any pieces: at least so many steps were done.
     pub notes: LinkedList<(usize, usize)>,
     /// Whether it is a seat still: one that was taken back is none.
     pub live: bool,

@@ -5,6 +5,7 @@ ghost use Rattle.space.specs.Directory.{pages_of};
 ghost use Rattle.fpage.specs.Fpage.{IsFpageOf};
 
 use crate::assertions::{assert_equal, assert_holds};
+use crate::databases::watched::Counter;
 use audit::{AuditError, check_database, lines, report};
 use crew::{Crew, NoGate, Workers};
 use fpage::{Access, Control, Fpage, Item, Rights};
@@ -12,6 +13,8 @@ use mapdb::{Database, DbError, Limits, SendReply};
 use space::Place;
 use std::alloc::Global;
 use std::process::Abort;
+use std::sync::Wait;
+use std::sync::atomic::{AtomicU64, Ordering};
 use std::test::Fail;
 use std::thread::Threads;
 
@@ -36,7 +39,7 @@ fn fpage(rt: &impl Abort, word: u32) -> Fpage
 
 /// A page of space 1.
 fn page(rt: &impl Abort, page: u32) -> Place
-    ensures space { result.space < 2 }
+    ensures space { result.space < 3 }
     ensures page { result.page < pages_of 21 }
 {
     assert!(rt; page < 512);
@@ -45,17 +48,17 @@ fn page(rt: &impl Abort, page: u32) -> Place
 
 /// Looks at the limits, which a halted database tells too.
 fn expect_limits(rt: &impl Abort, database: &Database)
-    ensures { database.now.limits ≡ record { spaces = 2; bits = 21; frames = 256 } }
+    ensures { database.now.limits ≡ record { spaces = 3; bits = 21; frames = 256 } }
 {
     let Limits {
         spaces,
         bits,
         frames,
     } = database.limits();
-    assert!(rt; spaces == 2 && bits == 21 && frames == 256);
+    assert!(rt; spaces == 3 && bits == 21 && frames == 256);
 }
 
-/// Maps the complete space from one space to another, in a window.
+/// Maps the pages of a word from one space to another, in a window.
 fn send<W: Workers>(
     rt: &impl Abort,
     database: &mut Database,
@@ -64,10 +67,11 @@ fn send<W: Workers>(
     from: u16,
     to: u16,
     window: u32,
+    sent: u32,
 ) -> Result<SendReply, DbError> {
     expect_limits(rt, database);
     let window = fpage(rt, window);
-    let Ok(item) = Item::read(8, COMPLETE, 21) else {
+    let Ok(item) = Item::read(8, sent, 21) else {
         panic!(rt; "the item is refused");
     };
     database.send(alloc, from, to, &window, &[item], workers)
@@ -106,6 +110,23 @@ fn unmap<W: Workers>(
     }
 }
 
+/// The same beside an observer that counts.
+fn unmap_watched<R: Threads + Wait>(
+    rt: &impl Abort,
+    database: &mut Database,
+    alloc: Global,
+    crew: &Crew<'_, R, NoGate>,
+    counter: &Counter,
+    space: u16,
+) -> Result<Vec<Rights>, DbError> {
+    expect_limits(rt, database);
+    let fpage = fpage(rt, COMPLETE_WRITE);
+    let Ok(control) = Control::read(0, 1) else {
+        panic!(rt; "the control word is refused");
+    };
+    database.unmap_watched(alloc, space, control, &[fpage], crew, counter)
+}
+
 /// Maps 256 pages, writes to one of them, and takes w from all 512, twice: where workers have pieces of one, that starts threads.
 fn work<W: Workers>(
     rt: &impl Abort,
@@ -113,7 +134,7 @@ fn work<W: Workers>(
     alloc: Global,
     workers: &W,
 ) -> Result<(), DbError> {
-    let reply = send(rt, database, alloc, workers, 0, 1, COMPLETE)?;
+    let reply = send(rt, database, alloc, workers, 0, 1, COMPLETE, COMPLETE)?;
     assert_equal(rt, reply.linked, 256, "linked");
     let made = access(rt, database, alloc, workers, 5)?;
     assert_equal(rt, made.as_slice(), [true].as_slice(), "made");
@@ -136,28 +157,64 @@ fn work<W: Workers>(
     Ok(())
 }
 
-/// Looks at a database that is halted: each call that changes one is refused as `Halted`, also where another refusal would fit.
-fn expect_no_change<W: Workers>(
+/// Maps frame 5 from space 0 to space 1, on to space 2, and back to another page of space 1, which then takes w from
+/// what derives from its pages: beside an observer, which has a thread of its own.
+fn work_watched<R: Threads + Wait>(
     rt: &impl Abort,
     database: &mut Database,
     alloc: Global,
-    workers: &W,
+    crew: &Crew<'_, R, NoGate>,
+    counter: &Counter,
+) -> Result<(), DbError> {
+    for (from, to, window, sent) in [
+        (0, 1, 0xc7, 0x50c7),
+        (1, 2, 0xc7, 0xc7),
+        (2, 1, 0x30c7, 0xc7),
+    ] {
+        let reply = send(rt, database, alloc, crew, from, to, window, sent)?;
+        assert_equal(rt, reply.linked, 1, window);
+    }
+    let status = unmap_watched(rt, database, alloc, crew, counter, 1)?;
+    assert_equal(
+        rt,
+        status.as_slice(),
+        [Rights::none()].as_slice(),
+        "no status",
+    );
+    assert_equal(rt, counter.calls.load(Ordering::SeqCst), 1, "calls");
+    Ok(())
+}
+
+/// Looks at a database that is halted: each call that changes one is refused as `Halted`, also where another refusal would fit.
+fn expect_no_change<R: Threads + Wait>(
+    rt: &impl Abort,
+    database: &mut Database,
+    alloc: Global,
+    workers: &Crew<'_, R, NoGate>,
 ) {
     for (from, to, window) in [
         (0, 1, COMPLETE),
-        (2, 1, COMPLETE),
-        (0, 2, COMPLETE),
+        (3, 1, COMPLETE),
+        (0, 3, COMPLETE),
         (1, 1, COMPLETE),
         (0, 1, NIL),
-        (2, 2, NIL),
+        (3, 3, NIL),
     ] {
-        let answer = send(rt, database, alloc, workers, from, to, window);
+        let answer = send(rt, database, alloc, workers, from, to, window, COMPLETE);
         assert_equal(rt, answer, Err(DbError::Halted), window);
     }
-    for (space, plain) in [(0, false), (0, true), (2, false), (2, true)] {
+    for (space, plain) in [(0, false), (0, true), (3, false), (3, true)] {
         let answer = unmap(rt, database, alloc, workers, space, plain);
         assert_equal(rt, answer.err(), Some(DbError::Halted), space);
     }
+    let counter = Counter {
+        calls: AtomicU64::new(0),
+    };
+    for space in [0, 3] {
+        let answer = unmap_watched(rt, database, alloc, workers, &counter, space);
+        assert_equal(rt, answer.err(), Some(DbError::Halted), space);
+    }
+    assert_equal(rt, counter.calls.load(Ordering::SeqCst), 0, "calls");
     let answer = access(rt, database, alloc, workers, 5);
     assert_equal(rt, answer.err(), Some(DbError::Halted), "an access");
     let answer = database.access_all(alloc, &[], workers);
@@ -173,6 +230,7 @@ fn expect_no_answer(rt: &(impl Abort + AllocGlobal + Threads + Sync), database: 
     let refused = Some(DbError::Halted);
     assert_equal(rt, database.entry(held).err(), refused, "entry");
     assert_equal(rt, database.origin(held).err(), refused, "origin");
+    assert_equal(rt, database.index(held).err(), refused, "index");
     let next = database.next_held(1, 0);
     assert_equal(rt, next.err(), refused, "next held page");
     assert_equal(rt, database.mappings(alloc).err(), refused, "mappings");
@@ -182,23 +240,39 @@ fn expect_no_answer(rt: &(impl Abort + AllocGlobal + Threads + Sync), database: 
     assert_equal(rt, check_database(alloc, database).err(), refused, "check");
 }
 
-/// With ample memory and threads this passes. Where an allocation or a thread is refused to a call, the database must be halted, and
-/// every later call must say so.
+/// Looks at a database after work. With ample memory and threads the work passes, and nothing is halted. Where an
+/// allocation or a thread was refused to a call, the database must be halted, and every later call must say so.
+fn expect_halted_if_refused<R: Threads + Wait>(
+    rt: &(impl Abort + AllocGlobal + Threads + Sync),
+    database: &mut Database,
+    workers: &Crew<'_, R, NoGate>,
+    worked: Result<(), DbError>,
+) -> Result<(), DbError> {
+    assert_equal(rt, database.is_halted(), worked.is_err(), "halted");
+    if worked.is_err() {
+        expect_no_answer(rt, database);
+        expect_no_change(rt, database, rt.alloc(), workers);
+    }
+    worked
+}
+
 #[test]
 fn a_halted_database_refuses_every_call(rt: HostRuntime) -> Result<(), Fail> {
-    let alloc = rt.alloc();
     let workers = Crew::new(&rt, 4, 1, &NoGate);
-    let mut database = Database::new(alloc, 2, 21, 256)?;
-    match work(&rt, &mut database, alloc, &workers) {
-        Ok(()) => {
-            assert_holds(&rt, !database.is_halted(), "not halted");
-            Ok(())
-        }
-        Err(error) => {
-            assert_holds(&rt, database.is_halted(), "halted");
-            expect_no_answer(&rt, &database);
-            expect_no_change(&rt, &mut database, alloc, &workers);
-            Err(error)?
-        }
-    }
+    let mut database = Database::new(rt.alloc(), 3, 21, 256)?;
+    let worked = work(&rt, &mut database, rt.alloc(), &workers);
+    expect_halted_if_refused(&rt, &mut database, &workers, worked)?;
+    Ok(())
+}
+
+#[test]
+fn a_database_that_a_watched_unmap_halted_refuses_every_call(rt: HostRuntime) -> Result<(), Fail> {
+    let workers = Crew::new(&rt, 4, 1, &NoGate);
+    let mut database = Database::new(rt.alloc(), 3, 21, 256)?;
+    let counter = Counter {
+        calls: AtomicU64::new(0),
+    };
+    let worked = work_watched(&rt, &mut database, rt.alloc(), &workers, &counter);
+    expect_halted_if_refused(&rt, &mut database, &workers, worked)?;
+    Ok(())
 }

@@ -1,9 +1,10 @@
 //! Calls of a database as data, and what its pages hold after them: each is worked, or looked at, by one function.
 
-ghost use Rattle.std.specs.Prelude.{◌≡◌, IfOk};
+ghost use Rattle.std.specs.Prelude.{◌≡◌, Some, IfOk};
 ghost use Rattle.std.specs.List.{All};
 ghost use Rattle.fpage.specs.Fpage.{IsSpaceBits, IsFpageOf};
 ghost use Rattle.space.specs.Directory.{pages_of};
+ghost use Rattle.holdings.specs.Layout.{index_in};
 ghost use Rattle.holdings.specs.Meaning.{limits_of};
 ghost use Rattle.holdings.specs.Places.{IsWithin};
 
@@ -143,7 +144,7 @@ fn pages_in(rt: &impl Abort, bits: u32) -> u32
 }
 
 /// A page of a database's spaces.
-fn page(rt: &impl Abort, database: &Database, at: At) -> Place
+pub fn page(rt: &impl Abort, database: &Database, at: At) -> Place
     ensures { IsWithin database.now.limits result }
 {
     let limits = known_limits(rt, database);
@@ -151,6 +152,17 @@ fn page(rt: &impl Abort, database: &Database, at: At) -> Place
     let (space, page) = at;
     assert!(rt; u32::from(space) < limits.spaces && page < pages);
     Place { space, page }
+}
+
+/// Which word is that of a page that has one.
+pub fn index_of(rt: &impl Abort, database: &Database, page: Place) -> usize
+    requires { IsWithin database.now.limits page }
+    ensures { index_in database.now.layout page ≡ Some result }
+{
+    let Ok(Some(index)) = database.index(page) else {
+        panic!(rt; "{page} has no word");
+    };
+    index
 }
 
 /// The word of one page, with these rights.
@@ -262,8 +274,19 @@ fn access_all<T: Workers>(
     }
 }
 
+/// The fpage of a word.
+pub fn fpage(rt: &impl Abort, database: &Database, word: u32) -> Fpage
+    ensures { IsFpageOf database.now.limits.bits result }
+{
+    let bits = known_limits(rt, database).bits;
+    let Ok(fpage) = Fpage::read(word, bits) else {
+        panic!(rt; "the word {word} is refused");
+    };
+    fpage
+}
+
 /// The fpages of words.
-fn fpages(
+pub fn fpages(
     rt: &impl Abort,
     database: &Database,
     alloc: Global,
@@ -271,13 +294,9 @@ fn fpages(
 ) -> Result<Vec<Fpage>, DbError>
     ensures { IfOk result (λ fpages. All (IsFpageOf database.now.limits.bits) fpages.items) }
 {
-    let bits = known_limits(rt, database).bits;
     let mut fpages = Vec::new(alloc);
     for word in words {
-        let Ok(fpage) = Fpage::read(*word, bits) else {
-            panic!(rt; "the word {word} is refused");
-        };
-        if fpages.push(fpage).is_err() {
+        if fpages.push(fpage(rt, database, *word)).is_err() {
             return Err(DbError::NoMemory);
         }
     }

@@ -87,7 +87,7 @@ in_spaces p pages s (suc n) =
     ∙ one_space p.space p.page s n pages
 
 -- the places of the listing are those within the limits
-is_one : (limits : Limits) (p : Place) → list_any (same_place p) (spaces_from (pages_of limits.bits) 0 limits.spaces) ≡ is_place limits p
+pub is_one : (limits : Limits) (p : Place) → list_any (same_place p) (spaces_from (pages_of limits.bits) 0 limits.spaces) ≡ is_place limits p
 is_one limits p = in_spaces p (pages_of limits.bits) 0 limits.spaces ∙ from_zero p.space limits.spaces (nat_lt p.page (pages_of limits.bits))
   where
     from_zero : (k n : ℕ) (b : Bool) → ((nat_le 0 k && nat_lt k (0 + n)) && b) ≡ (nat_lt k n && b)

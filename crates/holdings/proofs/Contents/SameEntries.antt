@@ -1,15 +1,21 @@
--- Where each word says what it said, the same is held, wherever the words stand.
+-- Where each word says what it said, the same is held, wherever the words stand; and so where shards were made.
 use Rattle.std.proofs.Common.{◌≡◌, ◌∙◌, List, length, sym, ap, subst, arith, ◌≤◌}
 use Rattle.std.specs.Prelude.{IsFalse, option_map}
+use Rattle.fpage.specs.declared.rights.Rights.{Rights}
 use Rattle.space.specs.declared.place.Place.{Place}
 use Rattle.space.specs.declared.shards.Shards.{Shards}
 use Rattle.space.specs.Shards.{word_count, IsMade, entry_at, spaces_of, bits_of, is_taken}
 use Rattle.maptree.specs.Origins.{Shape}
 use Rattle.model.specs.Calls.{Limits}
 use Rattle.model.specs.Lawful.{is_lawful}
+use Rattle.holdings.specs.Contents.{Contents, AreMapped, AreMoved, laid_out}
+use Rattle.holdings.specs.Layout.{OnlyGrows}
 use Rattle.holdings.specs.Places.{listing}
-use Rattle.holdings.specs.Inner.Held.{contents_of, has_frame, held_of, holdings_of, limits_in}
+use Rattle.holdings.specs.declared.transfer.Transfer.{Transfer}
+use Rattle.holdings.specs.declared.transfer_counts.TransferCounts.{TransferCounts}
+use Rattle.holdings.specs.Inner.Held.{contents_of, has_frame, held_of, holdings_of, layout_in, limits_in}
 use Rattle.holdings.specs.Inner.Sound.{AreSound, IsSound}
+use Rattle.holdings.proofs.Contents.Layouts.{made_grows}
 
 -- words that say what others said, in spaces like those of the others
 pub record SayTheSame (old new : Shards) : Type 0 where
@@ -30,8 +36,13 @@ module _ (old new : Shards) (trees : List Shape) (same : SayTheSame old new) whe
   same_holdings : (l : Limits) → holdings_of l new trees ≡ holdings_of l old trees
   same_holdings l = λ i. listing l (λ p. option_map (held_of trees p) (same.entries p i))
 
-  pub same_contents : contents_of new trees ≡ contents_of old trees
-  same_contents = λ i. record { limits = same_limits i; holdings = listing (same_limits i) (λ p. option_map (held_of trees p) (same.entries p i)) }
+  -- what they say is the same but for the layout
+  same_contents : contents_of new trees ≡ laid_out (contents_of old trees) (layout_in new)
+  same_contents = λ i. record {
+    limits = same_limits i;
+    holdings = listing (same_limits i) (λ p. option_map (held_of trees p) (same.entries p i));
+    layout = layout_in new;
+  }
 
   -- sound words stay sound
   pub sound_stays : AreSound old trees → AreSound new trees
@@ -54,3 +65,34 @@ module _ (old new : Shards) (trees : List Shape) (same : SayTheSame old new) whe
       held = λ frame p listed. ap (has_frame frame) (same.entries p) ∙ sound.pruned.held frame p listed;
     };
   })
+
+-- ---- shards that were made
+
+-- words and trees hold what was held, and some shards were made
+pub record AreMadeFrom (held : Contents) (s : Shards) (trees : List Shape) : Type 0 where
+  -- what they say is the same but for the layout
+  pub view : contents_of s trees ≡ laid_out held (layout_in s)
+  -- which only grew
+  pub grows : OnlyGrows held.layout (layout_in s)
+
+pub made_from : (old new : Shards) (trees : List Shape) → IsMade old new → IsFalse (is_taken new)
+    → (held : Contents) → contents_of old trees ≡ held → AreMadeFrom held new trees
+made_from old new trees made present held view = record {
+  view = same_contents old new trees (made_says old new made present)
+      ∙ ap (λ (c : Contents). laid_out c (layout_in new)) view;
+  grows = subst (λ (c : Contents). OnlyGrows c.layout (layout_in new)) view (made_grows old new made);
+}
+
+-- what was done to these was done to what was held
+module _ (held : Contents) (s : Shards) (trees : List Shape) (made : AreMadeFrom held s trees)
+    (ts : List Transfer) where
+  pub mapped_from : (rights : Rights) (r : Contents × TransferCounts)
+      → AreMapped (contents_of s trees) ts rights r → AreMapped held ts rights r
+  mapped_from rights r are =
+      let from = subst (λ (c : Contents). AreMapped c ts rights r) made.view are in
+      record { left = from.left; grows = λ p i is. from.grows p i (made.grows p i is); counted = from.counted }
+
+  pub moved_from : (r : Contents × TransferCounts) → AreMoved (contents_of s trees) ts r → AreMoved held ts r
+  moved_from r are =
+      let from = subst (λ (c : Contents). AreMoved c ts r) made.view are in
+      record { left = from.left; grows = λ p i is. from.grows p i (made.grows p i is); counted = from.counted }

@@ -27,7 +27,7 @@ use Rattle.holdings.specs.declared.link.Link.{Link}
 use Rattle.holdings.specs.declared.transfer.Transfer.{Transfer}
 use Rattle.holdings.specs.Inner.Derivation.{stands_in, IsDerived}
 use Rattle.holdings.specs.Places.{IsWithin, listing}
-use Rattle.holdings.specs.Inner.Held.{links_in, is_listed, held_of, held_at, limits_in, holdings_in}
+use Rattle.holdings.specs.Inner.Held.{links_in, is_listed, held_of, held_at, layout_in, limits_in, holdings_in}
 use Rattle.space.specs.Entries as word
 use Rattle.holdings.specs.Contents.{entry_of}
 use Rattle.holdings.specs.Inner.Sound.{AreSound, IsSound}
@@ -35,6 +35,7 @@ use Rattle.holdings.specs.Sending.{IsTransferWithin, ArePaired, ArePlanned, IsRe
 use Rattle.holdings.specs.Inner.Links.{IsTreeSet, link_of, links_of, is_new_of, AreLinked, AreLinkable, IsPageLost, IsPageMapped}
 use Rattle.holdings.proofs.Contents.Listing.{listing_same}
 use Rattle.holdings.proofs.Trees.Positions.{derived_below}
+use Rattle.holdings.proofs.Contents.Layouts.{same_layout}
 use Rattle.holdings.proofs.Contents.Holders.{place_within, absent_within, present_within, entry_within}
 use Rattle.holdings.proofs.Links.NewMappings.{tree_set, unlisted}
 use Rattle.holdings.proofs.Maps.MapPages.{IsWorked, same_limits, worked_left, worked_sound, lost_counts, lost_left, extended_counts, linked_counts, page_extended, target_unlisted, page_linked}
@@ -135,6 +136,7 @@ pub record AreAhead (first : Shards) (limits : Limits) (h : Holdings) (rights : 
   pub differ : from ≡ to → ⊥
   pub are : AreMapped limits h rights from to ts i shards trees counts
   pub linked : AreLinked (links_of first (drop i ts)) trees ahead
+  pub layout : layout_in shards ≡ layout_in first
 
 module _ (first : Shards) (first_trees : List Shape) (rights : Rights) (ts : List Transfer) (i : ℕ) (within : i < length ts) (shards : Shards) (ahead : List Shape) (counts : Counts)
     (planned : ArePlanned (limits_in first first_trees) ts) (ready : All (IsReady (holdings_in first first_trees) rights) ts)
@@ -186,22 +188,23 @@ module _ (first : Shards) (first_trees : List Shape) (rights : Rights) (ts : Lis
   linked_now = subst (λ o. AreLinked (link_of t o rest) so_far.trees ahead) stood_first (subst (λ xs. AreLinked (links_of first xs) so_far.trees ahead) (drop_more ts i no_transfer within) so_far.linked)
 
   next : (new : Shards) (trees : List Shape) (one : Counts) → AreSound new trees → limits_in new trees ≡ limits_in shards so_far.trees
-      → holdings_in new trees ≡ map_pair now (record { kind = Map; rights = rights; pairs = [] }) (pair_of t) (fate_in t) now → one ≡ count_after_flush now t → AreLinked rest trees ahead
+      → holdings_in new trees ≡ map_pair now (record { kind = Map; rights = rights; pairs = [] }) (pair_of t) (fate_in t) now → one ≡ count_after_flush now t → AreLinked rest trees ahead → layout_in new ≡ layout_in shards
       → AreAhead first (limits_in first first_trees) h rights ts (i + 1) new ahead (add_counts counts one)
-  next new trees one is_sound same left counted linked = record {
+  next new trees one is_sound same left counted linked layout = record {
     trees = trees;
     from = so_far.from;
     to = so_far.to;
     differ = so_far.differ;
     are = one_mapped (limits_in first first_trees) h rights so_far.from so_far.to so_far.differ ts i no_transfer within shards so_far.trees counts so_far.are new trees one is_sound same left counted;
     linked = linked;
+    layout = layout ∙ so_far.layout;
   }
 
   pub page_lost : (new : Shards) (one : Counts) → entry_at shards t.source ≡ None → IsPageLost shards new one → AreAhead first (limits_in first first_trees) h rights ts (i + 1) new ahead (add_counts counts one)
   page_lost new one none lost =
       let gone = absent_within (limits_in shards so_far.trees) shards so_far.trees t.source source_within none in
       subst (λ s. AreAhead first (limits_in first first_trees) h rights ts (i + 1) s ahead (add_counts counts one)) (sym lost.same)
-      (next shards so_far.trees one sound refl (lost_left now rights t gone) (lost_counts now rights t gone one lost.counted) (subst (λ o. AreLinked (link_of t o rest) so_far.trees ahead) none linked_now))
+      (next shards so_far.trees one sound refl (lost_left now rights t gone) (lost_counts now rights t gone one lost.counted) (subst (λ o. AreLinked (link_of t o rest) so_far.trees ahead) none linked_now) refl)
 
   module _ (new : Shards) (one : Counts) (e : Entry) (stood : entry_at shards t.source ≡ Some e) (page : IsPageMapped shards new rights t e one) where
     held : at now t.source ≡ Some (held_of so_far.trees t.source e)
@@ -219,6 +222,7 @@ module _ (first : Shards) (first_trees : List Shape) (rights : Rights) (ts : Lis
         next new so_far.trees one (worked_sound shards new so_far.trees so_far.trees rights t w same) same (worked_left shards new so_far.trees so_far.trees rights t w same)
         (extended_counts now rights t (held_of so_far.trees t.source e) held is one (page.counted ∙ ap (λ b. counts_of (if b then extends else goes) true) is))
         (subst (λ b. AreLinked (if b then rest else record { frame = e.frame; source = t.source; target = t.target } ∷ rest) so_far.trees ahead) is linked_with)
+        (same_layout shards new page.layout)
       where
         linked_word : Entry → Entry
         linked_word e = record { frame = e.frame; rights = meet e.rights rights; status = no_rights }
@@ -240,6 +244,7 @@ module _ (first : Shards) (first_trees : List Shape) (rights : Rights) (ts : Lis
         (linked_counts now rights t (held_of so_far.trees t.source e) held is one (page.counted ∙ ap (λ b. counts_of (if b then extends else goes) true) is))
         (one_ahead l rest so_far.trees (slice_set so_far.trees e.frame grown) ahead grown.links
         (subst (λ b. AreLinked (if b then rest else l ∷ rest) so_far.trees ahead) is linked_with) set derived)
+        (same_layout shards new page.layout)
 
     pub page_mapped : AreAhead first (limits_in first first_trees) h rights ts (i + 1) new ahead (add_counts counts one)
     page_mapped = by t.extends refl
@@ -361,6 +366,7 @@ module _ (shards : Shards) (trees : List Shape) (sound : AreSound shards trees) 
     differ = planned.differ;
     are = none_mapped (limits_in shards trees) (holdings_in shards trees) rights planned.from planned.to planned.differ ts shards trees sound refl refl planned.paired;
     linked = linked;
+    layout = refl;
   }
 
 -- all are mapped

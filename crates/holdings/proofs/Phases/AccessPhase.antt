@@ -16,7 +16,7 @@ use Rattle.pieces.specs.declared.piece.Piece.TheVariants as piece
 use Rattle.pieces.proofs.InPieces.{flat_of_map}
 use Rattle.holdings.specs.Contents.{left_with, touched_all, access_answers}
 use Rattle.holdings.specs.Places.{IsWithin}
-use Rattle.holdings.specs.Inner.Held.{contents_of, holdings_in, limits_in}
+use Rattle.holdings.specs.Inner.Held.{contents_of, holdings_in, layout_in, limits_in}
 use Rattle.holdings.specs.Inner.Faults.{is_there, with_faults}
 use Rattle.holdings.specs.Inner.Planning.{word_access}
 use Rattle.holdings.specs.Inner.Sound.{AreSound}
@@ -24,6 +24,7 @@ use Rattle.holdings.specs.Inner.Words.{CanBeWorkedIn, IsPhaseWorked, IsWith}
 use Rattle.holdings.specs.Inner.Phases.{IsPhaseLeft}
 use Rattle.pieces.specs.Applied.{worked}
 use Rattle.holdings.proofs.Contents.Holders.{place_within}
+use Rattle.holdings.proofs.Contents.Layouts.{same_layout}
 use Rattle.holdings.proofs.Contents.WordChanges.{place_kept}
 use Rattle.holdings.proofs.Phases.FaultsAmong.{kept_there, some_touched, some_answered}
 use Rattle.holdings.proofs.Phases.Whole.{touches_are_accesses}
@@ -51,7 +52,9 @@ module _ (s : Shards) (trees : List Shape) (sound : AreSound s trees) (ts : List
     none_there = no_access s those most (ap length (sym are) ∙ none)
 
     pub nothing_touched : contents_of s trees ≡ left_with (contents_of s trees) (touched_all (holdings_in s trees) ts)
-    nothing_touched = λ i. record { limits = limits_in s trees; holdings = (ap (touched_all (holdings_in s trees)) (sym none_there) ∙ some_touched s trees sound ts within) i }
+    nothing_touched =
+        let left = ap (touched_all (holdings_in s trees)) (sym none_there) ∙ some_touched s trees sound ts within in
+        λ i. record { limits = limits_in s trees; holdings = left i; layout = layout_in s }
 
     pub all_faults : with_faults (map (is_there s) ts) [] ≡ access_answers (holdings_in s trees) ts
     all_faults = ap (λ us. with_faults (map (is_there s) ts) (access_answers (holdings_in s trees) us)) (sym none_there) ∙ some_answered s trees sound ts within
@@ -61,7 +64,9 @@ module _ (s : Shards) (trees : List Shape) (sound : AreSound s trees) (ts : List
     law_left = (touches_are_accesses s trees sound done.words done.are those those_within (kept_there s ts) most some).2 n (subst (λ qs. IsWith s (worked done.words qs) n) are done.with)
 
     pub accesses_left : contents_of n trees ≡ left_with (contents_of s trees) (touched_all (holdings_in s trees) ts)
-    accesses_left = λ i. record { limits = law_left.limits_stay i; holdings = (law_left.left ∙ some_touched s trees sound ts within) i }
+    accesses_left =
+        let left = law_left.left ∙ some_touched s trees sound ts within in
+        λ i. record { limits = law_left.limits_stay i; holdings = left i; layout = same_layout s n done.with.layout i }
 
     pub accesses_sound : AreSound n trees
     accesses_sound = law_left.sound

@@ -20,24 +20,26 @@ use Rattle.holdings.specs.Sending.{ArePlanned, AreReady, map_transfers}
 use Rattle.holdings.specs.declared.link.Link.{Link}
 use Rattle.holdings.specs.declared.transfer.Transfer.{Transfer}
 use Rattle.holdings.specs.declared.transfer_counts.TransferCounts.{TransferCounts}
-use Rattle.holdings.specs.Inner.Held.{contents_of, holdings_in, limits_in}
+use Rattle.holdings.specs.Inner.Held.{contents_of, holdings_in, layout_in, limits_in}
 use Rattle.holdings.specs.Inner.Links.{AreLinkable, AreLinked, links_of}
 use Rattle.holdings.specs.Inner.Phases.{IsPhaseLeft}
 use Rattle.holdings.specs.Inner.Planning.{counts_in, stores_of}
 use Rattle.holdings.specs.Inner.Sound.{AreSound}
 use Rattle.holdings.specs.Inner.Words.{CanBeWorkedIn, IsWith, IsWritten}
+use Rattle.holdings.proofs.Contents.Layouts.{same_grows, same_layout}
+use Rattle.holdings.proofs.Contents.SameEntries.{AreMadeFrom, mapped_from}
 use Rattle.holdings.proofs.Maps.MapWords.{linkable}
 use Rattle.holdings.proofs.Phases.Beside.{puts_distinct}
 use Rattle.holdings.proofs.Phases.Counted.{counted_by_words}
 use Rattle.holdings.proofs.Phases.Whole.{both_ends, stores_are_mapped}
 use Rattle.holdings.proofs.Phases.Words.{own_words}
 
-module _ (s : Shards) (trees : List Shape) (sound : AreSound s trees) (old : Contents) (view : contents_of s trees ≡ old) (rights : Rights) (ts : List Transfer) (planned_old : ArePlanned old.limits ts) (ready_old : AreReady old.holdings rights ts) (targets : All (λ t. HasWord s t.target) ts) where
+module _ (s : Shards) (trees : List Shape) (sound : AreSound s trees) (old : Contents) (made : AreMadeFrom old s trees) (rights : Rights) (ts : List Transfer) (planned_old : ArePlanned old.limits ts) (ready_old : AreReady old.holdings rights ts) (targets : All (λ t. HasWord s t.target) ts) where
   planned : ArePlanned (limits_in s trees) ts
-  planned = subst (λ (c : Contents). ArePlanned c.limits ts) (sym view) planned_old
+  planned = subst (λ (c : Contents). ArePlanned c.limits ts) (sym made.view) planned_old
 
   ready : AreReady (holdings_in s trees) rights ts
-  ready = subst (λ (c : Contents). AreReady c.holdings rights ts) (sym view) ready_old
+  ready = subst (λ (c : Contents). AreReady c.holdings rights ts) (sym made.view) ready_old
 
   pub new_linkable : (now : List Shape) → now ≡ trees → (ls : List Link) → ls ≡ links_of s ts → AreLinkable now ls
   new_linkable now now_is ls ls_are = subst (λ us. AreLinkable us ls) (sym now_is) (subst (AreLinkable trees) (sym ls_are) (linkable s trees sound rights ts planned ready))
@@ -67,7 +69,8 @@ module _ (s : Shards) (trees : List Shape) (sound : AreSound s trees) (old : Con
 
         pub are_mapped : (counts : TransferCounts) → counts_of counts ≡ counts_in s ts → AreMapped old ts rights (contents_of n ahead, counts)
         are_mapped counts counted =
-            subst (λ (c : Contents). AreMapped c ts rights (contents_of n ahead, counts)) view (record {
-              left = λ i. record { limits = phase_left.limits_stay i; holdings = phase_left.left i };
+            mapped_from old s trees made ts rights (contents_of n ahead, counts) (record {
+              left = λ i. record { limits = phase_left.limits_stay i; holdings = phase_left.left i; layout = layout_in n };
+              grows = same_grows (layout_in s) (layout_in n) (same_layout s n done.with.layout);
               counted = counted ∙ counted_by_words s trees ts planned.within;
             })

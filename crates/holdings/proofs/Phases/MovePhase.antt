@@ -19,25 +19,27 @@ use Rattle.holdings.specs.Sending.{ArePlanned, AllGo, AreFree, moving_of}
 use Rattle.holdings.specs.declared.link.Link.{Link}
 use Rattle.holdings.specs.declared.transfer.Transfer.{Transfer}
 use Rattle.holdings.specs.declared.transfer_counts.TransferCounts.{TransferCounts}
-use Rattle.holdings.specs.Inner.Held.{contents_of, holdings_in, limits_in}
+use Rattle.holdings.specs.Inner.Held.{contents_of, holdings_in, layout_in, limits_in}
 use Rattle.holdings.specs.Inner.Links.{last_target, links_of}
 use Rattle.holdings.specs.Inner.Phases.{IsPhaseLeft}
 use Rattle.holdings.specs.Inner.Planning.{counts_in, word_pairs}
 use Rattle.holdings.specs.Inner.Renamings.{AreMovable, AreRenamed}
 use Rattle.holdings.specs.Inner.Sound.{AreSound}
 use Rattle.holdings.specs.Inner.Words.{CanBeWorkedIn, IsWith, IsWritten}
+use Rattle.holdings.proofs.Contents.Layouts.{same_grows, same_layout}
+use Rattle.holdings.proofs.Contents.SameEntries.{AreMadeFrom, moved_from}
 use Rattle.holdings.proofs.Phases.Beside.{ends_distinct}
 use Rattle.holdings.proofs.Phases.Counted.{counted_by_words}
 use Rattle.holdings.proofs.Phases.Whole.{both_ends, pairs_are_moved}
 use Rattle.holdings.proofs.Phases.Words.{own_words}
 use Rattle.holdings.proofs.Renamings.MovingTrees.{movable}
 
-module _ (s : Shards) (trees : List Shape) (sound : AreSound s trees) (old : Contents) (view : contents_of s trees ≡ old) (ts : List Transfer) (planned_old : ArePlanned old.limits ts) (all_go : AllGo ts) (free_old : AreFree old.holdings ts) (targets : All (λ t. HasWord s t.target) ts) where
+module _ (s : Shards) (trees : List Shape) (sound : AreSound s trees) (old : Contents) (made : AreMadeFrom old s trees) (ts : List Transfer) (planned_old : ArePlanned old.limits ts) (all_go : AllGo ts) (free_old : AreFree old.holdings ts) (targets : All (λ t. HasWord s t.target) ts) where
   planned : ArePlanned (limits_in s trees) ts
-  planned = subst (λ (c : Contents). ArePlanned c.limits ts) (sym view) planned_old
+  planned = subst (λ (c : Contents). ArePlanned c.limits ts) (sym made.view) planned_old
 
   free : AreFree (holdings_in s trees) ts
-  free = subst (λ (c : Contents). AreFree c.holdings ts) (sym view) free_old
+  free = subst (λ (c : Contents). AreFree c.holdings ts) (sym made.view) free_old
 
   pub trees_movable : (now : List Shape) → now ≡ trees → (ls : List Link) → ls ≡ links_of s ts → AreMovable now ls
   trees_movable now now_is ls ls_are =
@@ -68,7 +70,8 @@ module _ (s : Shards) (trees : List Shape) (sound : AreSound s trees) (old : Con
 
         pub are_moved : (counts : TransferCounts) → counts_of counts ≡ counts_in s ts → AreMoved old ts (contents_of n after, counts)
         are_moved counts counted =
-            subst (λ (c : Contents). AreMoved c ts (contents_of n after, counts)) view (record {
-              left = λ i. record { limits = phase_left.limits_stay i; holdings = phase_left.left i };
+            moved_from old s trees made ts (contents_of n after, counts) (record {
+              left = λ i. record { limits = phase_left.limits_stay i; holdings = phase_left.left i; layout = layout_in n };
+              grows = same_grows (layout_in s) (layout_in n) (same_layout s n done.with.layout);
               counted = counted ∙ counted_by_words s trees ts planned.within;
             })

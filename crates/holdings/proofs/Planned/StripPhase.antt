@@ -22,13 +22,14 @@ use Rattle.pieces.specs.declared.piece.Piece.{Piece}
 use Rattle.pieces.specs.declared.piece.Piece.TheVariants as piece
 use Rattle.holdings.specs.Contents.{IsStripped}
 use Rattle.holdings.specs.Places.{any_of}
-use Rattle.holdings.specs.Inner.Held.{contents_of, holdings_in, limits_in, has_entry}
+use Rattle.holdings.specs.Inner.Held.{contents_of, holdings_in, layout_in, limits_in, has_entry}
 use Rattle.holdings.specs.Inner.Phases.{IsPhaseLeft}
 use Rattle.holdings.specs.Inner.Planning.{RunPlan, IsRunPlan, IsStripPlan, strips_of_run, strips_of_runs}
 use Rattle.holdings.specs.Inner.Sound.{AreSound}
 use Rattle.holdings.specs.Inner.StripPlans.{IsPlanned, AllCanBePruned, AreKeptNodes, ArePruned}
 use Rattle.holdings.specs.Inner.Words.{CanBeWorkedIn, IsPhaseWorked, IsWith}
 use Rattle.holdings.specs.declared.planning.StripPlan.{StripPlan}
+use Rattle.holdings.proofs.Contents.Layouts.{same_layout}
 use Rattle.holdings.proofs.Phases.StripPlans.{plan_can_be_worked, stripped_runs}
 use Rattle.holdings.proofs.Phases.Whole.{planned_strips_are_strips}
 use Rattle.holdings.proofs.Stripping.Outer.{outer_word, outer_strip}
@@ -89,7 +90,10 @@ module _ (s : Shards) (trees : List Shape) (sound : AreSound s trees) (set : Pla
         (trees_left s trees sound is.plans a flush n _ (stripped_runs s trees sound set is.plans is.strip a flush done.words done.are each n with) is.strip.runs is.pages plan.frames.items is.runs is.planned left are)
 
     pub plan_stripped : (left : List Shape) → ArePruned n plan.frames.items trees left → IsStripped (contents_of s trees) set a flush (contents_of n left, g.status)
-    plan_stripped left are = let after = plan_left left are in record { left = λ i. record { limits = after.limits_stay i; holdings = after.left i }; status = plan_status }
+    plan_stripped left are = let after = plan_left left are in record {
+      left = λ i. record { limits = after.limits_stay i; holdings = after.left i; layout = same_layout s n done.with.layout i };
+      status = plan_status;
+    }
 
   -- a plan without pieces takes nothing
   no_plans : (plans : List RunPlan) → All (IsRunPlan trees) plans → length (map piece.Strip (strips_of_runs s a flush plans)) ≡ 0 → plans ≡ []
@@ -110,6 +114,7 @@ module _ (s : Shards) (trees : List Shape) (sound : AreSound s trees) (set : Pla
       record {
         left = λ i. record {
           limits = limits_in s trees;
+          layout = layout_in s;
           holdings = (sym (strip_nothing h lawful (any_of []) a flush (λ q _. empty q)) ∙ outer_strip h lawful (any_of []) set (λ q among. absurd (cc among)) planned.covers a flush) i;
         };
         status = sym (word_nothing h (any_of []) lawful (λ q _. empty q)) ∙ outer_word h lawful (any_of []) set (λ q among. absurd (cc among)) planned.covers;

@@ -15,7 +15,7 @@ use Rattle.model.proofs.LawfulParts.{IsLawful, lawful_parts}
 use Rattle.model.proofs.StripUnions.{strip-union, word-union, strip_same, word_same, strip_nothing, word_nothing}
 use Rattle.model.proofs.Chains.{below_empty, below_unheld}
 use Rattle.holdings.specs.Places.{IsWithin, any_of}
-use Rattle.holdings.specs.Inner.Held.{limits_in, holdings_in}
+use Rattle.holdings.specs.Inner.Held.{layout_in, limits_in, holdings_in}
 use Rattle.holdings.specs.Inner.Sound.{AreSound}
 use Rattle.holdings.proofs.Contents.Holders.{absent_within}
 use Rattle.holdings.proofs.Stripping.Sequences.{any_more}
@@ -26,6 +26,7 @@ pub record AreVisitedUpTo (old : Shards) (old_trees : List Shape) (places : List
   pub left : holdings_in now now_trees ≡ strip (holdings_in old old_trees) (any_of (take i places)) a f
   pub sound : AreSound now now_trees
   pub limits : limits_in now now_trees ≡ limits_in old old_trees
+  pub layout : layout_in now ≡ layout_in old
 
 module _ (old : Shards) (old_trees : List Shape) (sound : AreSound old old_trees) (places : List Place) (a : Rights) (f : Bool) where
   lawful : IsLawful (holdings_in old old_trees)
@@ -40,6 +41,7 @@ module _ (old : Shards) (old_trees : List Shape) (sound : AreSound old old_trees
         left = sym (strip_nothing (holdings_in old old_trees) lawful (any_of (take 0 places)) a f (λ q _. nothing q));
         sound = sound;
         limits = refl;
+        layout = refl;
       }
 
   module _ (i : ℕ) (d : Place) (within : i < length places) (now : Shards) (now_trees : List Shape) (status : Rights) (so_far : AreVisitedUpTo old old_trees places i a f now now_trees status) where
@@ -48,8 +50,8 @@ module _ (old : Shards) (old_trees : List Shape) (sound : AreSound old old_trees
 
     -- the next place is stripped
     pub one_visited : (next : Shards) (next_trees : List Shape) (more : Rights) → more ≡ strip_word (holdings_in now now_trees) (only here) → holdings_in next next_trees ≡ strip (holdings_in now now_trees) (only here) a f
-        → AreSound next next_trees → limits_in next next_trees ≡ limits_in now now_trees → AreVisitedUpTo old old_trees places (i + 1) a f next next_trees (join status more)
-    one_visited next next_trees more word left next_sound limits =
+        → AreSound next next_trees → limits_in next next_trees ≡ limits_in now now_trees → layout_in next ≡ layout_in now → AreVisitedUpTo old old_trees places (i + 1) a f next next_trees (join status more)
+    one_visited next next_trees more word left next_sound limits layout =
         let h = holdings_in old old_trees in
         let X = any_of (take i places) in
         let Y = only here in
@@ -59,6 +61,7 @@ module _ (old : Shards) (old_trees : List Shape) (sound : AreSound old old_trees
           left = left ∙ ap (λ k. strip k Y a f) so_far.left ∙ strip-union h lawful X a f Y ∙ sym (strip_same h lawful (any_of (take (i + 1) places)) (λ p. X p || Y p) (λ p _. same p) a f);
           sound = next_sound;
           limits = limits ∙ so_far.limits;
+          layout = layout ∙ so_far.layout;
         }
 
     -- where it is not held there is nothing to strip
@@ -69,7 +72,7 @@ module _ (old : Shards) (old_trees : List Shape) (sound : AreSound old old_trees
         let unheld : is_held k here ≡ false = ap is_some (absent_within (limits_in now now_trees) now now_trees here place none) in
         let nothing = below_unheld k l here unheld in
         subst (AreVisitedUpTo old old_trees places (i + 1) a f now now_trees) (join_nothing status)
-        (one_visited now now_trees no_rights (sym (word_nothing k (only here) l nothing)) (sym (strip_nothing k l (only here) a f nothing)) so_far.sound refl)
+        (one_visited now now_trees no_rights (sym (word_nothing k (only here) l nothing)) (sym (strip_nothing k l (only here) a f nothing)) so_far.sound refl refl)
 
   -- all of them
   pub all_visited : (i : ℕ) (now : Shards) (now_trees : List Shape) (status : Rights) → length places ≤ i → AreVisitedUpTo old old_trees places i a f now now_trees status

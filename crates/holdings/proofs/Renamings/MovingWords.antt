@@ -28,12 +28,13 @@ use Rattle.model.proofs.Renames.{moved_cases}
 use Rattle.model.proofs.Moves.{one_source, one_other}
 use Rattle.holdings.specs.declared.transfer.Transfer.{Transfer}
 use Rattle.holdings.specs.Places.{IsWithin}
-use Rattle.holdings.specs.Inner.Held.{holdings_of}
+use Rattle.holdings.specs.Inner.Held.{holdings_of, layout_in}
 use Rattle.holdings.specs.Inner.Sound.{IsSound}
 use Rattle.holdings.specs.Sending.{IsTransferWithin, IsApartFrom, ArePaired, ArePlanned, AllGo, pair_of, count_after_flush, counts_after_flush, moving_of}
 use Rattle.holdings.specs.Inner.Links.{IsPageLost}
 use Rattle.holdings.specs.Inner.Renamings.{IsPageMoved}
 use Rattle.holdings.proofs.Contents.Holders.{place_within, entry_elsewhere, present_within, absent_within}
+use Rattle.holdings.proofs.Contents.Layouts.{same_layout}
 use Rattle.holdings.proofs.Contents.WordChanges.{IsWordSet, place_kept}
 use Rattle.holdings.proofs.CountSums.{add_assoc, add_none, none_add, total_sum}
 use Rattle.holdings.proofs.Renamings.MovedPages.{entry_moved, CameFrom, AreWordsMoved}
@@ -137,6 +138,7 @@ pub record AreMoving (limits : Limits) (h : Holdings) (old : Shards) (ts : List 
   pub words : AreWordsMoved limits (moving_of h (take i ts)) old now
   pub reckoned : add_counts counts (counts_after_flush h (drop i ts)) ≡ counts_after_flush h ts
   pub few : total counts ≤ i
+  pub layout : layout_in now ≡ layout_in old
 
 module _ (limits : Limits) (old : Shards) (trees : List Shape) (sound : IsSound limits old trees) (ts : List Transfer) (planned : ArePlanned limits ts) (all_go : AllGo ts)
     (free : All (λ t. at (holdings_of limits old trees) t.target ≡ None) ts) where
@@ -155,6 +157,7 @@ module _ (limits : Limits) (old : Shards) (trees : List Shape) (sound : IsSound 
     };
     reckoned = none_add (counts_after_flush h ts);
     few = omega arith;
+    layout = refl;
   }
 
   module _ (i : ℕ) (d : Transfer) (within : i < length ts) (now : Shards) (counts : Counts) (so_far : AreMoving limits h old ts i now counts) where
@@ -271,6 +274,7 @@ module _ (limits : Limits) (old : Shards) (trees : List Shape) (sound : IsSound 
           words = subst (λ s. AreWordsMoved limits (moving_of h (take (i + 1) ts)) old s) (sym lost.same) (subst (λ es. AreWordsMoved limits es old now) (sym (ap (moving_of h) (take_more ts i d within) ∙ moving_last h (take i ts) t false none)) words);
           reckoned = reckoned_more false none one all all_is lost.counted;
           few = few_more one all all_is (ap total lost.counted);
+          layout = ap layout_in lost.same ∙ so_far.layout;
         }
 
     -- ---- one page moves
@@ -352,6 +356,7 @@ module _ (limits : Limits) (old : Shards) (trees : List Shape) (sound : IsSound 
             words = subst (λ es. AreWordsMoved limits es old next) (sym (ap (moving_of h) (take_more ts i d within) ∙ moving_last h (take i ts) t true held)) moved_words;
             reckoned = reckoned_more true held one all all_is m.counted;
             few = few_more one all all_is (ap total m.counted);
+            layout = same_layout now next m.layout ∙ so_far.layout;
           }
 
     -- ---- one page more, lost or moved
@@ -372,8 +377,9 @@ module _ (limits : Limits) (old : Shards) (trees : List Shape) (sound : IsSound 
           by (Some e) is = step_moved e is next one (moved e is) all all_is
 
 -- all are done
-pub all_moved : (limits : Limits) (h : Holdings) (old : Shards) (ts : List Transfer) (i : ℕ) (now : Shards) (counts : Counts) → length ts ≤ i → AreMoving limits h old ts i now counts → AreWordsMoved limits (moving_of h ts) old now × (counts ≡ counts_after_flush h ts)
+pub all_moved : (limits : Limits) (h : Holdings) (old : Shards) (ts : List Transfer) (i : ℕ) (now : Shards) (counts : Counts) → length ts ≤ i → AreMoving limits h old ts i now counts → AreWordsMoved limits (moving_of h ts) old now × (counts ≡ counts_after_flush h ts) × (layout_in now ≡ layout_in old)
 all_moved limits h old ts i now counts past so_far = (
   subst (λ xs. AreWordsMoved limits (moving_of h xs) old now) (take_all i ts past) so_far.words,
   sym (add_none counts) ∙ ap (λ xs. add_counts counts (counts_after_flush h xs)) (sym (drop_all i ts past)) ∙ so_far.reckoned,
+  so_far.layout,
 )

@@ -2,9 +2,9 @@
 -- frame.
 use Rattle.std.specs.List.{slice_get}
 use Rattle.std.specs.Option.{option_map_or}
-use Rattle.std.specs.Prelude.{ℕ, List, length, Option, ◌==◌, ◌&&◌, nat_lt, Bool, false, [], option_map, is_some, ◌∷◌}
+use Rattle.std.specs.Prelude.{ℕ, List, length, Option, Some, None, ◌==◌, ◌&&◌, nat_lt, Bool, false, if◌then◌else◌, [], option_map, is_some, ◌∷◌}
 use Rattle.space.specs.Directory.{pages_of}
-use Rattle.space.specs.Shards.{entry_at, spaces_of, bits_of}
+use Rattle.space.specs.Shards.{entry_at, index_of, word_count, spaces_of, bits_of}
 use Rattle.space.specs.declared.place.Entry.{Entry}
 use Rattle.space.specs.declared.place.Place.{Place}
 use Rattle.space.specs.declared.shards.Shards.{Shards}
@@ -13,6 +13,7 @@ use Rattle.model.specs.Calls.{Limits}
 use Rattle.model.specs.Holdings.{Held, Holdings, keep}
 use Rattle.holdings.specs.Contents.{Contents}
 use Rattle.holdings.specs.Inner.Derivation.{stands_in}
+use Rattle.holdings.specs.Layout.{Layout, layout_of}
 use Rattle.holdings.specs.Places.{listing}
 
 -- whether a place is a page of one of the spaces
@@ -55,9 +56,21 @@ limits_in shards trees = record { spaces = spaces_of shards; bits = bits_of shar
 abbrev pub holdings_in : Shards → List Shape → Holdings
 holdings_in shards trees = holdings_of (limits_in shards trees) shards trees
 
+-- the index of a place's word, if its shard is there
+abbrev pub index_at : Shards → Place → Option ℕ
+index_at shards p = if nat_lt (index_of shards p) (word_count shards) then Some (index_of shards p) else None
+
+-- where the words stand
+abbrev pub layout_in : Shards → Layout
+layout_in shards = layout_of (spaces_of shards) (bits_of shards) (index_at shards)
+
 -- what words and trees say
 abbrev pub contents_of : Shards → List Shape → Contents
-contents_of shards trees = record { limits = limits_in shards trees; holdings = holdings_in shards trees }
+contents_of shards trees = record {
+  limits = limits_in shards trees;
+  holdings = holdings_in shards trees;
+  layout = layout_in shards;
+}
 
 -- ---- what is held at places whose origins are known
 

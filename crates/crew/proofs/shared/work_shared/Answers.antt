@@ -1,10 +1,10 @@
-use Rattle.std.proofs.Common.{length, ◌∙◌, ap, sym, subst}
+use Rattle.std.proofs.Common.{⊎_elim, length, ◌∙◌, ap, sym, subst}
 use Rattle.std.specs.List.{All, range_with_len}
 use Rattle.pieces.specs.Phases.{CanBeWorked}
 use Rattle.turns.specs.Closing.{numbers_of}
 use Rattle.crew.specs.Hands.{IsFresh, weigh}
 use Rattle.crew.specs.Worked.{IsWorked}
-use Rattle.crew.proofs.Wholes.{numbers_new, new_fresh, all_there, all_worked, none_wanting}
+use Rattle.crew.proofs.Wholes.{numbers_new, new_fresh, all_there, all_worked, none_wanting, no_watchers}
 use Rattle.crew.proofs.shared.work_shared.Goals as goal
 
 pub work_turns-requires-clause-fresh : goal.work_turns-requires-clause-fresh
@@ -15,7 +15,7 @@ pub unreachable-requires : goal.unreachable-requires
 unreachable-requires g c =
     let s = c.in_ok-shared.shared in let ended = c.in_ok-turns.turns.items in
     let numbers = ap numbers_of c.in_ok-shared.ensures.turns ∙ numbers_new s (length c.args.pieces.items) ∙ ap (λ ps. range_with_len 0 (length ps)) (sym c.in_ok-shared.ensures.pieces) in
-    none_wanting s ended (all_there s ended (λ h. c.in_ok-turns.ensures.sums h ∙ ap (weigh h) numbers)) c.in-Err.ensures.wanting
+    ⊎_elim (none_wanting s ended (all_there s ended (λ h. c.in_ok-turns.ensures.sums h ∙ ap (weigh h) numbers))) (no_watchers s _ c.in_ok-shared.ensures.unwatched) c.in-Err.ensures.wanting
 
 pub returns : goal.returns
 returns g c =

@@ -17,17 +17,18 @@ has_more old new ts i first made within has before k d less = elim (same_or_not 
   | inr differ ↦ still_there old new made (get_or ts k d).target (before k d (omega (arith, less, differ)))
 ]
 
-pub returns-in_err-make_one-clause-made : goal.returns-in_err-make_one-clause-made
-returns-in_err-make_one-clause-made c = made_on _ _ _ c.loop-transfer.invariant.made c.in_err-make_one.ensures.made
+pub returns-in_err-make_behind-clause-made : goal.returns-in_err-make_behind-clause-made
+returns-in_err-make_behind-clause-made c = made_on _ _ _ c.loop-transfer.invariant.made c.in_err-make_behind.ensures.made
 
-pub returns-in_err-make_one-clause-only : goal.returns-in_err-make_one-clause-only
-returns-in_err-make_one-clause-only c =
-    only_on _ _ _ _ _ c.in_err-make_one.ensures.made c.loop-transfer.invariant.only c.in_err-make_one.ensures.only (λ p is. list_any_at (λ (t : Transfer). are_beside t.target p) c.args.transfers.now c.loop-transfer.transfer-index _ c.loop-transfer-test.true is)
+pub returns-in_err-make_behind-clause-only : goal.returns-in_err-make_behind-clause-only
+returns-in_err-make_behind-clause-only c =
+    only_on _ _ _ _ _ c.in_err-make_behind.ensures.made c.loop-transfer.invariant.only c.in_err-make_behind.ensures.only (λ p is. list_any_at (λ (t : Transfer). are_beside t.target p) c.args.transfers.now c.loop-transfer.transfer-index _ c.loop-transfer-test.true is)
 
 pub loop-transfer-preserved : goal.loop-transfer-preserved
 loop-transfer-preserved c = record {
-  made = made_on _ _ _ c.loop-transfer.invariant.made c.in_ok-make_one.ensures.made;
-  there = has_more c.loop-transfer.shards c.make_one.new.self c.args.transfers.now c.loop-transfer.transfer-index _ c.in_ok-make_one.ensures.made c.loop-transfer-test.true c.in_ok-make_one.ensures.there c.loop-transfer.invariant.there;
-  only = only_on _ _ _ _ _ c.in_ok-make_one.ensures.made c.loop-transfer.invariant.only c.in_ok-make_one.ensures.only (λ p is. list_any_at (λ (t : Transfer). are_beside t.target p) c.args.transfers.now c.loop-transfer.transfer-index _ c.loop-transfer-test.true is);
-  present = c.in_ok-make_one.ensures.present;
+  made = made_on _ _ _ c.loop-transfer.invariant.made c.in_ok-make_behind.ensures.made;
+  there = has_more c.loop-transfer.shards c.make_behind.new.shards c.args.transfers.now c.loop-transfer.transfer-index _ c.in_ok-make_behind.ensures.made c.loop-transfer-test.true c.in_ok-make_behind.ensures.there c.loop-transfer.invariant.there;
+  only = only_on _ _ _ _ _ c.in_ok-make_behind.ensures.made c.loop-transfer.invariant.only c.in_ok-make_behind.ensures.only (λ p is. list_any_at (λ (t : Transfer). are_beside t.target p) c.args.transfers.now c.loop-transfer.transfer-index _ c.loop-transfer-test.true is);
+  present = c.in_ok-make_behind.ensures.present;
+  made_last = c.in_ok-make_behind.ensures.there;
 }

@@ -71,9 +71,9 @@ loop-item-preserved g c =
     subst (AreWorked c.args.held c.args.from c.args.to c.args.window.now c.args.items.now (c.loop-item.item-index + 1) c.if-pages-eq1.left.0) (sym c.plus-reply.ensures)
     (one_worked c.args.held c.args.from c.args.to c.args.window.now c.args.items.now c.loop-item.item-index c.item-item.result c.loop-item-test.true c.loop-item.held c.if-pages-eq1.left.0
     (counts_of c.loop-item.reply) (counts_of c.if-pages-eq1.left.1) c.loop-item.invariant (job_of_pages c.item_pages-pages.result) (c.item_pages-pages.ensures.job ∙ ap (job_of c.args.from c.args.to c.args.window.now) c.item-item.is)
-    one.sent.left_is one.sent.counted one.few)
+    one.sent.left_is one.sent.grows one.sent.counted one.few)
 
 pub returns : goal.returns
 returns g c =
     let all = all_worked c.args.held c.args.from c.args.to c.args.window.now c.args.items.now c.loop-item.item-index c.loop-item.held (counts_of c.loop-item.reply) c.loop-item-test.false c.loop-item.invariant in
-    record { left_is = all.0; counted = all.1 }
+    record { left_is = all.0; grows = all.2; counted = all.1 }

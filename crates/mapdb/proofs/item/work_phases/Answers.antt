@@ -14,7 +14,7 @@ use Rattle.mapdb.specs.Sending.{AreWorkedBy}
 use Rattle.mapdb.proofs.Ends.{all_within}
 use Rattle.mapdb.proofs.Phases.{ends_within}
 use Rattle.mapdb.proofs.Granting.{still_free, mapped_after, moved_after, worked_as}
-use Rattle.mapdb.proofs.OneItem.{the_transfers_of, planned, IsFlushed, is_flushed, left_then, counts_then, total_then, fits_then}
+use Rattle.mapdb.proofs.OneItem.{the_transfers_of, planned, IsFlushed, is_flushed, left_then, grows_then, counts_then, total_then, fits_then}
 use Rattle.mapdb.proofs.item.work_phases.Given.{Over}
 use Rattle.mapdb.proofs.item.work_phases.Goals.{After-plus, in-Map+in_ok-map-in-Map, in-Grant+in_ok-held-in-Grant+in_ok-held-in-Grant-2}
 use Rattle.mapdb.proofs.item.work_phases.Goals as goal
@@ -111,6 +111,7 @@ module _ (g : Over) (c : After-plus g) where
 pub returns-clause-sent : goal.returns-clause-sent
 returns-clause-sent g c = record {
   left_is = left_then c.args.held c.args.pages.now c.requires.consistent c.requires.pages c.in_ok-held.held (f g c).left c.match-pages.held (phased g c) (counts_of c.args.phases.now.decided) c.requires.decided;
+  grows = grows_then c.args.held c.args.pages.now c.requires.consistent c.requires.pages c.in_ok-held.held (f g c).left c.match-pages.held (phased g c) (counts_of c.args.phases.now.decided) c.requires.decided;
   counted = counted g c ∙ counts_then c.args.held c.args.pages.now c.requires.consistent c.requires.pages c.in_ok-held.held (f g c).left c.match-pages.held (phased g c) (counts_of c.args.phases.now.decided) c.requires.decided;
 }
 

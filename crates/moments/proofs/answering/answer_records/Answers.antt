@@ -10,5 +10,5 @@ loop-i-preserved c =
     let rows = c.args.reader.now.records in
     record {
       records = c.in_ok-answer_next.ensures.taken ∙ ap (drop 1) so_far.records ∙ drop-drop 1 c.loop-i.i rows;
-      left = c.in_ok-answer_next.ensures.left ∙ left_step c.args.database.now c.loop-i.database rows c.loop-i.reader.records c.loop-i.i so_far.records so_far.left;
+      left = c.in_ok-answer_next.ensures.left ∙ left_step c.args.database.now c.loop-i.database c.answer_next.new.database.layout rows c.loop-i.reader.records c.loop-i.i so_far.records so_far.left;
     }

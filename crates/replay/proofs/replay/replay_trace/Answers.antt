@@ -3,7 +3,7 @@
 use Rattle.std.proofs.Common.{◌≡◌, ◌+◌, ◌-◌, true, [], length, arith, sym, subst, ap, refl, ◌∙◌}
 use Rattle.model.specs.Calls.{Limits}
 use Rattle.model.specs.Records.{are_limits}
-use Rattle.mapdb.specs.State.{State, new_state, left_with}
+use Rattle.mapdb.specs.State.{State, laid_out, left_with, new_state}
 use Rattle.trace.specs.Unread.{Unread}
 use Rattle.replay.specs.Steps.{replies_of}
 use Rattle.replay.proofs.Runs.{trace_stops}
@@ -15,7 +15,8 @@ pub loop-alloc-init : goal.loop-alloc-init
 loop-alloc-init g c =
     let started = c.in_ok-database.ensures.ok in
     let u = c.args.trace.now in
-    let is = started.new ∙ ap new_state c.limits.ensures in
+    let layout = c.in_ok-database.database.layout in
+    let is = started.new ∙ ap (λ (l : Limits). laid_out (new_state l) layout) c.limits.ensures in
     let s = new_state u.limits in
     record {
       served = subst (λ (l : Limits). are_limits l ≡ true) c.limits.ensures started.served;
@@ -29,8 +30,9 @@ pub loop-alloc-preserved : goal.loop-alloc-preserved
 loop-alloc-preserved g c =
     let before = c.loop-alloc.invariant in
     let limits = ap (λ (s : State). s.limits) before.keeps in
+    let now = c.answer_first.new.database in
     let replies = replies_of c.in-Ok.replies in
-    let next : AreNext c.args.trace.now.limits c.loop-alloc.trace.records c.loop-alloc.database.holdings replies c.answer_first.new.database.holdings = record { within = c.in-Ok.ensures.within; told = rw limits at c.in-Ok.ensures.told } in
+    let next : AreNext c.args.trace.now.limits c.loop-alloc.trace.records c.loop-alloc.database.holdings replies now.holdings = record { within = c.in-Ok.ensures.within; told = rw limits at c.in-Ok.ensures.told } in
     let written = c.in_ok-refusals.ensures in
     let more = so_far-more before.so_far next (g.W.Sink.contents c.write_replies.new.writer) c.write_replies.new.lines written.ok c.in_ok-refusals.refusals written.refused in
     let taken = c.in-Ok.ensures.taken in
@@ -40,7 +42,7 @@ loop-alloc-preserved g c =
       served = before.served;
       so_far = so_far-same more c.answer_first.new.trace.records c.number-next.result rows number;
       works = written.works ∙ before.works;
-      keeps = c.in-Ok.ensures.keeps ∙ ap (λ (s : State). left_with s c.answer_first.new.database.holdings) before.keeps;
+      keeps = c.in-Ok.ensures.keeps ∙ ap (λ (s : State). laid_out (left_with s now.holdings) now.layout) before.keeps;
       number = c.number-next.ensures;
     }
 

@@ -2,7 +2,7 @@
 use Rattle.std.proofs.Common.{◌≡◌, true, length}
 use Rattle.model.specs.Records.{are_limits}
 use Rattle.model.specs.Replay.{start}
-use Rattle.mapdb.specs.State.{left_with, new_state}
+use Rattle.mapdb.specs.State.{laid_out, left_with, new_state}
 use Rattle.replay.specs.Steps.{told_of}
 use Rattle.replay.proofs.Steps.{SoFar}
 use Rattle.replay.proofs.replay.replay_trace.Given as goal
@@ -13,7 +13,7 @@ invariant-loop-alloc g l = record {
   so_far : SoFar (told_of l.fn.trace.limits l.fn.trace.records (start l.fn.trace.limits)) l.fn.trace.limits l.trace.records l.database.holdings l.number
       (g.W.Sink.contents l.fn.writer) (g.W.Sink.contents l.writer) l.lines l.refused;
   works : g.W.Sink.failed l.writer ≡ g.W.Sink.failed l.fn.writer;
-  keeps : l.database ≡ left_with (new_state l.fn.trace.limits) l.database.holdings;
+  keeps : l.database ≡ laid_out (left_with (new_state l.fn.trace.limits) l.database.holdings) l.database.layout;
   number : l.number ≡ l.trace.number;
 }
 

@@ -9,10 +9,11 @@ use Rattle.std.proofs.lemmas.Map.Keys.{IsStrictlyIncreasing-dedup}
 use Rattle.turns.proofs.Rising.{all_there, rising_distinct}
 use Rattle.turns.proofs.sharing.rising.Goals as goal
 
+pub returns-clause-rise : goal.returns-clause-rise
+returns-clause-rise c = subst IsStrictlyIncreasing (sym (dedup_is eqb _ _ c.dedup.ensures.filtered)) (IsStrictlyIncreasing-dedup _ c.sort_unstable.ensures.sorted)
+
 pub returns-clause-distinct : goal.returns-clause-distinct
-returns-clause-distinct c =
-    let is = dedup_is eqb _ _ c.dedup.ensures.filtered in
-    rising_distinct _ (subst IsStrictlyIncreasing (sym is) (IsStrictlyIncreasing-dedup _ c.sort_unstable.ensures.sorted))
+returns-clause-distinct c = rising_distinct _ (subst IsStrictlyIncreasing (sym (dedup_is eqb _ _ c.dedup.ensures.filtered)) (IsStrictlyIncreasing-dedup _ c.sort_unstable.ensures.sorted))
 
 pub returns-clause-all : goal.returns-clause-all
 returns-clause-all c = all_there _ _ _ c.sort_unstable.ensures.permutation (dedup_is eqb _ _ c.dedup.ensures.filtered)

@@ -4,4 +4,4 @@ use Rattle.fpage.specs.Fpage.{IsFpageOf}
 use Rattle.database_tests.proofs.databases.calls.fpages.Given as goal
 
 abbrev pub invariant-loop-word : goal.invariant-loop-word
-invariant-loop-word g l = All (IsFpageOf l.bits) l.fpages.items
+invariant-loop-word g l = All (IsFpageOf l.database.limits.bits) l.fpages.items

@@ -8,7 +8,7 @@ use Rattle.holdings.specs.Contents.{Contents}
 use Rattle.holdings.specs.Meaning.{counts_of}
 use Rattle.holdings.specs.Inner.Links.{AreLinkable, AreLinked, links_of}
 use Rattle.holdings.specs.Sending.{ArePlanned, AreReady}
-use Rattle.holdings.specs.Inner.Held.{limits_in, holdings_in}
+use Rattle.holdings.specs.Inner.Held.{layout_in, limits_in, holdings_in}
 use Rattle.holdings.proofs.Maps.MapWords.{AreAhead, linkable, none_ahead, one_page, one_counts, all_counted, all_left, all_sound, all_limits}
 use Rattle.std.proofs.Common.{Option, Some, None, refl}
 use Rattle.fpage.specs.declared.rights.Rights.{Rights}
@@ -19,8 +19,9 @@ use Rattle.space.specs.Shards.{HasWord, entry_at}
 use Rattle.model.specs.Items.{Counts}
 use Rattle.holdings.specs.declared.transfer.Transfer.{Transfer}
 use Rattle.holdings.specs.Inner.Links.{IsPageLost, IsPageMapped}
+use Rattle.holdings.proofs.Contents.Layouts.{same_grows}
 use Rattle.holdings.proofs.Contents.WordChanges.{word_kept}
-use Rattle.holdings.proofs.Contents.SameEntries.{made_says, same_contents, sound_stays}
+use Rattle.holdings.proofs.Contents.SameEntries.{made_from, made_says, sound_stays}
 use Rattle.holdings.proofs.holdings.Holdings.map_alone.Goals as goal
 
 -- shards that are there stay
@@ -36,22 +37,22 @@ pub link_all-requires-clause-linkable : goal.link_all-requires-clause-linkable
 link_all-requires-clause-linkable c =
     let s = c.make_targets.new.shards in
     let t = c.self.inside.trees.items in
-    let planned = subst (λ (h : Contents). ArePlanned h.limits c.args.transfers.now) (sym (same_contents c.self.inside.shards c.make_targets.new.shards c.self.inside.trees.items (made_says c.self.inside.shards c.make_targets.new.shards c.in_ok-make_targets.ensures.made c.in_ok-make_targets.ensures.present) ∙ c.self.view_is)) c.requires.planned in
-    let ready = subst (λ (h : Contents). AreReady h.holdings c.args.rights c.args.transfers.now) (sym (same_contents c.self.inside.shards c.make_targets.new.shards c.self.inside.trees.items (made_says c.self.inside.shards c.make_targets.new.shards c.in_ok-make_targets.ensures.made c.in_ok-make_targets.ensures.present) ∙ c.self.view_is)) c.requires.ready in
+    let planned = subst (λ (h : Contents). ArePlanned h.limits c.args.transfers.now) (sym (made_from c.self.inside.shards c.make_targets.new.shards c.self.inside.trees.items c.in_ok-make_targets.ensures.made c.in_ok-make_targets.ensures.present c.args.self c.self.view_is).view) c.requires.planned in
+    let ready = subst (λ (h : Contents). AreReady h.holdings c.args.rights c.args.transfers.now) (sym (made_from c.self.inside.shards c.make_targets.new.shards c.self.inside.trees.items c.in_ok-make_targets.ensures.made c.in_ok-make_targets.ensures.present c.args.self c.self.view_is).view) c.requires.ready in
     subst (λ (ts : List Shape). AreLinkable ts (links_of s c.args.transfers.now)) (sym c.deref_mut.ensures.value) (linkable s t (sound_stays c.self.inside.shards c.make_targets.new.shards c.self.inside.trees.items (made_says c.self.inside.shards c.make_targets.new.shards c.in_ok-make_targets.ensures.made c.in_ok-make_targets.ensures.present) c.self.invariant) c.args.rights c.args.transfers.now planned ready)
 
 pub loop-transfer-init : goal.loop-transfer-init
 loop-transfer-init c =
     let s = c.make_targets.new.shards in
     let t = c.self.inside.trees.items in
-    let planned = subst (λ (h : Contents). ArePlanned h.limits c.args.transfers.now) (sym (same_contents c.self.inside.shards c.make_targets.new.shards c.self.inside.trees.items (made_says c.self.inside.shards c.make_targets.new.shards c.in_ok-make_targets.ensures.made c.in_ok-make_targets.ensures.present) ∙ c.self.view_is)) c.requires.planned in
-    let ready = subst (λ (h : Contents). AreReady h.holdings c.args.rights c.args.transfers.now) (sym (same_contents c.self.inside.shards c.make_targets.new.shards c.self.inside.trees.items (made_says c.self.inside.shards c.make_targets.new.shards c.in_ok-make_targets.ensures.made c.in_ok-make_targets.ensures.present) ∙ c.self.view_is)) c.requires.ready in
+    let planned = subst (λ (h : Contents). ArePlanned h.limits c.args.transfers.now) (sym (made_from c.self.inside.shards c.make_targets.new.shards c.self.inside.trees.items c.in_ok-make_targets.ensures.made c.in_ok-make_targets.ensures.present c.args.self c.self.view_is).view) c.requires.planned in
+    let ready = subst (λ (h : Contents). AreReady h.holdings c.args.rights c.args.transfers.now) (sym (made_from c.self.inside.shards c.make_targets.new.shards c.self.inside.trees.items c.in_ok-make_targets.ensures.made c.in_ok-make_targets.ensures.present c.args.self c.self.view_is).view) c.requires.ready in
     let linked : AreLinked (links_of s c.args.transfers.now) t c.link_all.new.trees =
     subst (λ (ts : List Shape). AreLinked (links_of s c.args.transfers.now) ts c.link_all.new.trees) c.deref_mut.ensures.value c.in_ok-link_all.ensures in
     let count : length c.link_all.new.trees ≡ c.self.inside.trees.len = omega (arith, c.link_all.auto.trees, ap length c.deref_mut.ensures.value, c.self.inside.trees.ok.0) in
     record {
       ahead =
-          subst (λ (h : Contents). AreAhead s h.limits h.holdings c.args.rights c.args.transfers.now 0 s (with_items c.self.inside.trees c.link_all.new.trees).items (counts_of c.none-worked.result)) (same_contents c.self.inside.shards c.make_targets.new.shards c.self.inside.trees.items (made_says c.self.inside.shards c.make_targets.new.shards c.in_ok-make_targets.ensures.made c.in_ok-make_targets.ensures.present) ∙ c.self.view_is)
+          subst (λ (h : Contents). AreAhead s h.limits h.holdings c.args.rights c.args.transfers.now 0 s (with_items c.self.inside.trees c.link_all.new.trees).items (counts_of c.none-worked.result)) (made_from c.self.inside.shards c.make_targets.new.shards c.self.inside.trees.items c.in_ok-make_targets.ensures.made c.in_ok-make_targets.ensures.present c.args.self c.self.view_is).view
           (subst (λ ts. AreAhead s (limits_in s t) (holdings_in s t) c.args.rights c.args.transfers.now 0 s ts (counts_of c.none-worked.result)) (sym (with_items_is c.self.inside.trees c.link_all.new.trees count))
           (subst (AreAhead s (limits_in s t) (holdings_in s t) c.args.rights c.args.transfers.now 0 s c.link_all.new.trees) (sym c.none-worked.ensures)
           (none_ahead s t (sound_stays c.self.inside.shards c.make_targets.new.shards c.self.inside.trees.items (made_says c.self.inside.shards c.make_targets.new.shards c.in_ok-make_targets.ensures.made c.in_ok-make_targets.ensures.present) c.self.invariant) c.args.rights c.args.transfers.now planned ready c.link_all.new.trees linked)));
@@ -62,10 +63,10 @@ pub plus-worked-requires : goal.plus-worked-requires
 plus-worked-requires c =
     let s = c.make_targets.new.shards in
     let t = c.self.inside.trees.items in
-    let planned = subst (λ (h : Contents). ArePlanned h.limits c.args.transfers.now) (sym (same_contents c.self.inside.shards c.make_targets.new.shards c.self.inside.trees.items (made_says c.self.inside.shards c.make_targets.new.shards c.in_ok-make_targets.ensures.made c.in_ok-make_targets.ensures.present) ∙ c.self.view_is)) c.requires.planned in
-    let ready = subst (λ (h : Contents). AreReady h.holdings c.args.rights c.args.transfers.now) (sym (same_contents c.self.inside.shards c.make_targets.new.shards c.self.inside.trees.items (made_says c.self.inside.shards c.make_targets.new.shards c.in_ok-make_targets.ensures.made c.in_ok-make_targets.ensures.present) ∙ c.self.view_is)) c.requires.ready in
+    let planned = subst (λ (h : Contents). ArePlanned h.limits c.args.transfers.now) (sym (made_from c.self.inside.shards c.make_targets.new.shards c.self.inside.trees.items c.in_ok-make_targets.ensures.made c.in_ok-make_targets.ensures.present c.args.self c.self.view_is).view) c.requires.planned in
+    let ready = subst (λ (h : Contents). AreReady h.holdings c.args.rights c.args.transfers.now) (sym (made_from c.self.inside.shards c.make_targets.new.shards c.self.inside.trees.items c.in_ok-make_targets.ensures.made c.in_ok-make_targets.ensures.present c.args.self c.self.view_is).view) c.requires.ready in
     let after = (with_items c.self.inside.trees c.link_all.new.trees).items in
-    let so_far = subst (λ (h : Contents). AreAhead s h.limits h.holdings c.args.rights c.args.transfers.now c.loop-transfer.transfer-index c.loop-transfer.shards after (counts_of c.loop-transfer.worked)) (sym (same_contents c.self.inside.shards c.make_targets.new.shards c.self.inside.trees.items (made_says c.self.inside.shards c.make_targets.new.shards c.in_ok-make_targets.ensures.made c.in_ok-make_targets.ensures.present) ∙ c.self.view_is)) c.loop-transfer.invariant.ahead in
+    let so_far = subst (λ (h : Contents). AreAhead s h.limits h.holdings c.args.rights c.args.transfers.now c.loop-transfer.transfer-index c.loop-transfer.shards after (counts_of c.loop-transfer.worked)) (sym (made_from c.self.inside.shards c.make_targets.new.shards c.self.inside.trees.items c.in_ok-make_targets.ensures.made c.in_ok-make_targets.ensures.present c.args.self c.self.view_is).view) c.loop-transfer.invariant.ahead in
     let one : total (counts_of c.map_page-one.result) ≡ 1 =
     one_counts s t c.args.rights c.args.transfers.now c.loop-transfer.transfer-index c.loop-transfer-test.true c.loop-transfer.shards after (counts_of c.loop-transfer.worked)
     planned ready so_far c.map_page-one.new.shards (counts_of c.map_page-one.result) c.map_page-one.ensures.lost c.map_page-one.ensures.mapped in
@@ -75,13 +76,13 @@ pub loop-transfer-preserved : goal.loop-transfer-preserved
 loop-transfer-preserved c =
     let s = c.make_targets.new.shards in
     let t = c.self.inside.trees.items in
-    let planned = subst (λ (h : Contents). ArePlanned h.limits c.args.transfers.now) (sym (same_contents c.self.inside.shards c.make_targets.new.shards c.self.inside.trees.items (made_says c.self.inside.shards c.make_targets.new.shards c.in_ok-make_targets.ensures.made c.in_ok-make_targets.ensures.present) ∙ c.self.view_is)) c.requires.planned in
-    let ready = subst (λ (h : Contents). AreReady h.holdings c.args.rights c.args.transfers.now) (sym (same_contents c.self.inside.shards c.make_targets.new.shards c.self.inside.trees.items (made_says c.self.inside.shards c.make_targets.new.shards c.in_ok-make_targets.ensures.made c.in_ok-make_targets.ensures.present) ∙ c.self.view_is)) c.requires.ready in
+    let planned = subst (λ (h : Contents). ArePlanned h.limits c.args.transfers.now) (sym (made_from c.self.inside.shards c.make_targets.new.shards c.self.inside.trees.items c.in_ok-make_targets.ensures.made c.in_ok-make_targets.ensures.present c.args.self c.self.view_is).view) c.requires.planned in
+    let ready = subst (λ (h : Contents). AreReady h.holdings c.args.rights c.args.transfers.now) (sym (made_from c.self.inside.shards c.make_targets.new.shards c.self.inside.trees.items c.in_ok-make_targets.ensures.made c.in_ok-make_targets.ensures.present c.args.self c.self.view_is).view) c.requires.ready in
     let after = (with_items c.self.inside.trees c.link_all.new.trees).items in
-    let so_far = subst (λ (h : Contents). AreAhead s h.limits h.holdings c.args.rights c.args.transfers.now c.loop-transfer.transfer-index c.loop-transfer.shards after (counts_of c.loop-transfer.worked)) (sym (same_contents c.self.inside.shards c.make_targets.new.shards c.self.inside.trees.items (made_says c.self.inside.shards c.make_targets.new.shards c.in_ok-make_targets.ensures.made c.in_ok-make_targets.ensures.present) ∙ c.self.view_is)) c.loop-transfer.invariant.ahead in
+    let so_far = subst (λ (h : Contents). AreAhead s h.limits h.holdings c.args.rights c.args.transfers.now c.loop-transfer.transfer-index c.loop-transfer.shards after (counts_of c.loop-transfer.worked)) (sym (made_from c.self.inside.shards c.make_targets.new.shards c.self.inside.trees.items c.in_ok-make_targets.ensures.made c.in_ok-make_targets.ensures.present c.args.self c.self.view_is).view) c.loop-transfer.invariant.ahead in
     record {
       ahead =
-          subst (λ (h : Contents). AreAhead s h.limits h.holdings c.args.rights c.args.transfers.now (c.loop-transfer.transfer-index + 1) c.map_page-one.new.shards after (counts_of c.plus-worked.result)) (same_contents c.self.inside.shards c.make_targets.new.shards c.self.inside.trees.items (made_says c.self.inside.shards c.make_targets.new.shards c.in_ok-make_targets.ensures.made c.in_ok-make_targets.ensures.present) ∙ c.self.view_is)
+          subst (λ (h : Contents). AreAhead s h.limits h.holdings c.args.rights c.args.transfers.now (c.loop-transfer.transfer-index + 1) c.map_page-one.new.shards after (counts_of c.plus-worked.result)) (made_from c.self.inside.shards c.make_targets.new.shards c.self.inside.trees.items c.in_ok-make_targets.ensures.made c.in_ok-make_targets.ensures.present c.args.self c.self.view_is).view
           (subst (AreAhead s (limits_in s t) (holdings_in s t) c.args.rights c.args.transfers.now (c.loop-transfer.transfer-index + 1) c.map_page-one.new.shards after) (sym c.plus-worked.ensures)
           (one_page s t c.args.rights c.args.transfers.now c.loop-transfer.transfer-index c.loop-transfer-test.true c.loop-transfer.shards after (counts_of c.loop-transfer.worked)
           planned ready so_far c.map_page-one.new.shards (counts_of c.map_page-one.result) c.map_page-one.ensures.lost c.map_page-one.ensures.mapped));
@@ -95,4 +96,10 @@ pub returns : goal.returns
 returns c =
     let left = all_left _ _ _ _ _ _ _ _ _ c.loop-transfer-test.false c.loop-transfer.invariant.ahead in
     let limits = all_limits _ _ _ _ _ _ _ _ _ c.loop-transfer-test.false c.loop-transfer.invariant.ahead in
-    record { left = λ i. record { limits = limits i; holdings = left i }; counted = all_counted _ _ _ _ _ _ _ _ _ c.loop-transfer-test.false c.loop-transfer.invariant.ahead }
+    let layout = c.loop-transfer.invariant.ahead.layout in
+    let made = (made_from c.self.inside.shards c.make_targets.new.shards c.self.inside.trees.items c.in_ok-make_targets.ensures.made c.in_ok-make_targets.ensures.present c.args.self c.self.view_is) in
+    record {
+      left = λ i. record { limits = limits i; holdings = left i; layout = layout_in c.loop-transfer.shards };
+      grows = λ p i is. same_grows _ _ layout p i (made.grows p i is);
+      counted = all_counted _ _ _ _ _ _ _ _ _ c.loop-transfer-test.false c.loop-transfer.invariant.ahead;
+    }

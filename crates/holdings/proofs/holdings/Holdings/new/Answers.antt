@@ -2,7 +2,7 @@
 use Rattle.std.proofs.Common.{◌≡◌, sym, ap, ◌∙◌, subst}
 use Rattle.model.specs.Calls.{Limits}
 use Rattle.model.specs.Holdings.{Holdings}
-use Rattle.holdings.specs.Inner.Held.{holdings_of, limits_in}
+use Rattle.holdings.specs.Inner.Held.{holdings_of, layout_in, limits_in}
 use Rattle.holdings.specs.Meaning.{limits_of}
 use Rattle.holdings.specs.Inner.Sound.{IsSound}
 use Rattle.holdings.proofs.Contents.Roots.{start_holdings, start_sound}
@@ -25,6 +25,7 @@ returns c =
     let limits : Limits = limits_of c.args.limits.now in
     let shards = c.in_ok-shards.ensures in
     let trees = c.in_ok-trees.ensures in
-    (λ i. record { limits = made_for c i; holdings = holdings_of (made_for c i) c.in_ok-shards.shards c.in_ok-trees.trees.items })
-    ∙ ap (λ (h : Holdings). record { limits = limits; holdings = h })
+    let layout = layout_in c.in_ok-shards.shards in
+    (λ i. record { limits = made_for c i; holdings = holdings_of (made_for c i) c.in_ok-shards.shards c.in_ok-trees.trees.items; layout = layout })
+    ∙ ap (λ (h : Holdings). record { limits = limits; holdings = h; layout = layout })
     (start_holdings limits c.in_ok-shards.shards c.in_ok-trees.trees.items c.requires shards.spaces shards.bits shards.present shards.entries trees.count trees.roots)

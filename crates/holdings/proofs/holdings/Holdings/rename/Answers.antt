@@ -7,29 +7,29 @@ use Rattle.holdings.specs.Inner.Held.{contents_of}
 use Rattle.holdings.specs.Inner.Links.{links_of}
 use Rattle.holdings.specs.Inner.Sound.{AreSound}
 use Rattle.holdings.proofs.Phases.MovePhase.{trees_movable, pairs_distinct, pairs_can, moved_sound, are_moved}
-use Rattle.holdings.proofs.Contents.SameEntries.{made_says, same_contents, sound_stays}
+use Rattle.holdings.proofs.Contents.SameEntries.{made_from, made_says, sound_stays}
 use Rattle.holdings.proofs.holdings.Holdings.rename.Goals as goal
 
 pub moves-requires-clause-distinct : goal.moves-requires-clause-distinct
 moves-requires-clause-distinct g c =
-    pairs_distinct c.make_targets.new.shards c.self.inside.trees.items (sound_stays c.self.inside.shards c.make_targets.new.shards c.self.inside.trees.items (made_says c.self.inside.shards c.make_targets.new.shards c.in_ok-make_targets.ensures.made c.in_ok-make_targets.ensures.present) c.self.invariant) c.args.self (same_contents c.self.inside.shards c.make_targets.new.shards c.self.inside.trees.items (made_says c.self.inside.shards c.make_targets.new.shards c.in_ok-make_targets.ensures.made c.in_ok-make_targets.ensures.present) ∙ c.self.view_is) c.args.transfers.now c.requires.planned c.requires.all_go c.requires.free c.in_ok-make_targets.ensures.there
+    pairs_distinct c.make_targets.new.shards c.self.inside.trees.items (sound_stays c.self.inside.shards c.make_targets.new.shards c.self.inside.trees.items (made_says c.self.inside.shards c.make_targets.new.shards c.in_ok-make_targets.ensures.made c.in_ok-make_targets.ensures.present) c.self.invariant) c.args.self (made_from c.self.inside.shards c.make_targets.new.shards c.self.inside.trees.items c.in_ok-make_targets.ensures.made c.in_ok-make_targets.ensures.present c.args.self c.self.view_is) c.args.transfers.now c.requires.planned c.requires.all_go c.requires.free c.in_ok-make_targets.ensures.there
     c.in_ok-pairs.pairs.items c.in_ok-pairs.ensures
 
 pub rename_all-requires-clause-movable : goal.rename_all-requires-clause-movable
 rename_all-requires-clause-movable g c =
-    trees_movable c.make_targets.new.shards c.self.inside.trees.items (sound_stays c.self.inside.shards c.make_targets.new.shards c.self.inside.trees.items (made_says c.self.inside.shards c.make_targets.new.shards c.in_ok-make_targets.ensures.made c.in_ok-make_targets.ensures.present) c.self.invariant) c.args.self (same_contents c.self.inside.shards c.make_targets.new.shards c.self.inside.trees.items (made_says c.self.inside.shards c.make_targets.new.shards c.in_ok-make_targets.ensures.made c.in_ok-make_targets.ensures.present) ∙ c.self.view_is) c.args.transfers.now c.requires.planned c.requires.all_go c.requires.free c.in_ok-make_targets.ensures.there
+    trees_movable c.make_targets.new.shards c.self.inside.trees.items (sound_stays c.self.inside.shards c.make_targets.new.shards c.self.inside.trees.items (made_says c.self.inside.shards c.make_targets.new.shards c.in_ok-make_targets.ensures.made c.in_ok-make_targets.ensures.present) c.self.invariant) c.args.self (made_from c.self.inside.shards c.make_targets.new.shards c.self.inside.trees.items c.in_ok-make_targets.ensures.made c.in_ok-make_targets.ensures.present c.args.self c.self.view_is) c.args.transfers.now c.requires.planned c.requires.all_go c.requires.free c.in_ok-make_targets.ensures.there
     c.deref_mut.result.now c.deref_mut.ensures.value (links_of c.make_targets.new.shards c.args.transfers.now) refl
 
 pub write_phase-requires-clause-can : goal.write_phase-requires-clause-can
 write_phase-requires-clause-can g c =
-    pairs_can c.make_targets.new.shards c.self.inside.trees.items (sound_stays c.self.inside.shards c.make_targets.new.shards c.self.inside.trees.items (made_says c.self.inside.shards c.make_targets.new.shards c.in_ok-make_targets.ensures.made c.in_ok-make_targets.ensures.present) c.self.invariant) c.args.self (same_contents c.self.inside.shards c.make_targets.new.shards c.self.inside.trees.items (made_says c.self.inside.shards c.make_targets.new.shards c.in_ok-make_targets.ensures.made c.in_ok-make_targets.ensures.present) ∙ c.self.view_is) c.args.transfers.now c.requires.planned c.requires.all_go c.requires.free c.in_ok-make_targets.ensures.there
+    pairs_can c.make_targets.new.shards c.self.inside.trees.items (sound_stays c.self.inside.shards c.make_targets.new.shards c.self.inside.trees.items (made_says c.self.inside.shards c.make_targets.new.shards c.in_ok-make_targets.ensures.made c.in_ok-make_targets.ensures.present) c.self.invariant) c.args.self (made_from c.self.inside.shards c.make_targets.new.shards c.self.inside.trees.items c.in_ok-make_targets.ensures.made c.in_ok-make_targets.ensures.present c.args.self c.self.view_is) c.args.transfers.now c.requires.planned c.requires.all_go c.requires.free c.in_ok-make_targets.ensures.there
     c.in_ok-pairs.pairs.items c.in_ok-pairs.ensures c.piece_length.result c.piece_length.ensures c.in_ok-pieces.pieces.items c.in_ok-pieces.ensures
 
 pub invariant_of-result : goal.invariant_of-result
 invariant_of-result g c =
     let count : length c.rename_all.new.trees ≡ c.self.inside.trees.len = omega (arith, c.rename_all.auto.trees, ap length c.deref_mut.ensures.value, c.self.inside.trees.ok.0) in
     subst (AreSound c.write_phase.new.shards) (sym (with_items_is c.self.inside.trees c.rename_all.new.trees count))
-    (moved_sound c.make_targets.new.shards c.self.inside.trees.items (sound_stays c.self.inside.shards c.make_targets.new.shards c.self.inside.trees.items (made_says c.self.inside.shards c.make_targets.new.shards c.in_ok-make_targets.ensures.made c.in_ok-make_targets.ensures.present) c.self.invariant) c.args.self (same_contents c.self.inside.shards c.make_targets.new.shards c.self.inside.trees.items (made_says c.self.inside.shards c.make_targets.new.shards c.in_ok-make_targets.ensures.made c.in_ok-make_targets.ensures.present) ∙ c.self.view_is) c.args.transfers.now c.requires.planned c.requires.all_go c.requires.free c.in_ok-make_targets.ensures.there
+    (moved_sound c.make_targets.new.shards c.self.inside.trees.items (sound_stays c.self.inside.shards c.make_targets.new.shards c.self.inside.trees.items (made_says c.self.inside.shards c.make_targets.new.shards c.in_ok-make_targets.ensures.made c.in_ok-make_targets.ensures.present) c.self.invariant) c.args.self (made_from c.self.inside.shards c.make_targets.new.shards c.self.inside.trees.items c.in_ok-make_targets.ensures.made c.in_ok-make_targets.ensures.present c.args.self c.self.view_is) c.args.transfers.now c.requires.planned c.requires.all_go c.requires.free c.in_ok-make_targets.ensures.there
     c.in_ok-pairs.pairs.items c.in_ok-pairs.ensures c.piece_length.result c.piece_length.ensures c.in_ok-pieces.pieces.items c.in_ok-pieces.ensures
     (links_of c.make_targets.new.shards c.args.transfers.now) refl c.deref_mut.result.now c.deref_mut.ensures.value c.rename_all.new.trees c.in_ok-rename_all.ensures
     c.write_phase.new.shards c.in_ok-write_phase.ensures)
@@ -38,7 +38,7 @@ pub returns : goal.returns
 returns g c =
     let count : length c.rename_all.new.trees ≡ c.self.inside.trees.len = omega (arith, c.rename_all.auto.trees, ap length c.deref_mut.ensures.value, c.self.inside.trees.ok.0) in
     subst (λ (now : List Shape). AreMoved c.args.self c.args.transfers.now (contents_of c.write_phase.new.shards now, c.of_all-counts.result)) (sym (with_items_is c.self.inside.trees c.rename_all.new.trees count))
-    (are_moved c.make_targets.new.shards c.self.inside.trees.items (sound_stays c.self.inside.shards c.make_targets.new.shards c.self.inside.trees.items (made_says c.self.inside.shards c.make_targets.new.shards c.in_ok-make_targets.ensures.made c.in_ok-make_targets.ensures.present) c.self.invariant) c.args.self (same_contents c.self.inside.shards c.make_targets.new.shards c.self.inside.trees.items (made_says c.self.inside.shards c.make_targets.new.shards c.in_ok-make_targets.ensures.made c.in_ok-make_targets.ensures.present) ∙ c.self.view_is) c.args.transfers.now c.requires.planned c.requires.all_go c.requires.free c.in_ok-make_targets.ensures.there
+    (are_moved c.make_targets.new.shards c.self.inside.trees.items (sound_stays c.self.inside.shards c.make_targets.new.shards c.self.inside.trees.items (made_says c.self.inside.shards c.make_targets.new.shards c.in_ok-make_targets.ensures.made c.in_ok-make_targets.ensures.present) c.self.invariant) c.args.self (made_from c.self.inside.shards c.make_targets.new.shards c.self.inside.trees.items c.in_ok-make_targets.ensures.made c.in_ok-make_targets.ensures.present c.args.self c.self.view_is) c.args.transfers.now c.requires.planned c.requires.all_go c.requires.free c.in_ok-make_targets.ensures.there
     c.in_ok-pairs.pairs.items c.in_ok-pairs.ensures c.piece_length.result c.piece_length.ensures c.in_ok-pieces.pieces.items c.in_ok-pieces.ensures
     (links_of c.make_targets.new.shards c.args.transfers.now) refl c.deref_mut.result.now c.deref_mut.ensures.value c.rename_all.new.trees c.in_ok-rename_all.ensures
     c.write_phase.new.shards c.in_ok-write_phase.ensures c.of_all-counts.result c.of_all-counts.ensures)

@@ -3,7 +3,7 @@ use Rattle.std.proofs.Common.{◌≡◌, ◌∙◌, ◌+◌, List, None, length,
 use Rattle.std.proofs.lemmas.List.{with_items_is}
 use Rattle.maptree.specs.Origins.{Shape}
 use Rattle.holdings.specs.Contents.{Contents, AreMoved}
-use Rattle.holdings.specs.Inner.Held.{contents_of, limits_in, holdings_in}
+use Rattle.holdings.specs.Inner.Held.{contents_of, layout_in, limits_in, holdings_in}
 use Rattle.holdings.specs.Meaning.{counts_of}
 use Rattle.holdings.specs.Inner.Sound.{AreSound}
 use Rattle.holdings.specs.Sending.{ArePlanned, AreFree}
@@ -20,8 +20,9 @@ use Rattle.space.specs.Shards.{HasWord, entry_at}
 use Rattle.model.specs.Items.{Counts}
 use Rattle.holdings.specs.Inner.Links.{IsPageLost}
 use Rattle.holdings.specs.Inner.Renamings.{IsPageMoved}
+use Rattle.holdings.proofs.Contents.Layouts.{same_grows}
 use Rattle.holdings.proofs.Contents.WordChanges.{word_kept}
-use Rattle.holdings.proofs.Contents.SameEntries.{made_says, same_contents, sound_stays}
+use Rattle.holdings.proofs.Contents.SameEntries.{made_from, made_says, moved_from, sound_stays}
 use Rattle.holdings.proofs.holdings.Holdings.rename_alone.Goals as goal
 
 -- shards that are there stay
@@ -39,8 +40,8 @@ rename_all-requires-clause-movable c =
     let t = c.self.inside.trees.items in
     let limits = limits_in s t in
     let ts = c.args.transfers.now in
-    let planned = subst (λ (h : Contents). ArePlanned h.limits ts) (sym (same_contents c.self.inside.shards c.make_targets.new.shards c.self.inside.trees.items (made_says c.self.inside.shards c.make_targets.new.shards c.in_ok-make_targets.ensures.made c.in_ok-make_targets.ensures.present) ∙ c.self.view_is)) c.requires.planned in
-    let free = subst (λ (h : Contents). AreFree h.holdings ts) (sym (same_contents c.self.inside.shards c.make_targets.new.shards c.self.inside.trees.items (made_says c.self.inside.shards c.make_targets.new.shards c.in_ok-make_targets.ensures.made c.in_ok-make_targets.ensures.present) ∙ c.self.view_is)) c.requires.free in
+    let planned = subst (λ (h : Contents). ArePlanned h.limits ts) (sym (made_from c.self.inside.shards c.make_targets.new.shards c.self.inside.trees.items c.in_ok-make_targets.ensures.made c.in_ok-make_targets.ensures.present c.args.self c.self.view_is).view) c.requires.planned in
+    let free = subst (λ (h : Contents). AreFree h.holdings ts) (sym (made_from c.self.inside.shards c.make_targets.new.shards c.self.inside.trees.items c.in_ok-make_targets.ensures.made c.in_ok-make_targets.ensures.present c.args.self c.self.view_is).view) c.requires.free in
     subst (λ (now : List Shape). AreMovable now (links_of s ts)) (sym c.deref_mut.ensures.value)
     (movable limits s t (sound_stays c.self.inside.shards c.make_targets.new.shards c.self.inside.trees.items (made_says c.self.inside.shards c.make_targets.new.shards c.in_ok-make_targets.ensures.made c.in_ok-make_targets.ensures.present) c.self.invariant) ts planned c.requires.all_go free (sym (sound_stays c.self.inside.shards c.make_targets.new.shards c.self.inside.trees.items (made_says c.self.inside.shards c.make_targets.new.shards c.in_ok-make_targets.ensures.made c.in_ok-make_targets.ensures.present) c.self.invariant).kept.fits.count))
 
@@ -50,11 +51,11 @@ loop-transfer-init c =
     let t = c.self.inside.trees.items in
     let limits = limits_in s t in
     let ts = c.args.transfers.now in
-    let planned = subst (λ (h : Contents). ArePlanned h.limits ts) (sym (same_contents c.self.inside.shards c.make_targets.new.shards c.self.inside.trees.items (made_says c.self.inside.shards c.make_targets.new.shards c.in_ok-make_targets.ensures.made c.in_ok-make_targets.ensures.present) ∙ c.self.view_is)) c.requires.planned in
-    let free = subst (λ (h : Contents). AreFree h.holdings ts) (sym (same_contents c.self.inside.shards c.make_targets.new.shards c.self.inside.trees.items (made_says c.self.inside.shards c.make_targets.new.shards c.in_ok-make_targets.ensures.made c.in_ok-make_targets.ensures.present) ∙ c.self.view_is)) c.requires.free in
+    let planned = subst (λ (h : Contents). ArePlanned h.limits ts) (sym (made_from c.self.inside.shards c.make_targets.new.shards c.self.inside.trees.items c.in_ok-make_targets.ensures.made c.in_ok-make_targets.ensures.present c.args.self c.self.view_is).view) c.requires.planned in
+    let free = subst (λ (h : Contents). AreFree h.holdings ts) (sym (made_from c.self.inside.shards c.make_targets.new.shards c.self.inside.trees.items c.in_ok-make_targets.ensures.made c.in_ok-make_targets.ensures.present c.args.self c.self.view_is).view) c.requires.free in
     record {
       moving =
-          subst (λ (h : Contents). AreMoving h.limits h.holdings s ts 0 s (counts_of c.none-worked.result)) (same_contents c.self.inside.shards c.make_targets.new.shards c.self.inside.trees.items (made_says c.self.inside.shards c.make_targets.new.shards c.in_ok-make_targets.ensures.made c.in_ok-make_targets.ensures.present) ∙ c.self.view_is)
+          subst (λ (h : Contents). AreMoving h.limits h.holdings s ts 0 s (counts_of c.none-worked.result)) (made_from c.self.inside.shards c.make_targets.new.shards c.self.inside.trees.items c.in_ok-make_targets.ensures.made c.in_ok-make_targets.ensures.present c.args.self c.self.view_is).view
           (subst (AreMoving limits (holdings_in s t) s ts 0 s) (sym c.none-worked.ensures) (none_moved limits s t (sound_stays c.self.inside.shards c.make_targets.new.shards c.self.inside.trees.items (made_says c.self.inside.shards c.make_targets.new.shards c.in_ok-make_targets.ensures.made c.in_ok-make_targets.ensures.present) c.self.invariant) ts planned c.requires.all_go free));
       there = c.in_ok-make_targets.ensures.there;
     }
@@ -65,9 +66,9 @@ move_page-one-requires-clause-source c =
     let t = c.self.inside.trees.items in
     let limits = limits_in s t in
     let ts = c.args.transfers.now in
-    let planned = subst (λ (h : Contents). ArePlanned h.limits ts) (sym (same_contents c.self.inside.shards c.make_targets.new.shards c.self.inside.trees.items (made_says c.self.inside.shards c.make_targets.new.shards c.in_ok-make_targets.ensures.made c.in_ok-make_targets.ensures.present) ∙ c.self.view_is)) c.requires.planned in
-    let free = subst (λ (h : Contents). AreFree h.holdings ts) (sym (same_contents c.self.inside.shards c.make_targets.new.shards c.self.inside.trees.items (made_says c.self.inside.shards c.make_targets.new.shards c.in_ok-make_targets.ensures.made c.in_ok-make_targets.ensures.present) ∙ c.self.view_is)) c.requires.free in
-    let so_far = subst (λ (h : Contents). AreMoving h.limits h.holdings s ts c.loop-transfer.transfer-index c.loop-transfer.shards (counts_of c.loop-transfer.worked)) (sym (same_contents c.self.inside.shards c.make_targets.new.shards c.self.inside.trees.items (made_says c.self.inside.shards c.make_targets.new.shards c.in_ok-make_targets.ensures.made c.in_ok-make_targets.ensures.present) ∙ c.self.view_is)) c.loop-transfer.invariant.moving in
+    let planned = subst (λ (h : Contents). ArePlanned h.limits ts) (sym (made_from c.self.inside.shards c.make_targets.new.shards c.self.inside.trees.items c.in_ok-make_targets.ensures.made c.in_ok-make_targets.ensures.present c.args.self c.self.view_is).view) c.requires.planned in
+    let free = subst (λ (h : Contents). AreFree h.holdings ts) (sym (made_from c.self.inside.shards c.make_targets.new.shards c.self.inside.trees.items c.in_ok-make_targets.ensures.made c.in_ok-make_targets.ensures.present c.args.self c.self.view_is).view) c.requires.free in
+    let so_far = subst (λ (h : Contents). AreMoving h.limits h.holdings s ts c.loop-transfer.transfer-index c.loop-transfer.shards (counts_of c.loop-transfer.worked)) (sym (made_from c.self.inside.shards c.make_targets.new.shards c.self.inside.trees.items c.in_ok-make_targets.ensures.made c.in_ok-make_targets.ensures.present c.args.self c.self.view_is).view) c.loop-transfer.invariant.moving in
     source_place limits s t (sound_stays c.self.inside.shards c.make_targets.new.shards c.self.inside.trees.items (made_says c.self.inside.shards c.make_targets.new.shards c.in_ok-make_targets.ensures.made c.in_ok-make_targets.ensures.present) c.self.invariant) ts planned c.requires.all_go free c.loop-transfer.transfer-index no_transfer c.loop-transfer-test.true c.loop-transfer.shards (counts_of c.loop-transfer.worked) so_far
 
 pub move_page-one-requires-clause-target : goal.move_page-one-requires-clause-target
@@ -76,9 +77,9 @@ move_page-one-requires-clause-target c =
     let t = c.self.inside.trees.items in
     let limits = limits_in s t in
     let ts = c.args.transfers.now in
-    let planned = subst (λ (h : Contents). ArePlanned h.limits ts) (sym (same_contents c.self.inside.shards c.make_targets.new.shards c.self.inside.trees.items (made_says c.self.inside.shards c.make_targets.new.shards c.in_ok-make_targets.ensures.made c.in_ok-make_targets.ensures.present) ∙ c.self.view_is)) c.requires.planned in
-    let free = subst (λ (h : Contents). AreFree h.holdings ts) (sym (same_contents c.self.inside.shards c.make_targets.new.shards c.self.inside.trees.items (made_says c.self.inside.shards c.make_targets.new.shards c.in_ok-make_targets.ensures.made c.in_ok-make_targets.ensures.present) ∙ c.self.view_is)) c.requires.free in
-    let so_far = subst (λ (h : Contents). AreMoving h.limits h.holdings s ts c.loop-transfer.transfer-index c.loop-transfer.shards (counts_of c.loop-transfer.worked)) (sym (same_contents c.self.inside.shards c.make_targets.new.shards c.self.inside.trees.items (made_says c.self.inside.shards c.make_targets.new.shards c.in_ok-make_targets.ensures.made c.in_ok-make_targets.ensures.present) ∙ c.self.view_is)) c.loop-transfer.invariant.moving in
+    let planned = subst (λ (h : Contents). ArePlanned h.limits ts) (sym (made_from c.self.inside.shards c.make_targets.new.shards c.self.inside.trees.items c.in_ok-make_targets.ensures.made c.in_ok-make_targets.ensures.present c.args.self c.self.view_is).view) c.requires.planned in
+    let free = subst (λ (h : Contents). AreFree h.holdings ts) (sym (made_from c.self.inside.shards c.make_targets.new.shards c.self.inside.trees.items c.in_ok-make_targets.ensures.made c.in_ok-make_targets.ensures.present c.args.self c.self.view_is).view) c.requires.free in
+    let so_far = subst (λ (h : Contents). AreMoving h.limits h.holdings s ts c.loop-transfer.transfer-index c.loop-transfer.shards (counts_of c.loop-transfer.worked)) (sym (made_from c.self.inside.shards c.make_targets.new.shards c.self.inside.trees.items c.in_ok-make_targets.ensures.made c.in_ok-make_targets.ensures.present c.args.self c.self.view_is).view) c.loop-transfer.invariant.moving in
     target_place limits s t (sound_stays c.self.inside.shards c.make_targets.new.shards c.self.inside.trees.items (made_says c.self.inside.shards c.make_targets.new.shards c.in_ok-make_targets.ensures.made c.in_ok-make_targets.ensures.present) c.self.invariant) ts planned c.requires.all_go free c.loop-transfer.transfer-index no_transfer c.loop-transfer-test.true c.loop-transfer.shards (counts_of c.loop-transfer.worked) so_far
 
 pub move_page-one-requires-clause-apart : goal.move_page-one-requires-clause-apart
@@ -87,9 +88,9 @@ move_page-one-requires-clause-apart c =
     let t = c.self.inside.trees.items in
     let limits = limits_in s t in
     let ts = c.args.transfers.now in
-    let planned = subst (λ (h : Contents). ArePlanned h.limits ts) (sym (same_contents c.self.inside.shards c.make_targets.new.shards c.self.inside.trees.items (made_says c.self.inside.shards c.make_targets.new.shards c.in_ok-make_targets.ensures.made c.in_ok-make_targets.ensures.present) ∙ c.self.view_is)) c.requires.planned in
-    let free = subst (λ (h : Contents). AreFree h.holdings ts) (sym (same_contents c.self.inside.shards c.make_targets.new.shards c.self.inside.trees.items (made_says c.self.inside.shards c.make_targets.new.shards c.in_ok-make_targets.ensures.made c.in_ok-make_targets.ensures.present) ∙ c.self.view_is)) c.requires.free in
-    let so_far = subst (λ (h : Contents). AreMoving h.limits h.holdings s ts c.loop-transfer.transfer-index c.loop-transfer.shards (counts_of c.loop-transfer.worked)) (sym (same_contents c.self.inside.shards c.make_targets.new.shards c.self.inside.trees.items (made_says c.self.inside.shards c.make_targets.new.shards c.in_ok-make_targets.ensures.made c.in_ok-make_targets.ensures.present) ∙ c.self.view_is)) c.loop-transfer.invariant.moving in
+    let planned = subst (λ (h : Contents). ArePlanned h.limits ts) (sym (made_from c.self.inside.shards c.make_targets.new.shards c.self.inside.trees.items c.in_ok-make_targets.ensures.made c.in_ok-make_targets.ensures.present c.args.self c.self.view_is).view) c.requires.planned in
+    let free = subst (λ (h : Contents). AreFree h.holdings ts) (sym (made_from c.self.inside.shards c.make_targets.new.shards c.self.inside.trees.items c.in_ok-make_targets.ensures.made c.in_ok-make_targets.ensures.present c.args.self c.self.view_is).view) c.requires.free in
+    let so_far = subst (λ (h : Contents). AreMoving h.limits h.holdings s ts c.loop-transfer.transfer-index c.loop-transfer.shards (counts_of c.loop-transfer.worked)) (sym (made_from c.self.inside.shards c.make_targets.new.shards c.self.inside.trees.items c.in_ok-make_targets.ensures.made c.in_ok-make_targets.ensures.present c.args.self c.self.view_is).view) c.loop-transfer.invariant.moving in
     ends_apart limits s t (sound_stays c.self.inside.shards c.make_targets.new.shards c.self.inside.trees.items (made_says c.self.inside.shards c.make_targets.new.shards c.in_ok-make_targets.ensures.made c.in_ok-make_targets.ensures.present) c.self.invariant) ts planned c.requires.all_go free c.loop-transfer.transfer-index no_transfer c.loop-transfer-test.true c.loop-transfer.shards (counts_of c.loop-transfer.worked) so_far
 
 pub move_page-one-requires-clause-present : goal.move_page-one-requires-clause-present
@@ -101,9 +102,9 @@ plus-worked-requires c =
     let t = c.self.inside.trees.items in
     let limits = limits_in s t in
     let ts = c.args.transfers.now in
-    let planned = subst (λ (h : Contents). ArePlanned h.limits ts) (sym (same_contents c.self.inside.shards c.make_targets.new.shards c.self.inside.trees.items (made_says c.self.inside.shards c.make_targets.new.shards c.in_ok-make_targets.ensures.made c.in_ok-make_targets.ensures.present) ∙ c.self.view_is)) c.requires.planned in
-    let free = subst (λ (h : Contents). AreFree h.holdings ts) (sym (same_contents c.self.inside.shards c.make_targets.new.shards c.self.inside.trees.items (made_says c.self.inside.shards c.make_targets.new.shards c.in_ok-make_targets.ensures.made c.in_ok-make_targets.ensures.present) ∙ c.self.view_is)) c.requires.free in
-    let so_far = subst (λ (h : Contents). AreMoving h.limits h.holdings s ts c.loop-transfer.transfer-index c.loop-transfer.shards (counts_of c.loop-transfer.worked)) (sym (same_contents c.self.inside.shards c.make_targets.new.shards c.self.inside.trees.items (made_says c.self.inside.shards c.make_targets.new.shards c.in_ok-make_targets.ensures.made c.in_ok-make_targets.ensures.present) ∙ c.self.view_is)) c.loop-transfer.invariant.moving in
+    let planned = subst (λ (h : Contents). ArePlanned h.limits ts) (sym (made_from c.self.inside.shards c.make_targets.new.shards c.self.inside.trees.items c.in_ok-make_targets.ensures.made c.in_ok-make_targets.ensures.present c.args.self c.self.view_is).view) c.requires.planned in
+    let free = subst (λ (h : Contents). AreFree h.holdings ts) (sym (made_from c.self.inside.shards c.make_targets.new.shards c.self.inside.trees.items c.in_ok-make_targets.ensures.made c.in_ok-make_targets.ensures.present c.args.self c.self.view_is).view) c.requires.free in
+    let so_far = subst (λ (h : Contents). AreMoving h.limits h.holdings s ts c.loop-transfer.transfer-index c.loop-transfer.shards (counts_of c.loop-transfer.worked)) (sym (made_from c.self.inside.shards c.make_targets.new.shards c.self.inside.trees.items c.in_ok-make_targets.ensures.made c.in_ok-make_targets.ensures.present c.args.self c.self.view_is).view) c.loop-transfer.invariant.moving in
     one_counts limits s t (sound_stays c.self.inside.shards c.make_targets.new.shards c.self.inside.trees.items (made_says c.self.inside.shards c.make_targets.new.shards c.in_ok-make_targets.ensures.made c.in_ok-make_targets.ensures.present) c.self.invariant) ts planned c.requires.all_go free c.loop-transfer.transfer-index no_transfer c.loop-transfer-test.true c.loop-transfer.shards (counts_of c.loop-transfer.worked) so_far c.move_page-one.new.shards (counts_of c.move_page-one.result) c.move_page-one.ensures.lost c.move_page-one.ensures.moved
 
 pub loop-transfer-preserved : goal.loop-transfer-preserved
@@ -112,12 +113,12 @@ loop-transfer-preserved c =
     let t = c.self.inside.trees.items in
     let limits = limits_in s t in
     let ts = c.args.transfers.now in
-    let planned = subst (λ (h : Contents). ArePlanned h.limits ts) (sym (same_contents c.self.inside.shards c.make_targets.new.shards c.self.inside.trees.items (made_says c.self.inside.shards c.make_targets.new.shards c.in_ok-make_targets.ensures.made c.in_ok-make_targets.ensures.present) ∙ c.self.view_is)) c.requires.planned in
-    let free = subst (λ (h : Contents). AreFree h.holdings ts) (sym (same_contents c.self.inside.shards c.make_targets.new.shards c.self.inside.trees.items (made_says c.self.inside.shards c.make_targets.new.shards c.in_ok-make_targets.ensures.made c.in_ok-make_targets.ensures.present) ∙ c.self.view_is)) c.requires.free in
-    let so_far = subst (λ (h : Contents). AreMoving h.limits h.holdings s ts c.loop-transfer.transfer-index c.loop-transfer.shards (counts_of c.loop-transfer.worked)) (sym (same_contents c.self.inside.shards c.make_targets.new.shards c.self.inside.trees.items (made_says c.self.inside.shards c.make_targets.new.shards c.in_ok-make_targets.ensures.made c.in_ok-make_targets.ensures.present) ∙ c.self.view_is)) c.loop-transfer.invariant.moving in
+    let planned = subst (λ (h : Contents). ArePlanned h.limits ts) (sym (made_from c.self.inside.shards c.make_targets.new.shards c.self.inside.trees.items c.in_ok-make_targets.ensures.made c.in_ok-make_targets.ensures.present c.args.self c.self.view_is).view) c.requires.planned in
+    let free = subst (λ (h : Contents). AreFree h.holdings ts) (sym (made_from c.self.inside.shards c.make_targets.new.shards c.self.inside.trees.items c.in_ok-make_targets.ensures.made c.in_ok-make_targets.ensures.present c.args.self c.self.view_is).view) c.requires.free in
+    let so_far = subst (λ (h : Contents). AreMoving h.limits h.holdings s ts c.loop-transfer.transfer-index c.loop-transfer.shards (counts_of c.loop-transfer.worked)) (sym (made_from c.self.inside.shards c.make_targets.new.shards c.self.inside.trees.items c.in_ok-make_targets.ensures.made c.in_ok-make_targets.ensures.present c.args.self c.self.view_is).view) c.loop-transfer.invariant.moving in
     record {
       moving =
-          subst (λ (h : Contents). AreMoving h.limits h.holdings s ts (c.loop-transfer.transfer-index + 1) c.move_page-one.new.shards (counts_of c.plus-worked.result)) (same_contents c.self.inside.shards c.make_targets.new.shards c.self.inside.trees.items (made_says c.self.inside.shards c.make_targets.new.shards c.in_ok-make_targets.ensures.made c.in_ok-make_targets.ensures.present) ∙ c.self.view_is)
+          subst (λ (h : Contents). AreMoving h.limits h.holdings s ts (c.loop-transfer.transfer-index + 1) c.move_page-one.new.shards (counts_of c.plus-worked.result)) (made_from c.self.inside.shards c.make_targets.new.shards c.self.inside.trees.items c.in_ok-make_targets.ensures.made c.in_ok-make_targets.ensures.present c.args.self c.self.view_is).view
           (step limits s t (sound_stays c.self.inside.shards c.make_targets.new.shards c.self.inside.trees.items (made_says c.self.inside.shards c.make_targets.new.shards c.in_ok-make_targets.ensures.made c.in_ok-make_targets.ensures.present) c.self.invariant) ts planned c.requires.all_go free c.loop-transfer.transfer-index no_transfer c.loop-transfer-test.true c.loop-transfer.shards (counts_of c.loop-transfer.worked) so_far c.move_page-one.new.shards (counts_of c.move_page-one.result) c.move_page-one.ensures.lost c.move_page-one.ensures.moved (counts_of c.plus-worked.result) c.plus-worked.ensures);
       there = λ k d less. words_stay c.loop-transfer.shards c.move_page-one.new.shards _ _ _ c.move_page-one.ensures.lost c.move_page-one.ensures.moved _ (c.loop-transfer.invariant.there k d less);
     }
@@ -128,9 +129,9 @@ invariant_of-result c =
     let t = c.self.inside.trees.items in
     let limits = limits_in s t in
     let ts = c.args.transfers.now in
-    let planned = subst (λ (h : Contents). ArePlanned h.limits ts) (sym (same_contents c.self.inside.shards c.make_targets.new.shards c.self.inside.trees.items (made_says c.self.inside.shards c.make_targets.new.shards c.in_ok-make_targets.ensures.made c.in_ok-make_targets.ensures.present) ∙ c.self.view_is)) c.requires.planned in
-    let free = subst (λ (h : Contents). AreFree h.holdings ts) (sym (same_contents c.self.inside.shards c.make_targets.new.shards c.self.inside.trees.items (made_says c.self.inside.shards c.make_targets.new.shards c.in_ok-make_targets.ensures.made c.in_ok-make_targets.ensures.present) ∙ c.self.view_is)) c.requires.free in
-    let so_far = subst (λ (h : Contents). AreMoving h.limits h.holdings s ts c.loop-transfer.transfer-index c.loop-transfer.shards (counts_of c.loop-transfer.worked)) (sym (same_contents c.self.inside.shards c.make_targets.new.shards c.self.inside.trees.items (made_says c.self.inside.shards c.make_targets.new.shards c.in_ok-make_targets.ensures.made c.in_ok-make_targets.ensures.present) ∙ c.self.view_is)) c.loop-transfer.invariant.moving in
+    let planned = subst (λ (h : Contents). ArePlanned h.limits ts) (sym (made_from c.self.inside.shards c.make_targets.new.shards c.self.inside.trees.items c.in_ok-make_targets.ensures.made c.in_ok-make_targets.ensures.present c.args.self c.self.view_is).view) c.requires.planned in
+    let free = subst (λ (h : Contents). AreFree h.holdings ts) (sym (made_from c.self.inside.shards c.make_targets.new.shards c.self.inside.trees.items c.in_ok-make_targets.ensures.made c.in_ok-make_targets.ensures.present c.args.self c.self.view_is).view) c.requires.free in
+    let so_far = subst (λ (h : Contents). AreMoving h.limits h.holdings s ts c.loop-transfer.transfer-index c.loop-transfer.shards (counts_of c.loop-transfer.worked)) (sym (made_from c.self.inside.shards c.make_targets.new.shards c.self.inside.trees.items c.in_ok-make_targets.ensures.made c.in_ok-make_targets.ensures.present c.args.self c.self.view_is).view) c.loop-transfer.invariant.moving in
     let all = all_moved limits (holdings_in s t) s ts c.loop-transfer.transfer-index c.loop-transfer.shards (counts_of c.loop-transfer.worked) c.loop-transfer-test.false so_far in
     let renamed = subst (λ (now : List Shape). AreRenamed (λ p. last_target (links_of s ts) p None) (links_of s ts) now c.rename_all.new.trees) c.deref_mut.ensures.value c.in_ok-rename_all.ensures in
     let count : length c.rename_all.new.trees ≡ c.self.inside.trees.len = omega (arith, c.rename_all.auto.trees, ap length c.deref_mut.ensures.value, c.self.inside.trees.ok.0) in
@@ -143,9 +144,9 @@ returns c =
     let t = c.self.inside.trees.items in
     let limits = limits_in s t in
     let ts = c.args.transfers.now in
-    let planned = subst (λ (h : Contents). ArePlanned h.limits ts) (sym (same_contents c.self.inside.shards c.make_targets.new.shards c.self.inside.trees.items (made_says c.self.inside.shards c.make_targets.new.shards c.in_ok-make_targets.ensures.made c.in_ok-make_targets.ensures.present) ∙ c.self.view_is)) c.requires.planned in
-    let free = subst (λ (h : Contents). AreFree h.holdings ts) (sym (same_contents c.self.inside.shards c.make_targets.new.shards c.self.inside.trees.items (made_says c.self.inside.shards c.make_targets.new.shards c.in_ok-make_targets.ensures.made c.in_ok-make_targets.ensures.present) ∙ c.self.view_is)) c.requires.free in
-    let so_far = subst (λ (h : Contents). AreMoving h.limits h.holdings s ts c.loop-transfer.transfer-index c.loop-transfer.shards (counts_of c.loop-transfer.worked)) (sym (same_contents c.self.inside.shards c.make_targets.new.shards c.self.inside.trees.items (made_says c.self.inside.shards c.make_targets.new.shards c.in_ok-make_targets.ensures.made c.in_ok-make_targets.ensures.present) ∙ c.self.view_is)) c.loop-transfer.invariant.moving in
+    let planned = subst (λ (h : Contents). ArePlanned h.limits ts) (sym (made_from c.self.inside.shards c.make_targets.new.shards c.self.inside.trees.items c.in_ok-make_targets.ensures.made c.in_ok-make_targets.ensures.present c.args.self c.self.view_is).view) c.requires.planned in
+    let free = subst (λ (h : Contents). AreFree h.holdings ts) (sym (made_from c.self.inside.shards c.make_targets.new.shards c.self.inside.trees.items c.in_ok-make_targets.ensures.made c.in_ok-make_targets.ensures.present c.args.self c.self.view_is).view) c.requires.free in
+    let so_far = subst (λ (h : Contents). AreMoving h.limits h.holdings s ts c.loop-transfer.transfer-index c.loop-transfer.shards (counts_of c.loop-transfer.worked)) (sym (made_from c.self.inside.shards c.make_targets.new.shards c.self.inside.trees.items c.in_ok-make_targets.ensures.made c.in_ok-make_targets.ensures.present c.args.self c.self.view_is).view) c.loop-transfer.invariant.moving in
     let all = all_moved limits (holdings_in s t) s ts c.loop-transfer.transfer-index c.loop-transfer.shards (counts_of c.loop-transfer.worked) c.loop-transfer-test.false so_far in
     let renamed = subst (λ (now : List Shape). AreRenamed (λ p. last_target (links_of s ts) p None) (links_of s ts) now c.rename_all.new.trees) c.deref_mut.ensures.value c.in_ok-rename_all.ensures in
     let count : length c.rename_all.new.trees ≡ c.self.inside.trees.len = omega (arith, c.rename_all.auto.trees, ap length c.deref_mut.ensures.value, c.self.inside.trees.ok.0) in
@@ -153,5 +154,8 @@ returns c =
     let left = all_left s t (sound_stays c.self.inside.shards c.make_targets.new.shards c.self.inside.trees.items (made_says c.self.inside.shards c.make_targets.new.shards c.in_ok-make_targets.ensures.made c.in_ok-make_targets.ensures.present) c.self.invariant) ts planned c.requires.all_go free c.loop-transfer.shards c.rename_all.new.trees (links_of s ts) refl renamed all.0 in
     let kept = same_limits s t (sound_stays c.self.inside.shards c.make_targets.new.shards c.self.inside.trees.items (made_says c.self.inside.shards c.make_targets.new.shards c.in_ok-make_targets.ensures.made c.in_ok-make_targets.ensures.present) c.self.invariant) ts planned c.requires.all_go free c.loop-transfer.shards c.rename_all.new.trees (links_of s ts) refl renamed all.0 in
     subst (λ (now : List Shape). AreMoved c.args.self ts (contents_of c.loop-transfer.shards now, c.loop-transfer.worked)) (sym same)
-    (subst (λ (old : Contents). AreMoved old ts (contents_of c.loop-transfer.shards c.rename_all.new.trees, c.loop-transfer.worked)) (same_contents c.self.inside.shards c.make_targets.new.shards c.self.inside.trees.items (made_says c.self.inside.shards c.make_targets.new.shards c.in_ok-make_targets.ensures.made c.in_ok-make_targets.ensures.present) ∙ c.self.view_is)
-    (record { left = λ i. record { limits = kept i; holdings = left i }; counted = all.1 }))
+    (moved_from c.args.self s t (made_from c.self.inside.shards c.make_targets.new.shards c.self.inside.trees.items c.in_ok-make_targets.ensures.made c.in_ok-make_targets.ensures.present c.args.self c.self.view_is) ts (contents_of c.loop-transfer.shards c.rename_all.new.trees, c.loop-transfer.worked) (record {
+      left = λ i. record { limits = kept i; holdings = left i; layout = layout_in c.loop-transfer.shards };
+      grows = same_grows (layout_in s) (layout_in c.loop-transfer.shards) all.2;
+      counted = all.1;
+    }))

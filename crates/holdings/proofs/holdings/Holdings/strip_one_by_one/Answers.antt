@@ -11,6 +11,7 @@ use Rattle.holdings.specs.Contents.{Contents, IsStripped}
 use Rattle.holdings.specs.Inner.Held.{contents_of, is_listed, limits_in, holdings_in}
 use Rattle.holdings.specs.Places.{IsWithin, any_of}
 use Rattle.holdings.specs.Inner.Sound.{AreSound}
+use Rattle.holdings.proofs.Contents.Layouts.{same_layout}
 use Rattle.holdings.proofs.Recursions.PlaceByPlace.{AreVisitedUpTo, none_visited, one_visited, none_there, all_visited}
 use Rattle.holdings.proofs.holdings.Holdings.strip_one_by_one.Goals as goal
 
@@ -66,7 +67,8 @@ loop-place-preserved c =
     let next = one_visited s t c.self.invariant c.args.places.now c.args.revoked c.args.flush c.loop-place.place-index (record { space = 0; page = 0 }) c.loop-place-test.true
     c.loop-place.shards c.loop-place.trees.items c.loop-place.status c.loop-place.invariant c.strip_place.new.shards c.strip_place.new.trees c.in_ok-gained.gained
     (c.in_ok-gained.ensures.status ∙ ap (λ h. strip_word h (only p)) was) (c.in_ok-gained.ensures.left ∙ ap (λ h. strip h (only p) c.args.revoked c.args.flush) was)
-    c.in_ok-gained.ensures.sound (c.in_ok-gained.ensures.limits ∙ ap (limits_in c.loop-place.shards) c.deref_mut.ensures.value) in
+    c.in_ok-gained.ensures.sound (c.in_ok-gained.ensures.limits ∙ ap (limits_in c.loop-place.shards) c.deref_mut.ensures.value)
+    (same_layout c.loop-place.shards c.strip_place.new.shards c.in_ok-gained.ensures.layout) in
     subst (λ ts. AreVisitedUpTo s t c.args.places.now (c.loop-place.place-index + 1) c.args.revoked c.args.flush c.strip_place.new.shards ts c.join-status.result) (sym (with_items_is c.loop-place.trees c.strip_place.new.trees count))
     (subst (AreVisitedUpTo s t c.args.places.now (c.loop-place.place-index + 1) c.args.revoked c.args.flush c.strip_place.new.shards c.strip_place.new.trees) (sym c.join-status.ensures) next)
 
@@ -77,4 +79,4 @@ pub returns : goal.returns
 returns c =
     let all = all_visited c.self.inside.shards c.self.inside.trees.items c.self.invariant c.args.places.now c.args.revoked c.args.flush c.loop-place.place-index c.loop-place.shards c.loop-place.trees.items c.loop-place.status c.loop-place-test.false c.loop-place.invariant in
     subst (λ (old : Contents). IsStripped old (any_of c.args.places.now) c.args.revoked c.args.flush (contents_of c.loop-place.shards c.loop-place.trees.items, c.loop-place.status)) c.self.view_is
-    (record { left = λ i. record { limits = c.loop-place.invariant.limits i; holdings = all.1 i }; status = all.0 })
+    (record { left = λ i. record { limits = c.loop-place.invariant.limits i; holdings = all.1 i; layout = c.loop-place.invariant.layout i }; status = all.0 })

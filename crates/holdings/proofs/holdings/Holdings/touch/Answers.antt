@@ -6,10 +6,11 @@ use Rattle.space.specs.Entries.{with_status}
 use Rattle.model.specs.Calls.{Limits}
 use Rattle.model.specs.Touch.{can_touch, touch}
 use Rattle.holdings.specs.Places.{IsWithin}
-use Rattle.holdings.specs.Inner.Held.{holdings_of, contents_of, limits_in}
+use Rattle.holdings.specs.Inner.Held.{holdings_of, contents_of, layout_in, limits_in}
 use Rattle.holdings.specs.Contents.{Contents, left_with}
 use Rattle.holdings.specs.Inner.Sound.{IsSound}
 use Rattle.holdings.proofs.Contents.Accesses.{touch_fault, can_touch_absent, can_touch_present, touched, touched_sound, marked_entry}
+use Rattle.holdings.proofs.Contents.Layouts.{same_layout}
 use Rattle.holdings.proofs.Contents.WordChanges.{IsWordSet}
 use Rattle.holdings.proofs.holdings.Holdings.touch.Goals as goal
 
@@ -75,4 +76,5 @@ returns-clause-left c =
     (sym c.get.ensures ∙ c.in-Some.is) (sym c.holds.ensures ∙ c.if-not-holds.false) in
     let same : limits_in new t ≡ limits_in d.shards t = λ i. record { spaces = c.add_status.ensures.layout.spaces i; bits = c.add_status.ensures.layout.bits i; frames = length t } in
     subst (λ (s : Contents). contents_of new t ≡ left_with s (touch s.holdings c.args.place c.args.access)) c.self.view_is
-    ((λ i. record { limits = same i; holdings = holdings_of (same i) new t }) ∙ ap (λ h. record { limits = limits_in d.shards t; holdings = h }) left)
+    ((λ i. record { limits = same i; holdings = holdings_of (same i) new t; layout = same_layout d.shards new c.add_status.ensures.layout i })
+    ∙ ap (λ h. record { limits = limits_in d.shards t; holdings = h; layout = layout_in d.shards }) left)

@@ -24,6 +24,7 @@ invariant_of-self-2 c =
       found =
           leaf_added d.most d.count d.leaves.items d.positions.items d.found c.args.run c.requires.within none _ _
           (ap (λ n. slice_set d.leaves.items c.args.run (n / 128)) len) (c.in_ok-resize.ensures.items ∙ (λ i. whole i ++ replicate (more i) nowhere));
+      dense = λ dense. absurd (omega (arith, none, d.dense dense c.args.run c.requires.within));
     }
 
 pub returns-clause-same : goal.returns-clause-same

@@ -18,6 +18,7 @@ invariant_of-self c =
       found =
           shard_added d.most d.count d.leaves.items d.positions.items d.found c.args.shard c.requires.within c.requires.absent c.requires.leaf _
           (ap (λ n. slice_set d.positions.items (n * 128 + c.args.shard % 128) d.count) leaf);
+      dense = d.dense;
     }
 
 pub returns : goal.returns

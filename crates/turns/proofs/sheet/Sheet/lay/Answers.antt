@@ -14,7 +14,7 @@ gathered-requires c =
 
 pub of_words-requires : goal.of_words-requires
 of_words-requires c =
-    let o = opened (record { words = c.of.result; pieces = c.args.pieces; at = c.of-2.result }) in
+    let o = opened (record { words = c.of.result; pieces = c.args.pieces; at = c.of-2.result; watchers = c.of-3.result }) in
     subst (λ ws. Holds o ws (first_view o ∷ []))
     (ap (λ v. map (λ i. get_or v.items i 0) (indexes_of (length v.items) c.of-2.result.value)) c.of.ensures
     ∙ ap (λ at. map (λ i. get_or c.args.words.items i 0) (indexes_of (length c.args.words.items) at)) c.of-2.ensures

@@ -1,0 +1,5 @@
+-- The phase is that of the words that were just shared.
+use Rattle.crew.proofs.watched.work_shared_watched.Given as goal
+
+abbrev pub ghosts-work_turns_watched : goal.ghosts-work_turns_watched
+ghosts-work_turns_watched g a = record { sheet = a.shared.now }

@@ -1,0 +1,161 @@
+//! The pieces of a phase, worked on shared words while an observer looks at these.
+
+ghost use Rattle.std.specs.Prelude.{◌≡◌, ◌≤◌, ◌<◌, ℕ, length, IfOk};
+ghost use Rattle.std.specs.List.{All};
+ghost use Rattle.pieces.specs.Phases.{CanBeWorked};
+ghost use Rattle.turns.specs.Closing.{numbers_of};
+ghost use Rattle.crew.specs.Crews.{IsEnded};
+ghost use Rattle.crew.specs.Hands.{IsFresh, weigh};
+ghost use Rattle.crew.specs.Worked.{IsWorked};
+
+use crate::error::CrewError;
+use crate::gate::Gate;
+use crate::hand::Which;
+use crate::observe::Observe;
+use crate::shared::work_turns;
+use pieces::{Done, Piece};
+use std::alloc::Global;
+use std::marker::Brand;
+use std::snapshot::Snapshot;
+use std::sync::Wait;
+use std::thread;
+use std::thread::{Promise, PromisedHandle, Scope, Threads};
+use turns::{Open, Turn, Watcher};
+
+/// The watcher that went to a thread comes back: with the same number, and of the same phase.
+#[derive(Drop)]
+pub struct SameWatcher(Snapshot<Watcher>);
+
+impl Promise<Watcher> for SameWatcher {
+    ghost use Rattle.std.specs.Prelude.{◌≡◌};
+
+    ghost kept_by = { λ p r. (r.sheet ≡ p.0.value.sheet) × (r.number ≡ p.0.value.number) };
+}
+
+/// Works the pieces of a phase as `work_shared` does. Meanwhile an observer has a watcher, on a thread of its own,
+/// which is waited for before the phase is closed.
+///
+/// Refused: `NoMemory`; `NoWorker`, where a thread could not be started, that of the observer too.
+pub fn work_shared_watched<R: Threads + Wait, G: Gate, O: Observe>(
+    rt: &R,
+    alloc: Global,
+    gate: &G,
+    observer: &O,
+    workers: usize,
+    words: Vec<u64>,
+    pieces: Vec<Piece>,
+) -> Result<(Vec<u64>, Vec<Done>), CrewError>
+    requires some { 1 ≤ workers }
+    requires few { workers < 1024 }
+    requires can { CanBeWorked words.items pieces.items }
+    requires told { O.told observer.now words.items pieces.items }
+    ensures { IfOk result (λ r. IsWorked words.items pieces.items r.0.items r.1.items) }
+{
+    let (shared, turns, mut watchers) = Open::open_watched(alloc, words, pieces, 1)?;
+    let Some(watcher) = watchers.pop() else {
+        unreachable!()
+    };
+    let (turns, watcher) = work_turns_watched::<Brand, R, G, O>(
+        rt, alloc, gate, observer, workers, &shared, turns, watcher,
+    )?;
+    watchers.push_reserved(watcher);
+    match shared.close(turns, watchers) {
+        Ok((words, dones, _)) => Ok((words, dones)),
+        Err(_) => unreachable!(),
+    }
+}
+
+/// Works the turns of a phase to their end while an observer has a watcher, which comes back.
+fn work_turns_watched<N: Which + Send + Sync, R: Threads + Wait, G: Gate, O: Observe>(
+    rt: &R,
+    alloc: Global,
+    gate: &G,
+    observer: &O,
+    workers: usize,
+    shared: &Open,
+    turns: Vec<Turn>,
+    watcher: Watcher,
+) -> Result<(Vec<Turn>, Watcher), CrewError>
+    requires some { 1 ≤ workers }
+    requires few { workers < 1024 }
+    requires phase { shared.now ≡ N.sheet }
+    requires fresh { All (IsFresh N.sheet) turns.items }
+    requires watcher { watcher.sheet ≡ shared.now }
+    requires told { O.told observer.now shared.now.opening.words shared.now.opening.pieces }
+    ensures ended { IfOk result (λ r. All (IsEnded N.sheet) r.0.items) }
+    ensures sums { IfOk result (λ r. (h : ℕ → ℕ) → weigh h (numbers_of r.0.items) ≡ weigh h (numbers_of turns.items)) }
+    ensures watcher { IfOk result (λ r. (r.1.sheet ≡ watcher.sheet) × (r.1.number ≡ watcher.number)) }
+{
+    thread::scope(
+        thread::scope_env(),
+        rt,
+        move |scope| -> Result<(Vec<Turn>, Watcher), CrewError>
+            requires { (1 ≤ workers) × (workers < 1024) × (shared.now ≡ N.sheet) × All (IsFresh N.sheet) turns.items × (watcher.sheet ≡ shared.now) × O.told observer.now shared.now.opening.words shared.now.opening.pieces }
+            ensures { IfOk result (λ r. All (IsEnded N.sheet) r.0.items × ((h : ℕ → ℕ) → weigh h (numbers_of r.0.items) ≡ weigh h (numbers_of turns.items)) × (r.1.sheet ≡ watcher.sheet) × (r.1.number ≡ watcher.number)) }
+        {
+            work_in::<N, R, G, O>(
+                scope, rt, alloc, gate, observer, workers, shared, turns, watcher,
+            )
+        },
+    )
+}
+
+/// Works the turns, with the observer's thread in this scope.
+fn work_in<'s, 'e, N: Which + Send + Sync, R: Threads + Wait, G: Gate, O: Observe + 'e>(
+    scope: &'s Scope<'s, &'e ()>,
+    rt: &R,
+    alloc: Global,
+    gate: &G,
+    observer: &'e O,
+    workers: usize,
+    shared: &'e Open,
+    turns: Vec<Turn>,
+    watcher: Watcher,
+) -> Result<(Vec<Turn>, Watcher), CrewError>
+    requires some { 1 ≤ workers }
+    requires few { workers < 1024 }
+    requires phase { shared.now ≡ N.sheet }
+    requires fresh { All (IsFresh N.sheet) turns.items }
+    requires watcher { watcher.sheet ≡ shared.now }
+    requires told { O.told observer.now shared.now.opening.words shared.now.opening.pieces }
+    ensures ended { IfOk result (λ r. All (IsEnded N.sheet) r.0.items) }
+    ensures sums { IfOk result (λ r. (h : ℕ → ℕ) → weigh h (numbers_of r.0.items) ≡ weigh h (numbers_of turns.items)) }
+    ensures watcher { IfOk result (λ r. (r.1.sheet ≡ watcher.sheet) × (r.1.number ≡ watcher.number)) }
+{
+    let handle = start(scope, observer, shared, watcher)?;
+    let turns = work_turns::<N, R, G>(rt, alloc, gate, workers, shared, turns)?;
+    Ok((turns, handle.join(rt)))
+}
+
+/// Starts an observer on a thread of its own.
+fn start<'s, 'e, O: Observe + 'e>(
+    scope: &'s Scope<'s, &'e ()>,
+    observer: &'e O,
+    shared: &'e Open,
+    watcher: Watcher,
+) -> Result<PromisedHandle<Watcher, SameWatcher>, CrewError>
+    requires of { watcher.sheet ≡ shared.now }
+    requires told { O.told observer.now shared.now.opening.words shared.now.opening.pieces }
+    ensures { IfOk result (λ h. h.promise.0.value ≡ watcher) }
+{
+    let promise = SameWatcher(Snapshot::of(&watcher));
+    match scope.spawn_with(
+        promise,
+        move || -> Watcher
+            requires { (watcher.sheet ≡ shared.now) × O.told observer.now shared.now.opening.words shared.now.opening.pieces }
+        { lend(observer, watcher, shared) },
+    ) {
+        Ok(handle) => Ok(handle),
+        Err(_) => Err(CrewError::NoWorker),
+    }
+}
+
+/// Lends a watcher to an observer, and returns it when the observer has done.
+fn lend<O: Observe>(observer: &O, mut watcher: Watcher, shared: &Open) -> Watcher
+    requires of { watcher.sheet ≡ shared.now }
+    requires told { O.told observer.now shared.now.opening.words shared.now.opening.pieces }
+    ensures same { (result.sheet ≡ watcher.sheet) × (result.number ≡ watcher.number) }
+{
+    observer.observe(&mut watcher, shared);
+    watcher
+}

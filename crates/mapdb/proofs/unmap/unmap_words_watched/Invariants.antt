@@ -1,0 +1,11 @@
+-- The words so far are worked, and are told of.
+use Rattle.std.proofs.Common.{◌≡◌, take}
+use Rattle.mapdb.specs.State.{unmap_left}
+use Rattle.mapdb.proofs.WordByWord.{AreWorkedUpTo}
+use Rattle.mapdb.proofs.unmap.unmap_words_watched.Given as goal
+
+abbrev pub invariant-loop-fpage : goal.invariant-loop-fpage
+invariant-loop-fpage g l = record {
+  worked : AreWorkedUpTo l.fn.held l.space l.flush l.fpages l.fpage-index l.held l.status.items;
+  now : l.held.holdings ≡ unmap_left l.space l.flush (take l.fpage-index l.fpages) l.fn.held.holdings;
+}
