@@ -3,22 +3,23 @@
 
     bench/phases.py [NODES..]
 
-The test `works_a_thousand_nodes_or_as_many_as_are_asked_for` of crates/phase_tests/out/phase_tests_tests, which `rt ci` leaves, works
-strips of 1,048,576 nodes, or of as many as are asked for, in pieces of 256, 1,024 and 4,096, each crew five times in turn. It times only
-the call of `work` of `crew`, which shares the words, starts the workers, works all turns and takes the words back. It is run three times,
-and the medians and the least times are printed:
+The test `works_a_thousand_nodes_or_as_many_as_are_asked_for` of crates/phase_tests/out/phase_tests_tests, which `rt ci`
+leaves, works strips of 1,048,576 nodes, or of as many as are asked for, in pieces of 256, 1,024 and 4,096, each crew
+five times in turn. It times only the call of `work` of `crew`, which shares the words, starts the workers, works all
+turns and takes the words back. It is run three times, and the medians and the least times are printed:
 
     1 worker, 2 workers, 4 workers
-                  the pieces are turns, with a gate that counts their ends, so that one worker takes them from its deque too
+                  the pieces are turns, with a gate that counts their ends, so that one worker takes them from its deque
+                  too
     in place      one worker, which nobody hears, works the same pieces one after another on the words themselves
     1 to 2, 1 to 4
                   how many times faster 2 and 4 workers are than one that takes turns
 
-and then the nanoseconds of a look of a watcher, at entries that stand 389 apart:
+and then the nanoseconds of a look of a watcher, at entries that stand 389 apart, one after another:
 
-    alone         while no step is made
-    beside four   the time of a phase that four workers work, from `open` to `close`, for each look that was made in it until
-                  its last piece ended: so a look took less
+    alone         of a million looks, while no step is made
+    beside four   of the looks that a thread of its own makes while four workers work the phase, from its start until the
+                  last piece has ended; after each hundred it asks whether that is so
 
 Nothing here has a threshold.
 """

@@ -1,4 +1,5 @@
-//! Links the proved archive: the one that `L4MAP_ARCHIVE` names, or the one that `./library.sh` builds in this repository.
+//! Links the proved archive: the one that `L4MAP_ARCHIVE` names, or the one that `./library.sh` builds in this
+//! repository.
 
 use std::env;
 use std::path::{Path, PathBuf};

@@ -89,11 +89,11 @@ pub struct Entry {
 
 /// A mapping database.
 ///
-/// At the start space 0 holds page `i` as frame `i` with all rights, for each `i` below the number of frames, and nothing
-/// else is held.
+/// At the start space 0 holds page `i` as frame `i` with all rights, for each `i` below the number of frames, and
+/// nothing else is held.
 ///
-/// A database may go to another thread, but two may not use it at once, not even to look at it: it is `Send` and not `Sync`.
-/// Threads or processors share it under a lock:
+/// A database may go to another thread, but two may not use it at once, not even to look at it: it is `Send` and not
+/// `Sync`. Threads or processors share it under a lock:
 ///
 /// ```
 /// use l4map::{Database, Fpage, Item, Limits, Rights, Space};
@@ -125,10 +125,10 @@ pub struct Database {
     handle: UnsafeCell<raw::Handle>,
 }
 
-// SAFETY: nothing in the archive is bound to a thread: it has no variables, neither of a thread nor of the program, and takes
-// no lock. What a database has are blocks of the program's heap, to which its handle alone leads, and the heap functions may
-// be called on any thread. The handle is not copied out of its database, and that is not `Sync`: so one thread at a time makes
-// calls. All this is trusted; that there are no variables is tested.
+// SAFETY: nothing in the archive is bound to a thread: it has no variables, neither of a thread nor of the program, and
+// takes no lock. What a database has are blocks of the program's heap, to which its handle alone leads, and the heap
+// functions may be called on any thread. The handle is not copied out of its database, and that is not `Sync`: so one
+// thread at a time makes calls. All this is trusted; that there are no variables is tested.
 unsafe impl Send for Database {}
 
 impl Database {
@@ -152,9 +152,10 @@ impl Database {
     ///
     /// # Errors
     ///
-    /// The first that fits: [`Error::Halted`]; [`Error::BadCall`] without items or with more than 31; of the window and then of
-    /// each item in order [`Error::NotAnItem`], [`Error::BadSize`], [`Error::Misaligned`] or [`Error::OutOfSpace`];
-    /// [`Error::NoSuchSpace`]; [`Error::SameSpace`]; [`Error::NoWindow`]. [`Error::Halted`] too where memory runs out.
+    /// The first that fits: [`Error::Halted`]; [`Error::BadCall`] without items or with more than 31; of the window and
+    /// then of each item in order [`Error::NotAnItem`], [`Error::BadSize`], [`Error::Misaligned`] or
+    /// [`Error::OutOfSpace`]; [`Error::NoSuchSpace`]; [`Error::SameSpace`]; [`Error::NoWindow`]. [`Error::Halted`] too
+    /// where memory runs out.
     pub fn send(
         &mut self,
         from: Space,
@@ -186,8 +187,8 @@ impl Database {
         })
     }
 
-    /// Takes the rights of each fpage from all that derives from its pages. Each comes back with a status in place of its
-    /// rights: what was seen of its pages and of all that derives from them. That status is cleared.
+    /// Takes the rights of each fpage from all that derives from its pages. Each comes back with a status in place of
+    /// its rights: what was seen of its pages and of all that derives from them. That status is cleared.
     ///
     /// ```
     /// use l4map::{Access, Database, Fpage, Item, Limits, Rights, Space};
@@ -209,8 +210,8 @@ impl Database {
     ///
     /// # Errors
     ///
-    /// The first that fits: [`Error::Halted`]; [`Error::BadControl`] without fpages or with more than 64; of each fpage in
-    /// order [`Error::BadSize`], [`Error::Misaligned`] or [`Error::OutOfSpace`]; [`Error::NoSuchSpace`].
+    /// The first that fits: [`Error::Halted`]; [`Error::BadControl`] without fpages or with more than 64; of each fpage
+    /// in order [`Error::BadSize`], [`Error::Misaligned`] or [`Error::OutOfSpace`]; [`Error::NoSuchSpace`].
     /// [`Error::Halted`] too where memory runs out. The fpages are as they were then.
     pub fn unmap(&mut self, space: Space, fpages: &mut [Fpage]) -> Result<(), Error> {
         self.revoke(space, 0, fpages)
@@ -254,13 +255,43 @@ impl Database {
         })
     }
 
+    /// Takes all pages from a space, as where it is deleted, and all that derives from them. Answers the status of all
+    /// these, which also goes to the pages from which they came. The space may be used again.
+    ///
+    /// ```
+    /// use l4map::{Access, Database, Fpage, Item, Limits, Rights, Space};
+    ///
+    /// # fn main() -> Result<(), l4map::Error> {
+    /// let mut database = Database::new(Limits { spaces: 3, bits: 18, frames: 2 })?;
+    /// let window = Fpage::complete(Rights::NONE);
+    /// let pages = Fpage::pages(0, 2, Rights::ALL).unwrap();
+    /// database.send(Space(0), Space(1), window, &[Item::map(pages, 0)])?;
+    /// database.send(Space(1), Space(2), window, &[Item::map(pages, 0)])?;
+    /// database.access(Space(2), 0x1000, Access::Write)?;
+    ///
+    /// assert_eq!(database.clear(Space(1))?, Rights::READ | Rights::WRITE);
+    /// assert_eq!(database.mappings()?.count(), 2);
+    /// # Ok(())
+    /// # }
+    /// ```
+    ///
+    /// # Errors
+    ///
+    /// The first that fits: [`Error::Halted`]; [`Error::NoSuchSpace`]. [`Error::Halted`] too where memory runs out.
+    pub fn clear(&mut self, space: Space) -> Result<Rights, Error> {
+        let mut status = 0;
+        // SAFETY: the status is lent for the call.
+        Error::check(unsafe { raw::l4map_clear(self.handle.get(), space.0, &mut status) })?;
+        Ok(Rights::from_bits(status))
+    }
+
     /// Accesses the page of an address, in bytes. Whether the access was made: the status of the page then says so.
     /// Otherwise it is a fault, and nothing changes.
     ///
     /// # Errors
     ///
-    /// The first that fits: [`Error::Halted`]; [`Error::NoSuchSpace`]; [`Error::OutOfSpace`]. [`Error::Halted`] too where
-    /// memory runs out.
+    /// The first that fits: [`Error::Halted`]; [`Error::NoSuchSpace`]; [`Error::OutOfSpace`]. [`Error::Halted`] too
+    /// where memory runs out.
     pub fn access(&mut self, space: Space, address: u32, access: Access) -> Result<bool, Error> {
         let mut made = 0;
         // SAFETY: what is made is lent for the call.
@@ -605,6 +636,25 @@ mod tests {
             assert_eq!(fpages, given);
         }
         assert_eq!(database.unmap(Space(0), &mut [Fpage::NIL; 64]), Ok(()));
+    }
+
+    #[test]
+    fn a_clear_takes_all_pages_from_a_space() {
+        let mut database = small();
+        for (from, page) in [(0, 5), (1, 0)] {
+            let item = Item::map(Fpage::page(page, Rights::ALL), 0);
+            database
+                .send(Space(from), Space(from + 1), WINDOW, &[item])
+                .unwrap();
+        }
+        assert_eq!(database.access(Space(2), 0, Access::Write), Ok(true));
+        assert_eq!(database.clear(Space(3)), Err(Error::NoSuchSpace));
+        let seen = Rights::READ | Rights::WRITE;
+        assert_eq!(database.clear(Space(1)), Ok(seen));
+        assert_eq!(database.clear(Space(1)), Ok(Rights::NONE));
+        assert_eq!(database.entry(place(2, 0)), Ok(None));
+        assert_eq!(database.entry(place(0, 5)).unwrap().unwrap().status, seen);
+        assert_eq!(database.mappings().unwrap().count(), 32);
     }
 
     #[test]

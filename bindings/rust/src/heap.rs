@@ -12,8 +12,8 @@ struct Tried {
     at: *mut u8,
 }
 
-/// Before each block stands its length, since the archive does not say it when it gives the block back. Blocks are aligned
-/// to as many bytes; the archive asks for no more.
+/// Before each block stands its length, since the archive does not say it when it gives the block back. Blocks are
+/// aligned to as many bytes; the archive asks for no more.
 const HEADER: usize = 16;
 
 /// A block of so many bytes, with its header.

@@ -34,9 +34,9 @@
 //! # The heap
 //!
 //! The database takes its memory from three functions, `rattle_alloc`, `rattle_realloc` and `rattle_dealloc`, which the
-//! feature `std-heap` defines over Rust's global allocator. It is on by default. A kernel that turns it off defines them
-//! itself, as `heap.rs` of this crate does; each is called on the thread that makes the call, and a block may be given back on
-//! another one. Nothing else of this crate asks for memory, and it does without `std`.
+//! feature `std-heap` defines over Rust's global allocator. It is on by default. A kernel that turns it off defines
+//! them itself, as `heap.rs` of this crate does; each is called on the thread that makes the call, and a block may be
+//! given back on another one. Nothing else of this crate asks for memory, and it does without `std`.
 
 #![no_std]
 #![warn(missing_docs)]

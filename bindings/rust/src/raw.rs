@@ -60,6 +60,7 @@ extern "C" {
     ) -> u32;
     pub fn l4map_unmap(db: *mut Handle, space: u16, control: u32, words: *mut u32, n: usize)
         -> u32;
+    pub fn l4map_clear(db: *mut Handle, space: u16, status: *mut u32) -> u32;
     pub fn l4map_access(
         db: *mut Handle,
         space: u16,

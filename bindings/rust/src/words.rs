@@ -38,8 +38,8 @@ impl fmt::Display for Place {
     }
 }
 
-/// A run of pages and a set of rights, as a word of 32 bits: the number of pages is a power of two, and the first page a
-/// multiple of that number.
+/// A run of pages and a set of rights, as a word of 32 bits: the number of pages is a power of two, and the first page
+/// a multiple of that number.
 ///
 /// ```
 /// use l4map::{Fpage, Rights};

@@ -1,4 +1,5 @@
-//! The heap functions of the feature `std-heap`, over a global allocator that counts its bytes and refuses one allocation.
+//! The heap functions of the feature `std-heap`, over a global allocator that counts its bytes and refuses one
+//! allocation.
 #![cfg(feature = "std-heap")]
 
 use std::alloc::{GlobalAlloc, Layout, System};

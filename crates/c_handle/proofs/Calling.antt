@@ -62,6 +62,14 @@ not_refused {B} s new call x runs why = by (call_refusal s.limits call) refl (su
     by None none why = none
     by (Some r) some why = absurd (cc why.0)
 
+-- nor was the database halted
+pub not_halted : {B : Type 0} (s new : State) (call : Call) (x : B) → IsRefused {A = B} (refusal s call) s new (Ok x) → s.is_halted ≡ false
+not_halted {B} s new call x why = by s.is_halted refl why
+  where
+    by : (b : Bool) → s.is_halted ≡ b → IsRefused {A = B} (if b then Some Halted else option_map error_of (call_refusal s.limits call)) s new (Ok x) → s.is_halted ≡ false
+    by true is why = absurd (cc why.0)
+    by false is why = is
+
 module _ {A : Type 0} (told : A → Reply → A) (request : Request) (s : State) (lent : A) (call : Call) (asked : request ≡ Ok call) (runs : s.is_halted ≡ false) where
   -- done
   pub called_done : call_refusal s.limits call ≡ None → (new : State) → new ≡ left_with s (call_answer s.holdings call).left
@@ -98,3 +106,18 @@ module _ {A : Type 0} (told : A → Reply → A) (request : Request) (s : State)
           called_as told request s lent runs (record { reply = refused r; left = s.holdings })
           (ap (answer s.limits s.holdings) asked ∙ ap (λ o. unless_refused o s.holdings (call_answer s.holdings call)) some) after
           (λ i. record { code = (ap code_of is ∙ named) i; held = Some (why.1 i); lent = sym (kept r) i })
+
+-- refused by the database, which may be halted, or out of memory in the middle
+pub called_at_once : {A : Type 0} (told : A → Reply → A) (request : Request) (s : State) (lent : A) (call : Call) → request ≡ Ok call
+    → (B : Type 0) → ((r : Refusal) → told lent (refused r) ≡ lent) → IsNamed (call_refusal s.limits call) → is_refused (call_answer s.holdings call).reply ≡ false
+    → (new : State) (e : DbError) → IsRefused {A = B} (refusal s call) s new (Err e) → (e ≡ NoMemory → new ≡ halted s) → (e ≡ NoWorker → new ≡ halted s)
+    → IsCalled told request s lent (record { code = code_of e; held = Some new; lent = lent })
+called_at_once {A} told request s lent call asked B kept named accepted new e why no_memory no_worker = by s.is_halted refl why
+  where
+    by : (b : Bool) → s.is_halted ≡ b → IsRefused {A = B} (if b then Some Halted else option_map error_of (call_refusal s.limits call)) s new (Err e)
+        → IsCalled told request s lent (record { code = code_of e; held = Some new; lent = lent })
+    by true is why =
+        let same : e ≡ Halted = cc why.0 in
+        let P : After A → Type 0 = λ after. IsCalled told request s lent after in
+        subst P (λ i. record { code = ap code_of (sym same) i; held = Some (sym why.1 i); lent = lent }) (called_halted told request s lent is)
+    by false is _ = called_error told request s lent call asked is B kept named accepted new e why no_memory no_worker

@@ -4,7 +4,7 @@ use Rattle.std.specs.Option.{option_map}
 use Rattle.fpage.specs.declared.rights.Access.{Access}
 use Rattle.fpage.specs.declared.rights.Access.TheVariants.{Read, Write, Execute}
 use Rattle.model.specs.Calls.{Limits, Request}
-use Rattle.model.specs.Records.{are_item_words, send_request, unmap_request, access_request}
+use Rattle.model.specs.Records.{are_item_words, send_request, unmap_request, access_request, clear_request}
 
 -- a send; a bad record where the number of words is not served
 abbrev pub send_asked : ℕ → ℕ → ℕ → List ℕ → Limits → Request
@@ -14,6 +14,10 @@ send_asked from to window words limits =
 -- an unmap
 abbrev pub unmap_asked : ℕ → ℕ → List ℕ → Limits → Request
 unmap_asked space control words limits = unmap_request limits (Some (record { space = space; control = control; words = words }))
+
+-- a clear
+abbrev pub clear_asked : ℕ → Limits → Request
+clear_asked space limits = clear_request (Some space)
 
 -- the kind of access that a number names
 abbrev pub kind_of : ℕ → Option Access

@@ -1,6 +1,7 @@
 -- What a reply writes to what is lent to a call; a refusal writes nothing.
 use Rattle.std.specs.Prelude.{ℕ, List, if◌then◌else◌}
-use Rattle.model.specs.Calls.{Reply, sent, accessed, unmapped}
+use Rattle.fpage.specs.Rights.{number}
+use Rattle.model.specs.Calls.{Reply, sent, accessed, unmapped, cleared}
 use Rattle.model.specs.Items.{Counts}
 use Rattle.c_handle.specs.declared.send.SendReply.{SendReply}
 
@@ -17,6 +18,11 @@ counts_told old other = old
 abbrev pub words_told : List ℕ → Reply → List ℕ
 words_told old (unmapped words) = words
 words_told old other = old
+
+-- by a clear
+abbrev pub status_told : ℕ → Reply → ℕ
+status_told old (cleared status) = number status
+status_told old other = old
 
 -- by an access
 abbrev pub made_told : ℕ → Reply → ℕ

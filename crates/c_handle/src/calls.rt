@@ -5,6 +5,7 @@ ghost use Rattle.std.specs.Prelude.{◌≡◌, None, Some, option_map};
 ghost use Rattle.c_handle.specs.Boxed.{value_of};
 
 use crate::access::access;
+use crate::clear::clear_space;
 use crate::code::{BAD_LIMITS, DONE, EMPTY, HOLDS_ONE, NO_MEMORY};
 use crate::error::result_code;
 use crate::handle::Handle;
@@ -21,9 +22,9 @@ impl Handle {
     ghost use Rattle.std.specs.Prelude.{◌≡◌, None};
     ghost use Rattle.c_handle.specs.New.{IsMade};
     ghost use Rattle.c_handle.specs.Look.{held_code, held_entry, held_origin};
-    ghost use Rattle.c_handle.specs.Asked.{send_asked, unmap_asked, access_asked};
+    ghost use Rattle.c_handle.specs.Asked.{send_asked, unmap_asked, access_asked, clear_asked};
     ghost use Rattle.c_handle.specs.Called.{IsCalledOf};
-    ghost use Rattle.c_handle.specs.Replied.{words_told, made_told};
+    ghost use Rattle.c_handle.specs.Replied.{words_told, made_told, status_told};
     ghost use Rattle.c_handle.specs.Sent.{IsSentOf};
     ghost use Rattle.c_handle.specs.Listed.{listed_of};
 
@@ -99,6 +100,22 @@ impl Handle {
         let unmapped = unmap(alloc, &mut whole, space, control, words);
         put(self, alloc, whole);
         result_code(unmapped)
+    }
+
+    /// Takes all pages from a space, as where it is deleted, and with each page all that derives from it. `status` is
+    /// then that of all of them: 4 for read, 2 for write and 1 for execute, added up.
+    ///
+    /// Refused: `EMPTY`, where the handle holds nothing; and what `Database::clear` refuses, in its order.
+    pub fn clear_space(&mut self, alloc: Global, space: u16, status: &mut u32) -> u32
+        ensures { IsCalledOf status_told (clear_asked space) self.old.held status.old
+            (record { code = result; held = self.new.held; lent = status.new }) }
+    {
+        let Some(mut whole) = take(self, alloc) else {
+            return EMPTY;
+        };
+        let cleared = clear_space(alloc, &mut whole, space, status);
+        put(self, alloc, whole);
+        result_code(cleared)
     }
 
     /// Accesses the page of an address, in bytes, by a kind of access: 4 reads, 2 writes and 1 executes. `made` is then 1, or 0 for

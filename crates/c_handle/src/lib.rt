@@ -3,6 +3,7 @@
 
 mod access;
 mod calls;
+mod clear;
 mod code;
 mod error;
 mod handle;

@@ -137,6 +137,14 @@ uint32_t l4map_send(struct l4map *db, uint16_t from, uint16_t to, uint32_t windo
  * that runs out of memory: what was held is then gone, and the words are as they were. */
 uint32_t l4map_unmap(struct l4map *db, uint16_t space, uint32_t control, uint32_t *words, size_t n);
 
+/* Takes all pages from a space, as where it is deleted, and with each page all that derives from it, in whatever space.
+ * *status is that of all of them: which kinds of access they have seen. It goes to the pages from which they came, too.
+ * The space may be used again.
+ *
+ * Refused with the first that fits, and nothing changes: L4MAP_EMPTY; L4MAP_HALTED; L4MAP_NO_SUCH_SPACE. L4MAP_HALTED
+ * too by a call that runs out of memory: what was held is then gone, and *status is as it was. */
+uint32_t l4map_clear(struct l4map *db, uint16_t space, uint32_t *status);
+
 /* Accesses the page of an address, in bytes, to read (kind 4), to write (2) or to execute (1). *made is 1 where the
  * access was made, and the status of the page then says so; it is 0 where it is a fault, and nothing changes.
  *

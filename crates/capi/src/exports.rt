@@ -3,9 +3,9 @@
 ghost use Rattle.std.specs.Prelude.{◌≡◌, None};
 ghost use Rattle.c_handle.specs.New.{IsMade};
 ghost use Rattle.c_handle.specs.Look.{held_code, held_entry, held_origin};
-ghost use Rattle.c_handle.specs.Asked.{send_asked, unmap_asked, access_asked};
+ghost use Rattle.c_handle.specs.Asked.{send_asked, unmap_asked, access_asked, clear_asked};
 ghost use Rattle.c_handle.specs.Called.{IsCalledOf};
-ghost use Rattle.c_handle.specs.Replied.{words_told, made_told};
+ghost use Rattle.c_handle.specs.Replied.{words_told, made_told, status_told};
 ghost use Rattle.c_handle.specs.Sent.{IsSentOf};
 ghost use Rattle.c_handle.specs.Listed.{listed_of};
 
@@ -75,6 +75,15 @@ pub extern "C" fn l4map_unmap(
         (record { code = result; held = db.new.held; lent = words.new }) }
 {
     db.unmap(alloc, space, control, words)
+}
+
+/// Takes all pages from a space, and all that derives from them.
+#[unsafe(no_mangle)]
+pub extern "C" fn l4map_clear(alloc: Global, db: &mut Handle, space: u16, status: &mut u32) -> u32
+    ensures { IsCalledOf status_told (clear_asked space) db.old.held status.old
+        (record { code = result; held = db.new.held; lent = status.new }) }
+{
+    db.clear_space(alloc, space, status)
 }
 
 /// Accesses the page of an address.

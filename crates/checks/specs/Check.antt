@@ -2,7 +2,7 @@
 use Rattle.std.specs.Prelude.{◌≡◌, ℕ, Bool, List, length, count_by, is_some, Option, Some, Ok, Err}
 use Rattle.model.specs.Calls.{Limits, Refusal, Request}
 use Rattle.model.specs.Answers.{call_refusal}
-use Rattle.model.specs.Records.{Fields, Trace, bad_header, bad_limits, request, trace_of}
+use Rattle.model.specs.Records.{Fields, Version, Trace, bad_header, bad_limits, request, trace_of}
 use Rattle.model.specs.Text.{refused_count, told}
 use Rattle.checks.specs.declared.check.Found.{Found}
 use Rattle.checks.specs.declared.check.Found.TheVariants.{BadHeader, BadLimits, Records}
@@ -12,19 +12,19 @@ abbrev pub refusal_in : Limits → Request → Option Refusal
 refusal_in limits (Err r) = Some r
 refusal_in limits (Ok call) = call_refusal limits call
 
--- whether a record is refused
-abbrev pub is_refused_record : Limits → Fields → Bool
-is_refused_record limits fields = is_some (refusal_in limits (request limits fields))
+-- whether a record of a trace of a version is refused
+abbrev pub is_refused_record : Version → Limits → Fields → Bool
+is_refused_record version limits fields = is_some (refusal_in limits (request version limits fields))
 
 -- how many of some records are refused
-abbrev pub refused_among : Limits → List Fields → ℕ
-refused_among limits rows = count_by (is_refused_record limits) rows
+abbrev pub refused_among : Version → Limits → List Fields → ℕ
+refused_among version limits rows = count_by (is_refused_record version limits) rows
 
 -- the numbers are those of the records behind a header
-abbrev pub CountsRest : Limits → List Fields → Found → Type 0
-CountsRest limits rest BadHeader = ⊥
-CountsRest limits rest BadLimits = ⊥
-CountsRest limits rest (Records records refused) = (records ≡ length rest) × (refused ≡ refused_among limits rest)
+abbrev pub CountsRest : Version → Limits → List Fields → Found → Type 0
+CountsRest version limits rest BadHeader = ⊥
+CountsRest version limits rest BadLimits = ⊥
+CountsRest version limits rest (Records records refused) = (records ≡ length rest) × (refused ≡ refused_among version limits rest)
 
 -- the bytes are a trace with so many records, of which so many are answered by a refusal
 pub record AreCounted (bytes : List ℕ) (records refused : ℕ) : Type 0 where

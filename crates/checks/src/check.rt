@@ -1,7 +1,8 @@
 //! The check of a trace: which of its records are refused, where and why.
 
-ghost use Rattle.std.specs.Prelude.{◌≡◌, ◌+◌, ◌-◌, ◌^◌, ◌<◌, true, IfOk, option_map, if◌then◌else◌};
+ghost use Rattle.std.specs.Prelude.{◌≡◌, ◌+◌, ◌-◌, ◌^◌, ◌<◌, nat_lt, true, Some, None, IfOk, option_map, if◌then◌else◌};
 ghost use Rattle.fpage.specs.Fpage.{IsSpaceBits};
+ghost use Rattle.model.specs.Calls.{no_such_space};
 ghost use Rattle.model.specs.Records.{are_limits};
 ghost use Rattle.holdings.specs.Meaning.{limits_of};
 ghost use Rattle.trace.specs.Meaning.{refusal_of, request_of};
@@ -126,7 +127,7 @@ fn check_records<W: Sink>(
     writer: &mut W,
 ) -> Result<Found, CheckError>
     requires { are_limits (limits_of limits.now) ≡ true }
-    ensures { IfOk result (CountsRest (limits_of limits.now) reader.old.records) }
+    ensures { IfOk result (CountsRest reader.old.version (limits_of limits.now) reader.old.records) }
 {
     let mut places = Places::new(alloc, subject.bytes)?;
     places.next_place()?;
@@ -168,7 +169,7 @@ fn check_record<W: Sink>(
     writer: &mut W,
 ) -> Result<bool, CheckError>
     requires { are_limits (limits_of limits.now) ≡ true }
-    ensures { IfOk result (λ is. is ≡ is_refused_record (limits_of limits.now) row.now) }
+    ensures { IfOk result (λ is. is ≡ is_refused_record row.now.version (limits_of limits.now) row.now.fields) }
 {
     let asked = row.call(alloc, limits)?;
     let Some(refusal) = refusal(limits, &asked) else {
@@ -217,13 +218,19 @@ pub fn refusal(limits: &Limits, asked: &Result<Call, Refusal>) -> Option<Refusal
                 words: _,
                 fpages: _,
             },
-        ) => {
-            if u32::from(*space) >= limits.spaces {
-                Some(Refusal::NoSuchSpace)
-            } else {
-                None
-            }
-        }
+        ) => unknown_space(limits, *space),
+        Ok(Call::Clear { space }) => unknown_space(limits, *space),
+    }
+}
+
+/// `NoSuchSpace`, where a space is none of the limits.
+fn unknown_space(limits: &Limits, space: u16) -> Option<Refusal>
+    ensures { option_map refusal_of result ≡ (if nat_lt space limits.now.spaces then None else Some no_such_space) }
+{
+    if u32::from(space) >= limits.spaces {
+        Some(Refusal::NoSuchSpace)
+    } else {
+        None
     }
 }
 
@@ -252,7 +259,7 @@ fn tell_refused<W: Sink>(
 {
     let fields = fields_of(alloc, record)?;
     let mut cause = String::new(alloc);
-    let index = push_cause(&mut cause, limits, &fields, refusal)?;
+    let index = push_cause(&mut cause, record.version(), limits, &fields, refusal)?;
     let mut line = String::new(alloc);
     push_place(&mut line, subject, span, &fields, index)?;
     write!(line, "record {number}: {refusal:?}: {cause}\n")?;

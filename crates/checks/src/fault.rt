@@ -9,19 +9,21 @@ use mapdb::Limits;
 use std::alloc::AllocError;
 use std::fmt::Write;
 use texts::{push_fpage_fault, push_item_fault, push_quoted};
-use trace::Refusal;
+use trace::{Refusal, Version};
 
-/// Appends why a record with these fields is refused so, and returns the index of the field at fault.
+/// Appends why a record with these fields is refused so in a trace of a version, and returns the index of the field at
+/// fault.
 pub fn push_cause(
     text: &mut String,
+    version: Version,
     limits: &Limits,
     fields: &[&[u8]],
     refusal: Refusal,
 ) -> Result<usize, AllocError>
     requires { IsSpaceBits limits.now.bits }
 {
-    let Some(form) = form_of(fields) else {
-        return push_bad_name(text, fields);
+    let Some(form) = form_of(version, fields) else {
+        return push_bad_name(text, version, fields);
     };
     match refusal {
         Refusal::BadRecord => push_bad_form(text, form, fields),
@@ -38,23 +40,30 @@ pub fn push_cause(
     }
 }
 
-/// The form that the first field names.
-fn form_of(fields: &[&[u8]]) -> Option<Form> {
+/// The form that the first field names in a trace of a version.
+fn form_of(version: Version, fields: &[&[u8]]) -> Option<Form> {
     match fields.first() {
-        Some(name) => Form::of_name(name),
+        Some(name) => Form::of_name(version, name),
         None => None,
     }
 }
 
-/// Appends that a record has no known name.
-fn push_bad_name(text: &mut String, fields: &[&[u8]]) -> Result<usize, AllocError> {
+/// Appends that a record has no name that a trace of a version knows.
+fn push_bad_name(
+    text: &mut String,
+    version: Version,
+    fields: &[&[u8]],
+) -> Result<usize, AllocError> {
     let Some(name) = fields.first() else {
         text.push_str("there is no field")?;
         return Ok(0);
     };
     text.push_str("the name is ")?;
     push_quoted(text, name)?;
-    text.push_str(", not send, access or unmap")?;
+    text.push_str(match version {
+        Version::One => ", not send, access or unmap",
+        Version::Two => ", not send, access, unmap or clear",
+    })?;
     push_hint(text, name_hint(name))?;
     Ok(0)
 }
@@ -117,6 +126,7 @@ fn push_bad_count(text: &mut String, form: Form, count: usize) -> Result<(), All
         )?,
         Form::Access => text.push_str("an access has a space, an address and a kind")?,
         Form::Unmap => text.push_str("an unmap has a space, a control word, and fpage words")?,
+        Form::Clear => text.push_str("a clear has a space")?,
     }
     let behind = count.saturating_sub(1);
     if behind == 1 {

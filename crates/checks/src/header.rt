@@ -6,6 +6,7 @@ use mapdb::Limits;
 use std::alloc::AllocError;
 use std::fmt::Write;
 use texts::push_quoted;
+use trace::Version;
 
 /// How many fields a header has.
 const FIELDS: usize = 5;
@@ -24,10 +25,10 @@ pub fn push_bad_header(text: &mut String, fields: &[&[u8]]) -> Result<usize, All
             push_hint(text, separator_hint(name).or(number_hint(name)))?;
             Ok(0)
         }
-        [_, version, ..] if *version != b"1".as_slice() => {
+        [_, version, ..] if Version::of_field(version).is_none() => {
             text.push_str("the version is ")?;
             push_quoted(text, version)?;
-            text.push_str(", not 1")?;
+            text.push_str(", not 1 or 2")?;
             push_hint(text, number_hint(version))?;
             Ok(1)
         }
@@ -53,7 +54,7 @@ fn push_bad_numbers(text: &mut String, fields: &[&[u8]]) -> Result<usize, AllocE
     let count = fields.len();
     write!(
         text,
-        "a header has {FIELDS} fields: l4map, 1, spaces, bits, frames; here are {count}"
+        "a header has {FIELDS} fields: l4map, version, spaces, bits, frames; here are {count}"
     )?;
     Ok(count.saturating_sub(1))
 }

@@ -75,6 +75,10 @@ pub fn name_hint(name: &[u8]) -> Option<&'static str> {
     if name == b"l4map".as_slice() {
         return Some("a header stands only at the start");
     }
+    // In a trace of version 2 it is the name of a record.
+    if name == b"clear".as_slice() {
+        return Some("a trace with clear has a header of version 2: l4map,2,..");
+    }
     separator_hint(name).or(text_hint(name)).or(case_hint(name))
 }
 

@@ -2,6 +2,7 @@
 
 use std::alloc::AllocError;
 use std::fmt::Write;
+use trace::Version;
 
 /// The form of a record, by its name.
 #[derive(Clone, Copy, Debug, PartialEq, Eq)]
@@ -9,15 +10,17 @@ pub enum Form {
     Send,
     Access,
     Unmap,
+    Clear,
 }
 
 impl Form {
-    /// The form that a record's first field names.
-    pub fn of_name(name: &[u8]) -> Option<Self> {
+    /// The form that a record's first field names in a trace of a version.
+    pub fn of_name(version: Version, name: &[u8]) -> Option<Self> {
         match name {
             b"send" => Some(Form::Send),
             b"access" => Some(Form::Access),
             b"unmap" => Some(Form::Unmap),
+            b"clear" if version.has_clear() => Some(Form::Clear),
             _ => None,
         }
     }
@@ -30,10 +33,10 @@ impl Form {
             (Form::Send, 3) => Role::Window,
             (Form::Send, _) if index % 2 == 0 => Role::ItemWord((index / 2).saturating_sub(1)),
             (Form::Send, _) => Role::SendFpage((index / 2).saturating_sub(1)),
-            (Form::Access, 1) | (Form::Unmap, 1) => Role::Space,
+            (Form::Access, 1) | (Form::Unmap, 1) | (Form::Clear, 1) => Role::Space,
             (Form::Access, 2) => Role::Address,
             (Form::Access, 3) => Role::Kind,
-            (Form::Access, _) => Role::Surplus,
+            (Form::Access, _) | (Form::Clear, _) => Role::Surplus,
             (Form::Unmap, 2) => Role::Control,
             (Form::Unmap, _) => Role::FpageWord(index.saturating_sub(2)),
         }
@@ -45,7 +48,7 @@ impl Form {
 pub enum Role {
     Sender,
     Receiver,
-    /// The space of an access or an unmap.
+    /// The space of an access, an unmap or a clear.
     Space,
     Window,
     /// The first word of an item.

@@ -62,7 +62,9 @@ fn command<'a>(alloc: Global) -> Result<Command<'a>, AllocError> {
     let plain = Arg::new(alloc, "plain")
         .long("plain")
         .action(ArgAction::SetTrue)
-        .help("Work every unmap by recursion, page by page, and all else with one worker");
+        .help(
+            "Work every unmap and every clear by recursion, page by page, and all else with one worker",
+        );
     Command::new(alloc, "l4map")
         .version("0.1.0")
         .about(ABOUT)

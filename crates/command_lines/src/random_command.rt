@@ -7,6 +7,7 @@ use crate::argument::{Argument, Kind, OPTION};
 use crate::subcommand::Subcommand;
 use crate::task::{Task, TaskError, refused, refused_value};
 use clap::ArgMatches;
+use field::Version;
 use random_traces::{Plan, Shape};
 use std::alloc::Global;
 
@@ -93,6 +94,14 @@ static RANDOM: Subcommand = Subcommand {
             help: "chain, tree, pagers, conflicts or fpages",
             ..OPTION
         },
+        Argument {
+            name: "version",
+            kind: Kind::Number { least: 1, most: 2 },
+            value: Some("N"),
+            default: Some("1"),
+            help: "The version of the trace: 1, or 2 for one with clear too",
+            ..OPTION
+        },
     ],
 };
 
@@ -130,7 +139,12 @@ pub fn random_task(alloc: Global, asked: &ArgMatches) -> Result<Task, TaskError>
     if percent > 100 {
         return Err(refused(alloc, "at most 100 of 100 records are refused"));
     }
+    let version = match asked.get_one::<u32>("version") {
+        Some(2) => Version::Two,
+        _ => Version::One,
+    };
     Ok(Task::Random(Plan {
+        version,
         seed: asked.get_one::<u64>("seed").unwrap_or(0),
         records: asked.get_one::<u64>("records").unwrap_or(0),
         spaces,

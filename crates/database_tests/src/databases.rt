@@ -3,6 +3,7 @@
 mod accesses;
 mod calls;
 mod chains;
+mod clears;
 mod frames;
 mod layouts;
 mod looks;

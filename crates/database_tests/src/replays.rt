@@ -169,6 +169,40 @@ const LARGE_REPLAYS: [(&str, &str); 2] = [
     ),
 ];
 
+/// Traces with clears, of both versions, and what is written of them.
+const CLEAR_REPLAYS: [(&str, &str); 5] = [
+    (
+        "l4map,2,3,18,16\nsend,0,1,c0,8,50c7\nsend,1,2,c0,8,c7\naccess,2,0,w\nclear,1\nclear,3\nclear\n",
+        "1 send absent=0 norights=0 origin=0 lost=0 extended=0 linked=1\n2 send absent=0 norights=0 origin=0 lost=0 extended=0 linked=1\n3 access ok\n4 clear 00000016\n5 refused NoSuchSpace\n6 refused BadRecord\n0,0,0,rwx,---,-\n0,1,1,rwx,---,-\n0,2,2,rwx,---,-\n0,3,3,rwx,---,-\n0,4,4,rwx,---,-\n0,5,5,rwx,RW-,-\n0,6,6,rwx,---,-\n0,7,7,rwx,---,-\n0,8,8,rwx,---,-\n0,9,9,rwx,---,-\n0,10,10,rwx,---,-\n0,11,11,rwx,---,-\n0,12,12,rwx,---,-\n0,13,13,rwx,---,-\n0,14,14,rwx,---,-\n0,15,15,rwx,---,-\nend 6 2\n",
+    ),
+    (
+        "l4map,1,3,18,16\nsend,0,1,c0,8,50c7\nsend,1,2,c0,8,c7\naccess,2,0,w\nclear,1\nclear,3\nclear\n",
+        "1 send absent=0 norights=0 origin=0 lost=0 extended=0 linked=1\n2 send absent=0 norights=0 origin=0 lost=0 extended=0 linked=1\n3 access ok\n4 refused BadRecord\n5 refused BadRecord\n6 refused BadRecord\n0,0,0,rwx,---,-\n0,1,1,rwx,---,-\n0,2,2,rwx,---,-\n0,3,3,rwx,---,-\n0,4,4,rwx,---,-\n0,5,5,rwx,---,-\n0,6,6,rwx,---,-\n0,7,7,rwx,---,-\n0,8,8,rwx,---,-\n0,9,9,rwx,---,-\n0,10,10,rwx,---,-\n0,11,11,rwx,---,-\n0,12,12,rwx,---,-\n0,13,13,rwx,---,-\n0,14,14,rwx,---,-\n0,15,15,rwx,---,-\n1,0,5,rwx,---,0:5\n2,0,5,rwx,RW-,1:0\nend 6 3\n",
+    ),
+    // Space 0 is cleared, of whose two frames one was granted away and one was mapped on.
+    (
+        "l4map,2,3,18,2\nsend,0,1,10,a,c7\nsend,0,2,10,8,10c7\naccess,2,0,w\naccess,1,0,x\nclear,0\n",
+        "1 send absent=0 norights=0 origin=0 lost=0 extended=0 linked=1\n2 send absent=0 norights=0 origin=0 lost=0 extended=0 linked=1\n3 access ok\n4 access ok\n5 clear 00000016\n1,0,0,rwx,R-X,-\nend 5 0\n",
+    ),
+    // Accesses in a row before and behind a clear.
+    (
+        "l4map,2,2,18,1\nsend,0,1,10,8,c7\naccess,1,0,r\naccess,1,ffc,x\nclear,1\naccess,1,0,r\naccess,0,0,w\n",
+        "1 send absent=0 norights=0 origin=0 lost=0 extended=0 linked=1\n2 access ok\n3 access ok\n4 clear 00000015\n5 access fault\n6 access ok\n0,0,0,rwx,RWX,-\nend 6 0\n",
+    ),
+    // A space that holds nothing.
+    (
+        "l4map,2,2,32,1\nclear,1\n",
+        "1 clear 00000010\n0,0,0,rwx,---,-\nend 1 0\n",
+    ),
+];
+
+#[test]
+fn writes_the_replies_and_the_audit_of_traces_with_clears(rt: HostRuntime) {
+    for (input, expected) in &CLEAR_REPLAYS {
+        expect_outputs(&rt, input, expected);
+    }
+}
+
 #[test]
 fn writes_the_replies_and_the_audit_of_large_spaces(rt: HostRuntime) {
     for (input, expected) in &LARGE_REPLAYS {
@@ -351,12 +385,15 @@ fn counts_the_records_and_the_refused_ones(rt: HostRuntime) {
 }
 
 /// Inputs that end a run before it writes, each with its error.
-const BAD_HEADERS: [(&str, RunError); 9] = [
+const BAD_HEADERS: [(&str, RunError); 12] = [
     ("", RunError::BadHeader),
     ("\n\n", RunError::BadHeader),
     ("l4map,01,3,18,16\n", RunError::BadHeader),
     ("l4map,1,3,18\n", RunError::BadHeader),
     ("l4map,1,3,17,+16\n", RunError::BadHeader),
+    ("l4map,02,3,18,16\n", RunError::BadHeader),
+    ("l4map,3,3,17,16\n", RunError::BadHeader),
+    ("l4map,2,3,17,16\n", RunError::BadLimits),
     ("l4map,1,3,17,16\n", RunError::BadLimits),
     ("l4map,1,513,18,16\n", RunError::BadLimits),
     ("l4map,1,3,18,65\n", RunError::BadLimits),

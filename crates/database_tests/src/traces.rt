@@ -12,8 +12,8 @@ use std::alloc::{AllocError, Global};
 use std::fmt::Write;
 use std::process::Abort;
 use trace::{
-    Call, Failed, Record, Refusal, Reply, Source, Std, Trace, TraceError, TraceReader, push_reply,
-    read_all, reply_text,
+    Call, Failed, Record, Refusal, Reply, Source, Std, Trace, TraceError, TraceReader, Version,
+    push_reply, read_all, reply_text,
 };
 
 /// Appends the fields of a record, each in brackets, and a line end.
@@ -47,7 +47,7 @@ fn expect_records(
 }
 
 /// Traces, with the spaces, bits and frames of their limits, and the records as they are listed.
-static TRACES: [(&str, (u32, u32, u32), &str); 9] = [
+static TRACES: [(&str, (u32, u32, u32), &str); 10] = [
     ("l4map,1,3,18,16", (3, 18, 16), ""),
     (
         "l4map,1,3,18,16\nsend,0,1,10,8,50c6\naccess,1,fff,w\n",
@@ -86,6 +86,8 @@ static TRACES: [(&str, (u32, u32, u32), &str); 9] = [
         (3, 18, 16),
         "[ send][0 ][1]\n",
     ),
+    // Version 2.
+    ("l4map,2,3,18,16\nclear,1\n", (3, 18, 16), "[clear][1]\n"),
     // Leading zeros, and limits that no database serves.
     ("l4map,1,0000513,7,0\n", (513, 7, 0), ""),
 ];
@@ -121,7 +123,7 @@ fn reads_the_limits_and_the_records(rt: HostRuntime) -> Result<(), TraceError> {
 }
 
 /// Inputs whose first record does not have a header's form.
-const NO_HEADERS: [&str; 14] = [
+const NO_HEADERS: [&str; 16] = [
     "",
     "\n\r\n",
     "\"\"\n",
@@ -129,7 +131,9 @@ const NO_HEADERS: [&str; 14] = [
     "l4map,1,3,18,16,\n",
     "L4map,1,3,18,16\n",
     "l4map,01,3,18,16\n",
-    "l4map,2,3,18,16\n",
+    "l4map,02,3,18,16\n",
+    "l4map,3,3,18,16\n",
+    "L4map,2,3,18,16\n",
     "l4map,1,3,18,+16\n",
     "l4map,1,3,18,\n",
     "l4map,1,3,18,1f\n",
@@ -219,15 +223,15 @@ fn a_source_that_fails_after_any_byte_is_unreadable(rt: HostRuntime) -> Result<(
     expect_readable(&rt, rt.alloc())
 }
 
-/// The record of fields that commas part.
-fn record_of(alloc: Global, text: &str) -> Result<Record, NoMemory> {
+/// The record of fields that commas part, in a trace of a version.
+fn record_of(alloc: Global, version: Version, text: &str) -> Result<Record, NoMemory> {
     let mut fields = Vec::new(alloc);
     for field in text.split(',') {
         if fields.push(field.as_bytes()).is_err() {
             return Err(NoMemory);
         }
     }
-    Record::new(alloc, &fields)
+    Record::new(alloc, version, &fields)
 }
 
 /// Three spaces of 64 pages, and 16 frames.
@@ -243,9 +247,20 @@ fn small_limits(rt: &impl Abort) -> Limits
     limits
 }
 
-/// What the record of these fields asks for.
+/// What the record of these fields asks for in a trace of version 1.
 fn asked(rt: &impl Abort, alloc: Global, text: &str) -> Result<Result<Call, Refusal>, NoMemory> {
-    let record = record_of(alloc, text)?;
+    asked_in(rt, alloc, Version::One, text)
+}
+
+/// What the record of these fields asks for in a trace of a version.
+fn asked_in(
+    rt: &impl Abort,
+    alloc: Global,
+    version: Version,
+    text: &str,
+) -> Result<Result<Call, Refusal>, NoMemory> {
+    let record = record_of(alloc, version, text)?;
+    assert_equal(rt, record.version(), version, text);
     record.call(alloc, &small_limits(rt))
 }
 
@@ -374,12 +389,49 @@ fn an_unmap_names_a_space_words_and_their_pages(rt: HostRuntime) -> Result<(), N
     Ok(())
 }
 
+/// Looks at a clear.
+fn expect_clear(rt: &impl Abort, asked: &Result<Call, Refusal>, expected: u16) {
+    let Ok(Call::Clear { space }) = asked else {
+        panic!(rt; "it is no clear");
+    };
+    assert_equal(rt, *space, expected, "the space");
+}
+
+#[test]
+fn a_clear_names_a_space(rt: HostRuntime) -> Result<(), NoMemory> {
+    let asked = asked_in(&rt, rt.alloc(), Version::Two, "clear,00007")?;
+    expect_clear(&rt, &asked, 7);
+    Ok(())
+}
+
+/// Records of version 2 that are refused as `BadRecord`.
+const NO_CLEARS: [&str; 7] = [
+    "clear",
+    "clear,",
+    "clear,1,",
+    "clear,65536",
+    "clear,000001",
+    "clear,f",
+    "Clear,1",
+];
+
+#[test]
+fn a_clear_of_another_form_is_no_record(rt: HostRuntime) -> Result<(), NoMemory> {
+    for text in &NO_CLEARS {
+        let asked = asked_in(&rt, rt.alloc(), Version::Two, text)?;
+        expect_refusal(&rt, &asked, Refusal::BadRecord, text);
+    }
+    Ok(())
+}
+
 /// Records that are refused, each with the first reason that fits.
-static REFUSED: [(&str, Refusal); 37] = [
+static REFUSED: [(&str, Refusal); 38] = [
     ("", Refusal::BadRecord),
     ("sends,0,1,10,8,50c6", Refusal::BadRecord),
     ("Access,1,0,r", Refusal::BadRecord),
     ("l4map,1,3,18,16", Refusal::BadRecord),
+    // A trace of version 1 has no clear.
+    ("clear,1", Refusal::BadRecord),
     // The form of a send: a word is missing, there is no item, a field is no number, one is too long.
     ("send,0,1,10,8", Refusal::BadRecord),
     ("send,0,1,10", Refusal::BadRecord),
@@ -441,7 +493,7 @@ fn expect_refused(
 
 /// Looks at why a record without fields is refused.
 fn expect_no_fields(rt: &impl Abort, alloc: Global) -> Result<(), NoMemory> {
-    let record = Record::new(alloc, &[])?;
+    let record = Record::new(alloc, Version::One, &[])?;
     let asked = record.call(alloc, &small_limits(rt))?;
     expect_refusal(rt, &asked, Refusal::BadRecord, "no field");
     Ok(())
@@ -486,6 +538,7 @@ fn push_asked(
             let named = fpages.len();
             write!(text, "{number} unmap {space} {count} {named}\n")
         }
+        Ok(Call::Clear { space }) => write!(text, "{number} clear {space}\n"),
         Err(refusal) => write!(text, "{number} {refusal:?}\n"),
     }
 }
@@ -573,7 +626,7 @@ fn expect_asked_by(
 }
 
 /// Traces, and what their records ask for.
-const ASKED: [(&str, &str); 4] = [
+const ASKED: [(&str, &str); 6] = [
     ("l4map,1,3,18,16\n", ""),
     (
         "l4map,1,3,18,16\nsend,0,1,10,8,50c6,8,10c6\naccess,1,fff,w\naccess,2,1000,r\n",
@@ -583,6 +636,15 @@ const ASKED: [(&str, &str); 4] = [
     (
         "l4map,1,3,18,16\naccess,0,0,x\naccess,3,0,r\naccess,0,40000,r\naccess,0\n\"\"\naccess,0,2000,r\n",
         "1 access 0 0 Execute\n2 NoSuchSpace\n3 OutOfSpace\n4 BadRecord\n5 BadRecord\n6 access 0 2 Read\n",
+    ),
+    // Clears, in a trace of version 2 and in one of version 1.
+    (
+        "l4map,2,3,18,16\nclear,1\naccess,1,fff,w\nclear\nclear,3\nclear,0\n",
+        "1 clear 1\n2 access 1 0 Write\n3 BadRecord\n4 clear 3\n5 clear 0\n",
+    ),
+    (
+        "l4map,1,3,18,16\naccess,1,fff,w\nclear,1\naccess,1,fff,w\n",
+        "1 access 1 0 Write\n2 BadRecord\n3 access 1 0 Write\n",
     ),
     // After many words few, and after a refused word others.
     (
@@ -599,6 +661,28 @@ fn a_reader_takes_records_one_after_another(rt: HostRuntime) -> Result<(), Trace
         }
     }
     Ok(())
+}
+
+/// Looks at the version that a header names, and that of the record behind it.
+fn expect_version(
+    rt: &impl Abort,
+    alloc: Global,
+    input: &str,
+    version: Version,
+) -> Result<(), TraceError> {
+    let mut trace = TraceReader::new(alloc, input.as_bytes())?;
+    assert_equal(rt, trace.version(), version, input);
+    let Some(record) = trace.next_record()? else {
+        panic!(rt; "there is no record");
+    };
+    assert_equal(rt, record.version(), version, input);
+    Ok(())
+}
+
+#[test]
+fn a_reader_tells_the_version(rt: HostRuntime) -> Result<(), TraceError> {
+    expect_version(&rt, rt.alloc(), "l4map,1,2,18,1\nclear,1\n", Version::One)?;
+    expect_version(&rt, rt.alloc(), "l4map,2,2,18,1\nclear,1\n", Version::Two)
 }
 
 /// Looks at what a reader answers where there is no header.
@@ -675,6 +759,8 @@ impl Lines {
         self.expect(rt, 1, &Reply::Sent(counts), line)?;
         self.expect(rt, 20, &Reply::Accessed(true), "20 access ok\n")?;
         self.expect(rt, 3, &Reply::Accessed(false), "3 access fault\n")?;
+        let cleared = Reply::Cleared(Rights::of_bits(6));
+        self.expect(rt, 4, &cleared, "4 clear 00000016\n")?;
         let words = Vec::from_slice(self.alloc, &[0x16, 0xabcdef01])?;
         let unmapped = Reply::Unmapped(words);
         let line = "18446744073709551615 unmap 00000016 abcdef01\n";

@@ -1,13 +1,15 @@
-//! The fields of a record: numbers, words, spaces and kinds of access.
+//! The fields of a record: numbers, words, spaces, kinds of access, and the version of a trace.
 #![tactic(auto)]
 
 ghost use Rattle.std.specs.Prelude.{◌≡◌, ◌≤◌, ◌<◌, ◌^◌};
 ghost use Rattle.model.specs.Records.{number_field, word_field, space_field, kind_field};
 
 mod digits;
+mod version;
 
 use digits::digit;
 use fpage::Access;
+pub use version::Version;
 
 /// Returns the number that a field of 1 to `most` digits of a base spells.
 pub fn number(field: &[u8], base: u32, most: usize) -> Option<u32>

@@ -13,6 +13,7 @@ pub mod StripPlans
 pub mod Outcomes
 pub mod Links
 pub mod Renamings
+pub mod OriginWords
 pub mod WordOrigins
 pub mod Faults
 pub mod NextHeld

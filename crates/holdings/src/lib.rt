@@ -19,6 +19,7 @@ mod moves;
 mod named;
 mod next_held;
 mod one_by_one;
+mod origin_word;
 mod origins;
 mod outcome;
 mod pages;

@@ -3,6 +3,7 @@
 use crate::limits::Limits;
 use crate::mapping::Mapping;
 use crate::next_held::next_held;
+use crate::origin_word::OriginWord;
 use maptree::Tree;
 use space::{Entry, Place, Shards};
 use std::alloc::{AllocError, Global};
@@ -15,7 +16,7 @@ pub struct Mappings<'a> {
     /// The tree of each frame, at its number.
     pub(crate) trees: &'a [Tree],
     /// The origin of each page that is held, at the index of its word.
-    pub(crate) origins: Vec<Option<Place>>,
+    pub(crate) origins: Vec<OriginWord>,
     /// How many mappings there are.
     pub(crate) len: usize,
 }
@@ -96,12 +97,12 @@ impl<'a> Mappings<'a> {
             frame: entry.frame,
             rights: entry.rights,
             status: entry.status,
-            origin: self.origins[self.shards.index(place)],
+            origin: self.origins[self.shards.index(place)].origin(),
         }
     }
 
     /// The first mapping of a space from a page on; none where no page from there on holds anything. It passes over
-    /// shards that are not there without a look at their pages, but for the rest of the first one.
+    /// shards that are not there without a look at their pages.
     pub fn next_from(&self, from: Place) -> Option<Mapping>
         ensures next { MatchOption result (held_from self.now from.space from.page ≡ [])
             (λ m. held_from self.now from.space from.page ≡ mapped_of m ∷ held_from self.now from.space (m.place.page + 1)) }

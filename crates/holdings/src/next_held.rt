@@ -6,11 +6,10 @@ ghost use Rattle.space.specs.Directory.{pages_of};
 ghost use Rattle.space.specs.Shards.{spaces_of, bits_of, entry_at, is_taken};
 ghost use Rattle.holdings.specs.Inner.NextHeld.{IsNextHeld};
 
-use crate::shard::SHARD_PAGES;
 use space::{Entry, Place, Shards};
 
 /// The first page of a space, from one on, that holds something, and what it holds. It passes over shards that are not
-/// there without a look at their pages, but for the rest of the first one.
+/// there without a look at their pages.
 pub fn next_held(shards: &Shards, from: Place) -> Option<(Place, Entry)>
     requires present { IsFalse (is_taken shards.now) }
     requires space { from.space < spaces_of shards.now }
@@ -18,15 +17,17 @@ pub fn next_held(shards: &Shards, from: Place) -> Option<(Place, Entry)>
     ensures some { IfSome result (λ found. IsNextHeld shards.now from found.0 found.1) }
 {
     let pages = 1 << (shards.bits() - 12);
-    let mut place = from;
-    while place.page < pages {
-        if place.page % SHARD_PAGES == 0 && !shards.has(place) {
-            place.page = shards.first_from(place);
-        } else if let Some(entry) = shards.get(place) {
-            return Some((place, entry));
-        } else {
-            place.page += 1;
-        }
+    if from.page >= pages {
+        return None;
     }
-    None
+    let page = shards.first_held(from, pages);
+    if page == pages {
+        return None;
+    }
+    let place = Place {
+        space: from.space,
+        page,
+    };
+    let entry = shards.get(place)?;
+    Some((place, entry))
 }

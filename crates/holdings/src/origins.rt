@@ -8,6 +8,7 @@ ghost use Rattle.maptree.specs.Origins.{are_once};
 ghost use Rattle.holdings.specs.Inner.Sound.{AreSound};
 ghost use Rattle.holdings.specs.Inner.WordOrigins.{AreOrigins, ArePut};
 
+use crate::origin_word::OriginWord;
 use maptree::Tree;
 use space::{NoMemory, Place, Shards};
 use std::alloc::Global;
@@ -17,11 +18,11 @@ pub fn origins_by_word(
     alloc: Global,
     shards: &Shards,
     trees: &[Tree],
-) -> Result<Vec<Option<Place>>, NoMemory>
+) -> Result<Vec<OriginWord>, NoMemory>
     requires { AreSound shards.now trees.now }
     ensures { IfOk result (λ origins. AreOrigins shards.now trees.now (length trees.now) origins.items) }
 {
-    let mut origins = vec![in alloc; None; shards.words()]?;
+    let mut origins = vec![in alloc; OriginWord::of(None); shards.words()]?;
     for frame in 0..trees.len() {
         put_tree(alloc, shards, trees, frame, &mut origins)?;
     }
@@ -36,7 +37,7 @@ fn put_tree(
     shards: &Shards,
     trees: &[Tree],
     frame: usize,
-    origins: &mut [Option<Place>],
+    origins: &mut [OriginWord],
 ) -> Result<(), NoMemory>
     requires sound { AreSound shards.now trees.now }
     requires within { frame < length trees.now }
@@ -56,13 +57,13 @@ fn put_tree(
 }
 
 /// Puts the origin of each place of a tree at the index of the place's word.
-fn put_origins(shards: &Shards, links: &[(Place, Option<Place>)], origins: &mut [Option<Place>])
+fn put_origins(shards: &Shards, links: &[(Place, Option<Place>)], origins: &mut [OriginWord])
     requires places { All (λ link. IsThere shards.now link.0) links.now }
     requires reached { All (λ link. index_of shards.now link.0 < length origins.old) links.now }
     requires once { are_once links.now ≡ true }
     ensures { ArePut shards.now links.now origins.old origins.new }
 {
     for (place, origin) in links {
-        origins[shards.index(*place)] = *origin;
+        origins[shards.index(*place)] = OriginWord::of(*origin);
     }
 }

@@ -11,7 +11,6 @@ ghost use Rattle.space.specs.Place.{same_place};
 
 use crate::holdings::Holdings;
 use crate::item_pages::ItemPages;
-use crate::shard::pages_in_shard;
 use fpage::{ItemKind, Rights};
 use maptree::Tree;
 use space::{Place, Shards};
@@ -53,8 +52,8 @@ impl Holdings {
         outcome_of(shards, trees, pages.kind, pages.rights, source, target)
     }
 
-    /// The next pages of an item, from one on, whose sources may be held: those of one shard that is there. The sources
-    /// of all pages before them are absent. It passes over shards that are not there without a look at their pages.
+    /// The next pages of an item, from one on, whose sources are held, side by side in one shard. The sources of all pages
+    /// before them are absent. It passes over shards that are not there without a look at their pages.
     pub fn next_sources(&self, pages: &ItemPages, from: u32) -> Range<u32>
         requires pages { AreItemPages self.now.limits pages.now }
         requires within { from < pages.now.count }
@@ -69,10 +68,9 @@ impl Holdings {
     {
         let shards = &self.shards;
         let (source, _) = pages.pair(from);
-        let page = shards.first_from(source);
-        let start = (page - pages.source.page).min(pages.count);
-        let end = start + pages_in_shard(page, pages.count - start);
-        start..end
+        let first = pages.source.page;
+        let run = shards.next_run(source, first + pages.count);
+        run.start - first..run.end - first
     }
 }
 

@@ -7,4 +7,5 @@ pub mod ItemByItem
 pub mod WordByWord
 pub mod PlainWords
 pub mod NamedPlaces
+pub mod WholeSpaces
 pub mod OneItem

@@ -1,3 +1,4 @@
+use crate::clear::{clear_space, clear_space_by_recursion};
 use crate::error::DbError;
 use crate::item::work_items;
 use crate::reply::SendReply;
@@ -41,9 +42,11 @@ impl Database {
     ghost use Rattle.std.specs.List.{All};
     ghost use Rattle.model.specs.Holdings.{at, origin_at};
     ghost use Rattle.model.specs.Records.{are_limits};
-    ghost use Rattle.model.specs.Answers.{send_answer};
-    ghost use Rattle.model.specs.Calls.{send};
+    ghost use Rattle.model.specs.Answers.{send_answer, in_space, clear_answer};
+    ghost use Rattle.model.specs.Calls.{send, clear};
+    ghost use Rattle.model.specs.Recursion.{recur};
     ghost use Rattle.fpage.specs.Fpage.{IsFpageOf};
+    ghost use Rattle.fpage.specs.Rights.{all_rights};
     ghost use Rattle.model.specs.Lawful.{is_lawful};
     ghost use Rattle.holdings.specs.Meaning.{limits_of};
     ghost use Rattle.holdings.specs.Layout.{IsLayoutOf, OnlyGrows, index_in};
@@ -402,6 +405,64 @@ impl Database {
         let held = self.held.take().unwrap();
         let flush = control.is_flush();
         let (held, status) = unmap_words_by_recursion(alloc, held, space, flush, fpages)?;
+        self.held = Some(held);
+        Ok(status)
+    }
+
+    /// Takes all pages from a space, as where it is deleted, and with each page all that derives from it. Gives back
+    /// the status of all of them; what it was is added to that of the page from which they come (profile).
+    ///
+    /// Its time goes with what the space holds and what derives from that, and not with how many pages the space has.
+    ///
+    /// Refused, the first that fits: `Halted`; `NoSuchSpace`, where nothing changes; and where memory or a worker is,
+    /// `NoMemory`, `NoWorker`: then the database is halted.
+    pub fn clear<W: Workers>(
+        &mut self,
+        alloc: Global,
+        space: u16,
+        workers: &W,
+    ) -> Result<Rights, DbError>
+        ensures refused { IsRefused (refusal self.old (clear space)) self.old self.new result }
+        ensures no_memory { IsErrOf result NoMemory → self.new ≡ halted self.old }
+        ensures no_worker { IsErrOf result NoWorker → self.new ≡ halted self.old }
+        ensures status { IfOk result (λ status. status ≡ (clear_answer space self.old.holdings).status) }
+        ensures left { OnOk result (self.new ≡ left_with self.old (clear_answer space self.old.holdings).left) }
+    {
+        if self.held.is_none() {
+            return Err(DbError::Halted);
+        }
+        if u32::from(space) >= self.limits().spaces {
+            return Err(DbError::NoSuchSpace);
+        }
+        let held = self.held.take().unwrap();
+        let (held, status) = clear_space(alloc, held, space, workers)?;
+        self.held = Some(held);
+        Ok(status)
+    }
+
+    /// The same as `clear`, by recursion on the calling thread: what `unmap_plain` does with flush, where its one word
+    /// names the complete space with all rights. It takes longer.
+    ///
+    /// Refused as `clear` is, but that it needs no worker.
+    pub fn clear_plain(&mut self, alloc: Global, space: u16) -> Result<Rights, DbError>
+        ensures refused { IsRefused (refusal self.old (clear space)) self.old self.new result }
+        ensures needs_no_worker { IfErr result (λ e. e ≡ NoWorker → ⊥) }
+        ensures no_memory { IsErrOf result NoMemory → self.new ≡ halted self.old }
+        ensures status { IfOk result (λ status. status ≡ (clear_answer space self.old.holdings).status) }
+        ensures left { OnOk result (self.new ≡ left_with self.old (clear_answer space self.old.holdings).left) }
+        ensures recursion_status { IfOk result (λ status.
+            status ≡ (recur self.old.holdings (in_space space) all_rights true).word) }
+        ensures recursion_left { OnOk result (self.new ≡
+            left_with self.old (recur self.old.holdings (in_space space) all_rights true).left) }
+    {
+        if self.held.is_none() {
+            return Err(DbError::Halted);
+        }
+        if u32::from(space) >= self.limits().spaces {
+            return Err(DbError::NoSuchSpace);
+        }
+        let held = self.held.take().unwrap();
+        let (held, status) = clear_space_by_recursion(alloc, held, space)?;
         self.held = Some(held);
         Ok(status)
     }

@@ -1,6 +1,7 @@
 //! The mapping database: which space holds which page, with which rights, and from whom the page came.
 #![tactic(auto)]
 
+mod clear;
 mod database;
 mod error;
 mod item;

@@ -74,7 +74,7 @@ ghost use Rattle.holdings.specs.Contents.{IsStripped};
 /// Works one word of an unmap.
 ///
 /// Refused, where memory or a worker is: `NoMemory`, `NoWorker`.
-fn unmap_word<W: Workers>(
+pub fn unmap_word<W: Workers>(
     alloc: Global,
     held: Holdings,
     space: u16,
@@ -102,7 +102,7 @@ fn unmap_word<W: Workers>(
 /// Works one word of an unmap by recursion.
 ///
 /// Refused, where memory is: `NoMemory`.
-fn unmap_word_by_recursion(
+pub fn unmap_word_by_recursion(
     alloc: Global,
     held: Holdings,
     space: u16,

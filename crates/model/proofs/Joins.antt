@@ -18,7 +18,7 @@ use Rattle.model.specs.Touch.{can_touch, touch}
 use Rattle.model.specs.Strip.{strip}
 use Rattle.model.specs.Items.{flush}
 use Rattle.model.specs.Grant.{moved, renamed}
-use Rattle.model.specs.Calls.{Limits, Call, send, access, unmap, Refusal, Request, accessed, refused}
+use Rattle.model.specs.Calls.{Limits, Call, send, access, unmap, clear, Refusal, Request, accessed, refused}
 use Rattle.model.specs.Answers.{answer, call_answer, call_refusal, unless_refused, after_job}
 use Rattle.model.specs.Replay.{told_after}
 use Rattle.model.specs.ReplayLaws.{RefusedChangesNothing, FaultChangesNothing, NoPageNamed, NilpageSends, NothingAsked, ReplaysJoin}
@@ -36,6 +36,7 @@ module _ (limits : Limits) (h : Holdings) where
   accepted (send from to window items) r is = absurd (cc is)
   accepted (access p a) r is = absurd (cc is)
   accepted (unmap space f words) r is = absurd (cc is)
+  accepted (clear space) r is = absurd (cc is)
 
   refused_leaves : (call : Call) (why : Option Refusal) (r : Refusal) → (unless_refused why h (call_answer h call)).reply ≡ refused r → (unless_refused why h (call_answer h call)).left ≡ h
   refused_leaves call None r is = accepted call r is
@@ -52,6 +53,7 @@ module _ (limits : Limits) (h : Holdings) where
   fault (send from to window items) is = absurd (cc is)
   fault (access p a) is = touch_fault p a (cc is)
   fault (unmap space f words) is = absurd (cc is)
+  fault (clear space) is = absurd (cc is)
 
   fault_leaves : (call : Call) (why : Option Refusal) → (unless_refused why h (call_answer h call)).reply ≡ accessed false → (unless_refused why h (call_answer h call)).left ≡ h
   fault_leaves call None is = fault call is

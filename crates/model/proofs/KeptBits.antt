@@ -19,8 +19,8 @@ use Rattle.model.specs.Strip.{strip, strip_word}
 use Rattle.model.specs.Items.{Job, Pair, job_of, going, sources_of}
 use Rattle.model.specs.Map.{mapped}
 use Rattle.model.specs.Grant.{moved_to, granted}
-use Rattle.model.specs.Calls.{Limits, Call, send, access, unmap, Named, Refusal, Request}
-use Rattle.model.specs.Answers.{after_job, send_answer, pages_in, unmap_answer, call_answer, call_refusal, unless_refused, answer}
+use Rattle.model.specs.Calls.{Limits, Call, send, access, unmap, clear, Named, Refusal, Request}
+use Rattle.model.specs.Answers.{after_job, send_answer, pages_in, unmap_answer, in_space, clear_answer, call_answer, call_refusal, unless_refused, answer}
 use Rattle.model.specs.Replay.{replay}
 use Rattle.model.specs.DerivationLaws.{LeadsInto}
 use Rattle.model.specs.StatusLaws.{HasBit}
@@ -135,6 +135,16 @@ module _ (space : ℕ) (f : Bool) (q : Place) (b : Access) where
       by : (x : Bool) → is_below h named q ≡ x → (IsSet (strip h named w.1.rights f) q b → After) → IsToldByWords space f (w ∷ ws) (unmap_answer space f (w ∷ ws) h).words h q b ⊎ IsSet (unmap_answer space f (w ∷ ws) h).left q b
       by true below rest = inl (inl (below_leads h l named q below, subst (λ r. has r b ≡ true) (sym (status_read w.0 (strip_word h named))) (bit_is_answered h l named q b below bit)))
       by false outside rest = later (rest (bit_is_kept h l named w.1.rights f q b outside bit))
+
+-- ---- clear
+
+clear_keeps : (h : Holdings) → IsLawful h → (space : ℕ) (q : Place) (b : Access) → IsSet h q b
+    → (LeadsInto h 0 (in_space space) q × (has (clear_answer space h).status b ≡ true)) ⊎ IsSet (clear_answer space h).left q b
+clear_keeps h l space q b bit = by (is_below h (in_space space) q) refl
+  where
+    by : (x : Bool) → is_below h (in_space space) q ≡ x → (LeadsInto h 0 (in_space space) q × (has (clear_answer space h).status b ≡ true)) ⊎ IsSet (clear_answer space h).left q b
+    by true below = inl (below_leads h l (in_space space) q below, bit_is_answered h l (in_space space) q b below bit)
+    by false outside = inr (bit_is_kept h l (in_space space) all_rights true q b outside bit)
 
 -- ---- map
 
@@ -277,6 +287,7 @@ module _ (limits : Limits) (h : Holdings) (l : IsLawful h) (q : Place) (b : Acce
   call_keeps (send from to window items) accepted = items_keep from to (spaces_differ limits from to window items accepted) window q b items h l bit
   call_keeps (access p a) accepted = inr (touch_keeps h l p a q b bit)
   call_keeps (unmap space f words) accepted = words_keep space f q b words h l bit
+  call_keeps (clear space) accepted = clear_keeps h l space q b bit
 
   unless_keeps : (call : Call) (why : Option Refusal) → call_refusal limits call ≡ why
       → IsToldOrTaken h (Ok call) (unless_refused why h (call_answer h call)).reply q b ⊎ IsSet (unless_refused why h (call_answer h call)).left q b

@@ -36,6 +36,7 @@ pub mod Moves
 pub mod KeptBits
 pub mod NewBits
 pub mod UnmapOutcomes
+pub mod ClearOutcomes
 pub mod RefusalOutcomes
 pub mod SendStatuses
 pub mod FateOutcomes

@@ -17,8 +17,8 @@ use Rattle.model.specs.Strip.{strip}
 use Rattle.model.specs.Items.{Job, Pair, job_of, going, sources_of}
 use Rattle.model.specs.Map.{mapped}
 use Rattle.model.specs.Grant.{moved_to, granted}
-use Rattle.model.specs.Calls.{Limits, Call, send, access, unmap, Named, Refusal, Request}
-use Rattle.model.specs.Answers.{after_job, send_answer, pages_in, unmap_answer, call_answer, call_refusal, unless_refused, answer}
+use Rattle.model.specs.Calls.{Limits, Call, send, access, unmap, clear, Named, Refusal, Request}
+use Rattle.model.specs.Answers.{after_job, send_answer, pages_in, in_space, unmap_answer, call_answer, call_refusal, unless_refused, answer}
 use Rattle.model.specs.Replay.{replay}
 use Rattle.model.specs.StatusLaws.{HasBit}
 use Rattle.model.specs.SendLaws.{In}
@@ -208,6 +208,7 @@ module _ (limits : Limits) (h : Holdings) (l : IsLawful h) (q : Place) (b : Acce
   call_brings (send from to window items) accepted bit = inl (items_bring_none from to (spaces_differ limits from to window items accepted) window q b items h l bit)
   call_brings (access p a) accepted bit = touch_brings h l p a q b bit
   call_brings (unmap space f words) accepted bit = inl (words_bring_none space f q b words h l bit)
+  call_brings (clear space) accepted bit = inl (bit_was_there h l (in_space space) all_rights true q b bit)
 
   unless_brings : (call : Call) (why : Option Refusal) → call_refusal limits call ≡ why → IsSet (unless_refused why h (call_answer h call)).left q b → IsSet h q b ⊎ MarksBit h (Ok call) q b
   unless_brings call None is bit = call_brings call is bit

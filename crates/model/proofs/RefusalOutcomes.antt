@@ -4,9 +4,9 @@ use Rattle.std.proofs.lemmas.Bool.{and_parts, and_from, eqb-true, eq-eqb, ltb-tr
 use Rattle.fpage.specs.Fpage.{Flexpage}
 use Rattle.model.specs.Holdings.{Holdings}
 use Rattle.model.specs.Calls.{Limits, access, no_such_space, same_space, no_window, out_of_space, Reply, Request}
-use Rattle.model.specs.Answers.{SendAnswer, UnmapAnswer, send_answer, unmap_answer, sent_answer, unmapped_answer, unless_refused}
+use Rattle.model.specs.Answers.{SendAnswer, UnmapAnswer, ClearAnswer, send_answer, unmap_answer, clear_answer, sent_answer, unmapped_answer, cleared_answer, unless_refused}
 use Rattle.model.specs.Records.{AccessFields}
-use Rattle.model.specs.RefusalLaws.{AreSpaces, IsSendReply, SendRefusals, IsUnmapReply, UnmapRefusals, HasAddress, IsAccessRequest, AccessRefusals}
+use Rattle.model.specs.RefusalLaws.{AreSpaces, IsSendReply, SendRefusals, IsUnmapReply, UnmapRefusals, IsClearReply, ClearRefusals, HasAddress, IsAccessRequest, AccessRefusals}
 
 -- ---- send
 
@@ -70,6 +70,23 @@ module _ (limits : Limits) (space : ℕ) (h : Holdings) (a : UnmapAnswer) where
 
 pub unmap_refusals : UnmapRefusals
 unmap_refusals limits h space f words = unmap_replies limits space h (unmap_answer space f words h) (nat_lt space limits.spaces) (ltb-true space limits.spaces) (lt-ltb space limits.spaces)
+
+-- ---- clear
+
+module _ (limits : Limits) (space : ℕ) (h : Holdings) (a : ClearAnswer) where
+  clear_replies : (there : Bool) → (there ≡ true → space < limits.spaces) → (space < limits.spaces → there ≡ true)
+      → IsClearReply limits space (unless_refused (if there then None else Some no_such_space) h (cleared_answer a)).reply
+  clear_replies true is_there there_is = record {
+    no_space = (λ is. absurd (cc is), λ no. absurd (no (is_there refl)));
+    worked = (λ _. is_there refl, λ _. record { status = a.status; is = refl });
+  }
+  clear_replies false is_there there_is = record {
+    no_space = (λ _ s. absurd (cc (there_is s)), λ _. refl);
+    worked = (λ is. absurd (cc (is.is)), λ s. absurd (cc (there_is s)));
+  }
+
+pub clear_refusals : ClearRefusals
+clear_refusals limits h space = clear_replies limits space h (clear_answer space h) (nat_lt space limits.spaces) (ltb-true space limits.spaces) (lt-ltb space limits.spaces)
 
 -- ---- access
 

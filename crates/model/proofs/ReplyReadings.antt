@@ -5,13 +5,16 @@ use Rattle.std.specs.Fmt.{decimal}
 use Rattle.std.specs.Str.Parse.{digits_value}
 use Rattle.std.proofs.lemmas.List.{append_cancel_left}
 use Rattle.std.proofs.lemmas.List.Sums.{length-filter}
+use Rattle.fpage.specs.Rights.{number, of_bits}
+use Rattle.fpage.specs.declared.rights.Rights.{Rights}
 use Rattle.space.specs.declared.place.Place.{Place}
 use Rattle.model.specs.Holdings.{Held, Holdings}
 use Rattle.model.specs.Items.{Counts}
-use Rattle.model.specs.Calls.{Refusal, bad_size, misaligned, out_of_space, not_an_item, bad_control, no_such_space, same_space, no_window, bad_record, Reply, sent, accessed, unmapped, refused}
+use Rattle.model.specs.Calls.{Refusal, bad_size, misaligned, out_of_space, not_an_item, bad_control, no_such_space, same_space, no_window, bad_record, Reply, sent, accessed, unmapped, cleared, refused}
 use Rattle.model.specs.Replay.{Told}
-use Rattle.model.specs.Text.{refusal_name, counts_text, hex_digits, words_text, reply_text, reply_line, reply_lines, audit_line, audit_lines, is_refused, refused_count, end_line, text}
+use Rattle.model.specs.Text.{refusal_name, counts_text, hex_digits, clear_word, words_text, reply_text, reply_line, reply_lines, audit_line, audit_lines, is_refused, refused_count, end_line, text}
 use Rattle.model.specs.TextLaws.{HasDigits, MappingHasDigits, CountsHaveDigits, ReplyHasDigits, LineIsOfOneReply, TextIsOfOneResult, EndIsOfTwoNumbers, IsRefusal, RefusalsAreTold, EndCountsReplies}
+use Rattle.model.proofs.KeptBits.{number_small, status_read}
 use Rattle.model.proofs.TextReadings.{decimal_then, no_decimal, hex_reads_back, line_onto, line_is, line_then}
 
 -- ---- counts
@@ -58,6 +61,21 @@ words_then (w ∷ ws) (v ∷ vs) s t small_w small_v is =
     let rest = words_then ws vs s t (λ k x below. small_w (suc k) x (omega arith)) (λ k x below. small_v (suc k) x (omega arith)) digits.1 in
     (λ i. word i ∷ rest.0 i, rest.1)
 
+-- ---- the status of a clear
+
+clear_word_small : (status : Rights) → clear_word status < 2 ^ 32
+clear_word_small status = by (number status) (number_small status)
+  where
+    by : (n : ℕ) → n < 8 → 16 + n < 2 ^ 32
+    by n small = omega (arith, small)
+
+status_then : (x y : Rights) (s t : List ℕ) → hex_digits 8 (clear_word x) ++ (10 ∷ s) ≡ hex_digits 8 (clear_word y) ++ (10 ∷ t) → (x ≡ y) × (s ≡ t)
+status_then x y s t is =
+    let digits = hex_then 8 (clear_word x) (clear_word y) (10 ∷ s) (10 ∷ t) is in
+    let word : clear_word x ≡ clear_word y =
+    sym (hex_reads_back (clear_word x) (clear_word_small x)).1 ∙ ap (digits_value 16) digits.0 ∙ (hex_reads_back (clear_word y) (clear_word_small y)).1 in
+    (sym (status_read 16 x) ∙ ap of_bits word ∙ status_read 16 y, ap (drop 1) digits.1)
+
 -- ---- refusals
 
 -- the refusal whose name has this fourth letter
@@ -91,6 +109,7 @@ kind_letter : Reply → ℕ
 kind_letter (sent c) = 115
 kind_letter (accessed ok) = 97
 kind_letter (unmapped words) = 117
+kind_letter (cleared status) = 99
 kind_letter (refused r) = 114
 
 begins : (r : Reply) (s : List ℕ) → get_or (reply_text r ++ s) 0 0 ≡ kind_letter r
@@ -99,6 +118,7 @@ begins (sent c) s = refl
 begins (accessed true) s = refl
 begins (accessed false) s = refl
 begins (unmapped words) s = refl
+begins (cleared status) s = refl
 begins (refused r) s = refl
 
 reply_then : (r q : Reply) → ReplyHasDigits r → ReplyHasDigits q → (s t : List ℕ) → reply_text r ++ (10 ∷ s) ≡ reply_text q ++ (10 ∷ t) → (r ≡ q) × (s ≡ t)
@@ -115,6 +135,7 @@ reply_then r q small_r small_q s t is = by r q small_r small_q is (sym (begins r
     by (sent c) (sent d) small_r small_q is kinds = let r = counts_then c d small_r small_q s t (sym (counts_is c s) ∙ ap (drop 5) is ∙ counts_is d t) in (ap sent r.0, r.1)
     by (accessed x) (accessed y) small_r small_q is kinds = ok_then x y is
     by (unmapped ws) (unmapped vs) small_r small_q is kinds = let r = words_then ws vs s t small_r small_q (ap (drop 5) is) in (ap unmapped r.0, r.1)
+    by (cleared x) (cleared y) small_r small_q is kinds = let r = status_then x y s t (ap (drop 6) is) in (ap cleared r.0, r.1)
     by (refused r) (refused q) small_r small_q is kinds = let n = name_then r q s t (ap (drop 8) is) in (ap refused n.0, n.1)
     by (sent c) (accessed y) small_r small_q is kinds = absurd (omega (arith, kinds))
     by (sent c) (unmapped vs) small_r small_q is kinds = absurd (omega (arith, kinds))
@@ -128,6 +149,14 @@ reply_then r q small_r small_q s t is = by r q small_r small_q is (sym (begins r
     by (refused r) (sent d) small_r small_q is kinds = absurd (omega (arith, kinds))
     by (refused r) (accessed y) small_r small_q is kinds = absurd (omega (arith, kinds))
     by (refused r) (unmapped vs) small_r small_q is kinds = absurd (omega (arith, kinds))
+    by (sent c) (cleared y) small_r small_q is kinds = absurd (omega (arith, kinds))
+    by (accessed x) (cleared y) small_r small_q is kinds = absurd (omega (arith, kinds))
+    by (unmapped ws) (cleared y) small_r small_q is kinds = absurd (omega (arith, kinds))
+    by (refused r) (cleared y) small_r small_q is kinds = absurd (omega (arith, kinds))
+    by (cleared x) (sent d) small_r small_q is kinds = absurd (omega (arith, kinds))
+    by (cleared x) (accessed y) small_r small_q is kinds = absurd (omega (arith, kinds))
+    by (cleared x) (unmapped vs) small_r small_q is kinds = absurd (omega (arith, kinds))
+    by (cleared x) (refused q) small_r small_q is kinds = absurd (omega (arith, kinds))
 
 -- ---- lines
 
@@ -159,6 +188,7 @@ refusal_from : (r : Reply) → is_refused r ≡ true → IsRefusal r
 refusal_from (sent c) is = absurd (cc is)
 refusal_from (accessed ok) is = absurd (cc is)
 refusal_from (unmapped words) is = absurd (cc is)
+refusal_from (cleared status) is = absurd (cc is)
 refusal_from (refused r) is = record { why = r; is = refl }
 
 pub refusals_are_told : RefusalsAreTold

@@ -2,14 +2,15 @@
 use Rattle.std.proofs.Common.{◌≡◌, ℕ, true, false, Bool, ◌==◌, ◌&&◌, nat_lt, not, [], ◌∷◌, List, Option, Some, None, Ok, Err, refl, if◌then◌else◌}
 use Rattle.std.proofs.lemmas.Bool.{eq-eqb}
 use Rattle.fpage.specs.Fpage.{Flexpage}
+use Rattle.fpage.specs.Rights.{all_rights}
 use Rattle.fpage.specs.declared.item.Item.{Item}
 use Rattle.fpage.specs.declared.item.ItemKind.{ItemKind}
 use Rattle.fpage.specs.declared.item.ItemKind.TheVariants as kind
 use Rattle.model.specs.Holdings.{Holdings}
 use Rattle.model.specs.Strip.{strip}
 use Rattle.model.specs.Items.{Job, job_of}
-use Rattle.model.specs.Calls.{Limits, Call, send, access, unmap, Named, Refusal, no_such_space, same_space, no_window, Request}
-use Rattle.model.specs.Answers.{answer, after_job, send_answer, pages_in, unmap_answer, call_answer, call_refusal, unless_refused}
+use Rattle.model.specs.Calls.{Limits, Call, send, access, unmap, clear, Named, Refusal, no_such_space, same_space, no_window, Request}
+use Rattle.model.specs.Answers.{answer, after_job, send_answer, pages_in, in_space, unmap_answer, call_answer, call_refusal, unless_refused}
 use Rattle.model.specs.Replay.{start, replay}
 use Rattle.model.specs.LawfulLaws.{MapKeepsLawful, GrantKeepsLawful, RequestKeepsLawful, ReplayIsLawful}
 use Rattle.model.proofs.LawfulParts.{IsLawful, lawful_parts, lawful_from}
@@ -47,6 +48,7 @@ module _ (limits : Limits) (h : Holdings) (l : IsLawful h) where
   lawful_call (send from to window items) accepted = lawful_sent from to (spaces_differ limits from to window items accepted) window items h l
   lawful_call (access p a) accepted = lawful_touch h l p a
   lawful_call (unmap space f words) accepted = lawful_unmapped space f words h l
+  lawful_call (clear space) accepted = lawful_strip h (in_space space) all_rights true l
 
   lawful_unless : (call : Call) (why : Option Refusal) → call_refusal limits call ≡ why → IsLawful (unless_refused why h (call_answer h call)).left
   lawful_unless call None is = lawful_call call is

@@ -1,17 +1,19 @@
 -- One call: its reply, and the holdings after it.
-use Rattle.std.specs.Prelude.{ℕ, Bool, ◌&&◌, ◌==◌, nat_lt, not, List, [], ◌∷◌, Option, Some, None, Ok, Err, if◌then◌else◌}
+use Rattle.std.specs.Prelude.{ℕ, Bool, true, ◌&&◌, ◌==◌, nat_lt, not, List, [], ◌∷◌, Option, Some, None, Ok, Err, if◌then◌else◌}
 use Rattle.fpage.specs.Fpage.{Flexpage, is_page_of}
+use Rattle.fpage.specs.Rights.{all_rights}
 use Rattle.fpage.specs.Control.{with_status}
 use Rattle.fpage.specs.declared.item.Item.{Item}
 use Rattle.fpage.specs.declared.item.ItemKind.{ItemKind}
 use Rattle.fpage.specs.declared.item.ItemKind.TheVariants as kind
+use Rattle.fpage.specs.declared.rights.Rights.{Rights}
 use Rattle.model.specs.Holdings.{Holdings, PlaceSet}
 use Rattle.model.specs.Touch.{can_touch, touch}
 use Rattle.model.specs.Strip.{strip, strip_word}
 use Rattle.model.specs.Items.{Job, Counts, job_of, counts, no_counts, add_counts}
 use Rattle.model.specs.Map.{mapped}
 use Rattle.model.specs.Grant.{granted}
-use Rattle.model.specs.Calls.{Limits, Call, send, access, unmap, Named, Refusal, no_such_space, same_space, no_window, Reply, sent, accessed, unmapped, refused, Request}
+use Rattle.model.specs.Calls.{Limits, Call, send, access, unmap, clear, Named, Refusal, no_such_space, same_space, no_window, Reply, sent, accessed, unmapped, cleared, refused, Request}
 
 -- a reply, and the holdings after it
 pub record Answer : Type 0 where
@@ -58,6 +60,20 @@ unmap_answer space f (w ∷ ws) h =
     let others = unmap_answer space f ws (strip h named w.1.rights f) in
     record { words = with_status w.0 (strip_word h named) ∷ others.words; left = others.left }
 
+-- all pages of a space
+abbrev pub in_space : ℕ → PlaceSet
+in_space space p = p.space == space
+
+-- the status that a clear is answered with, and the holdings after it
+pub record ClearAnswer : Type 0 where
+  pub status : Rights
+  pub left : Holdings
+
+-- all pages of a space are stripped of all rights, with f: they and all that derives from them are gone, and their
+-- status is told (profile)
+abbrev pub clear_answer : ℕ → Holdings → ClearAnswer
+clear_answer space h = record { status = strip_word h (in_space space); left = strip h (in_space space) all_rights true }
+
 -- as the answer to a call
 abbrev pub sent_answer : SendAnswer → Answer
 sent_answer a = record { reply = sent a.counts; left = a.left }
@@ -66,11 +82,16 @@ sent_answer a = record { reply = sent a.counts; left = a.left }
 abbrev pub unmapped_answer : UnmapAnswer → Answer
 unmapped_answer a = record { reply = unmapped a.words; left = a.left }
 
+-- a clear's, as the answer to a call
+abbrev pub cleared_answer : ClearAnswer → Answer
+cleared_answer a = record { reply = cleared a.status; left = a.left }
+
 -- one accepted call
 abbrev pub call_answer : Holdings → Call → Answer
 call_answer h (send from to window items) = sent_answer (send_answer from to window items h)
 call_answer h (access p a) = record { reply = accessed (can_touch h p a); left = touch h p a }
 call_answer h (unmap space f words) = unmapped_answer (unmap_answer space f words h)
+call_answer h (clear space) = cleared_answer (clear_answer space h)
 
 -- why a call is refused: the first that fits. The space of an access was looked at with its record
 abbrev pub call_refusal : Limits → Call → Option Refusal
@@ -81,6 +102,7 @@ call_refusal limits (send from to window items) =
     else None
 call_refusal limits (access p a) = None
 call_refusal limits (unmap space f words) = if nat_lt space limits.spaces then None else Some no_such_space
+call_refusal limits (clear space) = if nat_lt space limits.spaces then None else Some no_such_space
 
 -- a refused call answers its refusal and leaves the holdings
 abbrev pub unless_refused : Option Refusal → Holdings → Answer → Answer

@@ -2,6 +2,7 @@
 use Rattle.std.specs.Prelude.{ℕ, Bool, List, Result}
 use Rattle.fpage.specs.Fpage.{Flexpage}
 use Rattle.fpage.specs.declared.rights.Access.{Access}
+use Rattle.fpage.specs.declared.rights.Rights.{Rights}
 use Rattle.fpage.specs.declared.item.Item.{Item}
 use Rattle.fpage.specs.declared.error.FpageError.{FpageError}
 use Rattle.fpage.specs.declared.error.FpageError.TheVariants as word
@@ -19,11 +20,12 @@ abbrev pub Named : Type 0
 Named = ℕ × Flexpage
 
 -- send: from a space to a space, the receiver's window, the items; access: a page, and how;
--- unmap: of a space, whether its own pages lose the rights too, and the words
+-- unmap: of a space, whether its own pages lose the rights too, and the words; clear: of a space, all of it
 pub data Call : Type 0 where
   send : ℕ → ℕ → Flexpage → List Item → Call
   access : Place → Access → Call
   unmap : ℕ → Bool → List Named → Call
+  clear : ℕ → Call
 
 -- why a record is refused
 pub data Refusal : Type 0 where
@@ -50,6 +52,7 @@ pub data Reply : Type 0 where
   sent : Counts → Reply
   accessed : Bool → Reply
   unmapped : List ℕ → Reply
+  cleared : Rights → Reply
   refused : Refusal → Reply
 
 -- what a record asks for: a call, or a refusal that its fields and the limits decide

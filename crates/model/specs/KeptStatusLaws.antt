@@ -10,8 +10,8 @@ use Rattle.model.specs.Holdings.{Held, Holdings, only, at}
 use Rattle.model.specs.Lawful.{is_lawful}
 use Rattle.model.specs.Strip.{strip}
 use Rattle.model.specs.Items.{Job, job_of, going, sources_of}
-use Rattle.model.specs.Calls.{Limits, send, access, unmap, Named, Reply, sent, unmapped, Request}
-use Rattle.model.specs.Answers.{item_answer, pages_in, answer}
+use Rattle.model.specs.Calls.{Limits, send, access, unmap, clear, Named, Reply, sent, unmapped, cleared, Request}
+use Rattle.model.specs.Answers.{item_answer, pages_in, in_space, answer}
 use Rattle.model.specs.Replay.{replay}
 use Rattle.model.specs.DerivationLaws.{LeadsInto}
 use Rattle.model.specs.StatusLaws.{HasBit}
@@ -38,11 +38,12 @@ IsToldByWords space f (w ∷ ws) (reply ∷ replies) h q b =
     let named = pages_in space w.1 in
     (LeadsInto h 0 named q × IsTrue (has (of_bits reply) b)) ⊎ IsToldByWords space f ws replies (strip h named w.1.rights f) q b
 
--- what a request does with a bit of a page, by its reply: a send that is not refused may take the page, and an unmap may
--- tell the bit; nothing else touches it
+-- what a request does with a bit of a page, by its reply: a send that is not refused may take the page; an unmap may
+-- tell the bit, and so may a clear of the space of the page, or of one from which it derives; nothing else touches it
 abbrev pub IsToldOrTaken : Holdings → Request → Reply → Place → Access → Type 0
 IsToldOrTaken h (Ok (send from to window items)) (sent c) q b = IsTakenByItems from to window items h q
 IsToldOrTaken h (Ok (unmap space f words)) (unmapped replies) q b = IsToldByWords space f words replies h q b
+IsToldOrTaken h (Ok (clear space)) (cleared status) q b = LeadsInto h 0 (in_space space) q × IsTrue (has status b)
 IsToldOrTaken h request reply q b = ⊥
 
 -- a status bit of a page, or of one that derives from it, is told or taken by the request, or is still there

@@ -21,6 +21,7 @@ pub mod TouchLaws
 pub mod SendLaws
 pub mod FateLaws
 pub mod UnmapLaws
+pub mod ClearLaws
 pub mod RefusalLaws
 pub mod KeptStatusLaws
 pub mod RecursionLaws
@@ -32,6 +33,7 @@ pub mod RowsOfHeaders
 pub mod RowsOfText
 pub mod RowsOfAccess
 pub mod RowsOfUnmaps
+pub mod RowsOfClears
 pub mod RowsOfOutcomes
 pub mod RowsOfMaps
 pub mod RowsOfGrants

@@ -1,5 +1,5 @@
 -- The bytes of a trace: its header, and what each of its records asks for (docs/FORMATS.md).
-use Rattle.std.specs.Prelude.{ℕ, ◌+◌, ◌-◌, ◌*◌, ◌/◌, ◌%◌, ◌^◌, ◌==◌, nat_lt, nat_le, ◌&&◌, not, Bool, List, [], ◌∷◌, map, length, codes, Option, Some, None, Result, Ok, Err, if◌then◌else◌}
+use Rattle.std.specs.Prelude.{ℕ, ◌+◌, ◌-◌, ◌*◌, ◌/◌, ◌%◌, ◌^◌, ◌==◌, nat_lt, nat_le, ◌&&◌, not, Bool, true, false, List, [], ◌∷◌, map, length, codes, Option, Some, None, Result, Ok, Err, if◌then◌else◌}
 use Rattle.std.specs.Str.{bytes_eq}
 use Rattle.csv.specs.Reading.{default_config, strip_bom, records}
 use Rattle.fpage.specs.Fpage.{Flexpage, read_fpage, pages_of_space}
@@ -9,7 +9,7 @@ use Rattle.fpage.specs.declared.rights.Access.{Access}
 use Rattle.fpage.specs.declared.rights.Access.TheVariants as kind
 use Rattle.fpage.specs.declared.item.Item.{Item}
 use Rattle.fpage.specs.declared.error.FpageError.{FpageError}
-use Rattle.model.specs.Calls.{Limits, send, access, unmap, Named, refusal_of, out_of_space, no_such_space, bad_record, Request}
+use Rattle.model.specs.Calls.{Limits, send, access, unmap, clear, Named, refusal_of, out_of_space, no_such_space, bad_record, Request}
 
 -- a record: its fields, each of any bytes
 abbrev pub Fields : Type 0
@@ -74,15 +74,33 @@ pub data HeaderFault : Type 0 where
   bad_header : HeaderFault
   bad_limits : HeaderFault
 
--- the limits that a header of the right form names
-abbrev pub header_limits : Fields → Option Limits
-header_limits (name ∷ version ∷ spaces ∷ bits ∷ frames ∷ []) = do
+-- which version of the format a trace has
+pub data Version : Type 0 where
+  one : Version
+  two : Version
+
+-- 1 or 2
+abbrev pub version_field : List ℕ → Option Version
+version_field field =
+    if bytes_eq field (codes "1") then Some one
+    else if bytes_eq field (codes "2") then Some two
+    else None
+
+-- what a header names: the version of its trace, and the limits
+pub record Header : Type 0 where
+  pub version : Version
+  pub limits : Limits
+
+-- what a header of the right form names
+abbrev pub header_fields : Fields → Option Header
+header_fields (name ∷ version ∷ spaces ∷ bits ∷ frames ∷ []) = do
+  version ← version_field version
   spaces ← number_field 10 7 spaces
   bits ← number_field 10 7 bits
   frames ← number_field 10 7 frames
-  if bytes_eq name (codes "l4map") && bytes_eq version (codes "1")
-      then Some (record { spaces = spaces; bits = bits; frames = frames }) else None
-header_limits _ = None
+  if bytes_eq name (codes "l4map")
+      then Some (record { version = version; limits = record { spaces = spaces; bits = bits; frames = frames } }) else None
+header_fields _ = None
 
 -- 2 to 512 spaces, of 64 to 1,048,576 pages; 1 frame to as many as a space has pages (profile)
 abbrev pub are_limits : Limits → Bool
@@ -90,14 +108,14 @@ are_limits l =
     nat_le 2 l.spaces && nat_le l.spaces 512 && nat_le 18 l.bits && nat_le l.bits 32
     && nat_le 1 l.frames && nat_le l.frames (pages_of_space l.bits)
 
--- the limits of a header, if it has the form, and if they are served
-abbrev pub checked_limits : Option Limits → Result Limits HeaderFault
-checked_limits None = Err bad_header
-checked_limits (Some l) = if are_limits l then Ok l else Err bad_limits
+-- what a header names, if it has the form, and if the limits are served
+abbrev pub checked_header : Option Header → Result Header HeaderFault
+checked_header None = Err bad_header
+checked_header (Some header) = if are_limits header.limits then Ok header else Err bad_limits
 
--- the limits that a header sets, or why it is refused
-abbrev pub read_header : Fields → Result Limits HeaderFault
-read_header fields = checked_limits (header_limits fields)
+-- the version and the limits that a header sets, or why it is refused
+abbrev pub read_header : Fields → Result Header HeaderFault
+read_header fields = checked_header (header_fields fields)
 
 -- ---- send
 
@@ -212,15 +230,33 @@ unmap_request limits None = Err bad_record
 unmap_request limits (Some u) =
     or_refused (read_control u.control (length u.words)) (λ flush. or_refused (read_words limits.bits u.words) (λ named. Ok (unmap u.space flush named)))
 
+-- ---- clear
+
+-- what follows the word `clear`: a space
+abbrev pub clear_fields : Fields → Option ℕ
+clear_fields (space ∷ []) = space_field space
+clear_fields _ = None
+
+-- nothing else is looked at
+abbrev pub clear_request : Option ℕ → Request
+clear_request None = Err bad_record
+clear_request (Some space) = Ok (clear space)
+
+-- version 1 has no such record
+abbrev pub has_clear : Version → Bool
+has_clear one = false
+has_clear two = true
+
 -- ---- records
 
--- what a record asks for
-abbrev pub request : Limits → Fields → Request
-request limits [] = Err bad_record
-request limits (name ∷ fields) =
+-- what a record asks for in a trace of a version
+abbrev pub request : Version → Limits → Fields → Request
+request version limits [] = Err bad_record
+request version limits (name ∷ fields) =
     if bytes_eq name (codes "send") then send_request limits (send_fields fields)
     else if bytes_eq name (codes "access") then access_request limits (access_fields fields)
     else if bytes_eq name (codes "unmap") then unmap_request limits (unmap_fields fields)
+    else if bytes_eq name (codes "clear") && has_clear version then clear_request (clear_fields fields)
     else Err bad_record
 
 -- a trace: its limits, and what each record after the header asks for
@@ -228,15 +264,15 @@ pub record Trace : Type 0 where
   pub limits : Limits
   pub requests : List Request
 
--- the records after the header, each by the limits that it set
-abbrev pub with_limits : (Limits → Fields → Request) → List Fields → Result Limits HeaderFault → Result Trace HeaderFault
-with_limits read_one rest (Err e) = Err e
-with_limits read_one rest (Ok limits) = Ok (record { limits = limits; requests = map (read_one limits) rest })
+-- the records after the header, each by the version and the limits that it set
+abbrev pub with_header : (Version → Limits → Fields → Request) → List Fields → Result Header HeaderFault → Result Trace HeaderFault
+with_header read_one rest (Err e) = Err e
+with_header read_one rest (Ok header) = Ok (record { limits = header.limits; requests = map (read_one header.version header.limits) rest })
 
 -- the first record is the header
-abbrev pub trace_of_records : (Limits → Fields → Request) → List Fields → Result Trace HeaderFault
+abbrev pub trace_of_records : (Version → Limits → Fields → Request) → List Fields → Result Trace HeaderFault
 trace_of_records read_one [] = Err bad_header
-trace_of_records read_one (header ∷ rest) = with_limits read_one rest (read_header header)
+trace_of_records read_one (header ∷ rest) = with_header read_one rest (read_header header)
 
 -- the records of the bytes, as `csv` reads them; it passes over a byte order mark
 abbrev pub records_of : List ℕ → List Fields

@@ -2,9 +2,10 @@
 use Rattle.std.specs.Prelude.{◌≡◌, ℕ, ◌+◌, ◌*◌, ◌^◌, ◌≤◌, ◌<◌, Bool, ◌↔◌, List, Some, Ok, Err}
 use Rattle.fpage.specs.Fpage.{Flexpage}
 use Rattle.fpage.specs.declared.item.Item.{Item}
+use Rattle.fpage.specs.declared.rights.Rights.{Rights}
 use Rattle.model.specs.Holdings.{Holdings}
 use Rattle.model.specs.Items.{Counts}
-use Rattle.model.specs.Calls.{Limits, send, access, unmap, Named, no_such_space, same_space, no_window, out_of_space, Reply, sent, unmapped, refused, Request}
+use Rattle.model.specs.Calls.{Limits, send, access, unmap, clear, Named, no_such_space, same_space, no_window, out_of_space, Reply, sent, unmapped, cleared, refused, Request}
 use Rattle.model.specs.Answers.{answer}
 use Rattle.model.specs.Records.{AccessFields, access_request}
 
@@ -48,6 +49,22 @@ pub record IsUnmapReply (limits : Limits) (space : ℕ) (r : Reply) : Type 0 whe
 -- whatever its words and what is held
 abbrev pub UnmapRefusals : Type 0
 UnmapRefusals = (limits : Limits) (h : Holdings) (space : ℕ) (f : Bool) (words : List Named) → IsUnmapReply limits space (answer limits h (Ok (unmap space f words))).reply
+
+-- ---- clear
+
+-- the reply of a clear that is worked
+pub record HasStatus (r : Reply) : Type 0 where
+  pub status : Rights
+  pub is : r ≡ cleared status
+
+-- a clear is refused for a space that is not there; else it is worked
+pub record IsClearReply (limits : Limits) (space : ℕ) (r : Reply) : Type 0 where
+  pub no_space : (r ≡ refused no_such_space) ↔ (space < limits.spaces → ⊥)
+  pub worked : HasStatus r ↔ (space < limits.spaces)
+
+-- whatever is held
+abbrev pub ClearRefusals : Type 0
+ClearRefusals = (limits : Limits) (h : Holdings) (space : ℕ) → IsClearReply limits space (answer limits h (Ok (clear space))).reply
 
 -- ---- access
 

@@ -2,12 +2,13 @@
 use Rattle.std.specs.Prelude.{ℕ, zero, suc, ◌+◌, ◌/◌, ◌%◌, ◌^◌, nat_lt, Bool, true, false, List, [], ◌∷◌, ◌++◌, length, codes, count_by, Option, Some, None, Result, Ok, Err, if◌then◌else◌}
 use Rattle.std.specs.List.{flat_map}
 use Rattle.std.specs.Fmt.{decimal}
+use Rattle.fpage.specs.Control.{with_status}
 use Rattle.fpage.specs.declared.rights.Rights.{Rights}
 use Rattle.space.specs.declared.place.Place.{Place}
 use Rattle.space.specs.Place.{place_text}
 use Rattle.model.specs.Holdings.{Held, Holdings}
 use Rattle.model.specs.Items.{Counts}
-use Rattle.model.specs.Calls.{Refusal, bad_size, misaligned, out_of_space, not_an_item, bad_control, no_such_space, same_space, no_window, bad_record, Reply, sent, accessed, unmapped, refused}
+use Rattle.model.specs.Calls.{Refusal, bad_size, misaligned, out_of_space, not_an_item, bad_control, no_such_space, same_space, no_window, bad_record, Reply, sent, accessed, unmapped, cleared, refused}
 use Rattle.model.specs.Answers.{answer}
 use Rattle.model.specs.Replay.{Told, replay, start}
 use Rattle.model.specs.Records.{Trace, HeaderFault, trace_of}
@@ -49,12 +50,17 @@ hex_digits (suc count) n = hex_code (n / 16 ^ count % 16) ∷ hex_digits count n
 abbrev pub words_text : List ℕ → List ℕ
 words_text words = flat_map (λ w. codes " " ++ hex_digits 8 w) words
 
+-- the word of a clear's reply: that of the complete space without rights, with the status in their place
+abbrev pub clear_word : Rights → ℕ
+clear_word status = with_status 16 status
+
 -- what follows the number of a reply line
 abbrev pub reply_text : Reply → List ℕ
 reply_text (sent c) = codes "send " ++ counts_text c
 reply_text (accessed true) = codes "access ok"
 reply_text (accessed false) = codes "access fault"
 reply_text (unmapped words) = codes "unmap" ++ words_text words
+reply_text (cleared status) = codes "clear " ++ hex_digits 8 (clear_word status)
 reply_text (refused r) = codes "refused " ++ refusal_name r
 
 -- a reply line: number, space, text
@@ -102,6 +108,7 @@ abbrev pub is_refused : Reply → Bool
 is_refused (sent c) = false
 is_refused (accessed ok) = false
 is_refused (unmapped words) = false
+is_refused (cleared status) = false
 is_refused (refused r) = true
 
 -- how many replies are refusals

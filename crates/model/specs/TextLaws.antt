@@ -6,7 +6,7 @@ use Rattle.std.specs.Str.Parse.{IsNumeral, digits_value}
 use Rattle.space.specs.declared.place.Place.{Place}
 use Rattle.model.specs.Holdings.{Held, Holdings}
 use Rattle.model.specs.Items.{Counts}
-use Rattle.model.specs.Calls.{Refusal, Reply, sent, accessed, unmapped, refused}
+use Rattle.model.specs.Calls.{Refusal, Reply, sent, accessed, unmapped, cleared, refused}
 use Rattle.model.specs.Replay.{Told}
 use Rattle.model.specs.Text.{hex_digits, reply_line, audit_line, audit_lines, is_refused, end_line, text}
 
@@ -61,9 +61,10 @@ abbrev pub ReplyHasDigits : Reply → Type 0
 ReplyHasDigits (sent c) = CountsHaveDigits c
 ReplyHasDigits (accessed ok) = Unit {0}
 ReplyHasDigits (unmapped words) = All (λ w. w < 2 ^ 32) words
+ReplyHasDigits (cleared status) = Unit {0}
 ReplyHasDigits (refused r) = Unit {0}
 
--- the line of a reply determines its number and the reply: each count, each word, which refusal
+-- the line of a reply determines its number and the reply: each count, each word, the status of a clear, which refusal
 abbrev pub LineIsOfOneReply : Type 0
 LineIsOfOneReply =
     (m n : ℕ) (r q : Reply) → HasDigits m → HasDigits n → ReplyHasDigits r → ReplyHasDigits q → reply_line m r ≡ reply_line n q → (m ≡ n) × (r ≡ q)

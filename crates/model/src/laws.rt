@@ -10,7 +10,8 @@ ghost use Rattle.model.specs.SendLaws.{PairsOfAnItem, MapSays, GrantSays, MapPas
 ghost use Rattle.model.specs.TextLaws.{DecimalReadsBack, HexReadsBack, LineIsOfOneMapping, AuditIsOfOneHoldings, LineIsOfOneReply, EndIsOfTwoNumbers, RefusalsAreTold, EndCountsReplies, TextIsOfOneResult};
 ghost use Rattle.model.specs.FateLaws.{FateSays, CountsSay, SendsJoin, RepliesAddUp};
 ghost use Rattle.model.specs.UnmapLaws.{UnmapNamesItsOwn, UnmapSays, UnmapsJoin};
-ghost use Rattle.model.specs.RefusalLaws.{SendRefusals, UnmapRefusals, AccessRefusals};
+ghost use Rattle.model.specs.ClearLaws.{ClearSays, ClearIsUnmap};
+ghost use Rattle.model.specs.RefusalLaws.{SendRefusals, UnmapRefusals, ClearRefusals, AccessRefusals};
 ghost use Rattle.model.specs.KeptStatusLaws.{CallKeepsBits, ReplayKeepsBits, BitsComeFromAccesses};
 ghost use Rattle.model.specs.ReplayLaws.{RefusedChangesNothing, FaultChangesNothing, NoPageNamed, NilpageSends, NothingAsked, StartSays, ReplaysJoin};
 
@@ -89,6 +90,12 @@ pub fn unmaps()
     ensures unmaps_join { UnmapsJoin }
 {}
 
+/// What a clear takes and answers.
+pub fn clears()
+    ensures clear_says { ClearSays }
+    ensures clear_is_unmap { ClearIsUnmap }
+{}
+
 /// No status bit is lost, over whole calls and whole replays.
 pub fn kept_status()
     ensures call_keeps_bits { CallKeepsBits }
@@ -100,6 +107,7 @@ pub fn kept_status()
 pub fn refusals()
     ensures send_refusals { SendRefusals }
     ensures unmap_refusals { UnmapRefusals }
+    ensures clear_refusals { ClearRefusals }
     ensures access_refusals { AccessRefusals }
 {}
 

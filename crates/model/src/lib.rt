@@ -9,11 +9,11 @@ mod laws;
 mod worked;
 
 pub use laws::{
-    accesses, derivation, isolation, kept_status, lawful, outcomes, recursion, refusals, replays,
-    sends, status, texts, unmaps,
+    accesses, clears, derivation, isolation, kept_status, lawful, outcomes, recursion, refusals,
+    replays, sends, status, texts, unmaps,
 };
 pub use worked::{
-    rows_of_access, rows_of_grants, rows_of_headers, rows_of_holdings, rows_of_maps,
-    rows_of_outcomes, rows_of_records, rows_of_recursion, rows_of_text, rows_of_unmaps,
-    rows_of_words,
+    rows_of_access, rows_of_clears, rows_of_grants, rows_of_headers, rows_of_holdings,
+    rows_of_maps, rows_of_outcomes, rows_of_records, rows_of_recursion, rows_of_text,
+    rows_of_unmaps, rows_of_words,
 };

@@ -7,6 +7,7 @@ ghost use Rattle.model.specs.RowsOfHeaders.{HeadersOfRightForm, HeadersOfWrongFo
 ghost use Rattle.model.specs.RowsOfText.{WholeRun, RunOfLargestSpaces, RunOfHeaderAlone, RunCutOff, RefusalsAreCounted, NumbersOfTwelveSpaces, LongRun, HexadecimalDigits, EachSetOfRights, FrameOfThreeDigits, CountsOfManyPairs, SixteenPairsAreLost, StatusAsItIsWritten};
 ghost use Rattle.model.specs.RowsOfAccess.{AccessAnswers, AccessesAddUp, EachRightAlone, EachTwoKinds, OnePageAlone};
 ghost use Rattle.model.specs.RowsOfUnmaps.{UnmapNarrowsDerivedAlone, StatusGoesToOutsideOrigin, NestedMappingInOwnSpace, BranchesAddToOneOrigin, UnmapOfNilpage, CompleteUnmapRemovesAll, FlushByTwoWords, TwoWordsInOrder, StatusOfRootEnds, StatusAlone, SiblingKeepsItsStatus, FlushNarrowsCaller, UnmapOfNothingHeld, StatusGoesOneOriginUp, WordsOfSeveralPages, EachRightRevoked, MappingsLeftWithoutRights, BranchBesideStays, DeepChainIsNarrowed, RemovedPagesPassStatusOn, UnmapOfTwoOrigins};
+ghost use Rattle.model.specs.RowsOfClears.{ClearTakesWhatDerives, NoClearInVersion1, RunWithClears, ClearSparesGranted, ClearOfEmptySpace, ClearTakesNestedMapping, ClearPassesStatusToEachOrigin, AccessesRoundClear, ClearLeavesOtherSpaces, ClearOfFirstSpace, FormsOfClears};
 ghost use Rattle.model.specs.RowsOfOutcomes.{EachOutcome, WithheldRightsAreNoRights, NoRightsComesFirst, OriginIsNotReplaced, DistantOriginIsNotReplaced, DistantDerivedIsReplaced, FlushedSourceIsLost, ExtendingPairIsLost, TargetOfLostPairIsGone, TwoItemsInOrder, SecondItemSeesFirst, AbsentComesFirst, OriginAtEachDistance, OriginOfEightMappings, NoRightsOfFlushedSource, OriginOfFlushedSource, SecondItemTellsOrigin, CountsOfItemsAddUp};
 ghost use Rattle.model.specs.RowsOfMaps.{SecondMapExtends, ReplacedTargetTakesItsDerived, ExtendKeepsStatusAndDerived, FlushPassesStatusOn, ExtensionBesideFlush, ReplacedTargetPassesAllStatus, SourceGainsByFlush, ExtensionGainsWhatSourceHas, ExtensionGainsWhatFpageNames, ReplacedTargetLeavesNoRight, SourceKeepsStatus, RootIsReplaced};
 ghost use Rattle.model.specs.RowsOfGrants.{GrantMovesAndNarrows, GrantRenamesAllAtOnce, RootIsGranted, GrantReplacesTarget, GrantOntoOwnDerived, GrantOfFlushedSourceIsLost, GrantRemovesWhatIsWithheld, GrantPassesStatusOn, SendBasesOfGrants, GrantPassesStatusOfTarget, GrantOntoOwnDerivedPassesStatus, GrantLeavesOtherStatus, GrantRenamesEachOrigin, GrantOfSeveralPages};
@@ -135,6 +136,21 @@ pub fn rows_of_unmaps()
     ensures deep_chain_is_narrowed { DeepChainIsNarrowed }
     ensures removed_pages_pass_status_on { RemovedPagesPassStatusOn }
     ensures unmap_of_two_origins { UnmapOfTwoOrigins }
+{}
+
+/// Clears: which mappings are gone, and where status goes.
+pub fn rows_of_clears()
+    ensures clear_takes_what_derives { ClearTakesWhatDerives }
+    ensures no_clear_in_version_1 { NoClearInVersion1 }
+    ensures run_with_clears { RunWithClears }
+    ensures clear_spares_granted { ClearSparesGranted }
+    ensures clear_of_empty_space { ClearOfEmptySpace }
+    ensures clear_takes_nested_mapping { ClearTakesNestedMapping }
+    ensures clear_passes_status_to_each_origin { ClearPassesStatusToEachOrigin }
+    ensures accesses_round_clear { AccessesRoundClear }
+    ensures clear_leaves_other_spaces { ClearLeavesOtherSpaces }
+    ensures clear_of_first_space { ClearOfFirstSpace }
+    ensures forms_of_clears { FormsOfClears }
 {}
 
 /// Sends: what becomes of each pair, and how it is counted.

@@ -9,7 +9,7 @@ use Rattle.model.specs.Strip.{strip}
 use Rattle.model.specs.Calls.{Limits, Request, unmap, no_such_space}
 use Rattle.model.specs.Answers.{answer, pages_in, unless_refused, unmap_answer, unmapped_answer}
 use Rattle.model.specs.Replay.{replay, start}
-use Rattle.model.specs.Records.{Fields, Trace, are_limits, bad_limits, checked_limits, request, trace_of, trace_of_records, with_limits}
+use Rattle.model.specs.Records.{Fields, Version, Header, Trace, are_limits, bad_limits, checked_header, request, trace_of, trace_of_records, with_header}
 use Rattle.holdings.specs.Layout.{Layout}
 use Rattle.holdings.specs.Mappings.{mapped_of}
 use Rattle.mapdb.specs.State.{State, IsRefused, error_of, laid_out, left_with, new_state, unmap_left, unmap_refusal}
@@ -22,23 +22,23 @@ use Rattle.moments.specs.Moment.{left_by, held_after, IsMoment, IsRecordCount}
 -- ---- records
 
 -- some records, and then others
-left_append : (limits : Limits) (xs ys : List Fields) (h : Holdings) → left_by limits (xs ++ ys) h ≡ left_by limits ys (left_by limits xs h)
-left_append limits [] ys h = refl
-left_append limits (x ∷ xs) ys h = left_append limits xs ys (answer limits h (request limits x)).left
+left_append : (version : Version) (limits : Limits) (xs ys : List Fields) (h : Holdings) → left_by version limits (xs ++ ys) h ≡ left_by version limits ys (left_by version limits xs h)
+left_append version limits [] ys h = refl
+left_append version limits (x ∷ xs) ys h = left_append version limits xs ys (answer limits h (request version limits x)).left
 
 -- the first records, and then those behind them
-pub left_more : (limits : Limits) (n m : ℕ) (xs : List Fields) (h : Holdings) → left_by limits (take m (drop n xs)) (left_by limits (take n xs) h) ≡ left_by limits (take (n + m) xs) h
-left_more limits n m xs h =
+pub left_more : (version : Version) (limits : Limits) (n m : ℕ) (xs : List Fields) (h : Holdings) → left_by version limits (take m (drop n xs)) (left_by version limits (take n xs) h) ≡ left_by version limits (take (n + m) xs) h
+left_more version limits n m xs h =
     let all = take (n + m) xs in
     let front : take n all ≡ take n xs = take-take n (n + m) xs (omega arith) in
-    sym (left_append limits (take n xs) (take m (drop n xs)) h)
-    ∙ ap (λ l. left_by limits l h) ((λ i. sym front i ++ sym (drop-take n m xs) i) ∙ take-append-drop n all)
+    sym (left_append version limits (take n xs) (take m (drop n xs)) h)
+    ∙ ap (λ l. left_by version limits l h) ((λ i. sym front i ++ sym (drop-take n m xs) i) ∙ take-append-drop n all)
 
 -- the first record, by what it asks for
-pub left_first : (limits : Limits) (rows : List Fields) (h : Holdings) (r : Request) → first_request limits rows ≡ Some r → left_by limits (take 1 rows) h ≡ (answer limits h r).left
-left_first limits [] h r is = cc
-left_first limits (f ∷ rows) h r is =
-    let same : request limits f ≡ r = cc in
+pub left_first : (version : Version) (limits : Limits) (rows : List Fields) (h : Holdings) (r : Request) → first_request version limits rows ≡ Some r → left_by version limits (take 1 rows) h ≡ (answer limits h r).left
+left_first version limits [] h r is = cc
+left_first version limits (f ∷ rows) h r is =
+    let same : request version limits f ≡ r = cc in
     ap (λ x. (answer limits h x).left) same
 
 -- ---- an unmap
@@ -55,34 +55,35 @@ unmap_leaves space f (w ∷ words) (p ∷ fpages) h same = unmap_leaves space f 
 
 -- the trace of a header that was read, whose limits are served
 abbrev pub trace_behind : Unread → Trace
-trace_behind u = record { limits = u.limits; requests = map (request u.limits) u.records }
+trace_behind u = record { limits = u.limits; requests = map (request u.version u.limits) u.records }
 
 pub opened_trace : (bytes : List ℕ) (u : Unread) → IsOpened bytes u → are_limits u.limits ≡ true → trace_of bytes ≡ Ok (trace_behind u)
 opened_trace bytes u head served =
+    let header : Header = record { version = u.version; limits = u.limits } in
     ap (trace_of_records request) head.records
-    ∙ ap (λ o. with_limits request u.records (checked_limits o)) head.limits
-    ∙ ap (λ b. with_limits request u.records (if b then Ok u.limits else Err bad_limits)) served
+    ∙ ap (λ o. with_header request u.records (checked_header o)) head.names
+    ∙ ap (λ b. with_header request u.records (if b then Ok header else Err bad_limits)) served
 
 -- what it holds after so many records
-pub held_by : (u : Unread) (n : ℕ) → left_by u.limits (take n u.records) (start u.limits) ≡ held_after (trace_behind u) n
-held_by u n = ap (λ l. (replay (answer u.limits) (start u.limits) l).last) (sym (take-map (request u.limits) n u.records))
+pub held_by : (u : Unread) (n : ℕ) → left_by u.version u.limits (take n u.records) (start u.limits) ≡ held_after (trace_behind u) n
+held_by u n = ap (λ l. (replay (answer u.limits) (start u.limits) l).last) (sym (take-map (request u.version u.limits) n u.records))
 
 -- how many records it has
 pub count_is : (bytes : List ℕ) (u : Unread) (n : ℕ) → IsOpened bytes u → IsRecordCount bytes n → n ≡ length (trace_behind u).requests
 count_is bytes u n head count =
     let all = ap length head.records in
-    let each = length-map u.records (request u.limits) in
+    let each = length-map u.records (request u.version u.limits) in
     omega (arith, all, each, count)
 
 -- ---- databases
 
 -- one record more
-pub left_step : (s d : State) (layout : Layout) (rows left : List Fields) (i : ℕ) → left ≡ drop i rows
-    → d ≡ laid_out (left_with s (left_by s.limits (take i rows) s.holdings)) d.layout
-    → laid_out (left_with d (left_by d.limits (take 1 left) d.holdings)) layout ≡ laid_out (left_with s (left_by s.limits (take (i + 1) rows) s.holdings)) layout
-left_step s d layout rows left i left_is d_is =
-    (λ j. laid_out (left_with (d_is j) (left_by (d_is j).limits (take 1 (left_is j)) (d_is j).holdings)) layout)
-    ∙ ap (λ h. laid_out (left_with s h) layout) (left_more s.limits i 1 rows s.holdings)
+pub left_step : (version : Version) (s d : State) (layout : Layout) (rows left : List Fields) (i : ℕ) → left ≡ drop i rows
+    → d ≡ laid_out (left_with s (left_by version s.limits (take i rows) s.holdings)) d.layout
+    → laid_out (left_with d (left_by version d.limits (take 1 left) d.holdings)) layout ≡ laid_out (left_with s (left_by version s.limits (take (i + 1) rows) s.holdings)) layout
+left_step version s d layout rows left i left_is d_is =
+    (λ j. laid_out (left_with (d_is j) (left_by version (d_is j).limits (take 1 (left_is j)) (d_is j).holdings)) layout)
+    ∙ ap (λ h. laid_out (left_with s h) layout) (left_more version s.limits i 1 rows s.holdings)
 
 -- what leaves the layout leaves some layout
 pub settled : (s new : State) (h : Holdings) → new ≡ left_with s h → new ≡ laid_out (left_with s h) new.layout
@@ -110,21 +111,21 @@ unmapped {A} s new space f words fpages (Err e) same refused left why = by s.is_
 -- what is held around a record
 pub moment_is : (bytes : List ℕ) (at count earlier : ℕ) (u u1 : Unread) (d0 d1 d2 : State) (m : Moment)
     → IsOpened bytes u → are_limits u.limits ≡ true → IsRecordCount bytes count → m.records ≡ min at count → earlier ≡ m.records - 1
-    → d0 ≡ laid_out (new_state u.limits) d0.layout → u1.records ≡ drop earlier u.records → d1 ≡ laid_out (left_with d0 (left_by d0.limits (take earlier u.records) d0.holdings)) d1.layout
-    → d2 ≡ laid_out (left_with d1 (left_by d1.limits (take (m.records - earlier) u1.records) d1.holdings)) d2.layout
+    → d0 ≡ laid_out (new_state u.limits) d0.layout → u1.records ≡ drop earlier u.records → u1.version ≡ u.version → d1 ≡ laid_out (left_with d0 (left_by u.version d0.limits (take earlier u.records) d0.holdings)) d1.layout
+    → d2 ≡ laid_out (left_with d1 (left_by u1.version d1.limits (take (m.records - earlier) u1.records) d1.holdings)) d2.layout
     → map mapped_of m.before.items ≡ d1.holdings → map mapped_of m.after.items ≡ d2.holdings → IsMoment bytes at m
-moment_is bytes at count earlier u u1 d0 d1 d2 m head served counted records earlier_is d0_is left d1_is d2_is before after =
+moment_is bytes at count earlier u u1 d0 d1 d2 m head served counted records earlier_is d0_is left same d1_is d2_is before after =
     let trace = trace_behind u in
     let holds : State → Holdings = λ s. s.holdings in
-    let first : d1 ≡ laid_out (left_with (new_state u.limits) (left_by u.limits (take earlier u.records) (start u.limits))) d1.layout =
-    d1_is ∙ (λ j. laid_out (left_with (d0_is j) (left_by (d0_is j).limits (take earlier u.records) (d0_is j).holdings)) d1.layout) in
-    let second : d2 ≡ laid_out (left_with (new_state u.limits) (left_by u.limits (take (m.records - earlier) (drop earlier u.records)) (left_by u.limits (take earlier u.records) (start u.limits)))) d2.layout =
-    d2_is ∙ (λ j. laid_out (left_with (first j) (left_by (first j).limits (take (m.records - earlier) (left j)) (first j).holdings)) d2.layout) in
+    let first : d1 ≡ laid_out (left_with (new_state u.limits) (left_by u.version u.limits (take earlier u.records) (start u.limits))) d1.layout =
+    d1_is ∙ (λ j. laid_out (left_with (d0_is j) (left_by u.version (d0_is j).limits (take earlier u.records) (d0_is j).holdings)) d1.layout) in
+    let second : d2 ≡ laid_out (left_with (new_state u.limits) (left_by u.version u.limits (take (m.records - earlier) (drop earlier u.records)) (left_by u.version u.limits (take earlier u.records) (start u.limits)))) d2.layout =
+    d2_is ∙ (λ j. laid_out (left_with (first j) (left_by (same j) (first j).limits (take (m.records - earlier) (left j)) (first j).holdings)) d2.layout) in
     let whole : earlier + (m.records - earlier) ≡ m.records = omega (arith, earlier_is) in
     record {
       trace = trace;
       is = opened_trace bytes u head served;
       records = records ∙ ap (min at) (count_is bytes u count head counted);
       before = before ∙ ap holds first ∙ held_by u earlier ∙ ap (held_after trace) earlier_is;
-      after = after ∙ ap holds second ∙ left_more u.limits earlier (m.records - earlier) u.records (start u.limits) ∙ ap (λ n. left_by u.limits (take n u.records) (start u.limits)) whole ∙ held_by u m.records;
+      after = after ∙ ap holds second ∙ left_more u.version u.limits earlier (m.records - earlier) u.records (start u.limits) ∙ ap (λ n. left_by u.version u.limits (take n u.records) (start u.limits)) whole ∙ held_by u m.records;
     }

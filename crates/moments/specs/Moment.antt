@@ -4,13 +4,13 @@ use Rattle.model.specs.Holdings.{Holdings}
 use Rattle.model.specs.Calls.{Limits}
 use Rattle.model.specs.Answers.{answer}
 use Rattle.model.specs.Replay.{replay, start}
-use Rattle.model.specs.Records.{Fields, Trace, records_of, request, trace_of}
+use Rattle.model.specs.Records.{Fields, Version, Trace, records_of, request, trace_of}
 use Rattle.holdings.specs.Mappings.{mapped_of}
 use Rattle.drawings.specs.declared.moment.Moment.{Moment}
 
--- what these records leave of what was held
-abbrev pub left_by : Limits → List Fields → Holdings → Holdings
-left_by limits rows h = (replay (answer limits) h (map (request limits) rows)).last
+-- what these records of a trace of a version leave of what was held
+abbrev pub left_by : Version → Limits → List Fields → Holdings → Holdings
+left_by version limits rows h = (replay (answer limits) h (map (request version limits) rows)).last
 
 -- what is held after the first so many records of a trace
 abbrev pub held_after : Trace → ℕ → Holdings

@@ -3,7 +3,7 @@
 ghost use Rattle.std.specs.Prelude.{◌≡◌, ◌<◌, drop, length, take, true, false, Ok, IfOk, IfErr, OnOk};
 ghost use Rattle.std.specs.List.{All, zip};
 ghost use Rattle.fpage.specs.Fpage.{IsFpageOf};
-ghost use Rattle.model.specs.Calls.{access, send, unmap};
+ghost use Rattle.model.specs.Calls.{access, send, unmap, clear};
 ghost use Rattle.model.specs.Answers.{answer};
 ghost use Rattle.model.specs.Records.{are_limits};
 ghost use Rattle.holdings.specs.Meaning.{limits_of};
@@ -43,8 +43,9 @@ pub fn answer_records(
 ) -> Result<(), ShowError>
     requires running { database.old.is_halted ≡ false }
     ensures taken { OnOk result (reader.new.records ≡ drop most reader.old.records) }
+    ensures version { OnOk result (reader.new.version ≡ reader.old.version) }
     ensures left { OnOk result (database.new ≡ laid_out (left_with database.old
-        (left_by database.old.limits (take most reader.old.records) database.old.holdings)) database.new.layout) }
+        (left_by reader.old.version database.old.limits (take most reader.old.records) database.old.holdings)) database.new.layout) }
 {
     let limits = database.limits();
     for i in 0..most {
@@ -68,8 +69,9 @@ fn answer_next(
     requires served { are_limits (limits_of limits.now) ≡ true }
     requires some { 0 < length reader.old.records }
     ensures taken { OnOk result (reader.new.records ≡ drop 1 reader.old.records) }
+    ensures version { OnOk result (reader.new.version ≡ reader.old.version) }
     ensures left { OnOk result (database.new ≡ laid_out (left_with database.old
-        (left_by database.old.limits (take 1 reader.old.records) database.old.holdings)) database.new.layout) }
+        (left_by reader.old.version database.old.limits (take 1 reader.old.records) database.old.holdings)) database.new.layout) }
 {
     let Ok(asked) = reader.next_call(limits) else {
         return Err(ShowError::NoMemory);
@@ -111,6 +113,7 @@ fn answer_record(
                 fpages,
             },
         ) => unmap_pages(alloc, database, *space, *control, words, fpages),
+        Ok(Call::Clear { space }) => clear_space(alloc, database, *space),
     }
 }
 
@@ -168,6 +171,17 @@ fn unmap_pages(
     let outcome = database.unmap(alloc, space, control, fpages, &Alone);
     check_answered(&outcome)?;
     Ok(())
+}
+
+/// A clear of a space.
+fn clear_space(alloc: Global, database: &mut Database, space: u16) -> Result<(), ShowError>
+    ensures left { OnOk result (database.new ≡ left_with database.old
+        (answer database.old.limits database.old.holdings (Ok (clear space))).left) }
+{
+    match database.clear(alloc, space, &Alone) {
+        Ok(_) | Err(DbError::NoSuchSpace) => Ok(()),
+        Err(error) => Err(unanswered(error)),
+    }
 }
 
 /// Whether an unmap was answered: it was done, or refused for what it asks.

@@ -1,12 +1,14 @@
 //! The entry words of the profile's table, and shards at the least and at the largest limits.
 
-ghost use Rattle.std.specs.Prelude.{◌<◌};
+ghost use Rattle.std.specs.Prelude.{◌<◌, IfOk, IsFalse};
 ghost use Rattle.space.specs.Directory.{AreLimits, pages_of};
-ghost use Rattle.space.specs.Shards.{IsPlace};
+ghost use Rattle.space.specs.Shards.{IsPlace, is_taken};
 
 use crate::assertions::assert_equal;
 use fpage::Rights;
-use space::{Entry, Place, Shards, pack, unpack};
+use space::{Entry, NoMemory, Place, Shards, pack, unpack};
+use std::alloc::Global;
+use std::ops::Range;
 use std::process::Abort;
 use std::test::Fail;
 
@@ -145,43 +147,114 @@ fn expect_index(rt: &impl Abort, shards: &Shards, place: Place, index: Option<us
 
 #[test]
 fn the_next_shard_is_found_from_any_page(rt: HostRuntime) -> Result<(), Fail> {
-    // Pages, and the first one from there on whose shard is there.
+    // Pages, ends, and the first page from there on, before the end, whose shard is there; the end where none is.
     let rows = [
-        (0, 70_016),
-        (70_015, 70_016),
-        (70_016, 70_016),
-        (70_079, 70_079),
-        (70_080, 1_048_512),
-        (1_048_575, 1_048_575),
+        (0, 1_048_576, 70_016),
+        (70_015, 1_048_576, 70_016),
+        (70_016, 1_048_576, 70_016),
+        (70_079, 1_048_576, 70_079),
+        (70_080, 1_048_576, 1_048_512),
+        (1_048_575, 1_048_576, 1_048_575),
+        (0, 70_016, 70_016),
+        (0, 70_020, 70_016),
+        (5, 69_999, 69_999),
+        (70_017, 70_018, 70_017),
     ];
-    let mut shards = Shards::new(rt.alloc(), 3, BITS)?;
-    let last = Place {
-        space: 1,
-        page: 1_048_575,
-    };
+    let shards = two_shards_of_space_1(rt.alloc())?;
+    for (page, end, found) in rows {
+        assert_equal(&rt, next_from(&shards, 1, page, end), found, "space 1");
+    }
+    // In a space without shards that is the end.
+    assert_equal(
+        &rt,
+        next_from(&shards, 0, 7, 1_048_576),
+        1_048_576,
+        "space 0",
+    );
+    assert_equal(
+        &rt,
+        next_from(&shards, 2, 64, 1_048_576),
+        1_048_576,
+        "space 2",
+    );
+    Ok(())
+}
+
+/// Three spaces, of which the second has the shards of its pages 70,017 and 1,048,575, and the third that of page 5.
+fn two_shards_of_space_1(alloc: Global) -> Result<Shards, NoMemory>
+    ensures { IfOk result (λ shards. IsFalse (is_taken shards)) }
+{
+    let mut shards = Shards::new(alloc, 3, BITS)?;
     shards.make(&[
         Place {
             space: 1,
             page: 70_017,
         },
-        last,
+        Place {
+            space: 1,
+            page: 1_048_575,
+        },
         Place { space: 2, page: 5 },
     ])?;
-    for (page, found) in rows {
-        assert_equal(&rt, next_from(&shards, 1, page), found, "space 1");
+    Ok(shards)
+}
+
+/// The first page of a space, from one on and before an end, whose shard is there, if there are such pages.
+fn next_from(shards: &Shards, space: u16, page: u32, end: u32) -> u32 {
+    if u32::from(space) >= shards.spaces() || page >= end || end > 1 << (shards.bits() - 12) {
+        return 0;
     }
-    // In a space without shards that is its end.
-    assert_equal(&rt, next_from(&shards, 0, 7), 1_048_576, "space 0");
-    assert_equal(&rt, next_from(&shards, 2, 64), 1_048_576, "space 2");
+    shards.first_from(Place { space, page }, end)
+}
+
+#[test]
+fn the_next_run_is_found_from_any_page(rt: HostRuntime) -> Result<(), Fail> {
+    // Pages, ends, and the next run of held pages from there on and before the end.
+    let rows = [
+        (0, 1_048_576, 70_017..70_018),
+        (70_018, 1_048_576, 70_020..70_023),
+        (70_021, 1_048_576, 70_021..70_023),
+        (70_021, 70_022, 70_021..70_022),
+        // What is held beyond a shard is another run.
+        (70_030, 1_048_576, 70_079..70_080),
+        (70_080, 1_048_576, 1_048_575..1_048_576),
+        (0, 70_017, 70_017..70_017),
+        (70_018, 70_020, 70_020..70_020),
+    ];
+    let mut shards = two_shards_of_space_1(rt.alloc())?;
+    for page in [70_017, 70_020, 70_021, 70_022, 70_079, 1_048_575] {
+        hold(&mut shards, page);
+    }
+    for (page, end, run) in rows {
+        assert_equal(&rt, next_run(&shards, page, end), run, page);
+    }
     Ok(())
 }
 
-/// The first page of a space, from one on, whose shard is there, if there are such a space and such a page.
-fn next_from(shards: &Shards, space: u16, page: u32) -> u32 {
-    if u32::from(space) >= shards.spaces() || page >= 1 << (shards.bits() - 12) {
-        return 0;
+/// Has a page of space 1 hold something, if its shard is there.
+fn hold(shards: &mut Shards, page: u32)
+    requires { IsFalse (is_taken shards.old) }
+    ensures { IsFalse (is_taken shards.new) }
+{
+    let place = Place { space: 1, page };
+    if 1 < shards.spaces() && page < 1 << (shards.bits() - 12) && shards.has(place) {
+        let entry = Entry {
+            frame: 7,
+            rights: Rights::all(),
+            status: Rights::none(),
+        };
+        shards.set(place, Some(entry));
     }
-    shards.first_from(Place { space, page })
+}
+
+/// The next run of held pages of space 1 from a page on and before an end, if there are such pages.
+fn next_run(shards: &Shards, page: u32, end: u32) -> Range<u32>
+    requires { IsFalse (is_taken shards.now) }
+{
+    if 1 >= shards.spaces() || page >= end || end > 1 << (shards.bits() - 12) {
+        return 0..0;
+    }
+    shards.next_run(Place { space: 1, page }, end)
 }
 
 /// How many pages `keeps_a_million_entries_over_512_spaces` holds.

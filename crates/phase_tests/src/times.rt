@@ -43,9 +43,12 @@ const LEFT: u64 = 0x1_0000_0505;
 /// How often each crew is timed.
 const RUNS: u32 = 5;
 
-/// How many looks are timed at most, and how far apart the entries are that are looked at one after another.
+/// How many looks are timed at most, and how many are made beside workers between two questions whether these have ended.
 const LOOKS: u64 = 1_000_000;
 
+const LOOKS_AT_ONCE: u64 = 100;
+
+/// How far apart the entries are that are looked at one after another.
 const APART: usize = 389;
 
 /// How many nodes a piece has.
@@ -68,11 +71,14 @@ impl Gate for Counter {
 /// Looks at the entries of a phase until all of its pieces have ended.
 #[derive(Drop)]
 struct Looker<'a> {
+    clock: &'a HostRuntime,
     gate: &'a Counter,
     pieces: u64,
     looks: AtomicU64,
     /// How many of them found a page.
     held: AtomicU64,
+    /// How many nanoseconds they took.
+    nanos: AtomicU64,
 }
 
 impl Observe for Looker<'_> {
@@ -81,10 +87,34 @@ impl Observe for Looker<'_> {
     ghost told = { λ looker words pieces. 0 ≤ length words };
 
     fn observe(&self, watcher: &mut Watcher, shared: &Open) {
-        let (looks, held) = look_until(shared, watcher, &self.gate.ended, self.pieces);
-        self.looks.store(looks, Ordering::SeqCst);
-        self.held.store(held, Ordering::SeqCst);
+        let Ok(start) = Instant::now(self.clock) else {
+            return;
+        };
+        let mut seen = Looks::new();
+        for _ in 0..LOOKS / LOOKS_AT_ONCE {
+            if self.gate.ended.load(Ordering::SeqCst) == self.pieces {
+                break;
+            }
+            seen.look(shared, watcher, LOOKS_AT_ONCE);
+        }
+        let Ok(nanos) = since(self.clock, start) else {
+            return;
+        };
+        self.looks.store(seen.looks, Ordering::SeqCst);
+        self.held.store(seen.held, Ordering::SeqCst);
+        let nanos = u64::try_from(nanos).unwrap_or(u64::MAX);
+        self.nanos.store(nanos, Ordering::SeqCst);
     }
+}
+
+/// Looks that were made, at entries that stand some way apart.
+#[derive(Drop)]
+struct Looks {
+    looks: u64,
+    /// How many of them found a page. None is absent in these phases.
+    held: u64,
+    /// Where the next one looks.
+    index: usize,
 }
 
 /// How many nodes a phase has, and how many a piece of it at most.
@@ -237,30 +267,35 @@ fn times_in_place<R: Runtime + Threads + Wait + Abort>(
     Ok(nanos)
 }
 
-/// Looks at entries until so many pieces have ended: how many looks were made, and how many of them found a page. None
-/// is absent in these phases.
-fn look_until(shared: &Open, watcher: &mut Watcher, ended: &AtomicU64, pieces: u64) -> (u64, u64)
-    requires { watcher.old.sheet ≡ shared.now }
-    ensures { (watcher.new.sheet ≡ watcher.old.sheet) × (watcher.new.number ≡ watcher.old.number) }
-{
-    let words = shared.words();
-    let mut looks = 0_u64;
-    let mut held = 0_u64;
-    let mut index = 0_usize;
-    for _ in 0..LOOKS {
-        if ended.load(Ordering::SeqCst) == pieces {
-            break;
-        }
-        looks = looks.wrapping_add(1);
-        if index < words && watcher.look(shared, index).is_some() {
-            held = held.wrapping_add(1);
-        }
-        index = index.wrapping_add(APART);
-        if index >= words {
-            index = index.wrapping_sub(words);
+impl Looks {
+    /// No look yet.
+    fn new() -> Looks {
+        Looks {
+            looks: 0,
+            held: 0,
+            index: 0,
         }
     }
-    (looks, held)
+
+    /// Makes so many looks.
+    fn look(&mut self, shared: &Open, watcher: &mut Watcher, count: u64)
+        requires { watcher.old.sheet ≡ shared.now }
+        ensures { (watcher.new.sheet ≡ watcher.old.sheet) × (watcher.new.number ≡ watcher.old.number) }
+    {
+        let words = shared.words();
+        for _ in 0..count {
+            let index = self.index;
+            if index < words && watcher.look(shared, index).is_some() {
+                self.held = self.held.wrapping_add(1);
+            }
+            self.looks = self.looks.wrapping_add(1);
+            let next = index.wrapping_add(APART);
+            self.index = match next < words {
+                true => next,
+                false => next.wrapping_sub(words),
+            };
+        }
+    }
 }
 
 /// The nanoseconds of many looks at entries of a phase, of which no step is made.
@@ -270,49 +305,51 @@ fn times_looks<R: Runtime + Abort>(rt: &R, alloc: Global, size: Size) -> Result<
     let Some(mut watcher) = watchers.pop() else {
         panic!(rt; "a watcher was given")
     };
-    let none = AtomicU64::new(0);
     let start = Instant::now(rt)?;
-    let seen = look_until(&shared, &mut watcher, &none, 1);
+    let mut seen = Looks::new();
+    seen.look(&shared, &mut watcher, LOOKS);
     let nanos = since(rt, start)?;
-    assert_equal(
-        rt,
-        seen,
-        (LOOKS, LOOKS),
-        "looks, and those that found a page",
-    );
+    assert_equal(rt, seen.held, LOOKS, "looks that found a page");
     Ok(nanos)
 }
 
-/// The nanoseconds that four workers take while somebody looks, and how many looks are made meanwhile.
+/// The words that four workers leave of a phase while somebody looks.
+fn timed_beside<R: Runtime + Threads + Wait>(
+    alloc: Global,
+    crew: &Crew<'_, R, Counter>,
+    looker: &Looker<'_>,
+    size: Size,
+) -> Result<Vec<u64>, Fail> {
+    let (words, pieces) = phase(alloc, size)?;
+    let (words, _) = work_watched(crew, alloc, words, pieces, looker)?;
+    Ok(words)
+}
+
+/// How many looks are made while four workers work a phase, and the nanoseconds that they take.
 fn times_beside<R: Runtime + Threads + Wait + Abort>(
     rt: &R,
+    clock: &HostRuntime,
     alloc: Global,
     size: Size,
-) -> Result<(u128, u64), Fail> {
+) -> Result<(u64, u64), Fail> {
     let gate = Counter {
         ended: AtomicU64::new(0),
     };
     let looker = Looker {
+        clock,
         gate: &gate,
         pieces: size.pieces() as u64,
         looks: AtomicU64::new(0),
         held: AtomicU64::new(0),
+        nanos: AtomicU64::new(0),
     };
     let crew = Crew::new(rt, 4, size.most.max(1), &gate);
-    let (words, pieces) = phase(alloc, size)?;
-    let start = Instant::now(rt)?;
-    let worked = work_watched(&crew, alloc, words, pieces, &looker)?;
-    let nanos = since(rt, start)?;
-    let (words, _) = worked;
+    let words = timed_beside(alloc, &crew, &looker, size)?;
     are_stripped(rt, &words, size);
     let looks = looker.looks.load(Ordering::SeqCst);
-    assert_equal(
-        rt,
-        looker.held.load(Ordering::SeqCst),
-        looks,
-        "looks that found a page",
-    );
-    Ok((nanos, looks))
+    let held = looker.held.load(Ordering::SeqCst);
+    assert_equal(rt, held, looks, "looks that found a page");
+    Ok((looks, looker.nanos.load(Ordering::SeqCst)))
 }
 
 /// The nanoseconds that 1, 2 and 4 workers take by turns, and one in place, in this order.
@@ -331,6 +368,7 @@ fn times_each<R: Runtime + Threads + Wait + Abort>(
 /// Tells what a phase of this size costs.
 fn tells<R: Runtime + Threads + Wait + Abort>(
     rt: &R,
+    clock: &HostRuntime,
     alloc: Global,
     size: Size,
 ) -> Result<(), Fail> {
@@ -342,7 +380,7 @@ fn tells<R: Runtime + Threads + Wait + Abort>(
     println!(rt; "phase pieces-of {most} in-place ns {in_place}")?;
     let looks = times_looks(rt, alloc, size)?;
     println!(rt; "phase pieces-of {most} looks {LOOKS} ns {looks}")?;
-    let (nanos, looks) = times_beside(rt, alloc, size)?;
+    let (looks, nanos) = times_beside(rt, clock, alloc, size)?;
     println!(rt; "phase pieces-of {most} beside {looks} ns {nanos}")?;
     Ok(())
 }
@@ -350,12 +388,13 @@ fn tells<R: Runtime + Threads + Wait + Abort>(
 /// Tells what phases of so many nodes cost, some times each.
 fn tells_all<R: Runtime + Threads + Wait + Abort>(
     rt: &R,
+    clock: &HostRuntime,
     alloc: Global,
     nodes: usize,
 ) -> Result<(), Fail> {
     for _ in 0..RUNS {
         for most in LENGTHS {
-            tells(rt, alloc, Size { nodes, most })?;
+            tells(rt, clock, alloc, Size { nodes, most })?;
         }
     }
     Ok(())
@@ -364,7 +403,7 @@ fn tells_all<R: Runtime + Threads + Wait + Abort>(
 #[test]
 fn works_a_thousand_nodes_or_as_many_as_are_asked_for(rt: HostRuntime) -> Result<(), Fail> {
     match env::args(&rt)?.nth(2) {
-        Some(nodes) => tells_all(&rt, rt.alloc(), nodes.parse()?),
+        Some(nodes) => tells_all(&rt, &rt, rt.alloc(), nodes.parse()?),
         None => {
             let size = Size {
                 nodes: 1_000,
@@ -372,7 +411,7 @@ fn works_a_thousand_nodes_or_as_many_as_are_asked_for(rt: HostRuntime) -> Result
             };
             times_each(&rt, rt.alloc(), size)?;
             times_looks(&rt, rt.alloc(), size)?;
-            times_beside(&rt, rt.alloc(), size)?;
+            times_beside(&rt, &rt, rt.alloc(), size)?;
             Ok(())
         }
     }

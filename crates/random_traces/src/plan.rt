@@ -1,5 +1,7 @@
 //! What a trace that is made at random is to be like.
 
+use trace::Version;
+
 /// How the sends of a trace go from space to space.
 #[derive(Clone, Copy, Debug, PartialEq, Eq)]
 pub enum Shape {
@@ -32,6 +34,8 @@ impl Shape {
 /// What a trace that is made at random is to be like.
 #[derive(Clone, Copy, Debug, PartialEq, Eq)]
 pub struct Plan {
+    /// The version of its format.
+    pub version: Version,
     /// Where the random numbers start.
     pub seed: u64,
     /// How many records stand behind the header.

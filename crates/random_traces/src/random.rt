@@ -10,7 +10,7 @@ use fpage::{ItemKind, Rights};
 use std::alloc::{AllocError, Global};
 use std::fmt::Write;
 use texts::{Size, control_word, fpage_word, item_word};
-use trace::{Failed, Sink};
+use trace::{Failed, Sink, Version};
 
 /// Why no trace was made.
 #[derive(Clone, Copy, Debug, PartialEq, Eq)]
@@ -45,7 +45,8 @@ pub fn write_random<W: Sink>(alloc: Global, plan: &Plan, writer: &mut W) -> Resu
         frames,
         ..
     } = *plan;
-    write!(line, "l4map,1,{spaces},{bits},{frames}\n")?;
+    let version = number_of(plan.version);
+    write!(line, "l4map,{version},{spaces},{bits},{frames}\n")?;
     writer.write_all(line.as_bytes())?;
     for _ in 0..plan.records {
         line.clear();
@@ -53,6 +54,14 @@ pub fn write_random<W: Sink>(alloc: Global, plan: &Plan, writer: &mut W) -> Resu
         writer.write_all(line.as_bytes())?;
     }
     Ok(())
+}
+
+/// The number of a version.
+fn number_of(version: Version) -> u32 {
+    match version {
+        Version::One => 1,
+        Version::Two => 2,
+    }
 }
 
 /// Appends a record.
@@ -65,6 +74,7 @@ fn push_record(line: &mut String, dice: &mut Dice, plan: &Plan) -> Result<(), Al
     match dice.below(10) {
         0..=4 => push_send(line, dice, plan),
         5..=7 => push_access(line, dice, plan),
+        8 if plan.version.has_clear() => push_clear(line, dice, plan),
         _ => push_unmap(line, dice, plan),
     }
 }
@@ -97,6 +107,15 @@ fn push_unmap(line: &mut String, dice: &mut Dice, plan: &Plan) -> Result<(), All
         write!(line, ",{word:x}")?;
     }
     line.push_str("\n")
+}
+
+/// Appends a clear of a space.
+fn push_clear(line: &mut String, dice: &mut Dice, plan: &Plan) -> Result<(), AllocError>
+    requires { IsPlan plan.now }
+{
+    // What space 0 holds would be gone for good.
+    let space = 1 + dice.below(plan.spaces - 1);
+    write!(line, "clear,{space}\n")
 }
 
 /// Appends a send.

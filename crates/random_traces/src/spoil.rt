@@ -25,6 +25,7 @@ pub fn push_refused(line: &mut String, dice: &mut Dice, plan: &Plan) -> Result<(
         // BadControl: two words are to follow.
         4 => write!(line, "unmap,{space},1,c7\n"),
         // NoSuchSpace.
+        5 if plan.version.has_clear() && dice.chance(50) => write!(line, "clear,{spaces}\n"),
         5 => write!(line, "send,{space},{spaces},10,8,c7\n"),
         // SameSpace.
         6 => write!(line, "send,{space},{space},10,8,c7\n"),

@@ -7,7 +7,7 @@ use Rattle.model.specs.Holdings.{Holdings}
 use Rattle.model.specs.Calls.{Limits, Reply, accessed}
 use Rattle.model.specs.Answers.{answer}
 use Rattle.model.specs.Replay.{told_after}
-use Rattle.model.specs.Records.{Fields, request}
+use Rattle.model.specs.Records.{Fields, Version, request}
 use Rattle.model.specs.Text.{reply_line, reply_lines, is_refused, refused_count}
 use Rattle.replay.specs.Steps.{told_of}
 
@@ -74,12 +74,12 @@ refused_few (r ∷ rs) =
 -- ---- records
 
 -- some records, and then others
-pub told_append : (limits : Limits) (xs ys : List Fields) (h : Holdings)
-    → told_of limits (xs ++ ys) h ≡ record { replies = (told_of limits xs h).replies ++ (told_of limits ys (told_of limits xs h).last).replies; last = (told_of limits ys (told_of limits xs h).last).last }
-told_append limits [] ys h = refl
-told_append limits (x ∷ xs) ys h = let first = answer limits h (request limits x) in ap (told_after first) (told_append limits xs ys first.left)
+pub told_append : (version : Version) (limits : Limits) (xs ys : List Fields) (h : Holdings)
+    → told_of version limits (xs ++ ys) h ≡ record { replies = (told_of version limits xs h).replies ++ (told_of version limits ys (told_of version limits xs h).last).replies; last = (told_of version limits ys (told_of version limits xs h).last).last }
+told_append version limits [] ys h = refl
+told_append version limits (x ∷ xs) ys h = let first = answer limits h (request version limits x) in ap (told_after first) (told_append version limits xs ys first.left)
 
 -- each record has a reply
-pub replies_count : (limits : Limits) (rows : List Fields) (h : Holdings) → length (told_of limits rows h).replies ≡ length rows
-replies_count limits [] h = refl
-replies_count limits (f ∷ rows) h = ap suc (replies_count limits rows (answer limits h (request limits f)).left)
+pub replies_count : (version : Version) (limits : Limits) (rows : List Fields) (h : Holdings) → length (told_of version limits rows h).replies ≡ length rows
+replies_count version limits [] h = refl
+replies_count version limits (f ∷ rows) h = ap suc (replies_count version limits rows (answer limits h (request version limits f)).left)

@@ -11,11 +11,11 @@ use Rattle.replay.specs.Steps.{told_of, ReplaysTrace, StopsEarly, StopsTrace}
 
 -- the requests of the records
 abbrev pub trace_from : Unread → Trace
-trace_from u = record { limits = u.limits; requests = map (request u.limits) u.records }
+trace_from u = record { limits = u.limits; requests = map (request u.version u.limits) u.records }
 
 -- limits that are served make it a trace
 served : (input : List ℕ) (u : Unread) → IsOpened input u → are_limits u.limits ≡ true → trace_of input ≡ Ok (trace_from u)
-served input u is limits = rw (is.records, is.limits, limits) refl
+served input u is limits = rw (is.records, is.names, limits) refl
 
 -- the bytes that were read are those of the input
 pub opened : (known : Option (List ℕ)) (bytes : List ℕ) (u : Unread) → IfSome known (λ input. bytes ≡ input) → IsOpened bytes u → IfSome known (λ input. IsOpened input u)
@@ -24,10 +24,10 @@ opened (Some input) bytes u is o = subst (λ (b : List ℕ). IsOpened b u) is o
 
 -- limits that are not served make it none
 unserved : (input : List ℕ) (u : Unread) → IsOpened input u → are_limits u.limits ≡ false → trace_of input ≡ Err bad_limits
-unserved input u is limits = rw (is.records, is.limits, limits) refl
+unserved input u is limits = rw (is.records, is.names, limits) refl
 
 -- why the replies to a trace were not all written
-pub trace_stops : (u : Unread) (old new : Option (List ℕ)) (was failed : Bool) → are_limits u.limits ≡ true → (e : RunError) → StopsEarly (told_of u.limits u.records (start u.limits)) old new was failed e → StopsTrace u old new was failed e
+pub trace_stops : (u : Unread) (old new : Option (List ℕ)) (was failed : Bool) → are_limits u.limits ≡ true → (e : RunError) → StopsEarly (told_of u.version u.limits u.records (start u.limits)) old new was failed e → StopsTrace u old new was failed e
 trace_stops u old new was failed limits (NoMemory zero) stop = absurd stop
 trace_stops u old new was failed limits (NoMemory (suc k)) stop = (record { served = limits; stopped = stop.0 }, stop.1)
 trace_stops u old new was failed limits (NoWorker zero) stop = absurd stop

@@ -7,7 +7,7 @@ use Rattle.model.specs.Holdings.{Holdings}
 use Rattle.model.specs.Calls.{Limits, access, Request, Reply, accessed}
 use Rattle.model.specs.Answers.{answer}
 use Rattle.model.specs.Replay.{Told, replay, start}
-use Rattle.model.specs.Records.{Fields, are_limits, request}
+use Rattle.model.specs.Records.{Fields, Version, are_limits, request}
 use Rattle.model.specs.Text.{reply_lines}
 use Rattle.mapdb.specs.State.{State, laid_out, new_state}
 use Rattle.trace.specs.Meaning.{reply_of}
@@ -19,13 +19,13 @@ use Rattle.replay.specs.declared.error.RunError.{RunError}
 use Rattle.replay.specs.declared.error.RunError.TheVariants.{BadHeader, BadLimits, NoMemory, NoWorker, Unreadable, WriteFailed}
 use Rattle.replay.specs.Run.{StopsBefore, WritesText}
 
--- the replies to these records, and the last holdings
-abbrev pub told_of : Limits → List Fields → Holdings → Told
-told_of limits rows h = replay (answer limits) h (map (request limits) rows)
+-- the replies to these records of a trace of a version, and the last holdings
+abbrev pub told_of : Version → Limits → List Fields → Holdings → Told
+told_of version limits rows h = replay (answer limits) h (map (request version limits) rows)
 
 -- the same, to a request and then to these records
-abbrev pub told_behind : Limits → Request → List Fields → Holdings → Told
-told_behind limits request_of_first rows h = replay (answer limits) h (request_of_first ∷ map (request limits) rows)
+abbrev pub told_behind : Version → Limits → Request → List Fields → Holdings → Told
+told_behind version limits request_of_first rows h = replay (answer limits) h (request_of_first ∷ map (request version limits) rows)
 
 -- the replies that were given
 abbrev pub replies_of : Replies → List Reply
@@ -37,11 +37,11 @@ abbrev pub asked : Place × Access → Request
 asked a = Ok (access a.0 a.1)
 
 -- an access, with those that the first of these records ask for
-pub record AreAsked (limits : Limits) (first : Place × Access) (rows : List Fields) (accesses : List (Place × Access)) : Type 0 where
+pub record AreAsked (version : Version) (limits : Limits) (first : Place × Access) (rows : List Fields) (accesses : List (Place × Access)) : Type 0 where
   pub others : List (Place × Access)
   pub are : accesses ≡ first ∷ others
   pub within : length others ≤ length rows
-  pub requests : map (request limits) (take (length others) rows) ≡ map asked others
+  pub requests : map (request version limits) (take (length others) rows) ≡ map asked others
 
 -- of a text a front was written, and these bytes of it are left
 pub record PassesOn (old new : Option (List ℕ)) (text left : List ℕ) : Type 0 where
@@ -103,12 +103,12 @@ StartsNot limits WriteFailed = ⊥
 -- a trace of which the header was read was replayed, and its text was written
 pub record ReplaysTrace (u : Unread) (old new : Option (List ℕ)) (s : Summary) : Type 0 where
   pub served : are_limits u.limits ≡ true
-  pub replayed : WritesText (told_of u.limits u.records (start u.limits)) old new s
+  pub replayed : WritesText (told_of u.version u.limits u.records (start u.limits)) old new s
 
 -- the reply lines of such a trace before record number k + 1 were written
 pub record StopsInTrace (u : Unread) (old new : Option (List ℕ)) (k : ℕ) : Type 0 where
   pub served : are_limits u.limits ≡ true
-  pub stopped : StopsBefore (told_of u.limits u.records (start u.limits)) old new k
+  pub stopped : StopsBefore (told_of u.version u.limits u.records (start u.limits)) old new k
 
 -- why such a trace was not replayed to its end; whether the writer had failed, and has
 abbrev pub StopsTrace : Unread → Option (List ℕ) → Option (List ℕ) → Bool → Bool → RunError → Type 0

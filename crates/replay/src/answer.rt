@@ -4,13 +4,13 @@ ghost use Rattle.std.specs.Prelude.{◌≡◌, ◌<◌, ◌≤◌, ◌+◌, ◌-
 ghost use Rattle.std.specs.List.{All, zip};
 ghost use Rattle.fpage.specs.Fpage.{IsFpageOf};
 ghost use Rattle.fpage.specs.Control.{with_status};
-ghost use Rattle.model.specs.Calls.{send, unmap, accessed};
-ghost use Rattle.model.specs.Answers.{answer};
-ghost use Rattle.model.specs.Records.{are_limits};
+ghost use Rattle.model.specs.Calls.{send, unmap, clear, accessed};
+ghost use Rattle.model.specs.Answers.{answer, clear_answer};
+ghost use Rattle.model.specs.Records.{Version, are_limits};
 ghost use Rattle.holdings.specs.Contents.{access_answers, touched_all};
 ghost use Rattle.holdings.specs.Meaning.{limits_of};
 ghost use Rattle.holdings.specs.Places.{IsWithin};
-ghost use Rattle.mapdb.specs.State.{laid_out, left_with, IsRefused, unmap_refusal, unmap_status, unmap_left};
+ghost use Rattle.mapdb.specs.State.{laid_out, left_with, IsRefused, refusal, unmap_refusal, unmap_status, unmap_left};
 ghost use Rattle.trace.specs.Meaning.{reply_of, request_of, IsWithinLimits};
 ghost use Rattle.trace.specs.Unread.{past, first_request, access_in};
 ghost use Rattle.replay.specs.Steps.{AreAsked, replies_of, told_of, told_behind};
@@ -37,8 +37,9 @@ pub enum Replies {
     Accesses(Vec<bool>),
 }
 
-/// Takes the next record, answers it, and leaves what it changed; an unmap by recursion if `plain`. Where it is an access, the
-/// accesses right behind it are taken and answered too, up to 65,536 in all: they are one call of the database.
+/// Takes the next record, answers it, and leaves what it changed; an unmap and a clear by recursion if `plain`. Where it
+/// is an access, the accesses right behind it are taken and answered too, up to 65,536 in all: they are one call of the
+/// database.
 ///
 /// Not answered where memory or a worker is refused: `NoMemory`, `NoWorker`.
 pub fn answer_first<W: Workers>(
@@ -55,7 +56,7 @@ pub fn answer_first<W: Workers>(
     ensures within { IfOk result (λ replies. length (replies_of replies) ≤ length trace.old.records) }
     ensures taken { IfOk result (λ replies. trace.new ≡ past (length (replies_of replies)) trace.old) }
     ensures told { IfOk result (λ replies.
-        told_of database.old.limits (take (length (replies_of replies)) trace.old.records) database.old.holdings
+        told_of trace.old.version database.old.limits (take (length (replies_of replies)) trace.old.records) database.old.holdings
         ≡ record { replies = replies_of replies; last = database.new.holdings }) }
     ensures keeps { OnOk result (
         database.new ≡ laid_out (left_with database.old database.new.holdings) database.new.layout) }
@@ -85,7 +86,7 @@ fn answer_call<W: Workers>(
     ensures within { IfOk result (λ replies. length (replies_of replies) ≤ length trace.old.records + 1) }
     ensures taken { IfOk result (λ replies. trace.new ≡ past (length (replies_of replies) - 1) trace.old) }
     ensures told { IfOk result (λ replies.
-        told_behind database.old.limits (request_of asked.now) (take (length (replies_of replies) - 1) trace.old.records) database.old.holdings
+        told_behind trace.old.version database.old.limits (request_of asked.now) (take (length (replies_of replies) - 1) trace.old.records) database.old.holdings
         ≡ record { replies = replies_of replies; last = database.new.holdings }) }
     ensures keeps { OnOk result (
         database.new ≡ laid_out (left_with database.old database.new.holdings) database.new.layout) }
@@ -123,6 +124,10 @@ fn answer_call<W: Workers>(
             )?;
             Ok(Replies::One(reply))
         }
+        Ok(Call::Clear { space }) => {
+            let reply = clear_space(alloc, database, workers, plain, *space)?;
+            Ok(Replies::One(reply))
+        }
     }
 }
 
@@ -136,7 +141,7 @@ fn read_accesses(
     requires limits { are_limits (limits_of limits.now) ≡ true }
     requires first { IsWithin (limits_of limits.now) first.0 }
     ensures within { OnOk result (All (λ access. IsWithin (limits_of limits.now) access.0) accesses.new.items) }
-    ensures asked { OnOk result (AreAsked (limits_of limits.now) first trace.old.records accesses.new.items) }
+    ensures asked { OnOk result (AreAsked trace.old.version (limits_of limits.now) first trace.old.records accesses.new.items) }
     ensures taken { OnOk result (trace.new ≡ past (length accesses.new.items - 1) trace.old) }
 {
     accesses.clear();
@@ -155,7 +160,7 @@ fn next_of_call(
 ) -> Result<Option<(Place, Access)>, NoMemory>
     requires limits { are_limits (limits_of limits.now) ≡ true }
     ensures access { IfOk result (λ access. IfSome access (λ a.
-        Some a ≡ access_in (first_request (limits_of limits.now) trace.old.records))) }
+        Some a ≡ access_in (first_request trace.old.version (limits_of limits.now) trace.old.records))) }
     ensures within { IfOk result (λ access. IfSome access (λ a. IsWithin (limits_of limits.now) a.0)) }
     ensures taken { IfOk result (λ access. MatchOption access (trace.new ≡ trace.old) (λ _. trace.new ≡ past 1 trace.old)) }
 {
@@ -272,6 +277,43 @@ fn unmap_by<W: Workers>(
         return Ok(());
     }
     database.unmap_into(alloc, space, control, fpages, status, workers)
+}
+
+/// A clear of a space; by recursion if `plain`.
+fn clear_space<W: Workers>(
+    alloc: Global,
+    database: &mut Database,
+    workers: &W,
+    plain: bool,
+    space: u16,
+) -> Result<Reply, CrewError>
+    ensures ok { IfOk result (λ reply. answer database.old.limits database.old.holdings (Ok (clear space))
+        ≡ record { reply = reply_of reply; left = database.new.holdings }) }
+    ensures keeps { OnOk result (database.new ≡ left_with database.old database.new.holdings) }
+{
+    match clear_by(alloc, database, workers, plain, space) {
+        Ok(status) => Ok(Reply::Cleared(status)),
+        Err(DbError::NoSuchSpace) => Ok(Reply::Refused(Refusal::NoSuchSpace)),
+        Err(error) => Err(unanswered(error)),
+    }
+}
+
+/// The status that a clear tells; by recursion if `plain`.
+fn clear_by<W: Workers>(
+    alloc: Global,
+    database: &mut Database,
+    workers: &W,
+    plain: bool,
+    space: u16,
+) -> Result<Rights, DbError>
+    ensures refused { IsRefused (refusal database.old (clear space)) database.old database.new result }
+    ensures status { IfOk result (λ status. status ≡ (clear_answer space database.old.holdings).status) }
+    ensures left { OnOk result (database.new ≡ left_with database.old (clear_answer space database.old.holdings).left) }
+{
+    if plain {
+        return database.clear_plain(alloc, space);
+    }
+    database.clear(alloc, space, workers)
 }
 
 /// Why a call has no answer that was not refused for what it asks.

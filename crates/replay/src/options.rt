@@ -7,7 +7,7 @@ pub struct Options {
     pub workers: u32,
     /// How many parts of a call a piece has at most, 1 to 65536.
     pub piece_length: u32,
-    /// Whether every unmap is worked by recursion, page by page, and all else by one worker.
+    /// Whether every unmap and every clear is worked by recursion, page by page, and all else by one worker.
     pub plain: bool,
 }
 

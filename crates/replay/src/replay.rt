@@ -158,7 +158,7 @@ pub fn run<T: AllocGlobal + Threads + Wait + Sync, R: Source, W: Sink, V: Watch>
     run_by(rt, reader, writer, options.plain, &crew, watch)
 }
 
-/// The same, whoever works the calls; with `plain` unmaps go by recursion on the calling thread.
+/// The same, whoever works the calls; with `plain` unmaps and clears go by recursion on the calling thread.
 pub fn run_by<T: AllocGlobal + Threads + Sync, R: Source, W: Sink, C: Workers, V: Watch>(
     rt: &T,
     reader: &mut R,

@@ -30,6 +30,10 @@ module _ (bits : ℕ) (low : 18 ≤ bits) (p q : Place) (p_page : p.page < pages
       let page : p.page ≡ q.page = omega (arith, parts.0, block, rest) in
       λ i. record { space = parts.0 i; page = page i }
 
+-- a space has so many pages at most
+pub few_pages : (bits : ℕ) → bits ≤ 32 → pages_of bits ≤ 2 ^ 20
+few_pages bits high = let low : bits - 12 ≤ 20 = omega (arith, high) in let most : pages_of bits ≤ 2 ^ 20 = pow_mono low in most
+
 -- a shift of a small number is the product of the definition
 pub shifted : (a k w : ℕ) → k ≤ 14 → a < 2 ^ 16 → 30 ≤ w → a * 2 ^ k % 2 ^ w ≡ a * 2 ^ k
 shifted a k w few small wide = shl_whole a 16 k w small (omega arith)

@@ -1,10 +1,13 @@
 -- The words of shards, by place.
-use Rattle.std.proofs.Common.{◌≡◌, refl, sym, ◌∙◌, ap, arith, subst, ℕ, ◌+◌, ◌*◌, ◌<◌, ◌≤◌, ◌++◌, ◌⊎◌, inl, inr, List, [], length, Option, Some, None, IsTrue, IfSome, true, ◌&&◌, ◌/◌, ◌-◌, Vec, Global, slice_index, slice_set, vec_capacity}
+use Rattle.std.proofs.Common.{◌≡◌, refl, sym, ◌∙◌, ap, arith, subst, ℕ, ◌+◌, ◌*◌, ◌^◌, ◌<◌, ◌≤◌, ◌++◌, ◌⊎◌, inl, inr, List, [], length, Option, Some, None, IsTrue, IfSome, Bool, true, false, ◌==◌, ◌&&◌, ◌/◌, ◌-◌, Vec, Global, slice_index, slice_set, vec_capacity}
 use Rattle.std.specs.Option.{option_map_or}
-use Rattle.std.specs.Prelude.{replicate}
+use Rattle.std.specs.Prelude.{replicate, is_some}
 use Rattle.std.specs.List.{AllPass}
 use Rattle.std.specs.Vec.{with_item}
-use Rattle.std.proofs.lemmas.Bool.{eq-eqb}
+use Rattle.std.specs.Int.{div_ceil}
+use Rattle.std.proofs.lemmas.Nat.{mul-le}
+use Rattle.std.proofs.lemmas.Grind.{div_ceil_times}
+use Rattle.std.proofs.lemmas.Bool.{eq-eqb, eqb-true}
 use Rattle.std.proofs.lemmas.Option.{same_Some}
 use Rattle.std.proofs.lemmas.List.{length-replicate, length-set, get_or-set_same, get_or-set_other, get_or_past, get_or-replicate, get_or_append_left, get_or-append_right}
 use Rattle.std.proofs.lemmas.List.Elements.{All-append, All-replicate, All-set}
@@ -18,7 +21,7 @@ use Rattle.space.specs.Positions.{nowhere, most_of, count_of, position_in, IsAdd
 use Rattle.space.specs.Shards.{IsPlace, HasWord, index_of, word_count, words_of, entry_at, are_beside, IsSetAt}
 use Rattle.space.specs.ShardLaws.{HeldHaveWords, WordsAreTheirOwn, EntriesFit, AreAllWords, IsWithWords, ShardsHaveWords, WordsHaveShards}
 use Rattle.space.proofs.Words.{pack_gives_back, unpack_gives_back, unpacked_fits}
-use Rattle.space.proofs.Directories.{shard_found, same_shard, shard_in_space, same_parts, pages_are}
+use Rattle.space.proofs.Directories.{shard_found, same_shard, shard_in_space, same_parts, pages_are, few_pages}
 use Rattle.space.proofs.Leaves.{within_or_past, few_there, same_or_not}
 
 -- the shard of a place is one that the directory can have
@@ -175,6 +178,44 @@ module _ (s : Shards) (words : Vec ℕ Global) (held : s.words ≡ Some words) (
         inl (omega (arith, same_index p differ, has, added.count, apart))
   ]
 
+-- ---- the pages of a shard
+
+module _ (s : Shards) (place : Place) (is_place : IsPlace s place) where
+  pub page_few : place.page < 2 ^ 20
+  page_few = omega (arith, few_pages s.bits s.limits.high, is_place.page)
+
+  -- a space ends where a shard does
+  pub shard_end : (place.page / 64 + 1) * 64 ≤ pages_of s.bits
+  shard_end = omega (arith, pages_are s.bits s.limits.low, is_place.page)
+
+  -- the words of a shard are side by side
+  pub beside : (p : Place) → p.space ≡ place.space → p.page / 64 ≡ place.page / 64 → index_of s p ≡ index_of s place - offset_of place + offset_of p
+  beside p space pages =
+      let shard : shard_of s.bits p ≡ shard_of s.bits place = ap (λ n. n * shards_of s.bits + p.page / 64) space ∙ ap (λ n. place.space * shards_of s.bits + n) pages in
+      let position : position_in s.directory (shard_of s.bits p) ≡ position_in s.directory (shard_of s.bits place) = ap (position_in s.directory) shard in
+      omega (arith, position)
+
+  pub has_beside : HasWord s place → (p : Place) → p.space ≡ place.space → p.page / 64 ≡ place.page / 64 → HasWord s p
+  has_beside has p space pages = omega (arith, has, beside p space pages)
+
+-- what is not 0 says that something is held
+said : (w : ℕ) → (w ≡ 0 → ⊥) → IsTrue (is_some (entry_of w))
+said w some = by (w == 0) refl
+  where
+    by : (b : Bool) → (w == 0) ≡ b → IsTrue (is_some (entry_of w))
+    by true is = absurd (some (eqb-true w 0 is))
+    by false is = cc (is)
+
+pub held_at : (s : Shards) (words : Vec ℕ Global) → s.words ≡ Some words → (p : Place) → (slice_index words.items (index_of s p) ≡ 0 → ⊥) → IsTrue (is_some (entry_at s p))
+held_at s words held p some = ap is_some (entry_read s words held p) ∙ said (slice_index words.items (index_of s p)) some
+
+-- what is held has a word
+pub held_has : (s : Shards) (p : Place) → IsTrue (is_some (entry_at s p)) → HasWord s p
+held_has s p held = elim (within_or_past (index_of s p) (word_count s)) as (λ _. HasWord s p) [
+  | inl within ↦ within
+  | inr behind ↦ absurd (cc (held, absent_unless s p (λ has. absurd (omega (arith, has, behind)))))
+]
+
 -- ---- the shards of a space
 
 module _ (s : Shards) (place : Place) (is_place : IsPlace s place) where
@@ -187,14 +228,23 @@ module _ (s : Shards) (place : Place) (is_place : IsPlace s place) where
   pub shard_before : shard_of s.bits place < before + shards_in
   shard_before = omega (arith, shard_in_space s.bits s.limits.low place is_place.page)
 
-  module _ (found : ℕ) (from : shard_of s.bits place ≤ found) (end : found ≤ before + shards_in) where
-    pub page_end : (found - before) * 64 ≤ pages_of s.bits
-    page_end = omega (arith, pages_are s.bits s.limits.low, from, end)
+  -- its shards are among all
+  pub shards_within : before + shards_in ≤ most_of s.directory
+  shards_within = rw s.most (times (place.space) shards_in s.spaces is_place.space)
+    where
+      times : (a b n : ℕ) → a < n → a * b + b ≤ n * b
+      times a b n less = let most : (a + 1) * b ≤ n * b = mul-le (a + 1) b n b (omega (arith, less)) (omega arith) in omega (arith, most)
 
-    pub page_there : (found < before + shards_in → position_in s.directory found < count_of s.directory) → (found - before) * 64 < pages_of s.bits
-        → HasWord s (record { space = place.space; page = (found - before) * 64 })
-    page_there there within =
-        let low = there (omega (arith, pages_are s.bits s.limits.low, within, from)) in
+  -- a page before an end is of a shard before that of the end
+  pub shard_from : (end : ℕ) → place.page ≤ end → shard_of s.bits place ≤ before + div_ceil end 64
+  shard_from end from = omega (arith, from, div_ceil_times end 64 (omega arith))
+
+  pub shard_to : (end : ℕ) → end ≤ pages_of s.bits → before + div_ceil end 64 ≤ before + shards_in
+  shard_to end most = omega (arith, most, pages_are s.bits s.limits.low, div_ceil_times end 64 (omega arith))
+
+  module _ (found : ℕ) (from : shard_of s.bits place ≤ found) where
+    pub page_there : position_in s.directory found < count_of s.directory → HasWord s (record { space = place.space; page = (found - before) * 64 })
+    page_there low =
         let p : Place = record { space = place.space; page = (found - before) * 64 } in
         let shard : shard_of s.bits p ≡ found = omega (arith, from) in
         let position : position_in s.directory (shard_of s.bits p) < count_of s.directory = rw shard low in

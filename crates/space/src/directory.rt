@@ -1,7 +1,7 @@
 //! Where the words of each shard stand.
 
 ghost use Rattle.std.specs.Prelude.{◌≡◌, ◌≤◌, ◌^◌, length, IsTrue, IfOk};
-ghost use Rattle.space.specs.Leaves.{IsDirectory, AreInOrder};
+ghost use Rattle.space.specs.Leaves.{nowhere, IsDirectory, AreInOrder};
 
 use std::alloc::{AllocError, Global};
 
@@ -36,8 +36,8 @@ pub struct Directory {
 }
 
 impl Directory {
-    ghost use Rattle.std.specs.Prelude.{◌≡◌, ℕ, ◌+◌, ◌/◌, ◌<◌, ◌≤◌, ◌^◌, length, slice_index, IfOk, OnOk, OnErr, IsTrue, ◌↔◌};
-    ghost use Rattle.space.specs.Positions.{nowhere, most_of, count_of, position_in, leaf_in, IsAdded, IsSame};
+    ghost use Rattle.std.specs.Prelude.{◌≡◌, ℕ, ◌+◌, ◌*◌, ◌/◌, ◌<◌, ◌≤◌, ◌^◌, length, slice_index, IfOk, OnOk, OnErr, IsTrue, ◌↔◌};
+    ghost use Rattle.space.specs.Positions.{most_of, count_of, position_in, leaf_in, IsAdded, IsSame};
 
     /// A directory of so many shards, none of which is there.
     ///
@@ -166,16 +166,49 @@ impl Directory {
     {
         let mut shard = from;
         while shard < end {
-            if self.leaves[shard / LEAF_SHARDS] == 0 {
-                shard = (shard / LEAF_SHARDS + 1) * LEAF_SHARDS;
-            } else if self.position(shard) == NOWHERE {
-                shard += 1;
-            } else {
-                return shard;
+            let run = shard / LEAF_SHARDS;
+            let run_end = ((run + 1) * LEAF_SHARDS).min(end);
+            if self.leaves[run] != 0 {
+                let found = self.next_in_run(shard, run_end);
+                if found < run_end {
+                    return found;
+                }
             }
+            shard = run_end;
         }
         end
     }
+
+    /// The same of shards of one run of 128.
+    fn next_in_run(&self, from: usize, end: usize) -> usize
+        requires from { from < end }
+        requires end { end ≤ most_of self.now }
+        requires run { end ≤ (from / 128 + 1) * 128 }
+        ensures from { from ≤ result }
+        ensures end { result ≤ end }
+        ensures there { result < end → position_in self.now result < count_of self.now }
+        ensures skipped { (shard : ℕ) → from ≤ shard → shard < result → position_in self.now shard ≡ nowhere }
+    {
+        let leaf = self.leaves[from / LEAF_SHARDS] as usize;
+        let first = leaf * LEAF_SHARDS + from % LEAF_SHARDS;
+        from + first_there(&self.positions[first..first + (end - from)])
+    }
+}
+
+ghost use Rattle.std.specs.Prelude.{ℕ, ◌<◌, slice_index};
+
+/// The first of some positions at which a shard is; how many they are where none is.
+fn first_there(positions: &[u32]) -> usize
+    ensures end { result ≤ length positions.now }
+    ensures there { result < length positions.now → slice_index positions.now result ≡ nowhere → ⊥ }
+    ensures skipped { (k : ℕ) → k < result → slice_index positions.now k ≡ nowhere }
+{
+    for (k, position) in positions.iter().enumerate() {
+        if *position != NOWHERE {
+            return k;
+        }
+    }
+    positions.len()
 }
 
 /// The leaf of each of so many runs, in their order, behind the empty leaf.

@@ -1,4 +1,4 @@
-ghost use Rattle.std.specs.Prelude.{◌≡◌, ◌*◌, ◌+◌, ◌<◌, ◌≤◌, ◌++◌, length, replicate, vec_capacity};
+ghost use Rattle.std.specs.Prelude.{◌≡◌, ◌*◌, ◌+◌, ◌/◌, ◌^◌, ◌<◌, ◌≤◌, ◌++◌, length, replicate, vec_capacity};
 ghost use Rattle.std.specs.Option.{ForSome};
 ghost use Rattle.space.specs.Directory.{AreLimits, AreWords, offset_of, shards_of};
 ghost use Rattle.space.specs.Positions.{most_of, count_of};
@@ -10,6 +10,7 @@ use crate::status::Status;
 use crate::word::{narrowed_word, pack, unpack, word_bits};
 use fpage::Rights;
 use std::alloc::Global;
+use std::ops::Range;
 
 /// The bytes of the pages of one shard, as a power of two.
 const SHARD_BITS: u32 = 18;
@@ -47,7 +48,7 @@ pub struct Shards {
 }
 
 impl Shards {
-    ghost use Rattle.std.specs.Prelude.{◌≡◌, ◌↔◌, ◌+◌, ◌*◌, ◌/◌, ◌<◌, ◌≤◌, IsTrue, IsFalse, IfOk, OnOk, IfSome, IfNone, None, length, option_map, is_some, slice_index};
+    ghost use Rattle.std.specs.Prelude.{◌≡◌, ℕ, ◌↔◌, ◌+◌, ◌*◌, ◌/◌, ◌<◌, ◌≤◌, IsTrue, IsFalse, IfOk, OnOk, IfSome, IfNone, None, length, option_map, is_some, slice_index};
     ghost use Rattle.std.specs.List.{All, AllPass, list_any};
     ghost use Rattle.std.specs.Option.{option_and_then};
     ghost use Rattle.space.specs.declared.place.Place.{Place};
@@ -196,24 +197,129 @@ impl Shards {
         self.directory.position(self.shard(place)) < self.directory.count()
     }
 
-    /// The first page of a space, from a page on, whose shard is there; the end of the space where there is none. No page
-    /// before it has its shard there, so all are absent. What is not there is passed over in runs of 8,192 pages.
-    pub fn first_from(&self, place: Place) -> u32
+    /// The first page of a space, from a page on and before an end, whose shard is there; the end where there is none. No
+    /// page before it has its shard there, so all are absent. What is not there is passed over in runs of 8,192 pages.
+    pub fn first_from(&self, place: Place, end: u32) -> u32
         requires place { IsPlace self.now place }
+        requires from { place.page ≤ end }
+        requires end { end ≤ pages_of (bits_of self.now) }
         ensures from { place.page ≤ result }
-        ensures end { result ≤ pages_of (bits_of self.now) }
-        ensures there { result < pages_of (bits_of self.now) → HasWord self.now (record { space = place.space; page = result }) }
+        ensures end { result ≤ end }
+        ensures there { result < end → HasWord self.now (record { space = place.space; page = result }) }
         ensures skipped { (p : Place) → p.space ≡ place.space → place.page ≤ p.page → p.page < result → HasWord self.now p → ⊥ }
         ensures absent { (p : Place) → p.space ≡ place.space → place.page ≤ p.page → p.page < result → entry_at self.now p ≡ None }
     {
         let from = self.shard(place);
         let before = self.shards_before(place.space);
-        let end = before + self.shards_in_space();
-        let found = self.directory.next(from, end);
+        let behind = before + (end as usize).div_ceil(SHARD_PAGES);
+        let found = self.directory.next(from, behind);
         if found == from {
             return place.page;
         }
-        ((found - before) * SHARD_PAGES) as u32
+        let page = ((found - before) * SHARD_PAGES) as u32;
+        page.min(end)
+    }
+
+    /// The first page of a space, from a page on and before an end, that is held; the end where there is none. What is not
+    /// there is passed over in the same way, and the words of what is there are looked at one behind another.
+    pub fn first_held(&self, place: Place, end: u32) -> u32
+        requires place { IsPlace self.now place }
+        requires from { place.page ≤ end }
+        requires end { end ≤ pages_of (bits_of self.now) }
+        requires present { IsFalse (is_taken self.now) }
+        ensures from { place.page ≤ result }
+        ensures end { result ≤ end }
+        ensures held { result < end → IsTrue (is_some (entry_at self.now (record { space = place.space; page = result }))) }
+        ensures absent { (p : Place) → p.space ≡ place.space → place.page ≤ p.page → p.page < result → entry_at self.now p ≡ None }
+    {
+        let space = place.space;
+        let mut page = place.page;
+        while page < end {
+            let first = self.first_from(Place { space, page }, end);
+            if first == end {
+                break;
+            }
+            let behind = page_behind_shard(first).min(end);
+            let found = self.first_held_of_shard(Place { space, page: first }, behind);
+            if found < behind {
+                return found;
+            }
+            page = behind;
+        }
+        end
+    }
+
+    /// The same of pages of one shard that is there.
+    fn first_held_of_shard(&self, place: Place, end: u32) -> u32
+        requires place { IsPlace self.now place }
+        requires from { place.page ≤ end }
+        requires end { end ≤ (place.page / 64 + 1) * 64 }
+        requires present { IsFalse (is_taken self.now) }
+        requires has { HasWord self.now place }
+        ensures from { place.page ≤ result }
+        ensures end { result ≤ end }
+        ensures held { result < end → IsTrue (is_some (entry_at self.now (record { space = place.space; page = result }))) }
+        ensures absent { (p : Place) → p.space ≡ place.space → place.page ≤ p.page → p.page < result → entry_at self.now p ≡ None }
+    {
+        let words = self.words.as_ref().unwrap();
+        let before = self.find(place) - offset(place);
+        let space = place.space;
+        for page in place.page..end {
+            if words[before + offset(Place { space, page })] != 0 {
+                return page;
+            }
+        }
+        end
+    }
+
+    /// The first page behind a held one and before an end, in its shard, that is not held; the end where each is.
+    fn end_of_held(&self, place: Place, end: u32) -> u32
+        requires place { IsPlace self.now place }
+        requires from { place.page < end }
+        requires end { end ≤ (place.page / 64 + 1) * 64 }
+        requires present { IsFalse (is_taken self.now) }
+        requires held { IsTrue (is_some (entry_at self.now place)) }
+        ensures from { place.page < result }
+        ensures end { result ≤ end }
+        ensures held { (p : Place) → p.space ≡ place.space → place.page ≤ p.page → p.page < result → IsTrue (is_some (entry_at self.now p)) }
+    {
+        let words = self.words.as_ref().unwrap();
+        let before = self.find(place) - offset(place);
+        let space = place.space;
+        for page in place.page + 1..end {
+            if words[before + offset(Place { space, page })] == 0 {
+                return page;
+            }
+        }
+        end
+    }
+
+    /// The next pages of a space, from a page on and before an end, that are held: the first, with those behind it, side by
+    /// side in its shard. Both ends are the end where there is none.
+    pub fn next_run(&self, place: Place, end: u32) -> Range<u32>
+        requires place { IsPlace self.now place }
+        requires from { place.page < end }
+        requires end { end ≤ pages_of (bits_of self.now) }
+        requires present { IsFalse (is_taken self.now) }
+        ensures from { place.page ≤ result.start }
+        ensures end { result.end ≤ end }
+        ensures order { result.start ≤ result.end }
+        ensures further { place.page < result.end }
+        ensures none { result.start ≡ result.end → result.start ≡ end }
+        ensures absent { (p : Place) → p.space ≡ place.space → place.page ≤ p.page → p.page < result.start → entry_at self.now p ≡ None }
+        ensures held { (p : Place) → p.space ≡ place.space → result.start ≤ p.page → p.page < result.end → IsTrue (is_some (entry_at self.now p)) }
+        ensures shard { (page : ℕ) → result.start ≤ page → page < result.end → page / 64 ≡ result.start / 64 }
+    {
+        let start = self.first_held(place, end);
+        if start == end {
+            return end..end;
+        }
+        let first = Place {
+            space: place.space,
+            page: start,
+        };
+        let behind = page_behind_shard(start).min(end);
+        start..self.end_of_held(first, behind)
     }
 
     /// How many words there are. Each page that is held has its word among them.
@@ -377,6 +483,14 @@ impl Shards {
     {
         self.words = Some(words);
     }
+}
+
+/// The first page behind the shard of a page.
+fn page_behind_shard(page: u32) -> u32
+    requires { page < 2 ^ 20 }
+    ensures { result ≡ (page / 64 + 1) * 64 }
+{
+    (page / SHARD_PAGES as u32 + 1) * SHARD_PAGES as u32
 }
 
 /// Where in its shard the word of a place stands: from one space to the next a line farther on, and round to the front. So the words

@@ -6,3 +6,5 @@ mod Hex
 mod Lines
 mod Pages
 mod Readings
+mod NoAccess
+mod Told

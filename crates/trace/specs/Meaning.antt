@@ -1,22 +1,27 @@
 -- What records, calls, refusals and replies stand for in the definitions.
-use Rattle.std.specs.Prelude.{◌≡◌, ℕ, List, map, length, Result, Ok, Err}
+use Rattle.std.specs.Prelude.{◌≡◌, ⊤, ℕ, List, map, length, Result, Ok, Err}
 use Rattle.std.specs.Borrow.{Bor}
 use Rattle.std.specs.List.{All, zip}
 use Rattle.fpage.specs.Fpage.{IsFpageOf}
-use Rattle.model.specs.Calls.{Limits, Call, send, access, unmap, Refusal, bad_size, misaligned, out_of_space, not_an_item, bad_control, no_such_space, same_space, no_window, bad_record, Request, Reply, sent, accessed, unmapped, refused}
-use Rattle.model.specs.Records.{Fields}
+use Rattle.model.specs.Calls.{Limits, Call, send, access, unmap, clear, Refusal, bad_size, misaligned, out_of_space, not_an_item, bad_control, no_such_space, same_space, no_window, bad_record, Request, Reply, sent, accessed, unmapped, cleared, refused}
+use Rattle.model.specs.Records.{Fields, Version}
 use Rattle.holdings.specs.Places.{IsWithin}
 use Rattle.mapdb.specs.Meaning.{counts_of}
 use Rattle.trace.specs.declared.call.Call.{Call as TheCall}
-use Rattle.trace.specs.declared.call.Call.TheVariants.{Send, Access, Unmap}
+use Rattle.trace.specs.declared.call.Call.TheVariants.{Send, Access, Unmap, Clear}
 use Rattle.trace.specs.declared.call.Refusal.{Refusal as TheRefusal}
 use Rattle.trace.specs.declared.call.Refusal.TheVariants as why
 use Rattle.trace.specs.declared.reply.Reply.{Reply as TheReply}
-use Rattle.trace.specs.declared.reply.Reply.TheVariants.{Sent, Accessed, Unmapped, Refused}
+use Rattle.trace.specs.declared.reply.Reply.TheVariants.{Sent, Accessed, Unmapped, Cleared, Refused}
 
 -- the bytes of borrowed fields
 abbrev pub shown : List (Bor (List ℕ)) → Fields
 shown fields = map (λ field. field.now) fields
+
+-- a record of a trace: the version that the trace has, and the fields
+pub record TraceRecord : Type 0 where
+  pub version : Version
+  pub fields : Fields
 
 -- the refusal that one of the program is
 abbrev pub refusal_of : TheRefusal → Refusal
@@ -35,12 +40,14 @@ abbrev pub call_of : TheCall → Call
 call_of (Send from to window items) = send from to window items.items
 call_of (Access place kind) = access place kind
 call_of (Unmap space control words fpages) = unmap space control.flush (zip words.items fpages.items)
+call_of (Clear space) = clear space
 
 -- the pages that a call names lie within the limits, and each word of an unmap has its fpage
 abbrev pub IsWithinLimits : Limits → TheCall → Type 0
 IsWithinLimits limits (Send from to window items) = IsFpageOf limits.bits window × All (λ item. IsFpageOf limits.bits item.sent) items.items
 IsWithinLimits limits (Access place kind) = IsWithin limits place
 IsWithinLimits limits (Unmap space control words fpages) = All (IsFpageOf limits.bits) fpages.items × (length fpages.items ≡ length words.items)
+IsWithinLimits limits (Clear space) = ⊤
 
 -- the request that a call or a refusal of the program is
 abbrev pub request_of : Result TheCall TheRefusal → Request
@@ -52,4 +59,5 @@ abbrev pub reply_of : TheReply → Reply
 reply_of (Sent r) = sent (counts_of r)
 reply_of (Accessed ok) = accessed ok
 reply_of (Unmapped words) = unmapped words.items
+reply_of (Cleared status) = cleared status
 reply_of (Refused r) = refused (refusal_of r)

@@ -6,16 +6,23 @@ use Rattle.fpage.specs.declared.rights.Access.{Access}
 use Rattle.space.specs.declared.place.Place.{Place}
 use Rattle.model.specs.Calls as calls
 use Rattle.model.specs.Calls.{Request, access}
-use Rattle.model.specs.Records.{Fields, AccessFields, SendFields, UnmapFields}
+use Rattle.model.specs.Records.{Fields, Header, AccessFields, SendFields, UnmapFields}
 use Rattle.trace.specs.declared.call.Call.{Call}
 use Rattle.trace.specs.declared.call.CallError.{CallError}
 use Rattle.trace.specs.declared.call.CallError.TheVariants.{Refused, NoMemory}
 use Rattle.trace.specs.declared.call.Refusal.{Refusal}
 use Rattle.trace.specs.declared.call.Refusal.TheVariants.{BadRecord}
+use Rattle.holdings.specs.Meaning.{limits_of}
+use Rattle.field.specs.Meaning.{version_of}
+use Rattle.trace.specs.declared.request.Header.{Header as TheHeader}
 use Rattle.trace.specs.declared.request.SendFields.{SendFields as TheSendFields}
 use Rattle.trace.specs.declared.request.AccessFields.{AccessFields as TheAccessFields}
 use Rattle.trace.specs.declared.request.UnmapFields.{UnmapFields as TheUnmapFields}
 use Rattle.trace.specs.Meaning.{refusal_of, call_of}
+
+-- what a header names
+abbrev pub header_of : TheHeader → Header
+header_of h = record { version = version_of h.version; limits = limits_of h.limits }
 
 -- the fields of an access record
 abbrev pub access_of : TheAccessFields → AccessFields

@@ -26,6 +26,10 @@ pub enum Call {
         /// The fpage of each word.
         fpages: Vec<Fpage>,
     },
+    /// Takes all pages from a space, and all that derives from them.
+    Clear {
+        space: u16,
+    },
 }
 
 /// Why a record is refused. It changes nothing.

@@ -10,6 +10,7 @@ mod request;
 mod stream;
 
 pub use call::{Call, Refusal};
+pub use field::Version;
 pub use read::{Trace, TraceError, read_all};
 pub use reader::TraceReader;
 pub use records::{Fields, Record};

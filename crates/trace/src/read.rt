@@ -17,7 +17,7 @@ use thiserror::Error;
 pub struct Trace {
     /// The limits that the header names, whether or not a database serves them.
     pub limits: Limits,
-    /// The records after the header.
+    /// The records after the header, each with the version that the header names.
     pub records: Vec<Record>,
 }
 

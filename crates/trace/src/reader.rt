@@ -2,6 +2,7 @@
 
 ghost use Rattle.std.specs.Prelude.{◌≡◌, ◌==◌, ◌<◌, ◌∷◌, [], true, Some, length, IfOk, IfErr, OnOk, OnErr, IfSome, MatchOption};
 ghost use Rattle.model.specs.Records.{are_limits};
+ghost use Rattle.field.specs.Meaning.{version_of};
 ghost use Rattle.holdings.specs.Meaning.{limits_of};
 ghost use Rattle.holdings.specs.Places.{IsWithin};
 ghost use Rattle.trace.specs.Meaning.{request_of, IsWithinLimits};
@@ -10,20 +11,23 @@ ghost use Rattle.trace.specs.Unread.{past, IsOpened, IsFaultIn, first_request, a
 use crate::call::{Call, CallError, Refusal};
 use crate::read::TraceError;
 use crate::records::{Fields, Record, next_row, rows};
-use crate::request::{Buffers, access_only, header, request};
+use crate::request::{Buffers, Header, access_only, read_header, request};
 use csv::{ByteRecord, Reader};
+use field::Version;
 use fpage::Access;
 use mapdb::Limits;
 use space::{NoMemory, Place};
 use std::alloc::Global;
 use std::marker::Model;
 
-/// A trace in memory, whose records are read one after another and not kept. A contract sees the limits that its header
-/// names, the number of the record that is next, 1 for the first behind the header, and the records that are left.
+/// A trace in memory, whose records are read one after another and not kept. A contract sees the version and the limits
+/// that its header names, the number of the record that is next, 1 for the first behind the header, and the records that
+/// are left.
 ///
 /// Once a read ran out of memory, no record is left.
 #[derive(Drop)]
 pub struct TraceReader<'a> {
+    version: Version,
     limits: Limits,
     rows: Box<Reader<&'a [u8]>>,
     /// The record that is next, if there is one.
@@ -40,10 +44,12 @@ impl<'a> Model for TraceReader<'a> {
 
     ghost use Rattle.std.specs.Prelude.{◌≡◌, true};
     ghost use Rattle.csv.specs.Records.{fields_of};
+    ghost use Rattle.field.specs.Meaning.{version_of};
     ghost use Rattle.holdings.specs.Meaning.{limits_of};
     ghost use Rattle.trace.specs.Rows.{IsReading, with_row};
 
     ghost view = { λ r. record {
+      version = version_of r.version;
       limits = limits_of r.limits;
       number = r.number;
       records = with_row r.has_row (fields_of r.row) r.rows.value;
@@ -71,11 +77,12 @@ impl<'a> TraceReader<'a> {
         if !next_row(&mut rows, &mut row)? {
             return Err(TraceError::BadHeader);
         }
-        let Some(limits) = header(&mut Fields::of_row(&row)) else {
+        let Some(Header { version, limits }) = read_header(&mut Fields::of_row(&row)) else {
             return Err(TraceError::BadHeader);
         };
         let has_row = next_row(&mut rows, &mut row)?;
         Ok(TraceReader {
+            version,
             limits,
             rows,
             row,
@@ -83,6 +90,13 @@ impl<'a> TraceReader<'a> {
             number: 1,
             buffers: Buffers::new(alloc),
         })
+    }
+
+    /// Returns the version that the header names.
+    pub fn version(&self) -> Version
+        ensures { version_of result ≡ self.now.version }
+    {
+        self.version
     }
 
     /// Returns the limits that the header names, whether or not a database serves them.
@@ -109,14 +123,15 @@ impl<'a> TraceReader<'a> {
     /// Takes the next record; none if no record is left.
     pub fn next_record(&mut self) -> Result<Option<Record>, NoMemory>
         ensures next { IfOk result (λ next. MatchOption next (self.old.records ≡ [])
-            (λ fields. self.old.records ≡ fields ∷ self.new.records)) }
+            (λ taken. self.old.records ≡ taken.fields ∷ self.new.records)) }
+        ensures version { IfOk result (λ next. IfSome next (λ taken. taken.version ≡ self.old.version)) }
         ensures taken { IfOk result (λ next. MatchOption next (self.new ≡ self.old) (λ _. self.new ≡ past 1 self.old)) }
         ensures err { OnErr result (self.new.records ≡ []) }
     {
         if !self.has_row {
             return Ok(None);
         }
-        let Ok(record) = Record::of_row(&self.row) else {
+        let Ok(record) = Record::of_row(self.version, &self.row) else {
             return Err(self.stop());
         };
         self.advance()?;
@@ -131,12 +146,17 @@ impl<'a> TraceReader<'a> {
         requires limits { are_limits (limits_of limits.now) ≡ true }
         requires some { 0 < length self.old.records }
         ensures request { IfOk result (λ asked.
-            first_request (limits_of limits.now) self.old.records ≡ Some (request_of asked)) }
+            first_request self.old.version (limits_of limits.now) self.old.records ≡ Some (request_of asked)) }
         ensures within { IfOk result (λ asked. IfOk asked (IsWithinLimits (limits_of limits.now))) }
         ensures taken { OnOk result (self.new ≡ past 1 self.old) }
         ensures err { OnErr result (self.new.records ≡ []) }
     {
-        let asked = request(limits, &mut Fields::of_row(&self.row), &mut self.buffers);
+        let asked = request(
+            self.version,
+            limits,
+            &mut Fields::of_row(&self.row),
+            &mut self.buffers,
+        );
         let asked = match asked {
             Ok(call) => Ok(call),
             Err(CallError::Refused(refusal)) => Err(refusal),
@@ -151,7 +171,7 @@ impl<'a> TraceReader<'a> {
     pub fn next_access(&mut self, limits: &Limits) -> Result<Option<(Place, Access)>, NoMemory>
         requires { are_limits (limits_of limits.now) ≡ true }
         ensures access { IfOk result (λ access.
-            access ≡ access_in (first_request (limits_of limits.now) self.old.records)) }
+            access ≡ access_in (first_request self.old.version (limits_of limits.now) self.old.records)) }
         ensures within { IfOk result (λ access. IfSome access (λ a. IsWithin (limits_of limits.now) a.0)) }
         ensures taken { IfOk result (λ access. MatchOption access (self.new ≡ self.old) (λ _. self.new ≡ past 1 self.old)) }
         ensures err { OnErr result (self.new.records ≡ []) }

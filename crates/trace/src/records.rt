@@ -2,49 +2,60 @@
 
 ghost use Rattle.std.specs.Prelude.{◌≡◌, true, IfOk};
 ghost use Rattle.csv.specs.Records.{fields_of};
+ghost use Rattle.field.specs.Meaning.{version_of};
 ghost use Rattle.trace.specs.Meaning.{shown};
 ghost use Rattle.trace.specs.Rows.{IsAtStart, IsReading, rows_left, with_row};
 
 use csv::{ByteRecord, ByteRecordIter, Reader, ReaderBuilder};
+use field::Version;
 use space::NoMemory;
 use std::alloc::Global;
 use std::marker::Model;
 
-/// A record of a trace: its fields, each of any bytes. A contract sees the list of them.
+/// A record of a trace: the version that the trace has, and the fields, each of any bytes. A contract sees both.
 #[derive(Drop)]
 pub struct Record {
+    version: Version,
     row: ByteRecord,
 }
 
 impl Model for Record {
     ghost use Rattle.csv.specs.Records.{fields_of};
-    ghost use Rattle.model.specs.Records.{Fields};
+    ghost use Rattle.field.specs.Meaning.{version_of};
+    ghost use Rattle.trace.specs.Meaning.{TraceRecord};
 
-    ghost Value = { Fields };
+    ghost Value = { TraceRecord };
 
-    ghost view = { λ r. fields_of r.row };
+    ghost view = { λ r. record { version = version_of r.version; fields = fields_of r.row } };
 }
 
 impl Record {
-    /// Makes a record of these fields.
-    pub fn new(alloc: Global, fields: &[&[u8]]) -> Result<Self, NoMemory>
-        ensures { IfOk result (λ made. made ≡ shown fields.now) }
+    /// Makes a record of these fields, in a trace of this version.
+    pub fn new(alloc: Global, version: Version, fields: &[&[u8]]) -> Result<Self, NoMemory>
+        ensures { IfOk result (λ made. made ≡ record { version = version_of version; fields = shown fields.now }) }
     {
         let row = ByteRecord::from_fields(alloc, fields)?;
-        Ok(Record { row })
+        Ok(Record { version, row })
     }
 
     /// Makes a record of a row's fields.
-    pub(crate) fn of_row(row: &ByteRecord) -> Result<Self, NoMemory>
-        ensures { IfOk result (λ made. made ≡ fields_of row.now) }
+    pub(crate) fn of_row(version: Version, row: &ByteRecord) -> Result<Self, NoMemory>
+        ensures { IfOk result (λ made. made ≡ record { version = version_of version; fields = fields_of row.now }) }
     {
         let row = row.clone()?;
-        Ok(Record { row })
+        Ok(Record { version, row })
+    }
+
+    /// Returns the version that the trace has.
+    pub fn version(&self) -> Version
+        ensures { version_of result ≡ self.now.version }
+    {
+        self.version
     }
 
     /// Returns the fields, to be taken in order. They are read in place, and nothing is allocated.
     pub fn fields(&self) -> Fields<'_>
-        ensures { result ≡ self.now }
+        ensures { result ≡ self.now.fields }
     {
         Fields::of_row(&self.row)
     }

@@ -3,11 +3,12 @@
 ghost use Rattle.std.specs.Prelude.{◌≡◌, ◌<◌, ◌≤◌, ◌++◌, drop, length, IfOk, OnErr, OnOk, string_bytes};
 ghost use Rattle.std.specs.Fmt.{decimal};
 ghost use Rattle.model.specs.Calls.{accessed};
-ghost use Rattle.model.specs.Text.{reply_line, reply_text, refusal_name, counts_text, words_text, hex_digits, hex_code};
+ghost use Rattle.model.specs.Text.{reply_line, reply_text, refusal_name, counts_text, words_text, clear_word, hex_digits, hex_code};
 ghost use Rattle.mapdb.specs.Meaning.{counts_of};
 ghost use Rattle.trace.specs.Meaning.{reply_of, refusal_of};
 
 use crate::call::Refusal;
+use fpage::{Rights, with_status};
 use itoa::{Buffer, write_digits};
 use mapdb::SendReply;
 use space::NoMemory;
@@ -21,8 +22,13 @@ pub enum Reply {
     Accessed(bool),
     /// The words of an unmap, each with the status of its pages in place of its rights.
     Unmapped(Vec<u32>),
+    /// The status of the pages that a clear took.
+    Cleared(Rights),
     Refused(Refusal),
 }
+
+/// The word of the complete space, without rights.
+const COMPLETE_SPACE: u32 = 0x10;
 
 fn refusal_name(refusal: Refusal) -> &'static str
     ensures { result.now ≡ refusal_name (refusal_of refusal) }
@@ -110,6 +116,13 @@ fn push_words(text: &mut String, words: &[u32]) -> Result<(), AllocError>
     Ok(())
 }
 
+/// Appends the word of a complete space whose pages have this status.
+fn push_status(text: &mut String, status: Rights) -> Result<(), AllocError>
+    ensures { OnOk result (string_bytes text.new ≡ string_bytes text.old ++ hex_digits 8 (clear_word status)) }
+{
+    push_word(text, with_status(COMPLETE_SPACE, status))
+}
+
 /// Appends a reply without its number.
 fn push_answer(text: &mut String, reply: &Reply) -> Result<(), AllocError>
     ensures { OnOk result (string_bytes text.new ≡ string_bytes text.old ++ reply_text (reply_of reply.now)) }
@@ -124,6 +137,10 @@ fn push_answer(text: &mut String, reply: &Reply) -> Result<(), AllocError>
         Reply::Unmapped(words) => {
             text.push_str("unmap")?;
             push_words(text, words)
+        }
+        Reply::Cleared(status) => {
+            text.push_str("clear ")?;
+            push_status(text, *status)
         }
         Reply::Refused(refusal) => {
             text.push_str("refused ")?;

@@ -4,16 +4,18 @@ ghost use Rattle.std.specs.Prelude.{◌≡◌, ◌%◌, length, true, Some, IfOk
 ghost use Rattle.std.specs.Option.{option_map};
 ghost use Rattle.std.specs.List.{All, zip};
 ghost use Rattle.fpage.specs.Fpage.{IsSpaceBits, IsFpageOf};
-ghost use Rattle.model.specs.Records.{header_limits, access_fields, access_request, word_fields, send_fields, read_items, send_request};
-ghost use Rattle.model.specs.Records.{unmap_fields, read_words, unmap_request, request, are_limits};
+ghost use Rattle.model.specs.Records.{header_fields, access_fields, access_request, word_fields, send_fields, read_items, send_request};
+ghost use Rattle.model.specs.Records.{unmap_fields, read_words, unmap_request, clear_fields, clear_request, request, are_limits};
+ghost use Rattle.field.specs.Meaning.{version_of};
 ghost use Rattle.holdings.specs.Meaning.{limits_of};
 ghost use Rattle.holdings.specs.Places.{IsWithin};
-ghost use Rattle.trace.specs.Parts.{access_of, asked_of, send_of, unmap_of, ReadsFields, ReadsWords, Asks};
+ghost use Rattle.trace.specs.Parts.{header_of, access_of, asked_of, send_of, unmap_of, ReadsFields, ReadsWords, Asks};
 ghost use Rattle.trace.specs.Meaning.{request_of, IsWithinLimits};
-ghost use Rattle.trace.specs.Unread.{access_in};
+ghost use Rattle.trace.specs.Unread.{IsAccessIn};
 
 use crate::call::{Call, CallError, Refusal};
 use crate::records::{Fields, Record};
+use field::Version;
 use fpage::{Access, Control, Fpage, Item, ItemKind};
 use mapdb::Limits;
 use space::{NoMemory, Place};
@@ -65,13 +67,21 @@ impl Buffers {
                 self.words = words;
                 self.fpages = fpages;
             }
+            Call::Clear { space: _ } => (),
         }
     }
 }
 
-/// Returns the limits that a header names, if it has the form of one.
-pub fn header(fields: &mut Fields<'_>) -> Option<Limits>
-    ensures { option_map limits_of result ≡ header_limits fields.old }
+/// What the header of a trace names.
+#[derive(Clone, Copy)]
+pub struct Header {
+    pub version: Version,
+    pub limits: Limits,
+}
+
+/// Returns what a header names, if it has the form of one.
+pub fn read_header(fields: &mut Fields<'_>) -> Option<Header>
+    ensures { option_map header_of result ≡ header_fields fields.old }
 {
     let name = fields.take()?;
     let version = fields.take()?;
@@ -81,18 +91,19 @@ pub fn header(fields: &mut Fields<'_>) -> Option<Limits>
     if fields.take().is_some() {
         return None;
     }
+    let version = Version::of_field(version)?;
     let spaces = field::number(spaces, 10, 7)?;
     let bits = field::number(bits, 10, 7)?;
     let frames = field::number(frames, 10, 7)?;
-    if name == b"l4map".as_slice() && version == b"1".as_slice() {
-        Some(Limits {
-            spaces,
-            bits,
-            frames,
-        })
-    } else {
-        None
+    if name != b"l4map".as_slice() {
+        return None;
     }
+    let limits = Limits {
+        spaces,
+        bits,
+        frames,
+    };
+    Some(Header { version, limits })
 }
 
 /// The fields of an access record after its name.
@@ -146,7 +157,7 @@ fn access(limits: &Limits, fields: &mut Fields<'_>) -> Result<(Place, Access), R
 /// Returns the access that fields mean, where they mean one.
 pub fn access_only(limits: &Limits, fields: &mut Fields<'_>) -> Option<(Place, Access)>
     requires { IsSpaceBits limits.now.bits }
-    ensures access { result ≡ access_in (Some (request (limits_of limits.now) fields.old)) }
+    ensures access { IsAccessIn (limits_of limits.now) fields.old result }
     ensures within { IfSome result (λ access. IsWithin (limits_of limits.now) access.0) }
 {
     if fields.take()? != b"access".as_slice() {
@@ -278,14 +289,27 @@ fn unmap(limits: &Limits, fields: &mut Fields<'_>, buffers: &mut Buffers) -> Res
     })
 }
 
-/// Returns the call that fields mean, or the refusal that they and the limits decide.
+/// Returns the space of a clear, or `BadRecord`.
+fn clear(fields: &mut Fields<'_>) -> Result<Call, CallError>
+    ensures { Asks (clear_request (clear_fields fields.old)) result }
+{
+    let space = fields.take().ok_or(Refusal::BadRecord)?;
+    if fields.take().is_some() {
+        return Err(CallError::Refused(Refusal::BadRecord));
+    }
+    let space = field::space(space).ok_or(Refusal::BadRecord)?;
+    Ok(Call::Clear { space })
+}
+
+/// Returns the call that fields mean in a trace of a version, or the refusal that they and the limits decide.
 pub fn request(
+    version: Version,
     limits: &Limits,
     fields: &mut Fields<'_>,
     buffers: &mut Buffers,
 ) -> Result<Call, CallError>
     requires { IsSpaceBits limits.now.bits }
-    ensures request { Asks (request (limits_of limits.now) fields.old) result }
+    ensures request { Asks (request (version_of version) (limits_of limits.now) fields.old) result }
     ensures within { IfOk result (IsWithinLimits (limits_of limits.now)) }
 {
     let name = fields.take().ok_or(Refusal::BadRecord)?;
@@ -296,6 +320,8 @@ pub fn request(
         Ok(Call::Access { place, access })
     } else if name == b"unmap".as_slice() {
         unmap(limits, fields, buffers)
+    } else if name == b"clear".as_slice() && version.has_clear() {
+        clear(fields)
     } else {
         Err(CallError::Refused(Refusal::BadRecord))
     }
@@ -306,15 +332,15 @@ impl Record {
     ///
     /// Refused, the first that fits: `BadRecord`; of a send what `Fpage::read` refuses of the window, and then what
     /// `Item::read` refuses of each item in order; of an access `NoSuchSpace`, and then `OutOfSpace`; of an unmap
-    /// `BadControl`, and then what `Fpage::read` refuses of each word in order. The spaces of a send and of an unmap, and a
-    /// nil window, are for the database to refuse.
+    /// `BadControl`, and then what `Fpage::read` refuses of each word in order. The spaces of a send, of an unmap and of
+    /// a clear, and a nil window, are for the database to refuse.
     pub fn call(&self, alloc: Global, limits: &Limits) -> Result<Result<Call, Refusal>, NoMemory>
         requires { are_limits (limits_of limits.now) ≡ true }
-        ensures request { IfOk result (λ asked. request_of asked ≡ request (limits_of limits.now) self.now) }
+        ensures request { IfOk result (λ asked. request_of asked ≡ request self.now.version (limits_of limits.now) self.now.fields) }
         ensures within { IfOk result (λ asked. IfOk asked (IsWithinLimits (limits_of limits.now))) }
     {
         let mut buffers = Buffers::new(alloc);
-        match request(limits, &mut self.fields(), &mut buffers) {
+        match request(self.version(), limits, &mut self.fields(), &mut buffers) {
             Ok(call) => Ok(Ok(call)),
             Err(CallError::Refused(refusal)) => Ok(Err(refusal)),
             Err(CallError::NoMemory) => Err(NoMemory),

@@ -127,7 +127,23 @@ fn unmap_watched<R: Threads + Wait>(
     database.unmap_watched(alloc, space, control, &[fpage], crew, counter)
 }
 
-/// Maps 256 pages, writes to one of them, and takes w from all 512, twice: where workers have pieces of one, that starts threads.
+/// Clears a space, by recursion or not.
+fn clear<W: Workers>(
+    database: &mut Database,
+    alloc: Global,
+    workers: &W,
+    space: u16,
+    plain: bool,
+) -> Result<Rights, DbError> {
+    if plain {
+        database.clear_plain(alloc, space)
+    } else {
+        database.clear(alloc, space, workers)
+    }
+}
+
+/// Maps 256 pages, writes to one of them, takes w from all 512, twice, and clears space 1, twice: where workers have
+/// pieces of one, that starts threads.
 fn work<W: Workers>(
     rt: &impl Abort,
     database: &mut Database,
@@ -154,6 +170,10 @@ fn work<W: Workers>(
         [Rights::none()].as_slice(),
         "no status",
     );
+    for plain in [false, true] {
+        let seen = clear(database, alloc, workers, 1, plain)?;
+        assert_equal(rt, seen, Rights::none(), "a clear");
+    }
     Ok(())
 }
 
@@ -206,6 +226,8 @@ fn expect_no_change<R: Threads + Wait>(
     for (space, plain) in [(0, false), (0, true), (3, false), (3, true)] {
         let answer = unmap(rt, database, alloc, workers, space, plain);
         assert_equal(rt, answer.err(), Some(DbError::Halted), space);
+        let answer = clear(database, alloc, workers, space, plain);
+        assert_equal(rt, answer, Err(DbError::Halted), space);
     }
     let counter = Counter {
         calls: AtomicU64::new(0),

@@ -109,6 +109,8 @@ pub enum Step {
     Unmap(u16, u32, u32, u32),
     /// Unmaps two words.
     UnmapTwo(u16, u32, [u32; 2], [u32; 2]),
+    /// Clears a space, whose pages and what derives from them have this status.
+    Clear(u16, Rights),
 }
 
 /// What a page holds: frame, rights, status, and the page from which it came.
@@ -346,7 +348,31 @@ fn unmap<T: Workers>(
     }
 }
 
-/// Does one step, unmaps by recursion if `plain`.
+/// Clears a space, by recursion if `plain`, and looks at the status that is told.
+fn clear<T: Workers>(
+    rt: &impl Abort,
+    database: &mut Database,
+    alloc: Global,
+    workers: &T,
+    space: u16,
+    status: Rights,
+    plain: bool,
+) -> Result<(), DbError> {
+    let answer = if plain {
+        database.clear_plain(alloc, space)
+    } else {
+        database.clear(alloc, space, workers)
+    };
+    match answer {
+        Ok(told) => {
+            assert_equal(rt, told, status, space);
+            Ok(())
+        }
+        Err(error) => Err(halted(rt, database, error)),
+    }
+}
+
+/// Does one step, unmaps and clears by recursion if `plain`.
 pub fn work<T: Workers>(
     rt: &impl Abort,
     database: &mut Database,
@@ -395,6 +421,9 @@ pub fn work<T: Workers>(
             unmap(
                 rt, database, alloc, workers, *space, *control, words, reply, plain,
             )
+        }
+        Step::Clear(space, status) => {
+            clear(rt, database, alloc, workers, *space, *status, plain)
         }
     }
 }

@@ -1,7 +1,7 @@
 //! The worked traces of the model that reach their audit, in the order of `Rows` in crates/model/specs.
 
 /// A trace, and how many mappings it leaves.
-pub const TRACES: [(&str, usize); 66] = [
+pub const TRACES: [(&str, usize); 77] = [
     ("l4map,1,3,18,16\nsend,0,1,10,8,50c6\n", 17),
     ("l4map,1,3,18,16\nsend,0,1,10,9008,50c7\n", 17),
     ("l4map,1,3,18,16\nsend,0,1,80c0,2008,40e7\n", 17),
@@ -235,5 +235,49 @@ pub const TRACES: [(&str, usize); 66] = [
     (
         "l4map,1,3,18,16\nsend,0,1,30c0,8,50c7\nsend,1,2,c0,8,30c7\nsend,2,1,c0,8,c7\naccess,1,0,x\n",
         19,
+    ),
+    (
+        "l4map,2,3,18,16\nsend,0,1,c0,8,50c7\nsend,1,2,c0,8,c7\naccess,2,0,w\nclear,1\nclear,3\nclear\n",
+        16,
+    ),
+    (
+        "l4map,1,3,18,16\nsend,0,1,c0,8,50c7\nsend,1,2,c0,8,c7\naccess,2,0,w\nclear,1\nclear,3\nclear\n",
+        18,
+    ),
+    (
+        "l4map,2,3,18,2\nsend,0,1,c0,8,10c5\nsend,1,2,c0,8,c5\naccess,2,fff,x\nclear,1\nclear,4\nclear,2\n",
+        2,
+    ),
+    (
+        "l4map,2,3,18,2\nsend,0,1,10,a,c7\nsend,0,2,10,8,10c7\naccess,2,0,w\naccess,1,0,x\nclear,0\n",
+        1,
+    ),
+    (
+        "l4map,2,3,18,16\nsend,0,1,c0,8,50c7\naccess,1,0,r\nclear,2\n",
+        17,
+    ),
+    (
+        "l4map,2,3,18,16\nsend,0,1,c0,8,50c7\nsend,1,2,c0,8,c7\nsend,2,1,30c0,8,c7\naccess,1,3000,x\naccess,2,0,w\nclear,1\n",
+        16,
+    ),
+    (
+        "l4map,2,3,18,16\nsend,0,1,c0,8,50c7\nsend,1,2,c0,8,c7\nsend,2,1,40c0,a,c7\nsend,0,1,60c0,8,60c7\naccess,1,4000,w\naccess,1,6000,x\naccess,1,0,r\nclear,1\n",
+        16,
+    ),
+    (
+        "l4map,2,3,18,16\nsend,0,1,c0,8,50c7\naccess,1,0,r\naccess,1,ffc,x\nclear,1\naccess,1,0,r\naccess,0,5000,w\n",
+        16,
+    ),
+    (
+        "l4map,2,3,18,16\nsend,0,2,10,a008,50c7\nsend,0,1,10,a008,50c5\nsend,0,1,10,b008,60c3\nsend,0,2,10,b008,70c7\naccess,1,b000,w\naccess,2,a000,r\nclear,1\naccess,2,b000,x\n",
+        18,
+    ),
+    (
+        "l4map,2,2,18,3\nsend,0,1,10,8,d7\naccess,1,0,r\naccess,0,1000,x\nclear,0\nclear,0\naccess,0,0,r\n",
+        0,
+    ),
+    (
+        "l4map,2,12,18,1\nclear,000010\nclear,65536\nclear,65535\nclear,12\nclear,1,\nclear,1,2\nclear,\nclear,a\nclear,+1\nclear, 1\nClear,1\nclears,1\nclea,1\nclear,00011\n\"clear\",\"1\"\n",
+        1,
     ),
 ];

@@ -1,5 +1,5 @@
 -- Those of some pages of a space that are held, shard by shard.
-use Rattle.std.proofs.Common.{◌≡◌, ℕ, zero, suc, ◌+◌, ◌-◌, ◌<◌, ◌≤◌, true, false, Bool, ◌&&◌, ◌||◌, List, [], ◌∷◌, ◌++◌, filter, get_or, Option, Some, None, is_some, refl, sym, ap, ◌∙◌, subst, arith, ◌⊎◌, inl, inr, if◌then◌else◌}
+use Rattle.std.proofs.Common.{◌≡◌, ℕ, zero, suc, ◌+◌, ◌-◌, ◌<◌, ◌≤◌, true, false, Bool, ◌&&◌, ◌||◌, List, [], ◌∷◌, ◌++◌, filter, get_or, Option, Some, None, IsTrue, is_some, refl, sym, ap, ◌∙◌, subst, arith, ◌⊎◌, inl, inr, if◌then◌else◌}
 use Rattle.std.specs.List.{All}
 use Rattle.std.specs.Option.{option_map}
 use Rattle.std.proofs.lemmas.List.{append_assoc}
@@ -74,6 +74,11 @@ filter_none : (f : Place → Bool) (places : List Place) → All (λ p. f p ≡ 
 filter_none f [] none = refl
 filter_none f (p ∷ places) none = rw (All-head (λ q. f q ≡ false) p places none) (filter_none f places (All-tail (λ q. f q ≡ false) p places none))
 
+-- where each passes, each is kept
+filter_every : (f : Place → Bool) (places : List Place) → All (λ p. f p ≡ true) places → filter f places ≡ places
+filter_every f [] each = refl
+filter_every f (p ∷ places) each = rw (All-head (λ q. f q ≡ true) p places each) (ap (λ ps. p ∷ ps) (filter_every f places (All-tail (λ q. f q ≡ true) p places each)))
+
 -- the set of those that are kept
 pub any_kept : (f : PlaceSet) (places : List Place) (p : Place) → any_of (filter f places) p ≡ (any_of places p && f p)
 any_kept f [] p = refl
@@ -116,12 +121,12 @@ next_kept f space page next end front new all first second is so_far =
     both : (a b c : ℕ) → a ≤ b → b ≤ c → (b - a) + (c - b) ≡ c - a
     both a b c first second = omega (arith, first, second)
 
--- one page
-pub one_kept : (f : Place → Bool) (space page : ℕ) → filter f (pages_from space page (page + 1 - page)) ≡ (if f (record { space = space; page = page }) then record { space = space; page = page } ∷ [] else [])
-one_kept f space page = ap (λ n. filter f (pages_from space page n)) (one page)
+-- one page, and then those from the next page on
+pub next_page : (space page end : ℕ) → page < end → pages_from space page (end - page) ≡ record { space = space; page = page } ∷ pages_from space (page + 1) (end - (page + 1))
+next_page space page end less = ap (pages_from space page) (one page end less)
   where
-    one : (a : ℕ) → a + 1 - a ≡ 1
-    one a = omega arith
+    one : (a b : ℕ) → a < b → b - a ≡ suc (b - (a + 1))
+    one a b less = omega (arith, less)
 
 -- ---- those that are held
 
@@ -140,3 +145,7 @@ module _ (shards : Shards) (trees : List Shape) (space page n : ℕ) (less : spa
   -- where none has an entry, none is held
   pub none_held : ((k : ℕ) → k < n → entry_at shards (record { space = space; page = page + k }) ≡ None) → filter (is_held (holdings_in shards trees)) (pages_from space page n) ≡ []
   none_held absent = sym entries_held ∙ filter_none (has_entry shards) (pages_from space page n) (each_page (λ p. has_entry shards p ≡ false) space page n (λ k on. ap is_some (absent k on)))
+
+  -- where each has an entry, each is held
+  pub all_held : ((k : ℕ) → k < n → IsTrue (has_entry shards (record { space = space; page = page + k }))) → filter (is_held (holdings_in shards trees)) (pages_from space page n) ≡ pages_from space page n
+  all_held there = sym entries_held ∙ filter_every (has_entry shards) (pages_from space page n) (each_page (λ p. has_entry shards p ≡ true) space page n there)

@@ -1,11 +1,10 @@
 -- The words of a strip's phase say what is held, at its beginning and with all steps done.
-use Rattle.std.proofs.Common.{◌≡◌, ℕ, ◌<◌, Bool, List, length, map, refl, sym, ap, ◌∙◌, subst, arith}
+use Rattle.std.proofs.Common.{ℕ, ◌<◌, Bool, List, length, map, sym, ap, ◌∙◌, subst, arith}
 use Rattle.std.specs.Prelude.{slice_index}
 use Rattle.std.specs.List.{All, AllPass, flat_map}
 use Rattle.fpage.specs.declared.rights.Rights.{Rights}
 use Rattle.space.specs.Word as word
 use Rattle.space.specs.Word.{is_pack}
-use Rattle.space.specs.declared.place.Place.{Place}
 use Rattle.space.specs.declared.shards.Shards.{Shards}
 use Rattle.maptree.specs.Origins.{Shape}
 use Rattle.model.specs.Holdings.{PlaceSet}

@@ -1,11 +1,14 @@
 -- The records so far are counted, and those of them that are refused.
-use Rattle.std.proofs.Common.{length}
+use Rattle.std.proofs.Common.{◌≡◌, length}
 use Rattle.holdings.specs.Meaning.{limits_of}
 use Rattle.checks.proofs.Counting.{Counted}
 use Rattle.checks.proofs.check.check_records.Given as goal
 
 abbrev pub invariant-loop-places : goal.invariant-loop-places
-invariant-loop-places g l = Counted (limits_of l.limits) l.fn.reader.records l.reader.records l.records l.refused
+invariant-loop-places g l = record {
+  counted : Counted l.fn.reader.version (limits_of l.limits) l.fn.reader.records l.reader.records l.records l.refused;
+  version : l.reader.version ≡ l.fn.reader.version;
+}
 
 -- there are fewer of them
 abbrev pub decreases-loop-places : goal.decreases-loop-places

@@ -9,9 +9,9 @@ use Rattle.checks.specs.Check.{CountsRest, IsFound}
 use Rattle.checks.proofs.Counting.{found_behind}
 use Rattle.checks.proofs.check.check_trace.Goals as goal
 
-found : {E : Type 0} (r : Result Found E) (bytes : List ℕ) (u : Unread) (limits : Limits) → IsOpened bytes u → limits ≡ u.limits → are_limits limits ≡ true → IfOk r (CountsRest limits u.records) → IfOk r (IsFound bytes)
+found : {E : Type 0} (r : Result Found E) (bytes : List ℕ) (u : Unread) (limits : Limits) → IsOpened bytes u → limits ≡ u.limits → are_limits limits ≡ true → IfOk r (CountsRest u.version limits u.records) → IfOk r (IsFound bytes)
 found (Ok f) bytes u limits head same served counted =
-    let P : Limits → Type 0 = λ l. CountsRest l u.records f in
+    let P : Limits → Type 0 = λ l. CountsRest u.version l u.records f in
     found_behind bytes u f head (sym (ap are_limits same) ∙ served) (subst P same counted)
 found (Err e) bytes u limits head same served counted = tt
 

@@ -7,5 +7,6 @@ use Rattle.moments.proofs.answering.answer_records.Given as goal
 abbrev pub invariant-loop-i : goal.invariant-loop-i
 invariant-loop-i l = record {
   records : l.reader.records ≡ drop l.i l.fn.reader.records;
-  left : l.database ≡ laid_out (left_with l.fn.database (left_by l.fn.database.limits (take l.i l.fn.reader.records) l.fn.database.holdings)) l.database.layout;
+  version : l.reader.version ≡ l.fn.reader.version;
+  left : l.database ≡ laid_out (left_with l.fn.database (left_by l.fn.reader.version l.fn.database.limits (take l.i l.fn.reader.records) l.fn.database.holdings)) l.database.layout;
 }

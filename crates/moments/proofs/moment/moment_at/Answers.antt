@@ -13,5 +13,5 @@ returns c =
     moment_is c.args.bytes.now c.args.at c.in_ok-count.count c.saturating_sub-earlier.result c.in_ok-reader.reader c.answer_records.new.reader
     c.in_ok-database.database c.answer_records.new.database c.answer_records-2.new.database _
     c.in_ok-reader.ensures.ok (sym (ap are_limits limits) ∙ c.in_ok-database.ensures.served) c.in_ok-count.ensures c.min-records.ensures c.saturating_sub-earlier.ensures
-    (c.in_ok-database.ensures.new ∙ ap (λ (l : Limits). laid_out (new_state l) layout) limits) c.in_ok-answer_records.ensures.taken c.in_ok-answer_records.ensures.left c.in_ok-answer_records-2.ensures.left
+    (c.in_ok-database.ensures.new ∙ ap (λ (l : Limits). laid_out (new_state l) layout) limits) c.in_ok-answer_records.ensures.taken c.in_ok-answer_records.ensures.version c.in_ok-answer_records.ensures.left c.in_ok-answer_records-2.ensures.left
     c.in_ok-before.ensures c.in_ok-after.ensures

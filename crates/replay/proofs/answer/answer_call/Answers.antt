@@ -15,7 +15,7 @@ returns-in_ok-answers-in-Ok-Access-clause-within g c =
     let read = c.in_ok-read_accesses-in-Ok-Access.ensures in
     let answered = c.in_ok-answers-in-Ok-Access.ensures.ok ∙ ap (access_answers s.holdings) c.deref.ensures.value in
     let left = ap (λ (t : State). t.holdings) c.in_ok-answers-in-Ok-Access.ensures.left ∙ ap (touched_all s.holdings) c.deref.ensures.value in
-    (accesses_are_told s.limits s.holdings c.args.trace.now c.read_accesses.new.trace first c.read_accesses.new.accesses.items (rw c.limits-limits.ensures.limits at read.asked) read.taken
+    (accesses_are_told c.args.trace.now.version s.limits s.holdings c.args.trace.now c.read_accesses.new.trace first c.read_accesses.new.accesses.items (rw c.limits-limits.ensures.limits at read.asked) read.taken
     c.in_ok-answers-in-Ok-Access.answers.items answered c.access_pages.new.database.holdings left).within
 
 pub returns-in_ok-answers-in-Ok-Access-clause-taken : goal.returns-in_ok-answers-in-Ok-Access-clause-taken
@@ -25,7 +25,7 @@ returns-in_ok-answers-in-Ok-Access-clause-taken g c =
     let read = c.in_ok-read_accesses-in-Ok-Access.ensures in
     let answered = c.in_ok-answers-in-Ok-Access.ensures.ok ∙ ap (access_answers s.holdings) c.deref.ensures.value in
     let left = ap (λ (t : State). t.holdings) c.in_ok-answers-in-Ok-Access.ensures.left ∙ ap (touched_all s.holdings) c.deref.ensures.value in
-    (accesses_are_told s.limits s.holdings c.args.trace.now c.read_accesses.new.trace first c.read_accesses.new.accesses.items (rw c.limits-limits.ensures.limits at read.asked) read.taken
+    (accesses_are_told c.args.trace.now.version s.limits s.holdings c.args.trace.now c.read_accesses.new.trace first c.read_accesses.new.accesses.items (rw c.limits-limits.ensures.limits at read.asked) read.taken
     c.in_ok-answers-in-Ok-Access.answers.items answered c.access_pages.new.database.holdings left).taken
 
 pub returns-in_ok-answers-in-Ok-Access-clause-told : goal.returns-in_ok-answers-in-Ok-Access-clause-told
@@ -36,5 +36,5 @@ returns-in_ok-answers-in-Ok-Access-clause-told g c =
     let answered = c.in_ok-answers-in-Ok-Access.ensures.ok ∙ ap (access_answers s.holdings) c.deref.ensures.value in
     let left = ap (λ (t : State). t.holdings) c.in_ok-answers-in-Ok-Access.ensures.left ∙ ap (touched_all s.holdings) c.deref.ensures.value in
     let is : c.args.asked.now ≡ Ok (CallAccess c.in-Ok-Access.place c.in-Ok-Access.access) = search rules in
-    rw is (accesses_are_told s.limits s.holdings c.args.trace.now c.read_accesses.new.trace first c.read_accesses.new.accesses.items (rw c.limits-limits.ensures.limits at read.asked) read.taken
+    rw is (accesses_are_told c.args.trace.now.version s.limits s.holdings c.args.trace.now c.read_accesses.new.trace first c.read_accesses.new.accesses.items (rw c.limits-limits.ensures.limits at read.asked) read.taken
     c.in_ok-answers-in-Ok-Access.answers.items answered c.access_pages.new.database.holdings left).told

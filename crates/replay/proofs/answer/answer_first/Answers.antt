@@ -11,7 +11,6 @@ returns-clause-told g c =
     let s = c.args.database.now in
     let n = length (replies_of c.in_ok-replies.replies) in
     let asks = rw c.limits-limits.ensures.limits at c.in_ok-asked.ensures.request in
-    let left = ap (λ (u : Unread). u.records) c.in_ok-asked.ensures.taken in
-    first_told s.limits c.args.trace.now.records s.holdings (request_of c.in_ok-asked.asked) n asks c.in_ok-replies.ensures.some
-    ∙ ap (λ l. told_behind s.limits (request_of c.in_ok-asked.asked) (take (n - 1) l) s.holdings) (sym left)
+    first_told c.args.trace.now.version s.limits c.args.trace.now.records s.holdings (request_of c.in_ok-asked.asked) n asks c.in_ok-replies.ensures.some
+    ∙ ap (λ (u : Unread). told_behind u.version s.limits (request_of c.in_ok-asked.asked) (take (n - 1) u.records) s.holdings) (sym c.in_ok-asked.ensures.taken)
     ∙ c.in_ok-replies.ensures.told

@@ -9,7 +9,7 @@ use Rattle.replay.proofs.answer.read_accesses.Given as goal
 
 abbrev pub invariant-loop-access : goal.invariant-loop-access
 invariant-loop-access l = record {
-  asked : AskedSoFar (limits_of l.limits) l.fn.first l.fn.trace.records l.trace.records l.accesses.items;
+  asked : AskedSoFar l.fn.trace.version (limits_of l.limits) l.fn.first l.fn.trace.records l.trace.records l.accesses.items;
   within : All (λ access. IsWithin (limits_of l.limits) access.0) l.accesses.items;
   some : 0 < length l.accesses.items;
   taken : l.trace ≡ past (length l.accesses.items - 1) l.fn.trace;

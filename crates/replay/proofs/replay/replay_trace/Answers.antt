@@ -20,10 +20,11 @@ loop-alloc-init g c =
     let s = new_state u.limits in
     record {
       served = subst (λ (l : Limits). are_limits l ≡ true) c.limits.ensures started.served;
-      so_far = rw (c.new-lines.ensures, is) (so_far-start s.limits u.records s.holdings c.number-number.result (g.W.Sink.contents c.args.writer.now) (c.number-number.ensures ∙ c.requires.first));
+      so_far = rw (c.new-lines.ensures, is) (so_far-start u.version s.limits u.records s.holdings c.number-number.result (g.W.Sink.contents c.args.writer.now) (c.number-number.ensures ∙ c.requires.first));
       works = refl;
       keeps = rw is refl;
       number = c.number-number.ensures;
+      version = refl;
     }
 
 pub loop-alloc-preserved : goal.loop-alloc-preserved
@@ -32,7 +33,7 @@ loop-alloc-preserved g c =
     let limits = ap (λ (s : State). s.limits) before.keeps in
     let now = c.answer_first.new.database in
     let replies = replies_of c.in-Ok.replies in
-    let next : AreNext c.args.trace.now.limits c.loop-alloc.trace.records c.loop-alloc.database.holdings replies now.holdings = record { within = c.in-Ok.ensures.within; told = rw limits at c.in-Ok.ensures.told } in
+    let next : AreNext c.args.trace.now.version c.args.trace.now.limits c.loop-alloc.trace.records c.loop-alloc.database.holdings replies now.holdings = record { within = c.in-Ok.ensures.within; told = rw (limits, before.version) at c.in-Ok.ensures.told } in
     let written = c.in_ok-refusals.ensures in
     let more = so_far-more before.so_far next (g.W.Sink.contents c.write_replies.new.writer) c.write_replies.new.lines written.ok c.in_ok-refusals.refusals written.refused in
     let taken = c.in-Ok.ensures.taken in
@@ -44,6 +45,7 @@ loop-alloc-preserved g c =
       works = written.works ∙ before.works;
       keeps = c.in-Ok.ensures.keeps ∙ ap (λ (s : State). laid_out (left_with s now.holdings) now.layout) before.keeps;
       number = c.number-next.ensures;
+      version = ap (λ (u : Unread). u.version) taken ∙ before.version;
     }
 
 -- where the lines of some replies are there
@@ -54,7 +56,7 @@ returns-in_err-refusals-clause-err g c =
     let before = c.loop-alloc.invariant in
     let limits = ap (λ (s : State). s.limits) before.keeps in
     let replies = replies_of c.in-Ok.replies in
-    let next : AreNext c.args.trace.now.limits c.loop-alloc.trace.records c.loop-alloc.database.holdings replies c.answer_first.new.database.holdings = record { within = c.in-Ok.ensures.within; told = rw limits at c.in-Ok.ensures.told } in
+    let next : AreNext c.args.trace.now.version c.args.trace.now.limits c.loop-alloc.trace.records c.loop-alloc.database.holdings replies c.answer_first.new.database.holdings = record { within = c.in-Ok.ensures.within; told = rw (limits, before.version) at c.in-Ok.ensures.told } in
     let e = c.in_err-refusals.field-0.0 in
     err_of c.from_residual-in_err-refusals.result e _ c.from_residual-in_err-refusals.ensures.1
     (trace_stops c.args.trace.now (contents c.args.writer.now) (contents c.write_replies.new.writer) (failed c.args.writer.now) (failed c.write_replies.new.writer) before.served e

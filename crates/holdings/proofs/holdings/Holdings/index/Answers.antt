@@ -1,5 +1,5 @@
 -- A page has an index where its shard is there.
-use Rattle.std.proofs.Common.{◌≡◌, Some, sym, ap, ◌∙◌, subst}
+use Rattle.std.proofs.Common.{Some, sym, ap, ◌∙◌, subst}
 use Rattle.holdings.specs.Contents.{Contents}
 use Rattle.holdings.specs.Inner.Held.{limits_in}
 use Rattle.holdings.specs.Layout.{index_in}

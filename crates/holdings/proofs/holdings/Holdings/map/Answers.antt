@@ -1,5 +1,5 @@
 -- The targets have words in use; stores are planned, new mappings put into the trees, and the words written.
-use Rattle.std.proofs.Common.{◌≡◌, refl, List, length, sym, ap, ◌∙◌, subst, arith}
+use Rattle.std.proofs.Common.{◌≡◌, refl, List, length, sym, ap, subst, arith}
 use Rattle.std.proofs.lemmas.List.{with_items_is}
 use Rattle.maptree.specs.Origins.{Shape}
 use Rattle.holdings.specs.Contents.{AreMapped}

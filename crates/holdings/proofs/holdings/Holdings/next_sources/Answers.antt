@@ -1,4 +1,4 @@
--- The sources before the first shard that is there are absent.
+-- The sources before the next run are absent.
 use Rattle.std.proofs.Common.{◌≡◌, ◌∙◌, ℕ, ◌+◌, ◌-◌, ◌/◌, ◌^◌, ◌<◌, ◌≤◌, List, None, sym, ap, subst, arith}
 use Rattle.space.specs.declared.place.Place.{Place}
 use Rattle.space.specs.declared.shards.Shards.{Shards}
@@ -36,21 +36,14 @@ pair-requires-clause-target c = omega (arith, few c.self.inside.shards c.self.in
 
 pub returns-clause-absent : goal.returns-clause-absent
 returns-clause-absent c i after before =
-    none_before c.self.inside.shards c.self.inside.trees.items c.args.self.now c.self.view_is c.args.pages.now c.args.from i c.first_from-page.result c.min-start.result c.pair.result.0 (ap (λ (x : Place × Place). x.0) c.pair.ensures)
-    c.first_from-page.ensures.absent (omega (arith, c.min-start.ensures)) after before
-
--- the pages from one on, as far as they are of its shard
-of_one_shard : (p : ItemPages) (page start length : ℕ) → ((k : ℕ) → k < length → (page + k) / 64 ≡ page / 64) → (i : ℕ) → start ≤ i → i < start + length
-    → p.source.page + start ≡ page → (page_on p.source i).page / 64 ≡ (page_on p.source start).page / 64
-of_one_shard p page start length same i after before first =
-    let there : p.source.page + i ≡ page + (i - start) = omega (arith, first, after) in
-    ap (λ n. n / 64) there ∙ same (i - start) (omega (arith, after, before)) ∙ ap (λ n. n / 64) (sym first)
+    none_before c.self.inside.shards c.self.inside.trees.items c.args.self.now c.self.view_is c.args.pages.now c.args.from i c.next_run-run.result.start (c.next_run-run.result.start - c.args.pages.now.source.page) c.pair.result.0
+    (ap (λ (x : Place × Place). x.0) c.pair.ensures) c.next_run-run.ensures.absent (omega arith) after before
 
 pub returns-clause-shard : goal.returns-clause-shard
 returns-clause-shard c i after before =
     let source : c.pair.result.0.page ≡ c.args.pages.now.source.page + c.args.from = ap (λ (x : Place × Place). x.0.page) c.pair.ensures in
-    let first : c.args.pages.now.source.page + c.min-start.result ≡ c.first_from-page.result = omega (arith, source, c.first_from-page.ensures.from, c.min-start.ensures, c.pages_in_shard.ensures.most, after, before) in
-    of_one_shard c.args.pages.now c.first_from-page.result c.min-start.result c.pages_in_shard.result c.pages_in_shard.ensures.shard i after before first
+    let first : c.args.pages.now.source.page + (c.next_run-run.result.start - c.args.pages.now.source.page) ≡ c.next_run-run.result.start = omega (arith, source, c.next_run-run.ensures.from) in
+    c.next_run-run.ensures.shard (c.args.pages.now.source.page + i) (omega (arith, first, after)) (omega (arith, before)) ∙ ap (λ n. n / 64) (sym first)
 
 pub returns-clause-consistent : goal.returns-clause-consistent
 returns-clause-consistent c = subst IsConsistent c.self.view_is (consistent c.self.inside.shards c.self.inside.trees.items c.self.invariant)

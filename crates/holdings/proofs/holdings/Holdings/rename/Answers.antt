@@ -1,5 +1,5 @@
 -- The targets have words in use; pairs are planned, the trees renamed, and the words written.
-use Rattle.std.proofs.Common.{◌≡◌, ◌∙◌, List, length, refl, sym, ap, subst, arith}
+use Rattle.std.proofs.Common.{◌≡◌, List, length, refl, sym, ap, subst, arith}
 use Rattle.std.proofs.lemmas.List.{with_items_is}
 use Rattle.maptree.specs.Origins.{Shape}
 use Rattle.holdings.specs.Contents.{AreMoved}

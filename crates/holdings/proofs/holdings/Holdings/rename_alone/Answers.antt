@@ -1,5 +1,5 @@
 -- The trees first, and then word by word.
-use Rattle.std.proofs.Common.{◌≡◌, ◌∙◌, ◌+◌, List, None, length, refl, sym, ap, subst, arith}
+use Rattle.std.proofs.Common.{◌≡◌, ◌+◌, List, None, length, refl, sym, ap, subst, arith}
 use Rattle.std.proofs.lemmas.List.{with_items_is}
 use Rattle.maptree.specs.Origins.{Shape}
 use Rattle.holdings.specs.Contents.{Contents, AreMoved}

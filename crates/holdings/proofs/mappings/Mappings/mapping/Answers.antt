@@ -36,6 +36,6 @@ returns-clause-held c =
     let place : IsPlace s p = record { space = within.space; page = within.page } in
     let frame : e.frame < length trees = omega (arith, fits.frame p e within stands, fits.count) in
     let found = c.index-2.result.now in
-    let origin : found ≡ origin_in (links_in trees e.frame) p =
-    c.index-2.ensures ∙ ap (λ i. get_or c.self.inside.origins.items i found) c.index.ensures.index ∙ c.self.invariant.1.stand p e found place stands frame in
+    let origin : c.origin.result ≡ origin_in (links_in trees e.frame) p =
+    c.origin.ensures ∙ c.index-2.ensures ∙ ap (λ i. get_or c.self.inside.origins.items i found) c.index.ensures.index ∙ c.self.invariant.1.stand p e found place stands frame in
     ap (λ (h : Contents). at h.holdings p) (sym c.self.view_is) ∙ present_within (limits_in s trees) s trees p within e stands ∙ ap (λ o. Some (held_with o e)) (sym origin)

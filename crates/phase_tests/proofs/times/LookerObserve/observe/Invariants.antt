@@ -1,6 +1,6 @@
 -- The watcher is of this phase.
 use Rattle.std.proofs.Common.{◌≡◌}
-use Rattle.phase_tests.proofs.times.look_until.Given as goal
+use Rattle.phase_tests.proofs.times.LookerObserve.observe.Given as goal
 
 abbrev pub invariant-loop : goal.invariant-loop
 invariant-loop l = (l.watcher.sheet ≡ l.shared) × (l.watcher.number ≡ l.fn.watcher.number)

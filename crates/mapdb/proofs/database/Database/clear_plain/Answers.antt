@@ -1,0 +1,38 @@
+-- What is held is lawful, so the recursion and strip give and leave the same.
+use Rattle.std.proofs.Common.{◌≡◌, true, false, Some, sym, ap, ◌∙◌}
+use Rattle.fpage.specs.Rights.{all_rights}
+use Rattle.model.specs.Answers.{in_space}
+use Rattle.model.specs.Holdings.{Holdings}
+use Rattle.model.specs.Recursion.{Visited, recur}
+use Rattle.model.specs.Strip.{strip, strip_word}
+use Rattle.model.proofs.LawfulParts.{lawful_parts}
+use Rattle.model.proofs.Recursions.{recursion_is_strip}
+use Rattle.holdings.specs.Contents.{Contents}
+use Rattle.holdings.specs.Meaning.{limits_of}
+use Rattle.mapdb.specs.State.{State, state_of}
+use Rattle.mapdb.proofs.database.Database.clear_plain.Goals as goal
+
+module _ (c : goal.Joined-self) where
+  -- the database that was not halted
+  seen : state_of (limits_of c.self.inside.limits) (Some c.unwrap-held.result) ≡ c.args.self.now
+  seen = ap (state_of (limits_of c.self.inside.limits)) (sym c.unwrap-held.ensures ∙ c.take.ensures.value) ∙ c.self.view_is
+
+  held : c.unwrap-held.result.holdings ≡ c.args.self.now.holdings
+  held = ap (λ (s : State). s.holdings) seen
+
+  running : c.args.self.now.is_halted ≡ false
+  running = sym (ap (λ (s : State). s.is_halted) seen)
+
+  same : recur c.args.self.now.holdings (in_space c.args.space) all_rights true
+      ≡ record { word = strip_word c.args.self.now.holdings (in_space c.args.space); left = strip c.args.self.now.holdings (in_space c.args.space) all_rights true }
+  same = recursion_is_strip c.args.self.now.holdings (lawful_parts c.args.self.now.holdings (c.limits.ensures.lawful running)) (in_space c.args.space) all_rights true
+
+pub returns-clause-recursion_status : goal.returns-clause-recursion_status
+returns-clause-recursion_status c =
+    c.in_ok-held.ensures.status ∙ ap (λ (h : Holdings). strip_word h (in_space c.args.space)) (held c) ∙ ap (λ (v : Visited). v.word) (sym (same c))
+
+pub returns-clause-recursion_left : goal.returns-clause-recursion_left
+returns-clause-recursion_left c =
+    let left = ap (λ (k : Contents). k.holdings) c.in_ok-held.ensures.left ∙ ap (λ (h : Holdings). strip h (in_space c.args.space) all_rights true) (held c) ∙ ap (λ (v : Visited). v.left) (sym (same c)) in
+    let layout = ap (λ (k : Contents). k.layout) c.in_ok-held.ensures.left ∙ ap (λ (s : State). s.layout) (seen c) in
+    λ i. record { limits = ap (λ (s : State). s.limits) (seen c) i; holdings = left i; layout = layout i; is_halted = sym (running c) i }

@@ -1,0 +1,59 @@
+//! A space, cleared of all that it holds.
+
+ghost use Rattle.std.specs.Prelude.{◌≡◌, ◌<◌, true, IfOk};
+ghost use Rattle.fpage.specs.Fpage.{IsSpaceBits, pages_of_space};
+ghost use Rattle.fpage.specs.Rights.{all_rights};
+ghost use Rattle.model.specs.Answers.{in_space};
+ghost use Rattle.holdings.specs.Contents.{IsStripped};
+
+use crate::unmap::{unmap_word, unmap_word_by_recursion};
+use crew::{CrewError, Workers};
+use fpage::{Fpage, Rights};
+use holdings::Holdings;
+use space::NoMemory;
+use std::alloc::Global;
+
+/// The word of the complete space, with all rights.
+const COMPLETE_SPACE: u32 = 0x17;
+
+/// Takes all rights from the pages of a space, and from all that derives from them. Returns their status.
+///
+/// Refused, where memory or a worker is: `NoMemory`, `NoWorker`.
+pub fn clear_space<W: Workers>(
+    alloc: Global,
+    held: Holdings,
+    space: u16,
+    workers: &W,
+) -> Result<(Holdings, Rights), CrewError>
+    requires { space < held.limits.spaces }
+    ensures { IfOk result (IsStripped held (in_space space) all_rights true) }
+{
+    let complete = complete_space(held.limits().bits);
+    unmap_word(alloc, held, space, true, &complete, workers)
+}
+
+/// The same by recursion, on the calling thread.
+///
+/// Refused, where memory is: `NoMemory`.
+pub fn clear_space_by_recursion(
+    alloc: Global,
+    held: Holdings,
+    space: u16,
+) -> Result<(Holdings, Rights), NoMemory>
+    requires { space < held.limits.spaces }
+    ensures { IfOk result (IsStripped held (in_space space) all_rights true) }
+{
+    let complete = complete_space(held.limits().bits);
+    unmap_word_by_recursion(alloc, held, space, true, &complete)
+}
+
+/// The fpage of all pages of a space of `2^bits` bytes, with all rights.
+fn complete_space(bits: u32) -> Fpage
+    requires { IsSpaceBits bits }
+    ensures { result ≡ record { first = 0; count = pages_of_space bits; rights = all_rights } }
+{
+    match Fpage::read(COMPLETE_SPACE, bits) {
+        Ok(complete) => complete,
+        Err(_) => unreachable!(),
+    }
+}

@@ -1,0 +1,8 @@
+-- No page before this one is held.
+use Rattle.std.proofs.Common.{◌≡◌, ◌<◌, ◌≤◌, None}
+use Rattle.space.specs.declared.place.Place.{Place}
+use Rattle.space.specs.Shards.{entry_at}
+use Rattle.space.proofs.shards.Shards.first_held_of_shard.Given as goal
+
+abbrev pub invariant-loop-page : goal.invariant-loop-page
+invariant-loop-page l = (p : Place) → p.space ≡ l.space → l.fn.place.page ≤ p.page → p.page < l.page → entry_at l.self p ≡ None
