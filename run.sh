@@ -29,7 +29,7 @@ open_trace() {
 run_unproved() {
     local status
     command -v rt > /dev/null || fail "the command rt is missing: install the Rattle kit and put its bin folder on the PATH"
-    printf '%s: the program is not built; running it without proofs, in half a minute (%s proves and builds it)\n' "$0" "$builder" >&2
+    printf '%s: the program is not built; running it without proofs, in a minute or two (%s proves and builds it)\n' "$0" "$builder" >&2
     room=$(mktemp -d) || fail "no temporary folder can be made"
     trap 'rm -rf -- "$room"' EXIT
     # The whole trace first: rt try takes a pause in its standard input for the end.

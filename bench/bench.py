@@ -3,8 +3,8 @@
 
     bench/bench.py [PROGRAM]
 
-PROGRAM is crates/l4map/out/l4map, which build.sh makes, if it is not given. Nothing here has a threshold. Beside each time
-stands that of `wc -l` over what the program read and wrote.
+PROGRAM is crates/l4map/out/l4map, which build.sh makes, if it is not given. Nothing here has a threshold. Beside each
+time stands that of `wc -l` over what the program read and wrote.
 """
 
 import math
@@ -120,7 +120,8 @@ def pager(records):
 
 
 def relay(records):
-    """All 4,096 pages go from space to space through 16, in one item each, and space 0 takes them back; again and again."""
+    """All 4,096 pages go from space to space through 16, in one item each, and space 0 takes them back; again and
+    again."""
     while records > 0:
         length = min(records, 16)
         for space in range(length - 1):
@@ -169,7 +170,8 @@ def aliases(records):
 
 
 def shared(records):
-    """One frame at all 4,096 pages of a space, which go on from space to space: one item has them all, again and again."""
+    """One frame at all 4,096 pages of a space, which go on from space to space: one item has them all, again and
+    again."""
     yield from aliases(min(records, PAGES))
     for number in range(records - PAGES):
         sender = 1 + number % 8
@@ -177,7 +179,8 @@ def shared(records):
 
 
 def siblings(records):
-    """One frame at all 4,096 pages of a space, each from space 0; the space reads and clears their status, again and again."""
+    """One frame at all 4,096 pages of a space, each from space 0; the space reads and clears their status, again and
+    again."""
     yield from aliases(min(records, PAGES))
     for _ in range(records - PAGES):
         yield unmap(1, COMPLETE)
@@ -192,7 +195,8 @@ def passed(records):
 
 
 def single(records):
-    """One page goes to page after page of space after space; then each of their holders gives its own up, in another order.
+    """One page goes to page after page of space after space; then each of their holders gives its own up, in another
+    order.
 
     No record makes or revokes more than one mapping.
     """
@@ -204,7 +208,8 @@ def single(records):
         yield flush(space, page)
 
 
-# Each kind with its numbers of records. A record of `relay` and of `audit` is about 4,096 pages, and one of `grants` about 512.
+# Each kind with its numbers of records. A record of `relay` and of `audit` is about 4,096 pages, and one of `grants`
+# about 512.
 KINDS = [
     (mixed, SIZES),
     (chain, SIZES),
@@ -300,8 +305,8 @@ def report(program, kind, sizes, start, room):
 
 
 def beyond_start(start, records, measured, before):
-    """What the mappings of `single` cost beyond a start with no records: how the time grows as a power of their number, and the
-    memory of each."""
+    """What the mappings of `single` cost beyond a start with no records: how the time grows as a power of their number,
+    and the memory of each."""
     if before and start[0] < min(measured[0], before[1][0]):
         grown = math.log((measured[0] - start[0]) / (before[1][0] - start[0])) / math.log(records / before[0])
         yield f"exponent {grown:.2f}"

@@ -1,5 +1,5 @@
-//! The calls of `maptree` on a tree of another kind, as its test of large trees makes them. A line a call: its name, how
-//! often it was made, the nanoseconds that took, and the sum of what it answered.
+//! The calls of `maptree` on a tree of another kind, as its test of large trees makes them. A line a call: its name,
+//! how often it was made, the nanoseconds that took, and the sum of what it answered.
 
 use std::time::Instant;
 

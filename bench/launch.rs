@@ -1,16 +1,17 @@
-//! Runs a program, and tells what it took: its status, microseconds of processor time (the user's and the system's), microseconds
-//! by the clock, and the peak memory in KiB.
+//! Runs a program, and tells what it took: its status, microseconds of processor time (the user's and the system's),
+//! microseconds by the clock, and the peak memory in KiB.
 //!
 //!     launch INPUT OUTPUT PROGRAM [ARGUMENT..]
 //!
-//! The system counts what the process that starts a program holds itself as memory of that program. So a large process starts
-//! programs through this small one. For Linux of 64 bits.
+//! The system counts what the process that starts a program holds itself as memory of that program. So a large process
+//! starts programs through this small one. For Linux of 64 bits.
 
 use std::fs::File;
 use std::process::Command;
 use std::time::Instant;
 
-/// The system's `struct rusage`: seconds and microseconds of the user, the same of the system, the peak memory, and 13 numbers more.
+/// The system's `struct rusage`: seconds and microseconds of the user, the same of the system, the peak memory, and 13
+/// numbers more.
 type Usage = [i64; 18];
 
 const CHILDREN: i32 = -1;

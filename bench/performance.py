@@ -4,12 +4,14 @@
     bench/performance.py [--profile] [PROGRAM]
     bench/performance.py --beside OTHER [PROGRAM]
 
-PROGRAM is crates/l4map/out/l4map, which build.sh makes, if it is not given. The other is plain.rs, built here by `rustc -O`, as is
-launch.rs, by which both are started. Both must write the same bytes. Printed are tables in Markdown: processor time (the user's
-and the system's) of three runs each, and the peak memory. Nothing here has a threshold: the aims stand beside what was measured.
+PROGRAM is crates/l4map/out/l4map, which build.sh makes, if it is not given. The other is plain.rs, built here by
+`rustc -O`, as is launch.rs, by which both are started. Both must write the same bytes. Printed are tables in Markdown:
+processor time (the user's and the system's) of three runs each, and the peak memory. Nothing here has a threshold: the
+aims stand beside what was measured.
 
-With --profile it prints instead in which functions of l4map the time of an access and of an unmap goes. That needs `perf`. With
---beside it prints instead what another l4map takes on the traces of the first table, of spaces that both serve, in turn.
+With --profile it prints instead in which functions of l4map the time of an access and of an unmap goes. That needs
+`perf`. With --beside it prints instead what another l4map takes on the traces of the first table, of spaces that both
+serve, in turn.
 """
 
 import filecmp
@@ -47,7 +49,8 @@ SHARE = 50  # milliseconds that calls must take at least to be told apart from t
 ONE_WORKER = ["--workers", "1"]
 FUNCTIONS = 12  # that a profile tells
 
-# What l4map may take beside the text of its trace: bytes a mapping, bytes an access of a run of accesses, and bytes at all.
+# What l4map may take beside the text of its trace: bytes a mapping, bytes an access of a run of accesses, and bytes at
+# all.
 A_MAPPING, AN_ACCESS, BESIDE = 64, 32, 8 << 20
 # A mapping that has a shard of 64 words to itself, and a leaf of the directory; and what the audit takes for its words.
 A_SPARSE_MAPPING = A_MAPPING + 512 + 512 + 64 * 12
@@ -81,8 +84,8 @@ def dense():
 
 
 class Compared(NamedTuple):
-    """A trace on which both programs run. The aim is how many times as long as the plain program l4map may take; the most mappings
-    that are held at once, and the longest run of accesses that is one call, say how much memory."""
+    """A trace on which both programs run. The aim is how many times as long as the plain program l4map may take; the
+    most mappings that are held at once, and the longest run of accesses that is one call, say how much memory."""
 
     name: str
     records: Iterable[str]
@@ -173,8 +176,8 @@ class Bench:
         return statistics.median(self.run([self.ours[0], *options], trace).clock for _ in range(RUNS))
 
     def least_of_ours(self, records):
-        """The least processor time of l4map in a few runs on a trace of one frame, in milliseconds. All is taken back at its end, so
-        that there is little to audit."""
+        """The least processor time of l4map in a few runs on a trace of one frame, in milliseconds. All is taken back
+        at its end, so that there is little to audit."""
         trace = self.trace([*records, unmap(0, FIRST_PAGE)], ONE_FRAME)
         return min(self.run(self.ours, trace).processor for _ in range(RUNS))
 
@@ -266,8 +269,8 @@ def grown():
 
 
 def growth(bench):
-    """The second table: one line for each size. Times a part are told beyond a start, and an exponent of these is 0 where
-    a part takes as long as at the size before, and 1 where it takes twice as long at twice the size."""
+    """The second table: one line for each size. Times a part are told beyond a start, and an exponent of these is 0
+    where a part takes as long as at the size before, and 1 where it takes twice as long at twice the size."""
     head("What grows", "size", "l4map ms", "ns a part", "exponent", "plain ms", "ns a part", "exponent")
     start = [least(runs) for runs in bench.in_turn(bench.trace([]))]
     before = None
@@ -315,7 +318,8 @@ def grant_to_and_fro(space, page):
 
 
 def one_page(bench):
-    """The third table: calls that are about one page of a frame with few or many mappings, none of which derives from that page."""
+    """The third table: calls that are about one page of a frame with few or many mappings, none of which derives from
+    that page."""
     head("Call", "mappings of the frame", "l4map us")
     for spaces in (1, 32, 510):
         made = list(one_frame(spaces))
@@ -328,8 +332,8 @@ def one_page(bench):
 
 
 def time_of_calls(bench, made, start, calls):
-    """The milliseconds that some calls take, two for each of some pages, and how many calls these are: so many that they take a
-    share of the run."""
+    """The milliseconds that some calls take, two for each of some pages, and how many calls these are: so many that
+    they take a share of the run."""
     for times in (10, 500, MANY):
         chance = random.Random(5)
         records = [record for _ in range(times) for record in calls(chance.randrange(PAGES))]

@@ -1,9 +1,9 @@
-//! A plain program that writes what `l4map` writes, on one thread, and promises nothing: what bench/performance.py compares
-//! `l4map` with. It shares nothing with it.
+//! A plain program that writes what `l4map` writes, on one thread, and promises nothing: what bench/performance.py
+//! compares `l4map` with. It shares nothing with it.
 //!
-//! Mappings stand in one vector, as a tree with pointers: each knows its origin, the first one below it, and its neighbours
-//! below the same origin. A hash map leads from a place to its mapping. Records are read one by one from a buffer, and what is
-//! written is gathered in another.
+//! Mappings stand in one vector, as a tree with pointers: each knows its origin, the first one below it, and its
+//! neighbours below the same origin. A hash map leads from a place to its mapping. Records are read one by one from a
+//! buffer, and what is written is gathered in another.
 
 use std::collections::HashMap;
 use std::hash::{BuildHasherDefault, Hasher};
@@ -383,8 +383,8 @@ impl Database {
         }
     }
 
-    /// Takes rights from all that derives from a mapping, and with flush from the mapping too. Returns their status, which
-    /// is cleared and goes to the origin.
+    /// Takes rights from all that derives from a mapping, and with flush from the mapping too. Returns their status,
+    /// which is cleared and goes to the origin.
     fn strip(&mut self, top: u32, rights: Rights, flush: bool) -> Rights {
         let mut run = std::mem::take(&mut self.run);
         run.clear();

@@ -1,6 +1,6 @@
 //! A derivation tree with pointers: a node knows its origin, the first node below it and its neighbours below the same
-//! origin, and a hash map leads from a place to its node. The second of the two that bench/trees.py compares the trees of
-//! `maptree` with. It has no positions.
+//! origin, and a hash map leads from a place to its node. The second of the two that bench/trees.py compares the trees
+//! of `maptree` with. It has no positions.
 
 mod calls;
 
@@ -76,8 +76,8 @@ impl Tree {
         &mut self.nodes[node as usize]
     }
 
-    /// The node that comes next in a run whose first node is `top`: the first one below this one, or one behind it or behind
-    /// one from which it derives.
+    /// The node that comes next in a run whose first node is `top`: the first one below this one, or one behind it or
+    /// behind one from which it derives.
     fn next(&self, top: u32, node: u32) -> u32 {
         if self.at(node).first != NONE {
             return self.at(node).first;

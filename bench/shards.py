@@ -3,9 +3,9 @@
 
     bench/shards.py
 
-The first is the test `keeps_a_million_entries_over_512_spaces` of crates/page_tests/out/page_tests_tests, which `rt ci` leaves;
-the second is shards.rs, built here by `rustc -O`. The first makes shards as it comes to them,
-the second a vector of 2,097,152 words first. Nothing here has a threshold.
+The first is the test `keeps_a_million_entries_over_512_spaces` of crates/page_tests/out/page_tests_tests, which `rt ci`
+leaves; the second is shards.rs, built here by `rustc -O`. The first makes shards as it comes to them, the second a
+vector of 2,097,152 words first. Nothing here has a threshold.
 """
 
 import os

@@ -1,5 +1,5 @@
-//! Swaps each of some words for what is left of it, one atomic operation a word, and prints the nanoseconds that the loop takes: the
-//! least that the steps of a strip can take which swaps every word.
+//! Swaps each of some words for what is left of it, one atomic operation a word, and prints the nanoseconds that the
+//! loop takes: the least that the steps of a strip can take which swaps every word.
 
 use std::sync::atomic::{AtomicU64, Ordering};
 use std::time::Instant;

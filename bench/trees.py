@@ -1,13 +1,14 @@
 #!/usr/bin/env python3
-"""Each call on trees of 1,000 to 1,000,000 nodes: `maptree` beside a plain vector of nodes and beside a tree with pointers.
+"""Each call on trees of 1,000 to 1,000,000 nodes: `maptree` beside a plain vector of nodes and beside a tree with
+pointers.
 
     bench/trees.py [NODES..]
 
-The first is the test `makes_each_call_on_a_thousand_nodes_or_as_many_as_are_asked_for` of crates/page_tests/out/page_tests_tests,
-which `rt ci` leaves; the others are trees.rs and pointers.rs, built here by `rustc -O`. All make the same calls on the same
-trees (calls.rs) and time them, and the sums of their answers must be equal. The vector, which passes over its nodes in each
-call, has no trees of more than 100,000 nodes. A run that takes longer than LIMIT seconds is given up: what it told counts,
-and the rest is missing. Nothing here has a threshold.
+The first is the test `makes_each_call_on_a_thousand_nodes_or_as_many_as_are_asked_for` of
+crates/page_tests/out/page_tests_tests, which `rt ci` leaves; the others are trees.rs and pointers.rs, built here by
+`rustc -O`. All make the same calls on the same trees (calls.rs) and time them, and the sums of their answers must be
+equal. The vector, which passes over its nodes in each call, has no trees of more than 100,000 nodes. A run that takes
+longer than LIMIT seconds is given up: what it told counts, and the rest is missing. Nothing here has a threshold.
 """
 
 import os

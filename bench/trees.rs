@@ -1,5 +1,5 @@
-//! A derivation tree as a plain vector of nodes in preorder, each with its depth: the first of the two that bench/trees.py
-//! compares the trees of `maptree` with.
+//! A derivation tree as a plain vector of nodes in preorder, each with its depth: the first of the two that
+//! bench/trees.py compares the trees of `maptree` with.
 
 mod calls;
 

@@ -3,10 +3,11 @@
 
     bench/workers.py [PROGRAM..]
 
-PROGRAM is crates/l4map/out/l4map, which build.sh makes, if none is given; each is run with the same options, in turn. Two traces:
-`revocation`, where 1,024,000 mappings lose a right four times, by one call each; and `single`, where a record makes or revokes one
-mapping. Printed are milliseconds a call of `revocation`, which are the time beyond that of the same trace without these calls, and
-microseconds a record of `single`, beyond a start with no records. Medians of five runs. Nothing here has a threshold.
+PROGRAM is crates/l4map/out/l4map, which build.sh makes, if none is given; each is run with the same options, in turn.
+Two traces: `revocation`, where 1,024,000 mappings lose a right four times, by one call each; and `single`, where a
+record makes or revokes one mapping. Printed are milliseconds a call of `revocation`, which are the time beyond that of
+the same trace without these calls, and microseconds a record of `single`, beyond a start with no records. Medians of
+five runs. Nothing here has a threshold.
 """
 
 import os

@@ -1,14 +1,14 @@
 #!/usr/bin/env python3
-"""The library for programs in C and in Rust: what its archive asks for and has, what its functions answer, and that its header,
-its Rust package, its examples and library.sh are right.
+"""The library for programs in C and in Rust: what its archive asks for and has, what its functions answer, and that its
+header, its Rust package, its examples and library.sh are right.
 
     tests/c_library.py [PROGRAM [ARCHIVE ARCHIVE_BY_RATTLE]]
 
-The archive is built by both of the kit's compilers, and all is tried over both; the one by LLVM is left in crates/capi/out. The
-programs of c/ are compared with the texts beside them, which were worked out by hand; c/readme.c runs the function that README.md
-has for kernels. Traces are replayed by c/replay.c: those of replays/ and of examples/ as the answers beside them say, and random
-ones, made from a table of seeds, as the program l4map replays them; some of both also under valgrind. Where there is no valgrind,
-C++ compiler, make or cargo, a line says what was not tried.
+The archive is built by both of the kit's compilers, and all is tried over both; the one by LLVM is left in
+crates/capi/out. The programs of c/ are compared with the texts beside them, which were worked out by hand; c/readme.c
+runs the function that docs/KERNELS.md has. Traces are replayed by c/replay.c: those of replays/ and of examples/
+as the answers beside them say, and random ones, made from a table of seeds, as the program l4map replays them; some of
+both also under valgrind. Where there is no valgrind, C++ compiler, make or cargo, a line says what was not tried.
 """
 
 import glob
@@ -78,7 +78,8 @@ def archives(room):
 
 
 def fault_in_symbols(archive):
-    """What an archive asks for that it may not, and which functions it alone or the header alone has; or an empty text."""
+    """What an archive asks for that it may not, and which functions it alone or the header alone has; or an empty
+    text."""
     listed = run(["nm", "-g", archive.path])
     if listed.status != 0:
         return f"nm does not read it: {listed.stderr[:200]!r}"
@@ -147,10 +148,9 @@ def check_in_cpp(cases, room, archive, path, heap, wanted):
             cases.compare(f"{name} in C++, {archive.backend}", Ended(0, wanted, b""), run([program]))
 
 
-def write_function_of_readme(room):
-    """The block in C of README.md's section for kernels, as live.h, which c/readme.c includes."""
-    section = r"^## In your kernel\n(?:(?!## ).*\n)*?```c\n((?:.*\n)*?)```$"
-    found = re.search(section, read("README.md").decode(), re.M)
+def write_function_of_document(room):
+    """The block in C of docs/KERNELS.md, as live.h, which c/readme.c includes."""
+    found = re.search(r"^```c\n((?:.*\n)*?)```$", read("docs", "KERNELS.md").decode(), re.M)
     with open(os.path.join(room, "live.h"), "w", encoding="utf-8") as file:
         file.write(found[1] if found else "")
 
@@ -219,12 +219,18 @@ def an_access(chance, spaces):
     return f"access,{chance.randrange(spaces + odd(chance))},{address:x},{chance.choice('rwx')}"
 
 
+def a_clear(chance, spaces):
+    return f"clear,{0 if odd(chance) else chance.randrange(1, spaces + odd(chance))}"
+
+
 def random_trace(seed):
-    """A trace in which each field has its form, but now and then not the number of words of a send."""
+    """A trace in which each field has its form, but now and then not the number of words of a send. Every other one has
+    version 2, and clears."""
     chance = random.Random(seed)
-    kinds = [a_send] * 5 + [an_access] * 2 + [an_unmap]
+    version = 1 + seed % 2
+    kinds = [a_send] * 5 + [an_access] * 2 + [an_unmap] + [a_clear] * (version - 1)
     spaces, bits = chance.choice([2, 3, 3, 4]), chance.choice([18, 18, 19])
-    records = [f"l4map,1,{spaces},{bits},{chance.choice([4, 8, 16, 64])}"]
+    records = [f"l4map,{version},{spaces},{bits},{chance.choice([4, 8, 16, 64])}"]
     for _ in range(RECORDS):
         records.append(chance.choice(kinds)(chance, spaces))
     return "".join(record + "\n" for record in records).encode()
@@ -326,8 +332,8 @@ def cargo(tree, folder, *words, **settings):
 
 
 def check_rust(cases, tree, archive):
-    """The tests of the Rust package, of its units, its heap and its documentation, and the example over it, which looks for the
-    archive where library.sh leaves it."""
+    """The tests of the Rust package, of its units, its heap and its documentation, and the example over it, which looks
+    for the archive where library.sh leaves it."""
     package, name, named = "bindings/rust", f"bindings/rust, {archive.backend}", {"L4MAP_ARCHIVE": archive.path}
     if not shutil.which("cargo"):
         return
@@ -424,7 +430,7 @@ def main():
     with tempfile.TemporaryDirectory() as room:
         check_script(cases, room)
         replayed, tree = replay_random(cases, program), copy_tree(room)
-        write_function_of_readme(room)
+        write_function_of_document(room)
         for archive in archives(room):
             put_in_place(tree, archive)
             cases.check(f"what the archive asks for, {archive.backend}", fault_in_symbols(archive))

@@ -97,7 +97,8 @@ def processor_time(words, given):
 
 
 def check_plain(cases, program):
-    """With --plain an unmap is worked page by page: what is written is the same, and a chain takes many times as long."""
+    """With --plain an unmap is worked page by page: what is written is the same, and a chain takes many times as
+    long."""
     trace = long_chain()
     usual, plain = run([program], trace), run([program, "--plain"], trace)
     cases.compare("a long chain with --plain", usual, plain)

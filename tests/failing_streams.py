@@ -3,8 +3,8 @@
 
     tests/failing_streams.py [PROGRAM]
 
-A failed read ends the run with `Unreadable` and nothing written, a failed write with `WriteFailed`; both with status 4. Where the
-system raises SIGXFSZ for a write past a limit of files, and it is not ignored, that signal ends the run.
+A failed read ends the run with `Unreadable` and nothing written, a failed write with `WriteFailed`; both with status 4.
+Where the system raises SIGXFSZ for a write past a limit of files, and it is not ignored, that signal ends the run.
 """
 
 import os
@@ -125,8 +125,8 @@ def run_to_limited_file(program, given, path, limit):
 def check_signals(cases, program, room):
     """What comes of the signals that the system raises for a write that fails, where they are not ignored from outside.
 
-    SIGPIPE, for a pipe whose reader has gone, the program ignores itself. SIGXFSZ, for a file that would pass its limit, ends it as
-    it ends any other, before it can tell of the write.
+    SIGPIPE, for a pipe whose reader has gone, the program ignores itself. SIGXFSZ, for a file that would pass its
+    limit, ends it as it ends any other, before it can tell of the write.
     """
 
     def limit_files():

@@ -4,7 +4,7 @@
     tests/first_run.py
 
 What is to be seen without the built program is seen in copies of the repository. There run.sh builds a program without
-proofs, in half a minute; so that is done twice only, at once, and elsewhere a script stands in for the command `rt`.
+proofs, in a minute or two; so that is done twice only, at once, and elsewhere a script stands in for the command `rt`.
 """
 
 import os
@@ -32,7 +32,7 @@ PROGRAMS = ("l4map", "l4trace")
 OF_LIBRARY = ("c_handle", "capi", "raw_box")
 
 # What run.sh says where the program is not built, before anything else, and where the program cannot be run to its end.
-NOTICE = b"./run.sh: the program is not built; running it without proofs, in half a minute (./build.sh proves and builds it)\n"
+NOTICE = b"./run.sh: the program is not built; running it without proofs, in a minute or two (./build.sh proves and builds it)\n"
 BUILDER = b"; ./build.sh builds the program, which has no such limit\n"
 TOO_LONG = b"./run.sh: without proofs no more than 1 MiB can be written, and this trace has more" + BUILDER
 TOO_SLOW = b"./run.sh: without proofs a run may take a minute, and this trace takes more" + BUILDER
@@ -201,7 +201,8 @@ def check_without_kit(cases, copy, room):
 
 
 def check_build(cases, copy, room):
-    """build.sh asks `rt` for each crate in turn but those of tests, with a command in its place that does nothing or fails."""
+    """build.sh asks `rt` for each crate in turn but those of tests, with a command in its place that does nothing or
+    fails."""
     with open(os.path.join(copy, "crates.txt"), encoding="ascii") as file:
         crates = [line.split(":")[0].split()[0] for line in file if not line.startswith("#")]
     crates = [crate for crate in crates if not crate.endswith("_tests") and crate not in OF_LIBRARY]

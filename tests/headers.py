@@ -15,7 +15,12 @@ BAD_HEADERS = [
     ("empty lines alone", b"\n\r\n\r\r\n\n"),
     ("two quotes", b'""\n'),
     ("version with a leading zero", b"l4map,01,3,18,16\n"),
-    ("later version", b"l4map,2,3,18,16\n"),
+    ("version 2 with a leading zero", b"l4map,02,3,18,16\n"),
+    ("both versions", b"l4map,12,3,18,16\n"),
+    ("later version", b"l4map,3,3,18,16\n"),
+    ("later version and bad limits", b"l4map,3,1,17,0\n"),
+    ("upper case name of version 2", b"L4MAP,2,3,18,16\n"),
+    ("four fields of version 2", b"l4map,2,3,18\n"),
     ("version zero", b"l4map,0,3,18,16\n"),
     ("empty version", b"l4map,,3,18,16\n"),
     ("version with a space", b"l4map,1 ,3,18,16\n"),
@@ -88,6 +93,10 @@ GOOD_LIMITS = [
 ]
 
 
+# Headers with no more frames are tried with both versions.
+FEW_FRAMES = 128
+
+
 def bad_numbers():
     """Each number of the header in every form that it must not have."""
     for number, limits in NUMBERS:
@@ -107,12 +116,14 @@ def main():
     for name, given in [*BAD_HEADERS, *bad_numbers()]:
         compare_replay(cases, program, f"BadHeader: {name}", given, bad_header)
     for name, limits in BAD_LIMITS:
-        for behind, record in (("alone", b""), ("and a record", b"send,0,1,10,8,50c6\n")):
-            given = b"l4map,1,%s\n" % limits.encode() + record
-            compare_replay(cases, program, f"BadLimits: {name}, {behind}", given, bad_limits)
+        for version in (b"1", b"2"):
+            for behind, record in (("alone", b""), ("and a record", b"send,0,1,10,8,50c6\n")):
+                given = b"l4map,%s,%s\n" % (version, limits.encode()) + record
+                compare_replay(cases, program, f"BadLimits: version {version.decode()}, {name}, {behind}", given, bad_limits)
     for name, limits, frames in GOOD_LIMITS:
-        given = b"l4map,1,%s\n" % limits.encode()
-        compare_replay(cases, program, f"limits: {name}", given, Ended(0, start(frames), b""))
+        for version in (b"1", b"2") if frames <= FEW_FRAMES else (b"1",):
+            given = b"l4map,%s,%s\n" % (version, limits.encode())
+            compare_replay(cases, program, f"limits: version {version.decode()}, {name}", given, Ended(0, start(frames), b""))
     cases.end()
 
 

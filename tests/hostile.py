@@ -3,11 +3,13 @@
 
     tests/hostile.py [PROGRAM]
 
-support/hostile_traces.py has the traces, each with its answer. They run with 1, 4 and 64 workers, with pieces of 1 and of 256, and
-with --plain, and so does each beginning of a short trace, cut off after every byte. Traces of one byte, each of the 256, run with
-these choices in turn. Those that take seconds run with some of the choices, which the table says, one trace after another.
+support/hostile_traces.py has the traces, each with its answer. They run with 1, 4 and 64 workers, with pieces of 1 and
+of 256, and with --plain, and so does each beginning of a short trace, cut off after every byte. Traces of one byte,
+each of the 256, run with these choices in turn. Those that take seconds run with some of the choices, which the table
+says, one trace after another.
 
-The audit of each is read by support/audit.py, which says whether its mappings are lawful; what it must refuse is tried first.
+The audit of each is read by support/audit.py, which says whether its mappings are lawful; what it must refuse is tried
+first.
 """
 
 import os
@@ -29,6 +31,7 @@ LARGE = [
     (hostile_traces.million_mappings_revoked_one_by_one, [FOUR_BY_256, MANY_BY_1, PLAIN]),
     (hostile_traces.many_spaces_with_every_page_held, [FOUR_BY_256, PLAIN]),
     (hostile_traces.many_spaces_given_up, [ONE_BY_256, FOUR_BY_256, PLAIN]),
+    (hostile_traces.space_with_every_page_cleared, [ONE_BY_256, FOUR_BY_256, PLAIN]),
 ]
 
 BAD_HEADER = Ended(2, b"", b"l4map: BadHeader\n")
@@ -38,8 +41,8 @@ HEADER = b"l4map,1,2,18,1"
 SEND, ACCESS, UNMAP = b"send,0,1,10,3008,c6", b"access,1,3abc,w", b"unmap,0,0,c2"
 SHORT = b"\n".join([HEADER, SEND, ACCESS, UNMAP, b""])
 
-# A record of the short trace that is cut off, and its reply if it is not `refused BadRecord`. `c` is a nilpage with the right r and the
-# free bit, which comes back without r. Without a word an unmap has one too few for its control word.
+# A record of the short trace that is cut off, and its reply if it is not `refused BadRecord`. `c` is a nilpage with the
+# right r and the free bit, which comes back without r. Without a word an unmap has one too few for its control word.
 REPLIES_WHEN_CUT = {
     SEND[:-1]: sent(),
     SEND: sent(linked=1),
@@ -91,8 +94,8 @@ def faults(program, given, wanted, choices, pool):
 def short_trace_cut_off(length):
     """The first bytes of the short trace, and how a run on them ends.
 
-    A record that is cut off is one that has the form of none, but for those of the table. The send maps 0:0 to 1:3, the access
-    leaves R and W there, and the unmap takes w and all status.
+    A record that is cut off is one that has the form of none, but for those of the table. The send maps 0:0 to 1:3, the
+    access leaves R and W there, and the unmap takes w and all status.
     """
     given = SHORT[:length]
     header, *records = given.split(b"\n")

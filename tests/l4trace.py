@@ -152,6 +152,7 @@ RECORDS = [
     ('"send,0,1,10,8,c7"', " BadRecord: the name is 'send,0,1,10,8,c7', not send, access or unmap; a quote joins fields: leave out the quotes"),
     ("l4map,1,3,18,16", "1 BadRecord: the name is 'l4map', not send, access or unmap; a header stands only at the start"),
     ("map,0,1", "1 BadRecord: the name is 'map', not send, access or unmap"),
+    ("clear,1", "1 BadRecord: the name is 'clear', not send, access or unmap; a trace with clear has a header of version 2: l4map,2,.."),
     ("\ufeffsend,0,1,10,8,c7", "1 BadRecord: the name is '\\xef\\xbb\\xbfsend', not send, access or unmap; a byte order mark stands before it: leave it out"),
     ("send,0,1,a7,8,c7", "10 BadSize: the window is a7: s is 10; that of one page is 12"),
     ("send,0,1,10,8,10d7", "15 Misaligned: the send fpage of item 1 is 10d7: base 1000 is no multiple of the size, 8K; the next good base is 2000: 20d7"),
@@ -171,6 +172,22 @@ RECORDS = [
     ("unmap,0,1,c7,10d7", "14 Misaligned: fpage word 2 is 10d7: base 1000 is no multiple of the size, 8K; the next good base is 2000: 20d7"),
 ]
 
+SECOND_HEADER = "l4map,2,3,18,16\n"
+
+# The same behind a header of version 2.
+SECOND_RECORDS = [
+    ("clear,1", ""),
+    ("clear,00002", ""),
+    ("send,0,1,10,8,c7", ""),
+    ("clear,3", "7 NoSuchSpace: the space is 3; spaces are 0 to 2"),
+    ("clear", "1 BadRecord: a clear has a space; 0 fields stand behind the name"),
+    ("clear,1,2", "9 BadRecord: a clear has a space; 2 fields stand behind the name"),
+    ("clear,1,", "9 BadRecord: the last field is empty; " + PADDING),
+    ("clear,a", "7 BadRecord: the space is 'a', not 1 to 5 decimal digits, at most 65535; spaces are decimal"),
+    ("Clear,1", "1 BadRecord: the name is 'Clear', not send, access, unmap or clear; names are in lower case"),
+    ("unmap,3,0,c7", "7 NoSuchSpace: the space is 3; spaces are 0 to 2"),
+]
+
 LARGE_HEADER = "l4map,1,3,32,1048576\n"
 
 # The same behind a header of three spaces of 32 bits, which have every address.
@@ -188,11 +205,12 @@ LARGE_RECORDS = [
 HEADERS = [
     (b"", "1: header: BadHeader: there is no record"),
     (b"\n\n", "3: header: BadHeader: there is no record"),
-    (b"\n\nl4map,2,3,18,16\n", "3:7: header: BadHeader: the version is '2', not 1"),
+    (b"\n\nl4map,3,3,18,16\n", "3:7: header: BadHeader: the version is '3', not 1 or 2"),
+    (b"l4map,02,3,18,16\n", "1:7: header: BadHeader: the version is '02', not 1 or 2"),
     (b"\xef\xbb\xbfL4MAP,1,3,18,16\n", "1:1: header: BadHeader: the first field is 'L4MAP', not l4map; names are in lower case"),
     (b"\xef\xbb\xbf\xef\xbb\xbfl4map,1,3,18,16\n", "1:1: header: BadHeader: the first field is '\\xef\\xbb\\xbfl4map', not l4map; a byte order mark stands before it: leave it out"),
     (b"l4map;1;3;18;16\n", "1:1: header: BadHeader: the first field is 'l4map;1;3;18;16', not l4map; fields are separated by commas, not by semicolons"),
-    (b"l4map,1,3,18\n", "1:11: header: BadHeader: a header has 5 fields: l4map, 1, spaces, bits, frames; here are 4"),
+    (b"l4map,1,3,18\n", "1:11: header: BadHeader: a header has 5 fields: l4map, version, spaces, bits, frames; here are 4"),
     (b"l4map,1,3,18,16,,\n", "1:17: header: BadHeader: the last 2 fields are empty; " + PADDING),
     (b"l4map,1,0x3,18,16\n", "1:9: header: BadHeader: the number of spaces is '0x3', not 1 to 7 decimal digits; leave out the 0x"),
     (b"l4map,1,3,18,16.0\n", "1:14: header: BadHeader: the number of frames is '16.0', not 1 to 7 decimal digits; a spreadsheet may have made a number of it: give its column the format of text"),
@@ -247,7 +265,7 @@ def compare_count(cases, name, given, got):
 
 
 def check_records(cases, program):
-    for header, records in ((HEADER, RECORDS), (LARGE_HEADER, LARGE_RECORDS)):
+    for header, records in ((HEADER, RECORDS), (SECOND_HEADER, SECOND_RECORDS), (LARGE_HEADER, LARGE_RECORDS)):
         for record, told in records:
             check_record(cases, program, header, record, told)
     for header, told in HEADERS:
@@ -418,8 +436,8 @@ def compare_answers(cases, program):
         missing = os.path.join(room, "missing")
         wanted = Ended(4, b"", f"l4trace: {missing}: Unreadable\n".encode())
         cases.compare("compare with no file", wanted, run([program, "compare", path, missing]))
-        bad = written(room, "bad.csv", ["l4map,2"])
-        wanted = Ended(2, b"", f"{bad}:1:7: header: BadHeader: the version is '2', not 1\n".encode())
+        bad = written(room, "bad.csv", ["l4map,3"])
+        wanted = Ended(2, b"", f"{bad}:1:7: header: BadHeader: the version is '3', not 1 or 2\n".encode())
         cases.compare("compare of no trace", wanted, run([program, "compare", bad, "-"]))
 
 
@@ -439,7 +457,8 @@ def compare_unchanged(cases, program):
         cases.compare("compare with a root missing", ended(1, *lines), got)
 
 
-# Four spaces. Page 0:0 goes to 1:0 and 2:0, and from 1:0 to 3:0 and 3:4; 0:1 to 2:5; then 0:1 to 1:0, which takes all back that 1:0 passed on.
+# Four spaces. Page 0:0 goes to 1:0 and 2:0, and from 1:0 to 3:0 and 3:4; 0:1 to 2:5; then 0:1 to 1:0, which takes all
+# back that 1:0 passed on.
 TREES = [
     "l4map,1,4,18,2",
     "send,0,1,10,8,c7",
@@ -484,8 +503,8 @@ DIFF_5 = [
     "                 |   └─ 2:5 rwx ---",
 ]
 TABLE_HEAD = "     page      base    frame  rights  status  origin"
-# Four spaces and three frames. Page 0:0 goes to 1:0, and from there to 2:0 and 2:5; 0:1 goes to 2:9, and 0:0 to 3:0; then 2:0 and 2:5 are taken
-# back, while pages on either side of them stay.
+# Four spaces and three frames. Page 0:0 goes to 1:0, and from there to 2:0 and 2:5; 0:1 goes to 2:9, and 0:0 to 3:0;
+# then 2:0 and 2:5 are taken back, while pages on either side of them stay.
 GONE = [
     "l4map,1,4,18,3",
     "send,0,1,10,8,c7",
@@ -599,7 +618,8 @@ def dot_of_nodes():
 
 
 def check_picture(cases, name, got, title):
-    """The picture is XML, its title is the heading, and its texts are the frames and the mappings, each once, below its origin."""
+    """The picture is XML, its title is the heading, and its texts are the frames and the mappings, each once, below its
+    origin."""
     try:
         root = ElementTree.fromstring(got.stdout)
     except ElementTree.ParseError as error:
@@ -715,6 +735,45 @@ def why_pages(cases, program):
         lines += [f"  3:7 rwx --- from 0:0, since {third}", root, "what changed its rights", f"  {second}", "    gave r-x of frame 0 from 1:0"]
         lines += [f"  {third}", "    replaced what was held: gave r-x of frame 0 from 3:7"]
         cases.compare("why of a page below one that was granted", ended(0, *lines), run([program, "why", path, "--page", "2:5"]))
+
+
+# Version 2: page 0:0 goes to 1:0 and from there to 2:0, where it is executed; then space 1 is deleted. The status goes
+# to 0:0.
+CLEARED = ["l4map,2,3,18,2", "send,0,1,10,8,c7", "send,1,2,10,8,c5", "access,2,abc,x", "clear,1"]
+CLEARED_ANSWERS = [
+    ANSWERS[0],
+    ANSWERS[0].replace("1", "2", 1),
+    "3 access ok",
+    "4 clear 00000015",
+    "0,0,0,rwx,R-X,-",
+    "0,1,1,rwx,---,-",
+    "end 4 0",
+]
+CLEARED_PAGES = ["- 1:0 rwx --- of frame 0", "- 2:0 r-x R-X of frame 0"]
+CLEARED_DIFF = ["frame 0", "* 0:0 rwx ---       | * 0:0 rwx R-X", "- └─ 1:0 rwx ---    |", "-    └─ 2:0 r-x R-X |"]
+CLEARED_TABLE = ["space 2: 0 of 64 pages held", TABLE_HEAD, CLEARED_PAGES[1]]
+
+
+def cleared_pages(cases, program):
+    """What show, why and compare say of a space that is deleted."""
+    with tempfile.TemporaryDirectory() as room:
+        path = written(room, "cleared.csv", CLEARED)
+        second, last = (record_at(path, CLEARED, number) for number in (2, 4))
+        trees = ["frame 0", "* 0:0 rwx R-X, was rwx ---", "frame 1", "  0:1 rwx ---", "no longer held", *CLEARED_PAGES]
+        for arguments, lines in (("", trees), ("--diff", CLEARED_DIFF), ("--space 2", CLEARED_TABLE)):
+            got = run([program, "show", path, *arguments.split()])
+            cases.compare(f"show {arguments} of a space that is deleted", ended(0, f"after {last}", *lines), got)
+        lines = [f"2:0 holds nothing, after {last}", "what changed its rights", f"  {second}"]
+        lines += ["    gave r-x of frame 0 from 1:0", f"  {last}", "    took r-x; nothing is left"]
+        cases.compare("why of a page that a clear took", ended(0, *lines), run([program, "why", path, "--page", "2:0"]))
+        got = run([program, "compare", path, "-"], text_of(CLEARED_ANSWERS))
+        cases.compare("compare of a clear", ended(0, "no difference"), got)
+        answers = [*CLEARED_ANSWERS[:3], "4 clear 00000010", *CLEARED_ANSWERS[4:]]
+        lines = ["first difference: line 4", f"  l4map:   {CLEARED_ANSWERS[3]}", f"  answers: {answers[3]}", f"  {last}"]
+        lines += ["  it changes these mappings:", "    - 0,0,0,rwx,---,-", "    + 0,0,0,rwx,R-X,-"]
+        lines += ["    - 1,0,0,rwx,---,0:0", "    - 2,0,0,r-x,R-X,1:0", "the trees before and after it:", *CLEARED_DIFF]
+        got = run([program, "compare", path, "-"], text_of(answers))
+        cases.compare("compare of a clear with a wrong answer", ended(1, *lines), got)
 
 
 # Two spaces of 32 bits, which have every address. Page 0 of space 0 is mapped to the last page of space 1 and written
@@ -854,9 +913,30 @@ def make_random(cases, program):
         compare_random(cases, program, shape, trace)
     for bits in (18, 24, 25, 32):
         random_of_bits(cases, program, bits)
-    for arguments in ("--spaces 1", "--bits 17", "--bits 33", "--frames 65", "--refused 101", "--shape ring", "--records x"):
+    for shape in SHAPES:
+        random_with_clears(cases, program, shape)
+    for arguments in ("--version 0", "--version 3", "--spaces 1", "--bits 17", "--bits 33", "--frames 65", "--refused 101", "--shape ring", "--records x"):
         got = run([program, *"random --seed 1 --records 1".split(), *arguments.split()])
         cases.check(f"random {arguments}", "" if got.status == 2 and not got.stdout and got.stderr else f"{got}")
+
+
+def random_with_clears(cases, program, shape):
+    """Traces of version 2 have clears, which version 1 has not, and some of them are refused where records are."""
+
+    def made(arguments):
+        return run([program, *f"random --seed 7 --records 2000 --shape {shape} {arguments}".split()]).stdout
+
+    trace = made("--version 2")
+    lines = trace.decode().splitlines()
+    cases.check(f"random {shape}: header of version 2", "" if lines[:1] == ["l4map,2,4,18,16"] else f"{lines[:1]}")
+    clears = sum(line.startswith("clear,") for line in lines)
+    cases.check(f"random {shape}: clears", "" if clears > 100 and b"clear" not in made("--version 1") else f"{clears}")
+    cases.check(f"random {shape}: version 1 is the default", "" if made("") == made("--version 1") else "it is not")
+    refused = made("--version 2 --refused 100").decode().splitlines()
+    last = run([program, "check", "-", "--max", "0"], text_of(refused)).stdout.decode().splitlines()[-1:]
+    good = last == [counted(2000, 2000)] and "clear,4" in refused
+    cases.check(f"random {shape}: refused clears", "" if good else f"{last}")
+    compare_random(cases, program, f"{shape} of version 2", trace)
 
 
 REFUSALS = {"BadSize", "Misaligned", "OutOfSpace", "NotAnItem", "BadControl", "NoSuchSpace", "SameSpace", "NoWindow", "BadRecord"}
@@ -964,26 +1044,36 @@ def check_script(cases, program):
         cases.compare("trace.sh without the program", Ended(125, b"", why.encode()), run([lone, "word", "50c6"]))
 
 
-def check_readme(cases, program):
-    """What README shows of l4trace is what it says."""
-    with open(os.path.join(TOP, "README.md"), encoding="utf-8") as file:
-        section = file.read().split("## When something differs\n")[1].split("\n## ")[0]
-    shown = [block[len("$ ./trace.sh ") :] for block in section.split("```\n")[1::2] if block.startswith("$ ./trace.sh ")]
-    cases.check("README shows five commands", "" if len(shown) == 5 else f"it shows {len(shown)}")
-    for block in shown:
-        words, lines = block.split("\n", 1)
-        words, _, target = words.partition(" > ")
-        if target:
-            with open(os.path.join(TOP, "docs", target), encoding="utf-8") as file:
-                lines = file.read()
-        got = run([program, *words.split()], cwd=TOP)
-        cases.check(f"README: {words}", "" if got.stdout.decode() == lines and not got.stderr else f"it says {got}")
+# Each document that shows commands of l4trace, and how many.
+DOCUMENTS = (("README.md", 1), (os.path.join("docs", "L4TRACE.md"), 4))
+
+
+def check_documents(cases, program):
+    """What the documents show of l4trace is what it says."""
+    for name, count in DOCUMENTS:
+        with open(os.path.join(TOP, name), encoding="utf-8") as file:
+            blocks = file.read().split("```\n")[1::2]
+        shown = [block[len("$ ./trace.sh ") :] for block in blocks if block.startswith("$ ./trace.sh ")]
+        cases.check(f"{name} shows its commands", "" if len(shown) == count else f"it shows {len(shown)}")
+        for block in shown:
+            check_shown(cases, program, name, block)
+
+
+def check_shown(cases, program, name, block):
+    """One command as a document shows it, and the lines below it or the file that it names."""
+    words, lines = block.split("\n", 1)
+    words, _, target = words.partition(" > ")
+    if target:
+        with open(os.path.join(TOP, "docs", target), encoding="utf-8") as file:
+            lines = file.read()
+    got = run([program, *words.split()], cwd=TOP)
+    cases.check(f"{name}: {words}", "" if got.stdout.decode() == lines and not got.stderr else f"it says {got}")
 
 
 def main():
     program, cases = tool_path(), Cases()
     check_script(cases, program)
-    check_readme(cases, program)
+    check_documents(cases, program)
     check_words(cases, program)
     check_records(cases, program)
     check_program(cases, program)
@@ -991,6 +1081,7 @@ def main():
     compare_unchanged(cases, program)
     show_traces(cases, program)
     why_pages(cases, program)
+    cleared_pages(cases, program)
     last_pages(cases, program)
     check_colors(cases, program)
     make_random(cases, program)

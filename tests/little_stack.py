@@ -1,10 +1,11 @@
 #!/usr/bin/env python3
-"""The program with a stack of 64 KiB: every trace has its answer, however long its chains are, and so has every refusal.
+"""The program with a stack of 64 KiB: every trace has its answer, however long its chains are, and so has every
+refusal.
 
     tests/little_stack.py [PROGRAM]
 
-`ulimit -s` sets the limit. It holds for the first thread, and is the size of the stack of every other one. The arguments and
-the environment lie on the stack of the first thread too, so the environment is empty.
+`ulimit -s` sets the limit. It holds for the first thread, and is the size of the stack of every other one. The
+arguments and the environment lie on the stack of the first thread too, so the environment is empty.
 """
 
 import glob
@@ -23,6 +24,7 @@ LARGE = [
     hostile_traces.sends_that_extend_one_page,
     hostile_traces.million_mappings_revoked_at_once,
     hostile_traces.many_spaces_given_up,
+    hostile_traces.space_with_every_page_cleared,
 ]
 
 # Runs that end without an answer: a name, the arguments, the input, the status, and how standard error begins.
@@ -45,7 +47,8 @@ def read(path):
 
 
 def traces():
-    """The traces of replays/ and examples/, and the hostile ones, each with the choices by which it runs and with its answer."""
+    """The traces of replays/ and examples/, and the hostile ones, each with the choices by which it runs and with its
+    answer."""
     for folder in ("examples", "tests/replays/*"):
         for path in sorted(glob.glob(f"{TOP}/{folder}/*.csv")):
             yield os.path.relpath(path, TOP), CHOICES, read(path), read(path.removesuffix(".csv") + ".txt")

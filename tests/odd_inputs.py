@@ -125,8 +125,9 @@ def upper_limits():
 def complete_spaces():
     """Complete spaces of 4,096 pages mapped, granted, extended and replaced.
 
-    All of space 0 is mapped to space 1 and granted to space 2 with rw; a second map from space 0 finds each page of space 2
-    derived from its own and gives it x. Space 2 maps all to space 3, takes r there, and a map from space 0 replaces it.
+    All of space 0 is mapped to space 1 and granted to space 2 with rw; a second map from space 0 finds each page of
+    space 2 derived from its own and gives it x. Space 2 maps all to space 3, takes r there, and a map from space 0
+    replaces it.
     """
     trace = lines(
         "l4map,1,4,24,4096",
@@ -159,8 +160,9 @@ def complete_spaces():
 def chain_through_all_spaces():
     """A chain of page 0 of all 512 spaces.
 
-    Its head is an origin of its end. Space 255 grants its page to 0:16 without w: 256:0 and what follows lose w, and the
-    status of 511:0 goes to 254:0. At last space 0 grants its page to 1:0, which derives from it with all the rest, 0:16 too.
+    Its head is an origin of its end. Space 255 grants its page to 0:16 without w: 256:0 and what follows lose w, and
+    the status of 511:0 goes to 254:0. At last space 0 grants its page to 1:0, which derives from it with all the rest,
+    0:16 too.
     """
     linked = LINKED.decode()
     trace = lines(

@@ -3,9 +3,10 @@
 
     tests/one_page.py [PROGRAM]
 
-Each kind of records is a round of calls that leaves as much held as there was before it. A trace of many rounds may make a few more
-allocations than one of few, since the buffers of its text grow, but none for each round. Allocations are counted by refusing one, with
-the preloaded library of support/fail_alloc.c: the first that is refused to no one is behind the last.
+Each kind of records is a round of calls that leaves as much held as there was before it. A trace of many rounds may
+make a few more allocations than one of few, since the buffers of its text grow, but none for each round. Allocations
+are counted by refusing one, with the preloaded library of support/fail_alloc.c: the first that is refused to no one is
+behind the last.
 """
 
 import tempfile
@@ -15,7 +16,8 @@ from support.refusals import MOST, run_refusing
 
 HEADER = b"l4map,1,3,18,64\n"
 
-# Page 0 of space 0 goes to page 3 of space 1, with the rights that the last digit says; and to page 3 of space 2 from there.
+# Page 0 of space 0 goes to page 3 of space 1, with the rights that the last digit says; and to page 3 of space 2 from
+# there.
 TO_ONE = b"send,0,1,10,3008,c%d\n"
 TO_TWO = b"send,1,2,10,%s,30c%d\n"
 TAKEN_BACK = b"unmap,0,0,c7\n"

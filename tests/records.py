@@ -3,13 +3,15 @@
 
     tests/records.py [PROGRAM]
 
-Before the record space 0 maps a page to 1:0, behind it space 1 writes there. A refused record changes nothing, so the write
-is answered and the audit is the same for all of them. Each trace is run with --plain too.
+Before the record space 0 maps a page to 1:0, behind it space 1 writes there. A refused record changes nothing, so the
+write is answered and the audit is the same for all of them. Each trace is run with --plain too, and with a header of
+either version: but for clears both mean the same.
 """
 
 from support.program import Cases, Ended, compare_replay, program_path
 
-BEFORE = b"l4map,1,3,18,16\nsend,0,1,10,8,50c6\n"
+BEFORE = b"l4map,%d,3,18,16\nsend,0,1,10,8,50c6\n"
+VERSIONS = (1, 2)
 BEHIND = b"\naccess,1,0,w\n"
 LINKED = "send absent=0 norights=0 origin=0 lost=0 extended=0 linked=1"
 ABSENT = "send absent=1 norights=0 origin=0 lost=0 extended=0 linked=0"
@@ -140,7 +142,6 @@ def bad_fields():
 # Names of records, and numbers of fields.
 RECORD_FORMS = [
     ("unknown record name", b"map,0,1", "BadRecord"),
-    ("record of a later version", b"clear,1", "BadRecord"),
     ("second header", b"l4map,1,3,18,16", "BadRecord"),
     ("upper case name of a send", b"SEND,0,2,10,8,50c7", "BadRecord"),
     ("capital in the name of an access", b"Access,1,0,r", "BadRecord"),
@@ -316,6 +317,24 @@ FIRST_CAUSES = [
     ("fault of the last of 64 words before an unknown space", b"unmap,3,3f" + b",c0" * 63 + b",400c7", "OutOfSpace"),
 ]
 
+# Clears in a trace of version 2: name, record, and why it is refused, or None. One that is taken finds nothing, and
+# changes nothing.
+CLEARS = [
+    ("clear of a space that holds nothing", b"clear,2", None),
+    ("clear with leading zeros", b"clear,00002", None),
+    ("clear in quotes", b'"clear","2"', None),
+    ("clear of a space just past the spaces", b"clear,3", "NoSuchSpace"),
+    ("clear of the space with the largest number", b"clear,65535", "NoSuchSpace"),
+    ("clear of its name alone", b"clear", "BadRecord"),
+    ("clear with a field too many", b"clear,2,2", "BadRecord"),
+    ("clear with a last comma", b"clear,2,", "BadRecord"),
+    ("capital in the name of a clear", b"Clear,2", "BadRecord"),
+    ("name of a clear cut short", b"clea,2", "BadRecord"),
+    ("name of a clear drawn out", b"clears,2", "BadRecord"),
+    ("space before the name of a clear", b" clear,2", "BadRecord"),
+    *((f"space of a clear {form}", b"clear,%s" % field, "BadRecord") for form, field in BAD_NUMBERS),
+]
+
 REFUSED = [*bad_fields(), *RECORD_FORMS, *KINDS, *QUOTES, *UNMAPS, *FPAGES, *ITEMS_AND_SPACES, *FIRST_CAUSES]
 
 
@@ -329,12 +348,18 @@ def answered(reply, *audit):
 
 def main():
     program, cases = program_path(), Cases()
-    for name, record, reply, audit in ACCEPTED:
-        wanted = Ended(0, answered(reply, *audit), b"")
-        compare_replay(cases, program, f"accepted: {name}", BEFORE + record.encode() + BEHIND, wanted)
-    for name, record, refusal in REFUSED:
-        wanted = Ended(0, answered(f"refused {refusal}"), b"")
-        compare_replay(cases, program, f"{refusal}: {name}", BEFORE + record + BEHIND, wanted)
+    for version in VERSIONS:
+        before = BEFORE % version
+        for name, record, reply, audit in ACCEPTED:
+            wanted = Ended(0, answered(reply, *audit), b"")
+            compare_replay(cases, program, f"version {version}, accepted: {name}", before + record.encode() + BEHIND, wanted)
+        for name, record, refusal in REFUSED:
+            wanted = Ended(0, answered(f"refused {refusal}"), b"")
+            compare_replay(cases, program, f"version {version}, {refusal}: {name}", before + record + BEHIND, wanted)
+        for name, record, refusal in CLEARS:
+            why = refusal if version == 2 else "BadRecord"
+            wanted = Ended(0, answered(f"refused {why}" if why else "clear 00000010"), b"")
+            compare_replay(cases, program, f"version {version}: {name}", before + record + BEHIND, wanted)
     cases.end()
 
 

@@ -1,13 +1,14 @@
 #!/usr/bin/env python3
-"""The program out of memory: each allocation of short runs is refused, alone and with all after it; so is each start of a thread.
+"""The program out of memory: each allocation of short runs is refused, alone and with all after it; so is each start of
+a thread.
 
     tests/refused_memory.py [PROGRAM]
 
-A run in which something was refused must end as the undisturbed one, or with status 3 and `NoMemory` or `NoWorker` at some record,
-having written exactly the reply lines of the records before it. Where a thread is refused to the audit, the audit is made with fewer;
-where it is refused to a call, that is `NoWorker`. No run may hang. Of each trace some run must end before its first record,
-some at one of its records, and some at the audit. Allocations and starts of threads are refused by the preloaded library of
-support/fail_alloc.c.
+A run in which something was refused must end as the undisturbed one, or with status 3 and `NoMemory` or `NoWorker` at
+some record, having written exactly the reply lines of the records before it. Where a thread is refused to the audit,
+the audit is made with fewer; where it is refused to a call, that is `NoWorker`. No run may hang. Of each trace some run
+must end before its first record, some at one of its records, and some at the audit. Allocations and starts of threads
+are refused by the preloaded library of support/fail_alloc.c.
 """
 
 import os
@@ -18,8 +19,8 @@ from typing import NamedTuple
 from support.program import TOP, Cases, Ended, build_library, program_path, run
 from support.refusals import EXTENTS, fault_of_refused, record_told, runs_refusing
 
-# By how many workers a trace of small phases is worked, each in pieces of one. Fewer than 64 pieces have one worker, so that these
-# start no threads for a call.
+# By how many workers a trace of small phases is worked, each in pieces of one. Fewer than 512 pieces have one worker,
+# so that these start no threads for a call.
 WORKERS = [["--workers", str(workers), "--piece", "1"] for workers in (1, 4, 64)]
 
 # Traces of replays/ whose phases are small, with their answers beside them.
@@ -32,6 +33,8 @@ SMALL = [
     "grants/two-pages-of-one-chain",
     "phases/map-whose-flush-removes-a-source",
     "large-spaces/last-page-of-the-largest-space",
+    "clears/space-in-a-chain",
+    "clears/nested-mapping-of-the-space",
 ]
 
 # Those of whole fpages, whose phases are in many pieces.
@@ -58,7 +61,8 @@ RUNS = [
 
 
 class Replay(NamedTuple):
-    """A trace with its options, the lines of its whole answer, whether its calls start threads, and what it is refused in turn."""
+    """A trace with its options, the lines of its whole answer, whether its calls start threads, and what it is refused
+    in turn."""
 
     name: str
     options: list
@@ -75,7 +79,8 @@ def read_replay(trace, options, starts_threads):
 
 
 def largest_replay(options):
-    """The trace of calls that start threads, and its answer by the definitions: pages are mapped, lose a right, and are granted."""
+    """The trace of calls that start threads, and its answer by the definitions: pages are mapped, lose a right, and are
+    granted."""
     records = [f"l4map,1,3,21,{PAGES}", "send,0,1,10,8,17", "unmap,0,0,12", "send,1,2,10,a,17"]
     sent = f"send absent=0 norights=0 origin=0 lost=0 extended=0 linked={PAGES}"
     lines = [f"1 {sent}", "2 unmap 00000010", f"3 {sent}"]
@@ -85,8 +90,19 @@ def largest_replay(options):
     return Replay(" ".join(["the largest trace", *options]), options, trace, answer.splitlines(keepends=True), True)
 
 
+def cleared_replay(options):
+    """The trace of a clear that starts threads, and its answer by the definitions: pages are mapped to a space, one of
+    them is written to, and the space is deleted."""
+    records = [f"l4map,2,3,21,{PAGES}", "send,0,1,10,8,17", "access,1,0,w", "clear,1"]
+    lines = [f"1 send absent=0 norights=0 origin=0 lost=0 extended=0 linked={PAGES}", "2 access ok", "3 clear 00000016"]
+    lines += [f"0,{page},{page},rwx,{'---' if page else 'RW-'},-" for page in range(PAGES)]
+    trace, answer = (("\n".join(it) + "\n").encode() for it in (records, [*lines, "end 3 0"]))
+    return Replay(" ".join(["a large clear", *options]), options, trace, answer.splitlines(keepends=True), True)
+
+
 def audit_replay():
-    """The trace of an audit that several threads make, and its answer by the definitions: all pages of a space are mapped to another."""
+    """The trace of an audit that several threads make, and its answer by the definitions: all pages of a space are
+    mapped to another."""
     pages = LINES // 2
     records = [f"l4map,1,3,23,{pages}", "send,0,1,10,8,17"]
     lines = [f"1 send absent=0 norights=0 origin=0 lost=0 extended=0 linked={pages}"]
@@ -128,7 +144,8 @@ def check_refusing(program, library, replay, what, and_rest, extent):
 
 def main():
     program, cases = program_path(), Cases()
-    replays = [read_replay(*row) for row in RUNS] + [largest_replay(options) for options in WORKERS[1:]] + [audit_replay()]
+    replays = [read_replay(*row) for row in RUNS] + [audit_replay()]
+    replays += [make(options) for make in (largest_replay, cleared_replay) for options in WORKERS[1:]]
     for replay in replays:
         undisturbed = Ended(0, b"".join(replay.lines), b"")
         # This is what catches a body that always answers that it is out of memory, which meets every contract.

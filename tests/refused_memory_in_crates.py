@@ -1,14 +1,16 @@
 #!/usr/bin/env python3
-"""Crates out of memory: each allocation of some of their tests is refused, alone and with all after it; of some each thread, too.
+"""Crates out of memory: each allocation of some of their tests is refused, alone and with all after it; of some each
+thread, too.
 
     tests/refused_memory_in_crates.py [CRATE..]
 
-The tests that `rt ci`, or `rt test` in the crate, builds are run one by one. Each must end as the undisturbed one, or with
-the error `NoMemory` or `AllocError`, or `AllocFailed` where a list of its own was refused, or `NoWorker` where its call starts
-threads. Where a call is refused, the tests themselves look at what it left, and end otherwise if that is
-not what its contract says: a tree that `reserve`, `outer_runs` or `cut` changed, results that `gather` does not hand back, a
-database that is not halted, or that answers a later call otherwise than by `Halted`; or at what no contract says: reply lines
-that are not flushed. Allocations and starts of threads are refused by the preloaded library of support/fail_alloc.c.
+The tests that `rt ci`, or `rt test` in the crate, builds are run one by one. Each must end as the undisturbed one, or
+with the error `NoMemory` or `AllocError`, or `AllocFailed` where a list of its own was refused, or `NoWorker` where its
+call starts threads. Where a call is refused, the tests themselves look at what it left, and end otherwise if that is
+not what its contract says: a tree that `reserve`, `outer_runs` or `cut` changed, results that `gather` does not hand
+back, a database that is not halted, or that answers a later call otherwise than by `Halted`; or at what no contract
+says: reply lines that are not flushed. Allocations and starts of threads are refused by the preloaded library of
+support/fail_alloc.c.
 """
 
 import os
@@ -51,6 +53,8 @@ TESTS = {
         "databases::accesses::marks_the_same_with_a_crew",
         "databases::unmaps::revokes_what_derives",
         "databases::unmaps::revokes_by_recursion",
+        "databases::clears::takes_all_pages_from_a_space",
+        "databases::clears::takes_all_pages_from_a_space_by_recursion",
         "audits::reports_a_small_database",
         "audits::halted::a_halted_database_refuses_every_call",
         "audits::halted::a_database_that_a_watched_unmap_halted_refuses_every_call",

@@ -1,5 +1,6 @@
 #!/usr/bin/env python3
-"""Whole traces, each compared with the answer beside it: replays/SUBJECT/NAME.csv with NAME.txt, and those of examples/.
+"""Whole traces, each compared with the answer beside it: replays/SUBJECT/NAME.csv with NAME.txt, and those of
+examples/.
 
     tests/replays.py [PROGRAM]
 

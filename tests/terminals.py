@@ -1,11 +1,11 @@
 #!/usr/bin/env python3
-"""The program with a terminal for standard output or standard error: what a long run tells of its progress, and that replies are
-shown as they come.
+"""The program with a terminal for standard output or standard error: what a long run tells of its progress, and that
+replies are shown as they come.
 
     tests/terminals.py [PROGRAM]
 
-Neither may change a byte of what is written. The long run takes some seconds: a word that names all pages is unmapped again and
-again, which asks for the status of a million mappings each time.
+Neither may change a byte of what is written. The long run takes some seconds: a word that names all pages is unmapped
+again and again, which asks for the status of a million mappings each time.
 """
 
 import os
@@ -39,8 +39,8 @@ SHORT = b"l4map,1,3,18,2\nsend,0,1,10,8,c7\naccess,1,0,r\n"
 
 
 def run_shown(program, given, shows_output, shows_errors):
-    """What a run wrote to standard output and standard error, of which each may be a terminal; with how many seconds before its
-    end the first byte of its output came."""
+    """What a run wrote to standard output and standard error, of which each may be a terminal; with how many seconds
+    before its end the first byte of its output came."""
     main, other = pty.openpty()
     tty.setraw(other)
     pipes = {name: os.pipe() for name in ("stdin", "stdout", "stderr")}

@@ -3,8 +3,9 @@
 
     tests/ugly_inputs.py [PROGRAM]
 
-Then input that never ends, under a limit of memory: the run is out of memory before its first record, and has written nothing.
-Inputs are made, and outputs are compared, block by block, so that the peak memory that the system tells of a run is the program's.
+Then input that never ends, under a limit of memory: the run is out of memory before its first record, and has written
+nothing. Inputs are made, and outputs are compared, block by block, so that the peak memory that the system tells of a
+run is the program's.
 """
 
 import itertools
@@ -90,7 +91,8 @@ ENDLESS = [
 
 
 def difference_in_stream(wanted, stream):
-    """What differs between the blocks that are wanted and the bytes of a stream, which is read to its end; or an empty text."""
+    """What differs between the blocks that are wanted and the bytes of a stream, which is read to its end; or an empty
+    text."""
     for block in itertools.chain(wanted, [b""]):
         got = stream.read(len(block) or 1)
         if got != block:

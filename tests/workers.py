@@ -3,10 +3,10 @@
 
     tests/workers.py [PROGRAM]
 
-Each trace of replays/ and examples/ runs with every choice of options, and must end as the answer beside it says. Random
-traces, made from a fixed table of seeds, run with some of the choices each; their answers are not known, so all runs of a
-trace must end as the first does, with status 0. A trace whose calls are worked by up to 64 threads each runs a thousand times,
-several runs at once, and must always end the same. The audit of a random trace must be lawful.
+Each trace of replays/ and examples/ runs with every choice of options, and must end as the answer beside it says.
+Random traces, made from a fixed table of seeds, run with some of the choices each; their answers are not known, so all
+runs of a trace must end as the first does, with status 0. A trace whose calls are worked by up to 64 threads each runs
+a thousand times, several runs at once, and must always end the same. The audit of a random trace must be lawful.
 """
 
 import glob
@@ -79,6 +79,11 @@ def an_access(chance):
     return f"access,{a_space(chance)},{address:x},{chance.choice('rwx')}"
 
 
+def a_clear(chance):
+    # What space 0 holds would be gone for good.
+    return f"clear,{chance.randrange(1, SPACES)}"
+
+
 def a_bad_record(chance):
     return chance.choice(
         [
@@ -89,6 +94,7 @@ def a_bad_record(chance):
             "send,0,1,0,8,c7",
             "send,0,1,10,4,c7",
             "send,0,9,10,8,c7",
+            "clear,9",
             "unmap,9,0,10",
             "unmap,0,1,10",
             "unmap,0,0,57",
@@ -99,19 +105,21 @@ def a_bad_record(chance):
 
 
 def random_trace(seed):
+    """Every other one has version 2, and clears."""
     chance = random.Random(seed)
-    kinds = [a_send] * 8 + [an_unmap] * 2 + [an_access] * 4 + [a_bad_record]
-    records = [f"l4map,1,{SPACES},18,{PAGES}"]
+    version = 1 + seed % 2
+    kinds = [a_send] * 8 + [an_unmap] * 2 + [an_access] * 4 + [a_bad_record] + [a_clear] * (version - 1)
+    records = [f"l4map,{version},{SPACES},18,{PAGES}"]
     for _ in range(RECORDS):
         records.append(chance.choice(kinds)(chance))
     return "".join(record + "\n" for record in records).encode()
 
 
 def trace_for_many_workers():
-    """A trace whose sends and unmaps start threads, and its answer by the definitions: 512 pages go to two spaces, lose a right, and are
-    granted on by one of them."""
+    """A trace whose sends, unmaps and clear start threads, and its answer by the definitions: 512 pages go to two
+    spaces, lose a right, and are granted on by one of them; the other one is deleted."""
     pages = range(512)
-    trace, answer = ["l4map,1,4,21,512"], []
+    trace, answer = ["l4map,2,4,21,512"], []
 
     def call(record, reply):
         trace.append(record)
@@ -128,11 +136,14 @@ def trace_for_many_workers():
     call("send,2,3,10,a,17", sent)
     call("unmap,0,0,10", "unmap 00000015")
     call("unmap,0,40,50c1", "unmap 000050c0")
-    for space in (0, 1, 3):
+    call("access,1,7000,x", "access ok")
+    call("clear,1", "clear 00000015")
+    for space in (0, 3):
         for page in pages:
             rights = "r" + ("w" if space == 0 else "-") + ("x" if page != 5 else "-")
+            status = "R-X" if (space, page) == (0, 7) else "---"
             origin = "-" if space == 0 else f"0:{page}"
-            answer.append(f"{space},{page},{page},{rights},---,{origin}")
+            answer.append(f"{space},{page},{page},{rights},{status},{origin}")
     answer.append(f"end {len(trace) - 1} 0")
     return ["".join(line + "\n" for line in lines).encode() for lines in (trace, answer)]
 

@@ -2,7 +2,8 @@
  * after it. Every line is compared by c_library.py with one that was worked out by hand.
  *
  * A line is a call, its code, what stands in the caller's reply afterwards, in which there were nines before, and
- * whether what is held is the same as before. The last line says how many blocks were asked for by calls that only look.
+ * whether what is held is the same as before. The last line says how many blocks were asked for by calls that only
+ * look.
  */
 
 #include "arena.h"
@@ -76,6 +77,15 @@ static void unmap(struct l4map *db, uint16_t space, uint32_t control, const uint
     end_line(db, &before);
 }
 
+static void clear(struct l4map *db, uint16_t space) {
+    static struct held before;
+    uint32_t status = 9, code;
+    look(db, &before);
+    code = l4map_clear(db, space, &status);
+    printf("clear %u = %u | %u", space, code, status);
+    end_line(db, &before);
+}
+
 static void access(struct l4map *db, uint16_t space, uint32_t address, uint32_t kind) {
     static struct held before;
     uint32_t made = 9, code;
@@ -117,6 +127,7 @@ static void call_without_database(void) {
     struct l4map db = L4MAP_NOTHING;
     send(&db, 9, 9, 0xb7, WORDS(0));
     unmap(&db, 9, 0x80, WORDS(0x57));
+    clear(&db, 9);
     access(&db, 9, 0x40000, 3);
     mappings(&db, 9, 0, 2);
     page(&db, 9, 64);
@@ -252,6 +263,22 @@ static void refuse_accesses(struct l4map *db) {
     access(db, 0, 0xffffffff, 1);
 }
 
+/* Space 2 has one page of space 1, which was read; then space 1 goes, with what space 0 has from it. */
+static void call_clears(struct l4map *db) {
+    clear(db, 3);
+    clear(db, 65535);
+    access(db, 2, 0xfff, 4);
+    clear(db, 2);
+    clear(db, 2);
+    page(db, 2, 0);
+    page(db, 1, 0);
+    clear(db, 1);
+    mappings(db, 1, 0, 4);
+    page(db, 0, 0);
+    page(db, 0, 5);
+    page(db, 0, 63);
+}
+
 /* Two databases at once, of which one is in a handle that was moved: neither knows of the other. */
 static void call_two(struct l4map *db) {
     struct l4map moved = *db, other = L4MAP_NOTHING;
@@ -282,6 +309,7 @@ int main(void) {
     refuse_sends(&db);
     refuse_unmaps(&db);
     refuse_accesses(&db);
+    call_clears(&db);
     call_two(&db);
     printf("asked by looks %u\n", asked_by_looks);
     return 0;

@@ -1,5 +1,5 @@
-/* The function of README.md, "In your kernel", which c_library.py writes into live.h, and what it leaves: its code, what is
- * held, and how much memory was not given back. */
+/* The function of docs/KERNELS.md, which c_library.py writes into live.h, and what it leaves: its code,
+ * what is held, and how much memory was not given back. */
 
 #include "arena.h"
 #include "live.h"

@@ -1,8 +1,8 @@
 /* Calls of which each allocation is refused in turn, alone and with all after it.
  *
- * l4map_new() answers L4MAP_NO_MEMORY, leaves the handle empty, and made again does what it does at once. Any other call
- * that is refused memory answers L4MAP_HALTED, and so does every call after it until l4map_free(). Either way nothing
- * that was lent for the call has been written to, and all memory is given back in the end. */
+ * l4map_new() answers L4MAP_NO_MEMORY, leaves the handle empty, and made again does what it does at once. Any other
+ * call that is refused memory answers L4MAP_HALTED, and so does every call after it until l4map_free(). Either way
+ * nothing that was lent for the call has been written to, and all memory is given back in the end. */
 
 #include "arena.h"
 #include "l4map.h"
@@ -13,13 +13,14 @@
 #define PLACES (3 * 64)
 #define WORDS_MOST 4
 
-enum kind { NEW, SEND, UNMAP, ACCESS, KINDS };
+enum kind { NEW, SEND, UNMAP, ACCESS, CLEAR, KINDS };
 
 /* What is lent to a call for its answer; there are nines in it before the call. */
 struct lent {
     struct l4map_send_reply reply;
     uint32_t words[WORDS_MOST];
     uint32_t made;
+    uint32_t status;
 };
 
 /* A call: two spaces; a window, control word or address; its words, or a kind of access; and its answer. */
@@ -48,6 +49,8 @@ static const struct call calls[] = {
     {UNMAP, 0, 0, 1, 2, {0x12, 0x10c1}, {.words = {0x16, 0x10c0}}},
     {SEND, 1, 2, 0x10, 2, {8, 0xd7}, {.reply = {0, 0, 0, 0, 1, 1}}},
     {UNMAP, 1, 0, 0x40, 1, {0x107}, {.words = {0x100}}},
+    {ACCESS, 2, 0, 0x4000, 0, {4}, {.made = 1}},
+    {CLEAR, 2, 0, 0, 0, {0}, {.status = 4}},
 };
 #define CALLS (sizeof calls / sizeof calls[0])
 
@@ -85,6 +88,8 @@ static uint32_t make(struct l4map *db, const struct call *c, struct lent *lent) 
     case UNMAP:
         memcpy(lent->words, c->words, sizeof lent->words);
         return l4map_unmap(db, c->space, c->word, lent->words, c->n);
+    case CLEAR:
+        return l4map_clear(db, c->space, &lent->status);
     default:
         return l4map_access(db, c->space, c->word, c->words[0], &lent->made);
     }
@@ -99,6 +104,8 @@ static bool is_answered(const struct call *c, const struct lent *lent) {
         return !memcmp(lent->words, c->wanted.words, c->n * sizeof lent->words[0]);
     case ACCESS:
         return lent->made == c->wanted.made;
+    case CLEAR:
+        return lent->status == c->wanted.status;
     default:
         return true;
     }
@@ -124,12 +131,14 @@ static bool halts_bad_calls(struct l4map *db) {
     return l4map_send(db, 9, 9, 0xb7, lent.words, 1, &lent.reply) == L4MAP_HALTED &&
            l4map_unmap(db, 9, 0x80, lent.words, 1) == L4MAP_HALTED &&
            l4map_access(db, 9, 0x40000, 3, &lent.made) == L4MAP_HALTED &&
+           l4map_clear(db, 9, &lent.status) == L4MAP_HALTED &&
            l4map_entry(db, 9, 64, &entry) == L4MAP_HALTED && l4map_origin(db, 9, 64, &origin) == L4MAP_HALTED &&
            l4map_new(db, 3, 18, 16) == L4MAP_HOLDS_ONE && !memcmp(&lent, &nines, sizeof lent) && entry.held == 9 &&
            origin.known == 9;
 }
 
-/* The same where nothing is wrong with a call: page 0 of space 0 is sent, unmapped and accessed. */
+/* The same where nothing is wrong with a call: page 0 of space 0 is sent, unmapped and accessed, and its space is
+ * cleared. */
 static bool halts_good_calls(struct l4map *db) {
     struct lent lent, nines;
     uint32_t item[2] = {8, 0xc7}, word = 0xc7;
@@ -137,6 +146,7 @@ static bool halts_good_calls(struct l4map *db) {
     memset(&nines, 9, sizeof nines);
     return l4map_send(db, 0, 1, 0x10, item, 2, &lent.reply) == L4MAP_HALTED &&
            l4map_unmap(db, 0, 0, &word, 1) == L4MAP_HALTED && l4map_access(db, 0, 0, 4, &lent.made) == L4MAP_HALTED &&
+           l4map_clear(db, 0, &lent.status) == L4MAP_HALTED &&
            !memcmp(&lent, &nines, sizeof lent) && word == 0xc7;
 }
 
@@ -177,20 +187,20 @@ static bool make_at_last(struct l4map *db, size_t number) {
     return code == L4MAP_DONE;
 }
 
-/* Whether what is held is what the calls leave: the 16 pages of the start, and the two that were granted. */
+/* Whether what is held is what the calls leave: the 16 pages of the start, one of them with the status of a page that
+ * the clear took. */
 static bool is_the_end(struct l4map *db) {
     static struct held end;
     struct l4map_mapping wanted = {0};
     uint32_t i;
     look(db, &end);
-    for (i = 0; i < end.count && i < 18; i++) {
-        wanted = i < 16 ? (struct l4map_mapping){0, i, i, 7, 0, 0, 0, 0}
-                        : (struct l4map_mapping){2, i - 12, i - 12, 5, 0, 1, 0, i - 12};
+    for (i = 0; i < end.count && i < 16; i++) {
+        wanted = (struct l4map_mapping){0, i, i, 7, i == 4 ? 4 : 0, 0, 0, 0};
         if (memcmp(&end.mappings[i], &wanted, sizeof wanted)) {
             return false;
         }
     }
-    return end.count == 18;
+    return end.count == 16;
 }
 
 /* Makes all calls. Whether there was an allocation to refuse. */
@@ -216,8 +226,9 @@ static void run_all(const char *how) {
     while (run()) {
         refusing++;
     }
-    printf("%s: told by %s new, %s sends, %s unmaps, %s accesses; wrong %u\n", how, told[NEW] ? "some" : "no",
-           told[SEND] ? "some" : "no", told[UNMAP] ? "some" : "no", told[ACCESS] ? "some" : "no", wrong);
+    printf("%s: told by %s new, %s sends, %s unmaps, %s accesses, %s clears; wrong %u\n", how,
+           told[NEW] ? "some" : "no", told[SEND] ? "some" : "no", told[UNMAP] ? "some" : "no",
+           told[ACCESS] ? "some" : "no", told[CLEAR] ? "some" : "no", wrong);
 }
 
 int main(void) {

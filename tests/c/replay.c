@@ -1,9 +1,9 @@
-/* Replays traces through the library: reads one, or several one behind another, from standard input, and writes for each
- * what l4map writes (docs/FORMATS.md).
+/* Replays traces through the library: reads one, or several one behind another, from standard input, and writes for
+ * each what l4map writes (docs/FORMATS.md).
  *
  * A trace has no quotes, and no header but its first line. Each of its fields has the right form, but that there may be
- * any number of words and any kind of access: what the library answers with L4MAP_BAD_CALL is l4map's BadRecord. It ends
- * with status 2 at a header or a line that it does not take, and with 3 where memory is refused. */
+ * any number of words and any kind of access: what the library answers with L4MAP_BAD_CALL is l4map's BadRecord. It
+ * ends with status 2 at a header or a line that it does not take, and with 3 where memory is refused. */
 
 #include "l4map.h"
 
@@ -99,13 +99,23 @@ static uint32_t unmap(struct l4map *db, const struct record *r) {
     return code;
 }
 
-/* Makes the call of a record and writes its reply. Whether it was refused. */
-static int reply(struct l4map *db, const struct record *r) {
+static uint32_t clear(struct l4map *db, const struct record *r) {
+    uint32_t status, code = l4map_clear(db, (uint16_t)number(r, 1, 10), &status);
+    if (code == L4MAP_DONE) {
+        printf(" clear %08x\n", 0x10 + status);
+    }
+    return code;
+}
+
+/* Makes the call of a record of a trace of this version, and writes its reply. Whether it was refused. */
+static int reply(struct l4map *db, uint32_t version, const struct record *r) {
     const char *name = r->fields[0];
     uint32_t code = !strcmp(name, "send")     ? send(db, r)
                     : !strcmp(name, "access") ? access(db, r)
                     : !strcmp(name, "unmap")  ? unmap(db, r)
-                                              : L4MAP_BAD_CALL;
+                    : !strcmp(name, "clear") && version == 2 && r->count == 2
+                        ? clear(db, r)
+                        : L4MAP_BAD_CALL;
     if (code >= NAMES) {
         leave(3, "memory was refused");
     }
@@ -149,6 +159,7 @@ static void audit(struct l4map *db) {
 /* Replays the trace whose header was read last. Whether another header comes behind it. */
 static int replay(struct record *r) {
     struct l4map db = L4MAP_NOTHING;
+    uint32_t version = number(r, 1, 10);
     unsigned records = 0, refused = 0;
     int goes_on;
     if (l4map_new(&db, number(r, 2, 10), number(r, 3, 10), number(r, 4, 10)) != L4MAP_DONE) {
@@ -156,7 +167,7 @@ static int replay(struct record *r) {
     }
     while ((goes_on = read_record(r)) && strcmp(r->fields[0], "l4map")) {
         printf("%u", ++records);
-        refused += (unsigned)reply(&db, r);
+        refused += (unsigned)reply(&db, version, r);
     }
     audit(&db);
     printf("end %u %u\n", records, refused);

@@ -115,6 +115,20 @@ static void unmap_in_all_ways(void) {
     must(l4map_unmap(&db, 0, 0, &one, 1), "an unmap");
 }
 
+static void clear(uint16_t space) {
+    uint32_t status;
+    must(l4map_clear(&db, space, &status), "a clear");
+}
+
+/* The first takes a page between pages that stay, and with another one the chain through all spaces behind it; the last
+ * ones take whole spaces. */
+static void clear_in_all_ways(void) {
+    clear(7);
+    clear(2);
+    clear(1);
+    clear(0);
+}
+
 static void access_pages(void) {
     uint32_t made;
     must(l4map_access(&db, 511, 0, 4, &made), "an access");
@@ -166,5 +180,9 @@ int main(void) {
     print_stack("mappings", tell_mappings);
     print_stack("unmap", unmap_in_all_ways);
     print_stack("free", free_it);
+    make_largest();
+    send_in_all_ways();
+    print_stack("clear", clear_in_all_ways);
+    free_it();
     return 0;
 }

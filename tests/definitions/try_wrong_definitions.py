@@ -4,18 +4,19 @@
     tests/definitions/try_wrong_definitions.py [--jobs N] [--only WORD] [--all-rows]
     tests/definitions/try_wrong_definitions.py --table
 
-A wrong definition is a change of the text of one file of specs/ in `fpage`, `space` or `model`. It is put into a copy of the
-definitions in a temporary folder, which has no code, so that no contract can refuse it. The rows that the list names for it
-are computed there: each must be false of the wrong definition, and hold of the right one. Where none is false, all other rows
-are tried, and then the laws with their proofs. A wrong definition that does not type-check, a text that does not stand in its
-file exactly once, and a row or a law that is named and does not refuse count as surviving.
+A wrong definition is a change of the text of one file of specs/ in `fpage`, `space` or `model`. It is put into a copy
+of the definitions in a temporary folder, which has no code, so that no contract can refuse it. The rows that the list
+names for it are computed there: each must be false of the wrong definition, and hold of the right one. Where none is
+false, all other rows are tried, and then the laws with their proofs. A wrong definition that does not type-check, a
+text that does not stand in its file exactly once, and a row or a law that is named and does not refuse count as
+surviving.
 
-A row refuses where it computes to something else than it states. A law refuses where a proof of its function fails; that may
-be a proof that no longer fits and a law that still holds, so what rests on laws alone has to be looked at.
+A row refuses where it computes to something else than it states. A law refuses where a proof of its function fails;
+that may be a proof that no longer fits and a law that still holds, so what rests on laws alone has to be looked at.
 
 Prints what survives, and then 'N refused, M survive'; the exit status is 0 exactly where nothing survives. The table of
-docs/MODEL.md must be the one that --table prints. With --only the entries with this word in their name or file are tried; with
---all-rows each entry is tried with all rows, and all that refuse it are printed.
+docs/MODEL.md must be the one that --table prints. With --only the entries with this word in their name or file are
+tried; with --all-rows each entry is tried with all rows, and all that refuse it are printed.
 """
 
 import argparse
@@ -53,7 +54,8 @@ KEYS = ("wrong", "file", "use", "old", "new", "refused by")
 
 
 class Wrong(NamedTuple):
-    """A wrong definition: its name, its file as crate/specs/file, its edits in order, imports for them, what refuses it."""
+    """A wrong definition: its name, its file as crate/specs/file, its edits in order, imports for them, what refuses
+    it."""
 
     name: str
     file: str
@@ -93,7 +95,8 @@ def write(path, text):
 
 
 def read_list(path):
-    """The entries of one list: lines 'key: text', a blank line between entries, '#' before a comment, \\n for a line end."""
+    """The entries of one list: lines 'key: text', a blank line between entries, '#' before a comment, \\n for a line
+    end."""
     entries = []
     for block in re.split(r"\n\s*\n", read(path)):
         lines = [line for line in block.split("\n") if line.strip() and not line.startswith("#")]
@@ -126,13 +129,15 @@ def read_lists():
 
 
 def table(entries):
-    """The table of docs/MODEL.md: for each file, and for what refuses them, the wrong definitions."""
-    names = {}
+    """The table of docs/MODEL.md: for each file how many wrong definitions there are, and what refuses them."""
+    rows = {}
     for entry in entries:
-        names.setdefault((entry.module, tuple(entry.refused_by)), []).append(entry.name)
-    lines = ["| Definitions | Refused by | Wrong definitions |", "|---|---|---|"]
-    for (module, refused_by), wrong in names.items():
-        lines.append(f"| {module} | {', '.join(f'`{name}`' for name in refused_by)} | {'; '.join(wrong)} |")
+        count, refused_by = rows.get(entry.module, (0, []))
+        more = [name for name in entry.refused_by if name not in refused_by]
+        rows[entry.module] = count + 1, refused_by + more
+    lines = ["| Definitions | Wrong ones | Refused by |", "|---|---|---|"]
+    for module, (count, refused_by) in rows.items():
+        lines.append(f"| {module} | {count} | {', '.join(f'`{name}`' for name in refused_by)} |")
     return "\n".join(lines) + "\n"
 
 
@@ -155,7 +160,8 @@ def is_row_module(module):
 
 
 def one_crate(text):
-    """A text of specs/ or proofs/ as it stands where all definitions are one crate, and Rust's types are modules of it."""
+    """A text of specs/ or proofs/ as it stands where all definitions are one crate, and Rust's types are modules of
+    it."""
     text = re.sub(rf"{DECLARED}\.(\w+)(?:\.TheVariants)?", r"Rattle.model.specs.Declared\3", text)
     return re.sub(r"Rattle\.(?:fpage|space)\.(specs|proofs)\.", r"Rattle.model.\1.", text)
 
@@ -247,7 +253,8 @@ def proofs_of(module, names):
 
 
 class Copy:
-    """A crate of definitions in a folder of its own, with the rows as they are; wrong definitions join it batch by batch."""
+    """A crate of definitions in a folder of its own, with the rows as they are; wrong definitions join it batch by
+    batch."""
 
     def __init__(self, definitions, room):
         self.definitions = definitions
@@ -488,7 +495,8 @@ def why_it_survives(wrong, refused_by, fault):
 
 
 def report(entries, by_rows, by_laws, options):
-    """Prints what survives, with --all-rows what refuses each, and the closing line. Answers whether nothing survives."""
+    """Prints what survives, with --all-rows what refuses each, and the closing line. Answers whether nothing
+    survives."""
     survivors = 0
     for number, wrong in enumerate(entries):
         rows, law = by_rows[number], by_laws.get(number, Found([], ""))

@@ -56,7 +56,8 @@ def build_by_rt(room):
 
 
 def build_over(room, named, below):
-    """Archives over the crates that `rt ci` has proved and left, which `rt lib` would prove once more. This crate is proved again."""
+    """Archives over the crates that `rt ci` has proved and left, which `rt lib` would prove once more. This crate is
+    proved again."""
     kit = os.path.dirname(os.path.dirname(os.path.realpath(shutil.which("rt"))))
     rattle, checked = os.path.join(kit, "bin", "rattle"), os.path.join(room, "checked")
     words = ["--crate-name", "capi", "src/lib.rt", "-L", f"dependency={kit}/rlibs", "--links", "capi=", "--crate-type", "staticlib"]

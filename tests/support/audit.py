@@ -67,8 +67,8 @@ def place_in_circle(held):
 def fault_in_lines(lines):
     """Why these lines are no audit of lawful mappings, or an empty text.
 
-    The places rise; each origin has a line, with the same frame and at least the rights; every chain of origins ends; of each
-    frame there is at most one mapping without an origin; and no mapping is without rights.
+    The places rise; each origin has a line, with the same frame and at least the rights; every chain of origins ends;
+    of each frame there is at most one mapping without an origin; and no mapping is without rights.
     """
     held, roots, last = {}, set(), (-1, -1)
     for line in lines:

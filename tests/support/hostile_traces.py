@@ -1,8 +1,9 @@
 """Traces that ask for much or for odd things, each with its answer, worked out from docs/FORMATS.md and docs/MODEL.md.
 
-A trace is a function that returns the bytes of the trace and those of its answer. How the answer comes is said beside it.
-Places are written space:page. The words that come again and again: window `10` is the complete space, `c0` page 0 alone; first
-item word `8` maps with send base 0; send fpage `c7` is page 0 with all rights, `17` the complete space with all rights.
+A trace is a function that returns the bytes of the trace and those of its answer. How the answer comes is said beside
+it. Places are written space:page. The words that come again and again: window `10` is the complete space, `c0` page 0
+alone; first item word `8` maps with send base 0; send fpage `c7` is page 0 with all rights, `17` the complete space
+with all rights.
 """
 
 SPACES = 512
@@ -14,6 +15,7 @@ ITEMS = 31
 WORDS = 64
 SPACES_OF_MILLION = 257
 MILLION = (SPACES_OF_MILLION - 1) * PAGES
+LARGEST_PAGES = 1_048_576
 
 
 def lines(*texts):
@@ -34,8 +36,8 @@ def roots(count):
 class Dialogue:
     """A trace that grows record by record, with the reply that each must get."""
 
-    def __init__(self, spaces, bits, frames):
-        self.records = [f"l4map,1,{spaces},{bits},{frames}"]
+    def __init__(self, spaces, bits, frames, version=1):
+        self.records = [f"l4map,{version},{spaces},{bits},{frames}"]
         self.replies = []
         self.refused = 0
 
@@ -74,10 +76,10 @@ def chain_through_all_spaces():
 def chain_through_all_spaces_and_on():
     """A chain through page 0 of all 512 spaces goes on through page 1 of the first 16.
 
-    15:1 is the end of the chain, so 14:0 and 0:0 are origins of it, which a send leaves alone. The write to 15:1 leaves R and W there.
-    The unmap by space 15 names 15:0: what derives from it, 16:0 to 511:0 and 0:1 to 15:1, loses w, and the status goes to 14:0.
-    The execute at 15:1 leaves R and X there, so that the whole chain has R, W and X, `7`, when space 0 asks, and nothing after.
-    The last unmap takes 14:1 and with it 15:1.
+    15:1 is the end of the chain, so 14:0 and 0:0 are origins of it, which a send leaves alone. The write to 15:1 leaves
+    R and W there. The unmap by space 15 names 15:0: what derives from it, 16:0 to 511:0 and 0:1 to 15:1, loses w, and
+    the status goes to 14:0. The execute at 15:1 leaves R and X there, so that the whole chain has R, W and X, `7`, when
+    space 0 asks, and nothing after. The last unmap takes 14:1 and with it 15:1.
     """
     trace = Dialogue(SPACES, 18, 1)
     for space in range(SPACES - 1):
@@ -123,7 +125,8 @@ def pages_sent_in_a_ring():
 
 
 def complete_space_64_times():
-    """64 words of one unmap name the complete space: the first takes all that derives, and its status, R and X of an execute."""
+    """64 words of one unmap name the complete space: the first takes all that derives, and its status, R and X of an
+    execute."""
     trace = chain_of_three()
     trace.ask("access,2,0,x", "access ok")
     trace.ask("unmap,0,3f" + ",17" * WORDS, "unmap 00000015" + " 00000010" * (WORDS - 1))
@@ -133,8 +136,9 @@ def complete_space_64_times():
 def one_page_64_times():
     """64 words of one unmap name one page.
 
-    The first time they only ask, and the first word clears the status, R and W. Then they take r, w and x in turn, so that the
-    first three take all that derives. Then they flush: the root goes with the first, and the others name what is not held.
+    The first time they only ask, and the first word clears the status, R and W. Then they take r, w and x in turn, so
+    that the first three take all that derives. Then they flush: the root goes with the first, and the others name what
+    is not held.
     """
     trace = chain_of_three()
     trace.ask("access,2,0,w", "access ok")
@@ -166,10 +170,10 @@ def sends_that_extend_one_page():
 def items_that_replace_one_anothers_targets():
     """31 items of one send put 64 pages each into the same window, which holds 64 others with what derives from them.
 
-    Space 0 has 2,048 pages. Pages 1984 to 2047 go to 1:0 to 1:63, from there to space 2, which writes to 2:5. Item i then sends
-    the pages from 64 * i on. No target derives from its source, so each pair goes, and what stood there goes with all that
-    derives from it: the first item's flush gives R and W to 0:1989, from which 1:5 came; the others find no status. The
-    last item, 30, leaves the pages from 1920 on. `120` is 64 pages from page 0 on.
+    Space 0 has 2,048 pages. Pages 1984 to 2047 go to 1:0 to 1:63, from there to space 2, which writes to 2:5. Item i
+    then sends the pages from 64 * i on. No target derives from its source, so each pair goes, and what stood there goes
+    with all that derives from it: the first item's flush gives R and W to 0:1989, from which 1:5 came; the others find
+    no status. The last item, 30, leaves the pages from 1920 on. `120` is 64 pages from page 0 on.
     """
     frames, block = 2048, 64
     trace = Dialogue(3, 24, frames)
@@ -189,10 +193,10 @@ def items_that_replace_one_anothers_targets():
 def grants_that_replace_one_anothers_targets():
     """31 GrantItems of one send put pages of space 1 into one page of space 2, of which each has a mapping in space 0.
 
-    Space 0 maps its pages 0 to 31 to space 1, and space 1 maps each back, to the pages from 32 on, so that 1:i has 0:i as origin
-    and 0:(32 + i) derives from it. Each grant moves 1:i to 2:0, with 0:(32 + i) behind it, and first takes away what the grant
-    before it left there, with all that derives from that: so only the last is left, 2:0 and 0:62. 1:31, which no item
-    names, stays. R and W of 0:32 go to 0:0 before 1:0 moves.
+    Space 0 maps its pages 0 to 31 to space 1, and space 1 maps each back, to the pages from 32 on, so that 1:i has 0:i
+    as origin and 0:(32 + i) derives from it. Each grant moves 1:i to 2:0, with 0:(32 + i) behind it, and first takes
+    away what the grant before it left there, with all that derives from that: so only the last is left, 2:0 and 0:62.
+    1:31, which no item names, stays. R and W of 0:32 go to 0:0 before 1:0 moves.
     """
     trace = Dialogue(3, 18, 32)
     trace.ask("send,0,1,110,8,117", sent(linked=32))
@@ -206,7 +210,8 @@ def grants_that_replace_one_anothers_targets():
 
 
 def million_mappings(trace):
-    """Makes 1,048,576 mappings of one frame: 4,096 of 0:0 in space 1, and from each a chain through the spaces up to 256."""
+    """Makes 1,048,576 mappings of one frame: 4,096 of 0:0 in space 1, and from each a chain through the spaces up to
+    256."""
     for page in range(PAGES):
         trace.ask(f"send,0,1,10,{PAGE * page + 8:x},c7", sent(linked=1))
     for space in range(1, SPACES_OF_MILLION - 1):
@@ -215,7 +220,8 @@ def million_mappings(trace):
 
 
 def million_mappings_revoked_at_once():
-    """A frame has a million mappings, and its root takes all rights from all of them. The status comes from the last, R and W."""
+    """A frame has a million mappings, and its root takes all rights from all of them. The status comes from the last, R
+    and W."""
     trace = Dialogue(SPACES_OF_MILLION, 24, 1)
     million_mappings(trace)
     trace.ask("unmap,0,0,c7", "unmap 000000c6")
@@ -223,7 +229,8 @@ def million_mappings_revoked_at_once():
 
 
 def million_mappings_revoked_one_by_one():
-    """A frame has a million mappings, and each holder gives up its own, the last space first, so that nothing derives from it.
+    """A frame has a million mappings, and each holder gives up its own, the last space first, so that nothing derives
+    from it.
 
     256:4095 was written to: its R and W go to its origin, 255:4095, are found there again, and so on down to 0:0.
     """
@@ -265,6 +272,38 @@ def many_spaces_given_up():
     return trace.with_audit([])
 
 
+def spaces_cleared_in_turn():
+    """64 chains go through all 512 spaces, and the spaces are deleted one after another, the last one first.
+
+    The last page of the last space was written to: its R and W are told by each clear, go to the page of the space
+    before, and are found there by the next one. The clear of space 0 takes the roots.
+    """
+    trace = Dialogue(SPACES, 18, 64, version=2)
+    for space in range(SPACES - 1):
+        trace.ask(f"send,{space},{space + 1},10,8,17", sent(linked=64))
+    trace.ask("access,511,3f000,w", "access ok")
+    for space in range(SPACES - 1, -1, -1):
+        trace.ask(f"clear,{space}", "clear 00000016")
+        trace.ask(f"clear,{space}", "clear 00000010")
+    trace.ask("clear,512", "refused NoSuchSpace")
+    return trace.with_audit([])
+
+
+def space_with_every_page_cleared():
+    """A space of 2^32 bytes has all its 1,048,576 pages, and has mapped each on. It is deleted, and then space 0 is.
+
+    What was seen of the last page of space 2, R and X, goes to the last root, and is told once more.
+    """
+    trace = Dialogue(3, 32, LARGEST_PAGES, version=2)
+    for space in (0, 1):
+        trace.ask(f"send,{space},{space + 1},10,8,17", sent(linked=LARGEST_PAGES))
+    trace.ask("access,2,fffff000,x", "access ok")
+    trace.ask("clear,1", "clear 00000015")
+    trace.ask("access,2,fffff000,x", "access fault")
+    trace.ask("clear,0", "clear 00000015")
+    return trace.with_audit([])
+
+
 def fields_that_are_none():
     """Records with one bad field each, between two accesses that are as if they stood alone."""
     trace = chain_of_three()
@@ -301,6 +340,7 @@ SMALL = [
     one_page_64_times,
     items_that_replace_one_anothers_targets,
     grants_that_replace_one_anothers_targets,
+    spaces_cleared_in_turn,
     fields_that_are_none,
     byte_that_is_no_text,
 ]
@@ -312,4 +352,5 @@ LARGE = [
     million_mappings_revoked_one_by_one,
     many_spaces_with_every_page_held,
     many_spaces_given_up,
+    space_with_every_page_cleared,
 ]

@@ -1,5 +1,5 @@
-/* Preloaded into a program, this interrupts one of its reads of standard input or of its writes to standard output before a
- * byte is moved, and no other. Such a call is to be made again.
+/* Preloaded into a program, this interrupts one of its reads of standard input or of its writes to standard output
+ * before a byte is moved, and no other. Such a call is to be made again.
  *
  * INTERRUPT     which calls are counted: read or write
  * INTERRUPT_AT  the number of that call, counted from 1; 0 or unset: none is interrupted

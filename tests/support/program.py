@@ -23,7 +23,8 @@ class Ended(NamedTuple):
 
 
 def program_path():
-    """The program named by the first argument, or the one that build.sh leaves. Where there is none, the script ends."""
+    """The program named by the first argument, or the one that build.sh leaves. Where there is none, the script
+    ends."""
     default = os.path.join(TOP, "crates", "l4map", "out", "l4map")
     path = os.path.abspath(sys.argv[1]) if len(sys.argv) > 1 else default
     if not (os.path.isfile(path) and os.access(path, os.X_OK)):
@@ -59,7 +60,8 @@ def preloaded(library, **settings):
 
 
 def run(program, given=b"", seconds=SECONDS, **how):
-    """Runs the program, a path or a path with its arguments, on the bytes `given`, or with the streams that `how` names."""
+    """Runs the program, a path or a path with its arguments, on the bytes `given`, or with the streams that `how`
+    names."""
     if "stdin" not in how:
         how["input"] = given
     how.setdefault("stdout", subprocess.PIPE)

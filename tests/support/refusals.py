@@ -10,7 +10,8 @@ MOST = 100_000
 SECONDS = 30
 EXTENTS = [(False, "alone"), (True, "and all after it")]
 
-# How standard error may tell what was refused: an allocation may have been for the start of a thread, a thread for no memory.
+# How standard error may tell what was refused: an allocation may have been for the start of a thread, a thread for no
+# memory.
 TOLD = {
     "allocation": re.compile(rb"l4map: record (\d+): (NoMemory|NoWorker)\n"),
     "thread": re.compile(rb"l4map: record (\d+): (NoWorker)\n"),
@@ -54,8 +55,9 @@ def record_told(what, got):
 def fault_of_refused(what, lines, got):
     """What is wrong with how a run ended in which an allocation, or a thread, was refused, or an empty text.
 
-    It ends as the undisturbed run, whose lines are given, or tells a record: 0, one of the trace, or the one behind the last for
-    the audit; with `NoWorker` one of the trace. Then the reply lines of the records before it were written, and nothing else.
+    It ends as the undisturbed run, whose lines are given, or tells a record: 0, one of the trace, or the one behind the
+    last for the audit; with `NoWorker` one of the trace. Then the reply lines of the records before it were written,
+    and nothing else.
     """
     if got.status is None:
         return f"it did not end in {SECONDS} s"
