@@ -84,7 +84,8 @@ struct l4map_send_reply {
     uint32_t absent;   /* the sender's page holds nothing */
     uint32_t norights; /* it holds none of the rights that the item asks for */
     uint32_t origin;   /* the receiver's page is one from which the sender's page came */
-    uint32_t lost;     /* the sender's page was gone before its turn, or had no rights left */
+    uint32_t lost;     /* the sender's page was gone before its turn, since the same item replaced it or one from which it
+                          came; the receiver's page, if the pair replaced one, is gone too */
     uint32_t extended; /* the receiver's page came from the sender's already, and got the rights that it lacked */
     uint32_t linked;   /* the receiver's page came from the sender's by this call */
 };
@@ -171,6 +172,54 @@ uint32_t l4map_origin(struct l4map *db, uint16_t space, uint32_t page, struct l4
  * L4MAP_EMPTY, L4MAP_HALTED, the first that fits: `mappings` and *count are as they were. */
 uint32_t l4map_mappings(struct l4map *db, uint16_t space, uint32_t page, struct l4map_mapping *mappings, size_t n,
                         size_t *count);
+
+/* Words, made and read. These functions are part of the header alone. None of them refuses anything: what is no word of
+ * its kind, or lies outside its space, is refused by the call that is given it. */
+
+/* The fpage of 2^log2_pages pages from a page on, a multiple of their number, with these rights. */
+static inline uint32_t l4map_fpage(uint32_t page, uint32_t log2_pages, uint32_t rights) {
+    return (page << 12) + ((12 + log2_pages) << 4) + rights;
+}
+
+/* The fpage of all pages of a space. */
+static inline uint32_t l4map_complete(uint32_t rights) {
+    return 0x10 + rights;
+}
+
+/* The first word of a MapItem whose send base is the address of a page. */
+static inline uint32_t l4map_map_item(uint32_t page) {
+    return (page << 12) + 8;
+}
+
+/* The first word of a GrantItem whose send base is the address of a page. */
+static inline uint32_t l4map_grant_item(uint32_t page) {
+    return (page << 12) + 10;
+}
+
+/* The control word of an unmap of n fpage words, 1 to 64. Where flush is not 0, the caller's own pages lose rights too. */
+static inline uint32_t l4map_control(uint32_t n, int flush) {
+    return n - 1 + (flush ? 64 : 0);
+}
+
+/* The rights in an fpage word; in a word that an unmap gave back, the status. */
+static inline uint32_t l4map_rights_of(uint32_t word) {
+    return word & 7;
+}
+
+/* The first page of an fpage. */
+static inline uint32_t l4map_first_page(uint32_t word) {
+    return word >> 12;
+}
+
+/* How many pages an fpage has in a space of 2^bits bytes: all for the complete space, none for the nilpage and for what
+ * is no fpage of 32 bits. */
+static inline uint32_t l4map_page_count(uint32_t word, uint32_t bits) {
+    uint32_t size = (word >> 4) & 63;
+    if (size == 1) {
+        size = bits;
+    }
+    return size < 12 || size > 32 ? 0 : (uint32_t)1 << (size - 12);
+}
 
 #ifdef __cplusplus
 }
