@@ -42,7 +42,8 @@ run_beside() {
     local script name
     # shellcheck disable=SC2016 # the inner shell expands these
     printf '%s\0' "$@" | room=$room xargs -0 -n 1 -P "$(nproc)" bash -c \
-        'name=${0##*/}; python3 "$0" < /dev/null > "$room/$name.said" 2>&1; printf "%s\n" "$?" > "$room/$name.status"'
+        'name=${0##*/}; quick=(); [[ $name != planted_bugs.py ]] || quick=(--quick)
+         python3 "$0" "${quick[@]}" < /dev/null > "$room/$name.said" 2>&1; printf "%s\n" "$?" > "$room/$name.status"'
     for script; do
         name=${script##*/}
         printf '== %s\n' "$script"
