@@ -303,20 +303,60 @@ def check_program(cases, program):
         cases.compare("check of a file", ended(1, *lines, "4 records, 3 refused"), run([program, "check", path]))
         lines = [lines[0], ".. and 2 more; --max tells more of them", "4 records, 3 refused"]
         cases.compare("check with --max 1", ended(1, *lines), run([program, "check", "--max", "1", path]))
-        missing = os.path.join(room, "missing")
-        for command in ("check", "show", "why --page 0:0", "compare -"):
-            for kind, name in (("no file", missing), ("a folder", room)):
-                wanted = Ended(4, b"", f"l4trace: {name}: Unreadable\n".encode())
-                cases.compare(f"{command} of {kind}", wanted, run([program, *command.split(), name]))
+        unreadable_files(cases, program, room, path)
     for arguments, example in (("--help", "Exit status"), ("word --help", "9008,50c6"), ("check --help", "leave out the 0x"), ("compare --help", "first difference"), ("show --help", "2:4 r-x"), ("why --help", "took --x"), ("random --help", "conflicts")):
         got = run([program, *arguments.split()])
         good = got.status == 0 and example in got.stdout.decode() and not got.stderr
         cases.check(arguments, "" if good else f"{got}")
-    for arguments in ("", "chek t", "check", "word 50c6 --size 4K", "word 50c6 --bits 17", "word 50c6 --bits 33", "word --rights rw", "word --control 0", "word --flush", "compare t", "show", "why t", "random", "show t --svg --dot", "show t --space 1 --diff", "compare t a --audit --part"):
+    for arguments in ("", "chek t", "check", "word 50c6 --size 4K", "word 50c6 --bits 17", "word 50c6 --bits 33", "word --rights rw", "word --control 0", "word --flush", "compare t", "show", "why t", "random", "show t --svg --dot", "show t --space 1 --diff", "show t --space 4294967296", "show t --frame -1", "compare t a --audit --part"):
         got = run([program, *arguments.split()])
         good = got.status == 2 and not got.stdout and got.stderr
         cases.check(f"refused: {arguments}", "" if good else f"{got}")
 
+
+def unreadable_files(cases, program, room, path):
+    """A file that is not there, a folder and other files that cannot be read are told apart."""
+    missing, long = os.path.join(room, "missing"), os.path.join(room, "n" * 256)
+    causes = [
+        ("no file", missing, "there is no such file"),
+        ("no name", "", "there is no such file"),
+        ("a folder", room, "it is a folder"),
+        ("a file as a folder", os.path.join(path, "trace.csv"), "Not a directory (os error 20)"),
+        ("a long name", long, "File name too long (os error 36)"),
+        # Page 0 of a process is not there to be read.
+        ("a file whose read fails", "/proc/self/mem", "Input/output error (os error 5)"),
+    ]
+    for command in ("check", "show", "why --page 0:0", "compare -", f"compare {TRACE_NAME}"):
+        for kind, name, cause in causes:
+            words = [path if word == TRACE_NAME else word for word in command.split()]
+            wanted = Ended(4, b"", f"l4trace: {name}: {cause}\n".encode())
+            cases.compare(f"{command} of {kind}", wanted, run([program, *words, name]))
+    closed = shutil.copy(path, os.path.join(room, "closed.csv"))
+    os.chmod(closed, 0)
+    wanted = Ended(4, b"", f"l4trace: {closed}: permission denied\n".encode())
+    cases.compare("check of a file that may not be read", wanted, run_as_user([program, "check", closed], room))
+    wanted = Ended(4, b"", b"l4trace: -: it is a folder\n")
+    folder = os.open(room, os.O_RDONLY)
+    got = subprocess.run([program, "check", "-"], stdin=folder, capture_output=True, check=False)
+    os.close(folder)
+    cases.compare("check of standard input, a folder", wanted, Ended(got.returncode, got.stdout, got.stderr))
+
+
+def run_as_user(arguments, room):
+    """Runs a program as a user who is not root, to whom every file is open; that user may enter the folder `room`."""
+    if os.geteuid():
+        return run(arguments)
+    os.chmod(room, 0o755)
+    program = shutil.copy(arguments[0], os.path.join(room, "program"))
+    os.chmod(program, 0o755)
+    got = subprocess.run([program, *arguments[1:]], capture_output=True, check=False, user=NOBODY, group=NOBODY, extra_groups=[])
+    return Ended(got.returncode, got.stdout, got.stderr)
+
+
+# Stands for the trace in the words of a command.
+TRACE_NAME = "trace.csv"
+# The number of the user nobody, who owns no file.
+NOBODY = 65534
 
 # Two spaces: page 0 of space 0 is mapped to 1:3, read there, and the right to write is taken from it again.
 TRACE = b"l4map,1,2,18,1\nsend,0,1,10,3008,c6\naccess,1,3abc,r\n\nunmap,0,0,c2\n"
@@ -371,6 +411,11 @@ def differs(path, number, ours, theirs):
     return ended(1, *lines)
 
 
+def no_difference(lines):
+    """What is told where none of so many lines differs."""
+    return ended(0, f"no difference in {lines} line{'' if lines == 1 else 's'}")
+
+
 def text_of(lines):
     return "".join(line + "\n" for line in lines).encode()
 
@@ -384,8 +429,9 @@ def compare_answers(cases, program):
         def compared(answers, *arguments):
             return run([program, "compare", path, "-", *arguments], answers)
 
-        same = ended(0, "no difference")
-        cases.compare("compare with the right answers", same, compared(text_of(ANSWERS)))
+        cases.compare("compare with the right answers", no_difference(6), compared(text_of(ANSWERS)))
+        wanted = Ended(2, b"", b"error: the trace and the answers cannot both be standard input\n")
+        cases.compare("compare - -", wanted, run([program, "compare", "-", "-"], TRACE))
         for number, other in (
             (1, ANSWERS[0].replace("linked=1", "linked=0")),
             (2, "2 access fault"),
@@ -406,21 +452,16 @@ def compare_answers(cases, program):
         cases.compare("compare with nothing", differs(path, 1, ANSWERS[0], "(the end)"), compared(b""))
         got = compared(text_of(ANSWERS).replace(b"\n", b"\r\n"))
         cases.compare("compare with carriage returns", differs(path, 1, ANSWERS[0], ANSWERS[0] + "\\x0d"), got)
-        audit = ANSWERS[3:5]
-        cases.compare("--audit with the whole", same, compared(text_of(ANSWERS), "--audit"))
-        cases.compare("--audit with other replies", same, compared(text_of(changed(3, "3 unmap 000000c6")), "--audit"))
-        cases.compare("--audit with the audit alone", same, compared(text_of(audit), "--audit"))
-        wanted = ended(1, "first difference: line 2", f"  l4map:   {audit[1]}", "  answers: 1,3,0,rw-,---,0:0", *at_end(path))
-        cases.compare("--audit with another audit", wanted, compared(text_of([audit[0], "1,3,0,rw-,---,0:0"]), "--audit"))
+        compare_audits(cases, path, compared)
         for name, lines in (
             ("the replies alone", ANSWERS[:3]),
             ("one reply", ANSWERS[1:2]),
             ("a reply and a mapping", [ANSWERS[2], ANSWERS[4]]),
             ("the end line alone", ANSWERS[5:]),
-            ("nothing", []),
             ("the whole", ANSWERS),
         ):
-            cases.compare(f"--part with {name}", same, compared(text_of(lines), "--part"))
+            cases.compare(f"--part with {name}", no_difference(len(lines)), compared(text_of(lines), "--part"))
+        cases.compare("--part with nothing", ended(1, "nothing was compared: the answers are empty"), compared(b"", "--part"))
         wanted = differs(path, 3, ANSWERS[2], "3 unmap 000000c6").stdout.replace(b"first difference: line 3", b"first difference: line 1")
         cases.compare("--part with another reply", Ended(1, wanted, b""), compared(b"3 unmap 000000c6\n", "--part"))
         wanted = ended(1, "first difference: line 2", f"  l4map:   {ANSWERS[4]}", "  answers: 1,3,0,rw-,---,0:0", *at_end(path))
@@ -434,11 +475,50 @@ def compare_answers(cases, program):
         wanted = ended(1, "first difference: line 2", "  l4map:   (the end)", f"  answers: {ANSWERS[1]}")
         cases.compare("--part with a reply twice", wanted, compared(text_of([ANSWERS[1], ANSWERS[1]]), "--part"))
         missing = os.path.join(room, "missing")
-        wanted = Ended(4, b"", f"l4trace: {missing}: Unreadable\n".encode())
+        wanted = Ended(4, b"", f"l4trace: {missing}: there is no such file\n".encode())
         cases.compare("compare with no file", wanted, run([program, "compare", path, missing]))
         bad = written(room, "bad.csv", ["l4map,3"])
         wanted = Ended(2, b"", f"{bad}:1:7: header: BadHeader: the version is '3', not 1 or 2\n".encode())
         cases.compare("compare of no trace", wanted, run([program, "compare", bad, "-"]))
+
+
+def compare_audits(cases, path, compared):
+    """--audit compares the mappings alone, and tells the line of the answers in which one differs or is missing."""
+    first, second = ANSWERS[3:5]
+    other = "1,3,0,rw-,---,0:0"
+    cases.compare("--audit with the whole", no_difference(2), compared(text_of(ANSWERS), "--audit"))
+    cases.compare("--audit with other replies", no_difference(2), compared(text_of(changed(3, "3 unmap 000000c6")), "--audit"))
+    cases.compare("--audit with the audit alone", no_difference(2), compared(text_of([first, second]), "--audit"))
+    for name, answers, line, ours, theirs in (
+        ("another audit alone", [first, other], 2, second, other),
+        ("another audit", changed(5, other), 5, second, other),
+        ("another audit behind comments", ["# no reply", *ANSWERS[:4], other, ANSWERS[5]], 6, second, other),
+        ("a mapping missing at the end", changed(5, None), 5, second, "(the end)"),
+        ("a mapping missing before another", changed(4, None), 4, first, second),
+        ("a mapping too many", [*ANSWERS[:5], "1,4,0,rw-,---,0:0", ANSWERS[5]], 6, "(the end)", "1,4,0,rw-,---,0:0"),
+        ("no audit", [*ANSWERS[:3], ANSWERS[5]], 4, first, "(the end)"),
+        ("no answers", [], 1, first, "(the end)"),
+    ):
+        wanted = ended(1, f"first difference: line {line}", f"  l4map:   {ours}", f"  answers: {theirs}", *at_end(path))
+        cases.compare(f"--audit with {name}", wanted, compared(text_of(answers), "--audit"))
+
+
+def compare_nothing(cases, program):
+    """All pages are revoked: the right audit is empty, and so there is no line of it to compare."""
+    with tempfile.TemporaryDirectory() as room:
+        path = written(room, "empty.csv", ["l4map,1,2,18,1", "unmap,0,40,17"])
+        answers = ["1 unmap 00000010", "end 1 0"]
+
+        def compared(lines, *arguments):
+            return run([program, "compare", path, "-", *arguments], text_of(lines))
+
+        cases.compare("compare of an empty audit", no_difference(2), compared(answers))
+        nothing = ended(1, "nothing was compared: both audits are empty")
+        for lines in (answers, []):
+            cases.compare(f"--audit of an empty audit with {len(lines)} lines", nothing, compared(lines, "--audit"))
+        lines = ["first difference: line 2", "  l4map:   (the end)", "  answers: 0,0,0,rwx,---,-"]
+        wanted = ended(1, *lines, f"after record 1, {path}:2: unmap,0,40,17", "no longer held", "- 0:0 rwx --- of frame 0")
+        cases.compare("--audit of an empty audit with a mapping", wanted, compared([answers[0], "0,0,0,rwx,---,-", answers[1]], "--audit"))
 
 
 def compare_unchanged(cases, program):
@@ -577,7 +657,7 @@ SHOWN = [
     ("--at 4 --frame 1", 4, AFTER_4[6:]),
     ("--at 4 --max 3", 4, [*AFTER_4[:4], more(4, "mappings")]),
     ("", 5, AFTER_5),
-    ("--at 99", 5, AFTER_5),
+    ("--at 5", 5, AFTER_5),
     ("--at 5 --diff", 5, DIFF_5),
     ("--at 5 --diff --frame 1", 5, DIFF_5[6:]),
     ("--at 4 --diff", 4, ["frame 1", "  0:1 rwx --- |   0:1 rwx ---", "              | + └─ 2:5 rwx ---"]),
@@ -638,6 +718,11 @@ def check_picture(cases, name, got, title):
     cases.check(name + ": branches", "" if len(list(root.iter(space + "path"))) == 5 else "not one for each origin")
 
 
+def none_such(path, why):
+    """What is told where a trace has no such record, space, frame or page."""
+    return Ended(2, b"", f"l4trace: {path}: there is no {why}\n".encode())
+
+
 def show_traces(cases, program):
     with tempfile.TemporaryDirectory() as room:
         path = written(room, "trees.csv", TREES)
@@ -650,9 +735,21 @@ def show_traces(cases, program):
         check_picture(cases, "show --svg with a name", run([program, "show", odd, "--at", "4", "--svg"]), "after " + record_at(odd, TREES, 4))
         got = run([program, "show", path, "--at", "4", "--svg", "--max", "2"]).stdout.decode()
         cases.check("show --svg --max", "" if ">.. and 5 more<" in got and got.count('class="page') == 2 else got)
-        unknown = Ended(2, b"", f"l4trace: {path}: there is no such space or frame\n".encode())
-        for arguments in ("--space 4", "--frame 2"):
-            cases.compare(f"show {arguments}", unknown, run([program, "show", path, *arguments.split()]))
+        for arguments, why in (
+            ("--space 4", "space 4; spaces are 0 to 3"),
+            ("--space 4294967295", "space 4294967295; spaces are 0 to 3"),
+            ("--frame 2", "frame 2; frames are 0 to 1"),
+            ("--at 6", "record 6; the trace has 5 records"),
+            ("--at 18446744073709551615", "record 18446744073709551615; the trace has 5 records"),
+            ("--at 6 --space 4", "record 6; the trace has 5 records"),
+        ):
+            cases.compare(f"show {arguments}", none_such(path, why), run([program, "show", path, *arguments.split()]))
+        lone = written(room, "lone.csv", GRANT)
+        cases.compare("show --frame 1 of one frame", none_such(lone, "frame 1; the only one is 0"), run([program, "show", lone, "--frame", "1"]))
+        for count, why in ((0, "record 2; the trace has 0 records"), (1, "record 2; the trace has 1 record")):
+            short = written(room, "short.csv", TREES[: count + 1])
+            for command in ("show", "why --page 0:0"):
+                cases.compare(f"{command} --at 2 of {count} records", none_such(short, why), run([program, *command.split(), short, "--at", "2"]))
         path = written(room, "gone.csv", GONE)
         for arguments, lines in CUT:
             wanted = ended(0, "after " + record_at(path, GONE, 5), *lines)
@@ -673,6 +770,9 @@ def show_traces(cases, program):
         cases.compare("show of bad limits", wanted, run([program, "show", bad]))
 
 
+CHANGED = "what changed its frame, rights or origin"
+UNCHANGED = "no record changed its frame, rights or origin"
+
 # A page comes, is narrowed, gains a right again, and goes; then it is granted.
 LIFE = ["l4map,1,4,18,2", "send,0,1,10,8,c5", "unmap,0,0,c1", "access,1,0,r", "send,0,1,10,8,c6", "unmap,1,40,c7", "send,0,1,10,a,c7"]
 
@@ -691,19 +791,19 @@ def why_pages(cases, program):
             return run([program, "why", path, "--page", page, *arguments])
 
         chain = ["it came from", f"  3:4 r-x --- from 1:0, since {at(3)}", f"  1:0 rwx --- from 0:0, since {at(1)}", "  0:0 rwx ---, a root, since the start"]
-        come = ["what changed its rights", f"  {at(3)}", "    gave r-x of frame 0 from 1:0"]
+        come = [CHANGED, f"  {at(3)}", "    gave r-x of frame 0 from 1:0"]
         cases.compare("why of a chain", ended(0, f"3:4 holds frame 0 with r-x, after {at(4)}", *chain, *come), asked("3:4", "--at", "4"))
         gone = [f"  {at(5)}", "    took r-x; nothing is left"]
         cases.compare("why of a page that is gone", ended(0, f"3:4 holds nothing, after {at(5)}", *come, *gone), asked("3:4"))
         lines = ["it came from", f"  1:0 rwx --- from 0:1, since {at(5)}", "  0:1 rwx ---, a root, since the start"]
-        lines += ["what changed its rights", f"  {at(1)}", "    gave rwx of frame 0 from 0:0", f"  {at(5)}", "    replaced what was held: gave rwx of frame 1 from 0:1"]
+        lines += [CHANGED, f"  {at(1)}", "    gave rwx of frame 0 from 0:0", f"  {at(5)}", "    replaced what was held: gave rwx of frame 1 from 0:1"]
         cases.compare("why of a page that was replaced", ended(0, f"1:0 holds frame 1 with rwx, after {at(5)}", *lines), asked("1:0"))
-        lines = ["it came from", "  0:0 rwx ---, a root, since the start", "no record changed its rights"]
+        lines = ["it came from", "  0:0 rwx ---, a root, since the start", UNCHANGED]
         cases.compare("why at the start", ended(0, "0:0 holds frame 0 with rwx, at the start", *lines), asked("0:0", "--at", "0"))
-        cases.compare("why of a page never held", ended(0, f"3:63 holds nothing, after {at(5)}", "no record changed its rights"), asked("3:63"))
-        unknown = Ended(2, b"", f"l4trace: {path}: there is no such space or frame\n".encode())
-        for page in ("4:0", "0:64"):
-            cases.compare(f"why {page}", unknown, asked(page))
+        cases.compare("why of a page never held", ended(0, f"3:63 holds nothing, after {at(5)}", UNCHANGED), asked("3:63"))
+        for page, why in (("4:0", "space 4; spaces are 0 to 3"), ("0:64", "page 64; pages are 0 to 63"), ("4:64", "space 4; spaces are 0 to 3")):
+            cases.compare(f"why {page}", none_such(path, why), asked(page))
+        cases.compare("why --at 6", none_such(path, "record 6; the trace has 5 records"), asked("0:0", "--at", "6"))
         wanted = Ended(2, b"", b"error: '3' is not a page: a space, a colon and a page, as 2:4\n")
         cases.compare("why 3", wanted, asked("3"))
         path = written(room, "life.csv", LIFE)
@@ -711,7 +811,7 @@ def why_pages(cases, program):
         def then(number):
             return record_at(path, LIFE, number)
 
-        changes = ["what changed its rights"]
+        changes = [CHANGED]
         for number, what in (
             (1, "gave r-x of frame 0 from 0:0"),
             (2, "took --x: r-x became r--"),
@@ -726,15 +826,120 @@ def why_pages(cases, program):
         first, second, third = (record_at(path, GRANT, number) for number in (1, 2, 3))
         root = "  0:0 rwx ---, a root, since the start"
         lines = [f"3:7 holds frame 0 with rwx, after {third}", "it came from", f"  3:7 rwx --- from 0:0, since {third}", root]
-        lines += ["what changed its rights", f"  {third}", "    gave rwx of frame 0 from 0:0"]
+        lines += [CHANGED, f"  {third}", "    gave rwx of frame 0 from 0:0"]
         cases.compare("why of a page that was granted", ended(0, *lines), run([program, "why", path, "--page", "3:7"]))
-        lines = [f"1:0 holds nothing, after {third}", "what changed its rights", f"  {first}", "    gave rwx of frame 0 from 0:0"]
-        lines += [f"  {third}", "    took rwx; nothing is left"]
+        lines = [f"1:0 holds nothing, after {third}", CHANGED, f"  {first}", "    gave rwx of frame 0 from 0:0"]
+        lines += [f"  {third}", "    granted to 3:7; nothing is left"]
         cases.compare("why of a page that was granted away", ended(0, *lines), run([program, "why", path, "--page", "1:0"]))
         lines = [f"2:5 holds frame 0 with r-x, after {third}", "it came from", f"  2:5 r-x --- from 3:7, since {third}"]
-        lines += [f"  3:7 rwx --- from 0:0, since {third}", root, "what changed its rights", f"  {second}", "    gave r-x of frame 0 from 1:0"]
-        lines += [f"  {third}", "    replaced what was held: gave r-x of frame 0 from 3:7"]
+        lines += [f"  3:7 rwx --- from 0:0, since {third}", root, CHANGED, f"  {second}", "    gave r-x of frame 0 from 1:0"]
+        lines += [f"  {third}", "    its origin moved from 1:0 to 3:7"]
         cases.compare("why of a page below one that was granted", ended(0, *lines), run([program, "why", path, "--page", "2:5"]))
+
+
+# Page 0:0 goes to 1:0, from there to 2:5, and from there to 4:1; then 1:0 is granted to 3:7, which withholds w from all
+# three. Space 3 revokes x from those two. At last 0:0 goes to 4:1, and then one record maps 0:1 there and 0:0 again.
+NARROWED = [
+    "l4map,1,5,18,2",
+    "send,0,1,10,8,c7",
+    "send,1,2,10,5008,c7",
+    "send,2,4,10,1008,50c7",
+    "send,1,3,10,700a,c5",
+    "unmap,3,0,70c1",
+    "send,0,4,10,1008,c7",
+    "send,0,4,10,1008,10c7,1008,c5",
+]
+# Pages, and what each record did to them.
+NARROWED_PAGES = [
+    ("1:0", [(1, "gave rwx of frame 0 from 0:0"), (4, "granted to 3:7; nothing is left")]),
+    (
+        "2:5",
+        [
+            (2, "gave rwx of frame 0 from 1:0"),
+            (4, "its origin moved from 1:0 to 3:7; the grant withheld -w-: rwx became r-x"),
+            (5, "took --x: r-x became r--"),
+        ],
+    ),
+    ("3:7", [(4, "gave r-x of frame 0 from 0:0")]),
+    (
+        "4:1",
+        [
+            (3, "gave rwx of frame 0 from 2:5"),
+            (4, "a grant withheld -w-: rwx became r-x"),
+            (5, "took --x: r-x became r--"),
+            (6, "replaced what was held: gave rwx of frame 0 from 0:0"),
+            (7, "replaced what was held: gave r-x of frame 0 from 0:0"),
+        ],
+    ),
+]
+
+# Pages 0:0 and 0:1 go to space 1 and 1:1 to 2:5; then both are granted to 3:4 and 3:5, and last 2:5 to 3:4.
+GRANTS = ["l4map,1,4,18,2", "send,0,1,10,8,d7", "send,1,2,10,5008,10c7", "send,1,3,10,400a,d7", "send,2,3,10,400a,50c7"]
+GRANTS_PAGES = [
+    ("1:1", [(1, "gave rwx of frame 1 from 0:1"), (3, "granted to 3:5; nothing is left")]),
+    ("2:5", [(2, "gave rwx of frame 1 from 1:1"), (3, "its origin moved from 1:1 to 3:5"), (4, "granted to 3:4; nothing is left")]),
+    ("3:4", [(3, "gave rwx of frame 0 from 0:0"), (4, "replaced what was held: gave rwx of frame 1 from 3:5")]),
+    ("3:5", [(3, "gave rwx of frame 1 from 0:1")]),
+]
+
+# Page 0:0 goes to 1:0, 2:0, 1:5 and as rw- to 3:9. One record grants 1:0 to 3:7 without w and gives 3:9 all of 1:5.
+BOTH = ["l4map,1,4,18,1", "send,0,1,10,8,c7", "send,1,2,10,8,c7", "send,2,1,10,5008,c7", "send,1,3,10,9008,50c6", "send,1,3,10,700a,c5,9008,50c7"]
+BOTH_PAGES = [
+    ("3:9", [(4, "gave rw- of frame 0 from 1:5"), (5, "a grant withheld -w-; gave --x: rw- became r-x")]),
+    ("2:0", [(2, "gave rwx of frame 0 from 1:0"), (5, "its origin moved from 1:0 to 3:7; the grant withheld -w-: rwx became r-x")]),
+]
+
+# Page 0:0 goes to 1:0, from there to 2:5 and to 2:6. One record grants 1:0 to 2:5, which is replaced by its own origin,
+# while that of 2:6 moves. Then 0:0 goes to 2:6.
+ONTO = ["l4map,1,3,18,1", "send,0,1,10,8,c7", "send,1,2,10,5008,c5,6008,c5", "send,1,2,10,500a,c7", "send,0,2,10,6008,c6"]
+ONTO_PAGES = [
+    ("2:5", [(2, "gave r-x of frame 0 from 1:0"), (3, "replaced what was held: gave rwx of frame 0 from 0:0")]),
+    ("2:6", [(2, "gave r-x of frame 0 from 1:0"), (3, "its origin moved from 1:0 to 2:5"), (4, "replaced what was held: gave rw- of frame 0 from 0:0")]),
+    ("1:0", [(1, "gave rwx of frame 0 from 0:0"), (3, "granted to 2:5; nothing is left")]),
+]
+
+# Page 0:0 goes to 2:0, from there to 1:0 and 1:7, and from 1:7 to 2:5. One record grants 1:0 to 2:5, which then comes
+# from 2:0, and grants 1:7 to 2:0, where nothing is done, since 1:7 derives from it: so no origin moved.
+ALIKE = ["l4map,1,3,18,1", "send,0,2,10,8,c7", "send,2,1,10,8,c7,7008,c7", "send,1,2,10,5008,70c7", "send,1,2,10,500a,c7,a,70c7"]
+ALIKE_PAGES = [
+    ("2:5", [(3, "gave rwx of frame 0 from 1:7"), (4, "replaced what was held: gave rwx of frame 0 from 2:0")]),
+    ("1:7", [(2, "gave rwx of frame 0 from 2:0")]),
+    ("1:0", [(2, "gave rwx of frame 0 from 2:0"), (4, "granted to 2:5; nothing is left")]),
+]
+
+# Page 0:0 goes to 1:1, and from there to 2:0; 0:1 goes to 2:1. Then 2:0 and 2:1 are granted to 1:0 and 1:1: the flush
+# of 1:1 takes 2:0, whose pair is lost.
+LOST = ["l4map,1,3,18,2", "send,0,1,10,1008,c7", "send,1,2,10,8,10c7", "send,0,2,10,1008,10c7", "send,2,1,10,a,d7"]
+LOST_PAGES = [
+    ("2:0", [(2, "gave rwx of frame 0 from 1:1"), (4, "took rwx; nothing is left")]),
+    ("2:1", [(3, "gave rwx of frame 1 from 0:1"), (4, "granted to 1:1; nothing is left")]),
+    ("1:1", [(1, "gave rwx of frame 0 from 0:0"), (4, "replaced what was held: gave rwx of frame 1 from 0:1")]),
+]
+
+
+def what_changed(cases, program):
+    """Each way in which a record changes a page has its own words."""
+    with tempfile.TemporaryDirectory() as room:
+        for name, trace, pages in (
+            ("narrowed.csv", NARROWED, NARROWED_PAGES),
+            ("grants.csv", GRANTS, GRANTS_PAGES),
+            ("both.csv", BOTH, BOTH_PAGES),
+            ("onto.csv", ONTO, ONTO_PAGES),
+            ("alike.csv", ALIKE, ALIKE_PAGES),
+            ("lost.csv", LOST, LOST_PAGES),
+        ):
+            path = written(room, name, trace)
+            for page, changes in pages:
+                wanted = [CHANGED]
+                for number, words in changes:
+                    wanted += [f"  {record_at(path, trace, number)}", f"    {words}"]
+                told = run([program, "why", path, "--page", page]).stdout.decode().splitlines()
+                told = told[told.index(CHANGED) :] if CHANGED in told else told
+                cases.check(f"why {page} of {name}", "" if told == wanted else f"{told}")
+        path = written(room, "narrowed.csv", NARROWED)
+        told = run([program, "why", path, "--page", "4:1"]).stdout.decode().splitlines()
+        line = f"  4:1 r-x --- from 0:0, since {record_at(path, NARROWED, 7)}"
+        cases.check("why 4:1: since it was replaced", "" if line in told else f"{told}")
 
 
 # Version 2: page 0:0 goes to 1:0 and from there to 2:0, where it is executed; then space 1 is deleted. The status goes
@@ -763,11 +968,11 @@ def cleared_pages(cases, program):
         for arguments, lines in (("", trees), ("--diff", CLEARED_DIFF), ("--space 2", CLEARED_TABLE)):
             got = run([program, "show", path, *arguments.split()])
             cases.compare(f"show {arguments} of a space that is deleted", ended(0, f"after {last}", *lines), got)
-        lines = [f"2:0 holds nothing, after {last}", "what changed its rights", f"  {second}"]
+        lines = [f"2:0 holds nothing, after {last}", CHANGED, f"  {second}"]
         lines += ["    gave r-x of frame 0 from 1:0", f"  {last}", "    took r-x; nothing is left"]
         cases.compare("why of a page that a clear took", ended(0, *lines), run([program, "why", path, "--page", "2:0"]))
         got = run([program, "compare", path, "-"], text_of(CLEARED_ANSWERS))
-        cases.compare("compare of a clear", ended(0, "no difference"), got)
+        cases.compare("compare of a clear", no_difference(7), got)
         answers = [*CLEARED_ANSWERS[:3], "4 clear 00000010", *CLEARED_ANSWERS[4:]]
         lines = ["first difference: line 4", f"  l4map:   {CLEARED_ANSWERS[3]}", f"  answers: {answers[3]}", f"  {last}"]
         lines += ["  it changes these mappings:", "    - 0,0,0,rwx,---,-", "    + 0,0,0,rwx,R-X,-"]
@@ -803,15 +1008,18 @@ def last_pages(cases, program):
             got = run([program, "show", path, *arguments.split()])
             cases.compare(f"show {arguments} of the last page", ended(0, f"after {third}", *lines), got)
         lines = [f"1:1048575 holds frame 0 with r--, after {third}", "it came from", f"  1:1048575 r-- --- from 0:0, since {first}"]
-        lines += ["  0:0 rwx ---, a root, since the start", "what changed its rights", f"  {first}", "    gave rw- of frame 0 from 0:0"]
+        lines += ["  0:0 rwx ---, a root, since the start", CHANGED, f"  {first}", "    gave rw- of frame 0 from 0:0"]
         lines += [f"  {third}", "    took -w-: rw- became r--"]
         cases.compare("why of the last page", ended(0, *lines), run([program, "why", path, "--page", "1:1048575"]))
-        lines = [f"0:1048575 holds nothing, after {third}", "no record changed its rights"]
+        lines = [f"0:1048575 holds nothing, after {third}", UNCHANGED]
         cases.compare("why of another last page", ended(0, *lines), run([program, "why", path, "--page", "0:1048575"]))
-        unknown = Ended(2, b"", f"l4trace: {path}: there is no such space or frame\n".encode())
-        for page in ("1:1048576", "1:9999999", "2:1048575"):
-            cases.compare(f"why of page {page}, which there is not", unknown, run([program, "why", path, "--page", page]))
-        cases.compare("compare of the last page", ended(0, "no difference"), run([program, "compare", path, "-"], text_of(LARGE_ANSWERS)))
+        for page, why in (
+            ("1:1048576", "page 1048576; pages are 0 to 1048575"),
+            ("1:9999999", "page 9999999; pages are 0 to 1048575"),
+            ("2:1048575", "space 2; spaces are 0 to 1"),
+        ):
+            cases.compare(f"why of page {page}, which there is not", none_such(path, why), run([program, "why", path, "--page", page]))
+        cases.compare("compare of the last page", no_difference(6), run([program, "compare", path, "-"], text_of(LARGE_ANSWERS)))
         answers = [*LARGE_ANSWERS[:2], "3 unmap 000000c4", *LARGE_ANSWERS[3:]]
         lines = ["first difference: line 3", f"  l4map:   {LARGE_ANSWERS[2]}", f"  answers: {answers[2]}", f"  {third}", "  it changes these mappings:"]
         lines += ["    - 1,1048575,0,rw-,RW-,0:0", "    + 1,1048575,0,r--,---,0:0", "the trees before and after it:", *LARGE_DIFF]
@@ -875,6 +1083,15 @@ def check_colors(cases, program):
         got = run([program, "why", life, "--page", "1:0", "--color", "always"]).stdout.decode()
         for line in (f"{GREEN}    gave r-x of frame 0 from 0:0{RESET}", f"{RED}    took --x: r-x became r--{RESET}"):
             cases.check(f"why --color always: {line!r}", "" if line in got.splitlines() else got)
+        narrowed = written(room, "narrowed.csv", NARROWED)
+        for page, color, line in (
+            ("1:0", RED, "granted to 3:7; nothing is left"),
+            ("2:5", YELLOW, "its origin moved from 1:0 to 3:7; the grant withheld -w-: rwx became r-x"),
+            ("4:1", RED, "a grant withheld -w-: rwx became r-x"),
+            ("4:1", YELLOW, "replaced what was held: gave rwx of frame 0 from 0:0"),
+        ):
+            got = run([program, "why", narrowed, "--page", page, "--color", "always"]).stdout.decode()
+            cases.check(f"why {page} --color always: {line}", "" if f"{color}    {line}{RESET}" in got.splitlines() else got)
         trace = os.path.join(room, "trace.csv")
         with open(trace, "wb") as file:
             file.write(TRACE)
@@ -966,7 +1183,7 @@ def compare_random(cases, program, shape, trace):
         path = os.path.join(room, "trace.csv")
         with open(path, "wb") as file:
             file.write(trace)
-        cases.compare(f"random {shape}: its answers", ended(0, "no difference"), run([program, "compare", path, "-"], answers))
+        cases.compare(f"random {shape}: its answers", no_difference(len(lines)), run([program, "compare", path, "-"], answers))
         lines[999] = lines[999] + "x"
         got = run([program, "compare", path, "-"], text_of(lines)).stdout.decode()
         cases.check(f"random {shape}: a wrong answer", "" if got.startswith("first difference: line 1000\n") else got[:200])
@@ -994,7 +1211,7 @@ def check_many(cases, program):
         audit = ["0,0,0,rwx,R--,-", *(f"0,{page},{page},rwx,---,-" for page in range(1, 16))]
         answers = [*(f"{number} access ok" for number in range(1, MANY)), f"{MANY} refused BadRecord", *audit, f"end {MANY} 1"]
         got = asked("compare", path, "-", given=text_of(answers))
-        cases.compare("compare of a million records", ended(0, "no difference"), got)
+        cases.compare("compare of a million records", no_difference(MANY + 17), got)
         answers[MANY - 2] = f"{MANY - 1} access fault"
         lines = [f"first difference: line {MANY - 1}", f"  l4map:   {MANY - 1} access ok", f"  answers: {MANY - 1} access fault"]
         lines += [f"  record {MANY - 1}, {path}:{MANY}: access,0,0,r", "  it changes no mapping"]
@@ -1016,10 +1233,10 @@ def check_large(cases, program):
         lines = ["space 511: 1 of 1048576 pages held", TABLE_HEAD, "+ 1048575  fffff000        0  rw-     ---     0:0"]
         cases.compare("show of 512 large spaces", ended(0, f"after {first}", *lines), asked("show", path, "--space", "511"))
         lines = [f"511:1048575 holds frame 0 with rw-, after {first}", "it came from", f"  511:1048575 rw- --- from 0:0, since {first}", root]
-        lines += ["what changed its rights", f"  {first}", "    gave rw- of frame 0 from 0:0"]
+        lines += [CHANGED, f"  {first}", "    gave rw- of frame 0 from 0:0"]
         cases.compare("why of 512 large spaces", ended(0, *lines), asked("why", path, "--page", "511:1048575"))
         answers = [ANSWERS[0], "0,0,0,rwx,---,-", "511,1048575,0,rw-,---,0:0", "end 1 0"]
-        cases.compare("compare of 512 large spaces", ended(0, "no difference"), asked("compare", path, "-", given=text_of(answers)))
+        cases.compare("compare of 512 large spaces", no_difference(4), asked("compare", path, "-", given=text_of(answers)))
         records = ["l4map,1,2,32,1048576", "access,0,ffffffff,w"]
         path = written(room, "frames.csv", records)
         first = record_at(path, records, 1)
@@ -1030,7 +1247,7 @@ def check_large(cases, program):
         lines = ["space 0: 1048576 of 1048576 pages held", TABLE_HEAD, "        0         0        0  rwx     ---     -", more(1048575, "mappings")]
         cases.compare("show of a space that is full", ended(0, f"after {first}", *lines), asked("show", path, "--space", "0", "--max", "1"))
         lines = [f"0:1048575 holds frame 1048575 with rwx, after {first}", "it came from", "  0:1048575 rwx RW-, a root, since the start"]
-        cases.compare("why of the last of all frames", ended(0, *lines, "no record changed its rights"), asked("why", path, "--page", "0:1048575"))
+        cases.compare("why of the last of all frames", ended(0, *lines, UNCHANGED), asked("why", path, "--page", "0:1048575"))
 
 
 def check_script(cases, program):
@@ -1079,8 +1296,10 @@ def main():
     check_program(cases, program)
     compare_answers(cases, program)
     compare_unchanged(cases, program)
+    compare_nothing(cases, program)
     show_traces(cases, program)
     why_pages(cases, program)
+    what_changed(cases, program)
     cleared_pages(cases, program)
     last_pages(cases, program)
     check_colors(cases, program)

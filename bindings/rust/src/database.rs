@@ -68,8 +68,8 @@ pub struct Counts {
     pub norights: u32,
     /// The receiver's page is one from which the sender's page derives; nothing is done.
     pub origin: u32,
-    /// The sender's page was gone before its turn: the same item replaced it, or one from which it came. What the pair was
-    /// to replace is gone too.
+    /// The sender's page was gone before its turn: it came from a receiver's page that the item replaces. What the pair
+    /// was to replace is gone too.
     pub lost: u32,
     /// The receiver's page derives directly from the sender's already, and gained the rights.
     pub extended: u32,

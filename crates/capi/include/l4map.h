@@ -84,8 +84,8 @@ struct l4map_send_reply {
     uint32_t absent;   /* the sender's page holds nothing */
     uint32_t norights; /* it holds none of the rights that the item asks for */
     uint32_t origin;   /* the receiver's page is one from which the sender's page came */
-    uint32_t lost;     /* the sender's page was gone before its turn, since the same item replaced it or one from which it
-                          came; the receiver's page, if the pair replaced one, is gone too */
+    uint32_t lost;     /* the sender's page was gone before its turn: it came from a receiver's page that the item
+                        * replaces; the receiver's page of the pair is gone too, if it was held */
     uint32_t extended; /* the receiver's page came from the sender's already, and got the rights that it lacked */
     uint32_t linked;   /* the receiver's page came from the sender's by this call */
 };

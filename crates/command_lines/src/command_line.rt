@@ -22,7 +22,7 @@ const ABOUT: &str =
 const EXAMPLE: &str =
     "Words, bases and addresses are hexadecimal; pages, spaces, sizes and bits are decimal.
 
-Exit status: 0 done, and nothing was found; 1 a refused record or a difference was found; 2 the command line was refused, or the header of a trace whose answers are compared; 3 out of memory, or no thread could be started; 4 a read or a write failed.";
+Exit status: 0 done, and nothing was found; 1 a refused record or a difference was found; 2 the command line was refused, the header of a trace that is not checked is bad, or the trace has no such record, space, frame or page; 3 out of memory, or no thread could be started; 4 a read or a write failed.";
 
 /// The subcommands, in the order in which the help names them.
 fn subcommands() -> [&'static Subcommand; 6] {

@@ -21,7 +21,7 @@ pub const AT: Argument = Argument {
     name: "at",
     kind: Kind::Count,
     value: Some("N"),
-    help: "After this record; the last one if it is not given",
+    help: "After this record, 0 for the start; the last one if it is not given",
     ..OPTION
 };
 

@@ -6,7 +6,7 @@ ghost use Rattle.command_lines.specs.Task.{IsServed};
 use crate::argument::{Argument, Kind, OPTION};
 use crate::common::{COLOR, MAX, TRACE, asked_color};
 use crate::subcommand::Subcommand;
-use crate::task::{Task, TaskError};
+use crate::task::{Task, TaskError, refused};
 use clap::ArgMatches;
 use std::alloc::Global;
 use texts::Scope;
@@ -29,7 +29,9 @@ const EXAMPLE: &str = "Example: a kernel's answers say that the page was written
     0:0 rwx ---    |   0:0 rwx ---
   * └─ 1:3 rw- R-- | * └─ 1:3 r-- ---
 
-Exit status: 0 no difference; 1 a difference.";
+Where nothing differs, it tells how many lines were compared: no difference in 6 lines.
+
+Exit status: 0 no difference; 1 a difference, or no line was compared.";
 
 static COMPARE: Subcommand = Subcommand {
     name: "compare",
@@ -75,6 +77,12 @@ pub fn compare_task(alloc: Global, asked: &ArgMatches) -> Result<Task, TaskError
 {
     let trace = String::from_str(alloc, asked.get_str("trace").unwrap_or("-"))?;
     let answers = String::from_str(alloc, asked.get_str("answers").unwrap_or("-"))?;
+    if trace.as_str() == "-" && answers.as_str() == "-" {
+        return Err(refused(
+            alloc,
+            "the trace and the answers cannot both be standard input",
+        ));
+    }
     let color = asked_color(alloc, asked)?;
     Ok(Task::Compare {
         trace,

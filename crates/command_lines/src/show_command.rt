@@ -27,6 +27,12 @@ const EXAMPLE: &str = "Example:
 
 Pages are space:page, both decimal. Rights are r, w and x; the status is R, W and X, what was seen of the page since it was last cleared.";
 
+/// A number of a frame or of a space.
+const ANY: Kind = Kind::Number {
+    least: 0,
+    most: u32::MAX,
+};
+
 static SHOW: Subcommand = Subcommand {
     name: "show",
     about: ABOUT,
@@ -36,14 +42,14 @@ static SHOW: Subcommand = Subcommand {
         AT,
         Argument {
             name: "frame",
-            kind: Kind::Count,
+            kind: ANY,
             value: Some("N"),
             help: "Only this frame",
             ..OPTION
         },
         Argument {
             name: "space",
-            kind: Kind::Count,
+            kind: ANY,
             value: Some("N"),
             help: "The pages of this space, as a table",
             ..OPTION
@@ -99,17 +105,12 @@ pub fn show_task(alloc: Global, asked: &ArgMatches) -> Result<Task, TaskError>
 {
     let trace = String::from_str(alloc, asked.get_str("trace").unwrap_or("-"))?;
     let view = View {
-        at: asked.get_one::<u64>("at").unwrap_or(u64::MAX),
-        frame: asked.get_one::<u64>("frame").map(narrowed),
-        space: asked.get_one::<u64>("space").map(narrowed),
+        at: asked.get_one::<u64>("at"),
+        frame: asked.get_one::<u32>("frame"),
+        space: asked.get_one::<u32>("space"),
         form: form_of(asked),
         most: asked.get_one::<u64>("max").unwrap_or(1000),
     };
     let color = asked_color(alloc, asked)?;
     Ok(Task::Show { trace, view, color })
-}
-
-/// A number, or the largest one where it is larger.
-fn narrowed(number: u64) -> u32 {
-    u32::try_from(number).unwrap_or(u32::MAX)
 }

@@ -13,7 +13,7 @@ use space::Place;
 use std::alloc::Global;
 
 const ABOUT: &str =
-    "Tells where a page came from: the page from which it has its frame, and so on to the root, each with the record since which that is so; and which records gave rights to the page or took them.";
+    "Tells where a page came from: the page from which it has its frame, and so on to the root, each with the record since which that is so; and which records changed the page's frame, rights or origin, and how.";
 
 const EXAMPLE: &str = "Example:
 
@@ -23,7 +23,7 @@ const EXAMPLE: &str = "Example:
     2:4 r-- --- from 1:0, since record 2, examples/first-six-records.csv:3: send,1,2,10,4008,c5
     1:0 rw- --- from 0:0, since record 1, examples/first-six-records.csv:2: send,0,1,10,8,c7
     0:0 rwx ---, a root, since the start
-  what changed its rights
+  what changed its frame, rights or origin
     record 2, examples/first-six-records.csv:3: send,1,2,10,4008,c5
       gave r-x of frame 0 from 1:0
     record 5, examples/first-six-records.csv:6: unmap,0,0,c1
@@ -62,7 +62,7 @@ pub fn why_task(alloc: Global, asked: &ArgMatches) -> Result<Task, TaskError>
     let Some(place) = place_of(page) else {
         return Err(refused_value(alloc, page, "a page: a space, a colon and a page, as 2:4"));
     };
-    let at = asked.get_one::<u64>("at").unwrap_or(u64::MAX);
+    let at = asked.get_one::<u64>("at");
     let color = asked_color(alloc, asked)?;
     Ok(Task::Why {
         trace,

@@ -76,6 +76,38 @@ pub fn audit_of(alloc: Global, text: &[u8]) -> Result<Vec<u8>, AllocError> {
     Ok(audit)
 }
 
+/// The line of a text, from 1, in which the mapping of this number stands, from 1. Where there are fewer, it is the
+/// line behind the last reply or mapping.
+pub fn line_of_mapping(text: &[u8], number: u64) -> u64 {
+    let mut rest = text;
+    let mut found = 0u64;
+    let mut last = 0u64;
+    for i in 0..text.len() {
+        if rest.is_empty() || found >= number {
+            break;
+        }
+        let (line, behind) = split_line(rest);
+        let key = key_of(line);
+        if key != Key::Other {
+            last = (i as u64).saturating_add(1);
+        }
+        if matches!(key, Key::Mapping(_, _)) {
+            found = found.saturating_add(1);
+        }
+        rest = behind;
+    }
+    if found >= number {
+        last
+    } else {
+        last.saturating_add(1)
+    }
+}
+
+/// How many lines end in a text.
+pub fn line_count(text: &[u8]) -> usize {
+    text.iter().filter(|byte| **byte == b'\n').count()
+}
+
 /// The first line of a text with its line feed, and what is behind it.
 pub fn split_line(text: &[u8]) -> (&[u8], &[u8]) {
     let length = text.iter().take_while(|byte| **byte != b'\n').count();

@@ -4,7 +4,8 @@ ghost use Rattle.std.specs.Prelude.{◌≡◌, ◌↔◌, ◌≤◌, take, lengt
 ghost use Rattle.differences.specs.Compare.{IsReplayOf, is_same};
 
 use crate::answers::{
-    Key, audit_of, frame_of, key_of, line_of_page, named_lines, place_of, split_line,
+    Key, audit_of, frame_of, key_of, line_count, line_of_mapping, line_of_page, named_lines,
+    place_of, split_line,
 };
 use crew::Alone;
 use replay::{NoWatch, RunError, run_by};
@@ -184,8 +185,10 @@ pub struct Comparison<'a> {
 /// What a comparison found.
 #[derive(Clone, Copy, Debug, PartialEq, Eq)]
 pub enum Compared {
-    /// No line differs.
+    /// Lines were compared, and none differs.
     Same,
+    /// There was no line to compare.
+    Nothing,
     /// A line differs. Trees tell more of the first, where it is of a record or of a page.
     Differs(Option<Trees>),
 }
@@ -195,8 +198,8 @@ pub enum Compared {
 pub enum Trees {
     /// Those that the record of this number changed.
     ChangedBy(u64),
-    /// That of a frame, after the record of this number, or the last where there are fewer.
-    OfFrame { frame: u32, at: u64 },
+    /// That of a frame, after the record of this number; after the last, if none is named.
+    OfFrame { frame: u32, at: Option<u64> },
 }
 
 /// Compares answers with those of l4map, and writes where they differ first.
@@ -208,38 +211,71 @@ pub fn compare<T: AllocGlobal + Threads + Sync, W: Sink>(
     ensures { comparison.now.scope ≡ Scope.Whole → IfOk result (λ found.
         IsTrue (is_same found) ↔ IsReplayOf comparison.now.trace.now comparison.now.answers.now) }
 {
-    let alloc = rt.alloc();
     let text = replayed(rt, comparison.trace)?;
-    let answers = comparison.answers;
     match comparison.scope {
-        Scope::Whole => tell(rt, comparison, first_difference(&text, answers), writer),
-        Scope::Audit => {
-            let ours = audit_of(alloc, &text)?;
-            let theirs = audit_of(alloc, answers)?;
-            tell(rt, comparison, first_difference(&ours, &theirs), writer)
+        Scope::Whole => {
+            let difference = first_difference(&text, comparison.answers);
+            tell(rt, comparison, difference, line_count(&text), writer)
         }
-        Scope::Part => {
-            let ours = named_lines(alloc, &text, answers)?;
-            tell(rt, comparison, first_difference(&ours, answers), writer)
-        }
+        Scope::Audit => compare_audits(rt, comparison, &text, writer),
+        Scope::Part => compare_parts(rt, comparison, &text, writer),
     }
 }
 
-/// Writes that texts are the same, or where they differ first: the line of each, and for the reply to a record what stands in
-/// the trace and what the record changed.
+/// Compares the audit of answers with that of l4map's answers.
+fn compare_audits<T: AllocGlobal + Threads + Sync, W: Sink>(
+    rt: &T,
+    comparison: &Comparison<'_>,
+    text: &[u8],
+    writer: &mut W,
+) -> Result<Compared, CompareError> {
+    let ours = audit_of(rt.alloc(), text)?;
+    let theirs = audit_of(rt.alloc(), comparison.answers)?;
+    if ours.is_empty() && theirs.is_empty() {
+        writer.write_all(b"nothing was compared: both audits are empty\n")?;
+        return Ok(Compared::Nothing);
+    }
+    let mut difference = first_difference(&ours, &theirs);
+    if let Some(first) = &mut difference {
+        first.line = line_of_mapping(comparison.answers, first.line);
+    }
+    tell(rt, comparison, difference, line_count(&ours), writer)
+}
+
+/// Compares answers with those of l4map's lines that they have too.
+fn compare_parts<T: AllocGlobal + Threads + Sync, W: Sink>(
+    rt: &T,
+    comparison: &Comparison<'_>,
+    text: &[u8],
+    writer: &mut W,
+) -> Result<Compared, CompareError> {
+    let answers = comparison.answers;
+    if answers.is_empty() {
+        writer.write_all(b"nothing was compared: the answers are empty\n")?;
+        return Ok(Compared::Nothing);
+    }
+    let ours = named_lines(rt.alloc(), text, answers)?;
+    let difference = first_difference(&ours, answers);
+    tell(rt, comparison, difference, line_count(&ours), writer)
+}
+
+/// Writes that texts of so many lines are the same, or where they differ first: the line of each, and for the reply to a
+/// record what stands in the trace and what the record changed.
 fn tell<T: AllocGlobal + Threads + Sync, W: Sink>(
     rt: &T,
     comparison: &Comparison<'_>,
     difference: Option<Difference<'_>>,
+    lines: usize,
     writer: &mut W,
 ) -> Result<Compared, CompareError>
     ensures { IfOk result (λ found. IsTrue (is_same found) ↔ IsNone difference.entry) }
 {
+    let mut text = String::new(rt.alloc());
     let Some(difference) = difference else {
-        writer.write_all(b"no difference\n")?;
+        push_same(&mut text, lines)?;
+        writer.write_all(text.as_bytes())?;
         return Ok(Compared::Same);
     };
-    let mut text = String::new(rt.alloc());
     let number = difference.line;
     write!(text, "first difference: line {number}\n")?;
     push_side(&mut text, "l4map:   ", difference.ours)?;
@@ -255,6 +291,12 @@ fn tell<T: AllocGlobal + Threads + Sync, W: Sink>(
     Ok(Compared::Differs(trees))
 }
 
+/// Appends that none of so many lines differs.
+fn push_same(text: &mut String, lines: usize) -> Result<(), AllocError> {
+    let ending = if lines == 1 { "" } else { "s" };
+    write!(text, "no difference in {lines} line{ending}\n")
+}
+
 /// The tree of the frame that is told in the line of the lower page.
 fn tree_at_end(difference: &Difference<'_>) -> Option<Trees> {
     let line = match (difference.ours, difference.theirs) {
@@ -263,10 +305,7 @@ fn tree_at_end(difference: &Difference<'_>) -> Option<Trees> {
         (None, None) => return None,
     };
     let frame = frame_of(line)?;
-    Some(Trees::OfFrame {
-        frame,
-        at: u64::MAX,
-    })
+    Some(Trees::OfFrame { frame, at: None })
 }
 
 /// Appends one text's line of a difference.
@@ -349,5 +388,8 @@ fn accessed_tree(fields: &[&[u8]], audit: &[u8], number: u64) -> Option<Trees> {
     let space = field::number(space, 10, 5)?;
     let page = field::word(address)? / 4096;
     let frame = frame_of(line_of_page(audit, (space, page))?)?;
-    Some(Trees::OfFrame { frame, at: number })
+    Some(Trees::OfFrame {
+        frame,
+        at: Some(number),
+    })
 }

@@ -15,7 +15,7 @@ mod tree;
 mod view;
 
 pub use drawing::{chosen, push_drawing};
-pub use mark::{mapping_at, push_mapping, push_place};
+pub use mark::{mapping_at, push_mapping, push_origin, push_place};
 pub use moment::Moment;
 pub use question::Question;
 pub use table::push_table;

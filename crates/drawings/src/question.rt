@@ -2,9 +2,10 @@
 
 use space::Place;
 
-/// A page of which is asked, after a record; the last of the trace where it has fewer.
+/// A page of which is asked.
 #[derive(Clone, Copy, Debug)]
 pub struct Question {
     pub place: Place,
-    pub at: u64,
+    /// After which record; the last of the trace, if none is named.
+    pub at: Option<u64>,
 }

@@ -16,8 +16,8 @@ pub enum Form {
 /// What is to be shown of a trace.
 #[derive(Clone, Copy, Debug)]
 pub struct View {
-    /// After which record; the last of the trace where it has fewer.
-    pub at: u64,
+    /// After which record; the last of the trace, if none is named.
+    pub at: Option<u64>,
     /// Only this frame.
     pub frame: Option<u32>,
     /// Only this space, as a table.

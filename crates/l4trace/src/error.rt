@@ -6,7 +6,7 @@ use moments::ShowError;
 use random_traces::RandomError;
 use replay::RunError;
 use std::alloc::{AllocError, Global};
-use trace::{ReadError, Std};
+use trace::Std;
 
 /// Why the program ends early.
 #[derive(Debug, Drop)]
@@ -19,7 +19,7 @@ pub enum ToolError {
     Ended,
     /// A file cannot be opened or read; the line that says so.
     Unreadable(String),
-    /// A trace has no such space or frame; the line that says so.
+    /// A trace has no such record, space, frame or page; the line that says so.
     Unknown(String),
     /// The header of a trace is bad; the line of a check that says where and why.
     BadHeader(Vec<u8>),
@@ -49,17 +49,6 @@ impl From<RandomError> for ToolError {
     }
 }
 
-/// Why a file with this name is not read.
-pub fn read_error(alloc: Global, name: &str, error: ReadError) -> Result<ToolError, AllocError> {
-    match error {
-        ReadError::Failed => {
-            let line = format!(in alloc; "l4trace: {name}: Unreadable\n")?;
-            Ok(ToolError::Unreadable(line))
-        }
-        ReadError::NoMemory => Ok(ToolError::NoMemory),
-    }
-}
-
 /// Why nothing is shown of a trace with this name.
 pub fn show_error(
     alloc: Global,
@@ -69,13 +58,44 @@ pub fn show_error(
 ) -> Result<ToolError, ToolError> {
     match error {
         ShowError::BadHeader | ShowError::BadLimits => bad_header(alloc, name, bytes),
-        ShowError::Unknown => {
-            let line = format!(in alloc; "l4trace: {name}: there is no such space or frame\n")?;
-            Ok(ToolError::Unknown(line))
-        }
+        ShowError::NoRecord { number, records } => no_record(alloc, name, number, records),
+        ShowError::NoSpace { number, spaces } => unknown(alloc, name, "space", number, spaces),
+        ShowError::NoFrame { number, frames } => unknown(alloc, name, "frame", number, frames),
+        ShowError::NoPage { number, pages } => unknown(alloc, name, "page", number, pages),
         ShowError::NoMemory => Ok(ToolError::NoMemory),
         ShowError::Ended => Ok(ToolError::Ended),
     }
+}
+
+/// That a trace with so many records has none of this number.
+fn no_record(alloc: Global, name: &str, number: u64, records: u64) -> Result<ToolError, ToolError> {
+    let ending = if records == 1 { "" } else { "s" };
+    let line = format!(in alloc;
+        "l4trace: {name}: there is no record {number}; the trace has {records} record{ending}\n"
+    )?;
+    Ok(ToolError::Unknown(line))
+}
+
+/// That there is none of this number of what a noun names, of which there are so many.
+fn unknown(
+    alloc: Global,
+    name: &str,
+    noun: &str,
+    number: u32,
+    count: u32,
+) -> Result<ToolError, ToolError> {
+    let line = match count {
+        1 => format!(in alloc;
+            "l4trace: {name}: there is no {noun} {number}; the only one is 0\n"
+        )?,
+        _ => {
+            let last = count.saturating_sub(1);
+            format!(in alloc;
+                "l4trace: {name}: there is no {noun} {number}; {noun}s are 0 to {last}\n"
+            )?
+        }
+    };
+    Ok(ToolError::Unknown(line))
 }
 
 /// Why answers are not compared with those to a trace with this name.

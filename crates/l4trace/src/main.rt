@@ -7,13 +7,15 @@ ghost use Rattle.random_traces.specs.Random.{IsPlan};
 ghost use Rattle.command_lines.specs.Task.{IsServed};
 
 mod error;
+mod input;
 mod paint;
 
 use checks::{Found, Subject, check_trace};
 use command_lines::{Task, TaskError, parse};
 use differences::{Compared, Comparison, Trees, compare};
 use drawings::{Form, Question, View};
-use error::{ToolError, compare_error, read_error, show_error, told};
+use error::{ToolError, compare_error, show_error, told};
+use input::read_trace;
 use moments::{ShowError, push_changed_trees, push_view, push_why};
 use paint::painted;
 use random_traces::{Plan, write_random};
@@ -23,9 +25,9 @@ use std::io::{BufWriter, ErrorKind, IsTerminal};
 use std::process::ExitCode;
 use std::rt::Files;
 use std::thread::Threads;
-use std::{env, fs, io};
+use std::{env, io};
 use texts::{Scope, explain_all};
-use trace::{ReadError, Sink, Std, read_to_end};
+use trace::{Sink, Std};
 
 /// Reads the program's command line.
 fn read_command_line(rt: &(impl AllocGlobal + Env)) -> Result<Task, TaskError>
@@ -55,23 +57,6 @@ fn print(rt: &impl Print, text: &str) -> Result<(), ToolError> {
     Std::new(io::writer(rt))
         .write_all(text.as_bytes())
         .map_err(|_| ToolError::WriteFailed)
-}
-
-/// Reads a file, or standard input where its name is `-`.
-fn read_trace(rt: &(impl AllocGlobal + Input + Files), name: &str) -> Result<Vec<u8>, ToolError> {
-    let alloc = rt.alloc();
-    let read = if name == "-" {
-        read_to_end(alloc, &mut Std::new(rt.reader()))
-    } else {
-        match fs::open(rt, name) {
-            Ok(file) => read_to_end(alloc, &mut Std::new(file)),
-            Err(_) => Err(ReadError::Failed),
-        }
-    };
-    match read {
-        Ok(bytes) => Ok(bytes),
-        Err(error) => Err(read_error(alloc, name, error)?),
-    }
 }
 
 /// Checks a trace, and returns whether its header or a record is refused.
@@ -144,7 +129,7 @@ fn push_trees(
     match outcome {
         Ok(()) => Ok(text.extend_from_slice(drawn.as_bytes())?),
         // The answers that differ may tell of a frame that there is not.
-        Err(ShowError::Unknown) => Ok(()),
+        Err(ShowError::NoFrame { .. }) => Ok(()),
         Err(error) => Err(show_error(alloc, name, trace, error)?),
     }
 }

@@ -66,16 +66,30 @@ fn push_column(all: &mut Vec<u8>, column: &[u8]) -> Result<(), AllocError> {
     all.extend_from_slice(RESET)
 }
 
-/// The colour of a column: of a sign, or of what a record did with rights.
+/// The words at the front of a column for what gives something to a page.
+const GIVES: [&[u8]; 2] = [b"+ ", b"gave "];
+
+/// Those for what takes something from it.
+const TAKES: [&[u8]; 4] = [b"- ", b"took ", b"granted ", b"a grant withheld "];
+
+/// Those for what differs.
+const DIFFERS: [&[u8]; 3] = [b"* ", b"replaced ", b"its origin moved "];
+
+/// The colour of a column: of a sign, or of what a record did to a page.
 fn color_of(column: &[u8]) -> Option<&'static [u8]> {
     let words = column.strip_prefix(b"    ").unwrap_or(column);
-    if words.starts_with(b"+ ") || words.starts_with(b"gave ") {
+    if begins_with_any(words, &GIVES) {
         Some(b"\x1b[32m")
-    } else if words.starts_with(b"- ") || words.starts_with(b"took ") {
+    } else if begins_with_any(words, &TAKES) {
         Some(b"\x1b[31m")
-    } else if words.starts_with(b"* ") || words.starts_with(b"replaced ") {
+    } else if begins_with_any(words, &DIFFERS) {
         Some(b"\x1b[33m")
     } else {
         None
     }
+}
+
+/// Whether a text begins with one of some others.
+fn begins_with_any(text: &[u8], fronts: &[&[u8]]) -> bool {
+    fronts.iter().any(|front| text.starts_with(front))
 }

@@ -1,6 +1,6 @@
 //! Records, answered one by one on the calling thread.
 
-ghost use Rattle.std.specs.Prelude.{◌≡◌, ◌<◌, drop, length, take, true, false, Ok, IfOk, IfErr, OnOk};
+ghost use Rattle.std.specs.Prelude.{◌≡◌, ◌<◌, drop, length, take, true, false, Ok, IfOk, IfErr, IfSome, OnOk};
 ghost use Rattle.std.specs.List.{All, zip};
 ghost use Rattle.fpage.specs.Fpage.{IsFpageOf};
 ghost use Rattle.model.specs.Calls.{access, send, unmap, clear};
@@ -57,6 +57,24 @@ pub fn answer_records(
     Ok(())
 }
 
+/// Takes the record that comes next, and returns the call that it means, or why it is refused; none at the end.
+pub fn next_call(
+    database: &Database,
+    reader: &mut TraceReader<'_>,
+) -> Result<Option<Result<Call, Refusal>>, ShowError>
+    requires running { database.now.is_halted ≡ false }
+    ensures within { IfOk result (λ next. IfSome next (λ asked.
+        IfOk asked (IsWithinLimits database.now.limits))) }
+{
+    if reader.is_at_end() {
+        return Ok(None);
+    }
+    match reader.next_call(&database.limits()) {
+        Ok(asked) => Ok(Some(asked)),
+        Err(_) => Err(ShowError::NoMemory),
+    }
+}
+
 /// Answers the record that comes next.
 fn answer_next(
     alloc: Global,
@@ -84,7 +102,7 @@ fn answer_next(
 }
 
 /// Answers a record that was read.
-fn answer_record(
+pub fn answer_record(
     alloc: Global,
     database: &mut Database,
     asked: &Result<Call, Refusal>,

@@ -13,8 +13,14 @@ pub enum ShowError {
     BadLimits,
     /// Out of memory.
     NoMemory,
-    /// There is no such space, or no such frame.
-    Unknown,
+    /// There is no record of this number: the trace has so many.
+    NoRecord { number: u64, records: u64 },
+    /// There is no space of this number: there are so many, from 0 on.
+    NoSpace { number: u32, spaces: u32 },
+    /// There is no frame of this number: there are so many, from 0 on.
+    NoFrame { number: u32, frames: u32 },
+    /// There is no page of this number: a space has so many, from 0 on.
+    NoPage { number: u32, pages: u32 },
     /// A record had no answer, for a cause other than memory.
     Ended,
 }

@@ -1,18 +1,20 @@
 //! What the records of a trace changed of some pages.
 
-ghost use Rattle.std.specs.Prelude.{◌≡◌, true, IfOk, map, option_map};
+ghost use Rattle.std.specs.Prelude.{◌≡◌, IfOk, map, option_map};
 ghost use Rattle.model.specs.Holdings.{at};
 ghost use Rattle.holdings.specs.Meaning.{limits_of};
 ghost use Rattle.holdings.specs.Places.{IsWithin};
 ghost use Rattle.std.specs.List.{All};
 ghost use Rattle.moments.specs.History.{held_of};
 
-use crate::answering::{answer_records, start};
+use crate::answering::{answer_record, next_call, start};
+use crate::effect::{Effect, effect_of};
 use crate::error::ShowError;
+use crate::page::{is_within, mapping_of};
 use mapdb::{Database, Limits, Mapping};
 use space::Place;
 use std::alloc::{AllocError, Global};
-use trace::TraceReader;
+use trace::{Call, Refusal, TraceReader};
 
 /// What a record changed of a page, but for its status.
 #[derive(Clone, Copy, Debug, PartialEq, Eq)]
@@ -24,48 +26,15 @@ pub struct Change {
     pub before: Option<Mapping>,
     /// What it holds after.
     pub after: Option<Mapping>,
+    /// How that came.
+    pub effect: Effect,
 }
 
 impl Change {
-    /// Whether the page came from another place, or was not held, before or after.
+    /// Whether the page was not held before or after, or has its mapping from another one than before.
     pub fn is_link(&self) -> bool {
-        match (self.before, self.after) {
-            (Some(before), Some(after)) => {
-                before.frame != after.frame || before.origin != after.origin
-            }
-            _ => true,
-        }
+        !matches!(self.effect, Effect::Withheld | Effect::Changed)
     }
-}
-
-/// Whether there is such a page.
-pub fn is_within(limits: &Limits, place: Place) -> bool
-    ensures { result ≡ true → IsWithin (limits_of limits.now) place }
-{
-    if limits.bits < 12 || limits.bits > 32 {
-        return false;
-    }
-    u32::from(place.space) < limits.spaces && place.page < 1 << (limits.bits - 12)
-}
-
-/// What a page holds.
-fn mapping_of(database: &Database, place: Place) -> Result<Option<Mapping>, ShowError>
-    requires { IsWithin database.now.limits place }
-    ensures { IfOk result (λ held. option_map held_of held ≡ at database.now.holdings place) }
-{
-    let (Ok(entry), Ok(origin)) = (database.entry(place), database.origin(place)) else {
-        return Err(ShowError::NoMemory);
-    };
-    let Some(entry) = entry else {
-        return Ok(None);
-    };
-    Ok(Some(Mapping {
-        place,
-        frame: entry.frame,
-        rights: entry.rights,
-        status: entry.status,
-        origin,
-    }))
 }
 
 /// What some pages hold.
@@ -97,6 +66,7 @@ struct Watched<'a> {
 
 impl<'a> Watched<'a> {
     ghost use Rattle.std.specs.Prelude.{IfOk, OnOk};
+    ghost use Rattle.trace.specs.Meaning.{IsWithinLimits};
     ghost use Rattle.moments.specs.History.{IsRunning};
 
     /// The pages of these that there are, before the first record of a trace.
@@ -125,10 +95,56 @@ impl<'a> Watched<'a> {
         requires { IsRunning self.old.database self.old.places.items }
         ensures { OnOk result (IsRunning self.new.database self.new.places.items) }
     {
-        answer_records(alloc, &mut self.database, &mut self.reader, 1)?;
+        let Some(asked) = next_call(&self.database, &mut self.reader)? else {
+            return Ok(());
+        };
+        self.answer(alloc, record, &asked, changes)?;
+        if let Ok(call) = asked {
+            self.reader.reuse(call);
+        }
+        Ok(())
+    }
+
+    /// Answers a record with this number, and appends what it changed of the pages.
+    fn answer(
+        &mut self,
+        alloc: Global,
+        record: u64,
+        asked: &Result<Call, Refusal>,
+        changes: &mut Vec<Change>,
+    ) -> Result<(), ShowError>
+        requires running { IsRunning self.old.database self.old.places.items }
+        requires within { IfOk asked.now (IsWithinLimits self.old.database.limits) }
+        ensures { OnOk result (IsRunning self.new.database self.new.places.items) }
+    {
+        answer_record(alloc, &mut self.database, asked)?;
         let after = mappings_of(alloc, &self.database, &self.places)?;
-        push_changes(changes, record, &self.places, &self.held, &after)?;
+        self.push_changes(record, asked, &after, changes)?;
         self.held = after;
+        Ok(())
+    }
+
+    /// Appends what a record with this number, which was answered, changed of the pages: they hold this after it.
+    fn push_changes(
+        &self,
+        record: u64,
+        asked: &Result<Call, Refusal>,
+        after: &[Option<Mapping>],
+        changes: &mut Vec<Change>,
+    ) -> Result<(), ShowError> {
+        for (i, place) in self.places.iter().enumerate() {
+            let before = self.held.get(i).copied().unwrap_or(None);
+            let after = after.get(i).copied().unwrap_or(None);
+            if !is_same(before, after) {
+                changes.push(Change {
+                    record,
+                    place: *place,
+                    before,
+                    after,
+                    effect: effect_of(&self.database, asked, before, after)?,
+                })?;
+            }
+        }
         Ok(())
     }
 }
@@ -159,29 +175,6 @@ fn places_within(alloc: Global, limits: &Limits, places: &[Place]) -> Result<Vec
         }
     }
     Ok(within)
-}
-
-/// Appends what a record changed of some pages, of which this was held before and after.
-fn push_changes(
-    changes: &mut Vec<Change>,
-    record: u64,
-    places: &[Place],
-    before: &[Option<Mapping>],
-    after: &[Option<Mapping>],
-) -> Result<(), AllocError> {
-    for (i, place) in places.iter().enumerate() {
-        let old = before.get(i).copied().unwrap_or(None);
-        let new = after.get(i).copied().unwrap_or(None);
-        if !is_same(old, new) {
-            changes.push(Change {
-                record,
-                place: *place,
-                before: old,
-                after: new,
-            })?;
-        }
-    }
-    Ok(())
 }
 
 /// Whether what a page holds is the same, but for its status.

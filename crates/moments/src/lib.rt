@@ -2,9 +2,13 @@
 #![tactic(auto)]
 
 mod answering;
+mod asked;
+mod change_text;
+mod effect;
 mod error;
 mod history;
 mod moment;
+mod page;
 mod show;
 mod why;
 

@@ -1,5 +1,6 @@
 //! What is held after a record of a trace, as it is shown.
 
+use crate::asked::check_view;
 use crate::error::ShowError;
 use crate::moment::moment_at;
 use drawings::{Form, Moment, View, chosen, push_drawing, push_table};
@@ -15,10 +16,8 @@ pub fn push_view(
     bytes: &[u8],
     view: &View,
 ) -> Result<(), ShowError> {
-    let moment = moment_at(alloc, bytes, view.at)?;
-    if is_unknown(&moment, view) {
-        return Err(ShowError::Unknown);
-    }
+    let moment = moment_at(alloc, bytes, view.at.unwrap_or(u64::MAX))?;
+    check_view(&moment, view)?;
     let mut heading = String::new(alloc);
     push_heading(alloc, &mut heading, name, bytes, &moment)?;
     if let Some(space) = view.space {
@@ -42,7 +41,7 @@ pub fn push_changed_trees(
 ) -> Result<(), ShowError> {
     let moment = moment_at(alloc, bytes, record)?;
     let view = View {
-        at: record,
+        at: Some(record),
         frame: None,
         space: None,
         form: Form::Diff,
@@ -56,13 +55,6 @@ pub fn push_changed_trees(
         &view,
     )?;
     Ok(())
-}
-
-/// Whether there is no such space, or no such frame.
-fn is_unknown(moment: &Moment, view: &View) -> bool {
-    let limits = &moment.limits;
-    view.frame.is_some_and(|frame| frame >= limits.frames)
-        || view.space.is_some_and(|space| space >= limits.spaces)
 }
 
 /// Appends after which record something is shown.

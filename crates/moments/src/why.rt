@@ -1,8 +1,11 @@
-//! Where a page came from, and which records took rights from it.
+//! Where a page came from, and which records changed what it holds.
 
+use crate::asked::{check_page, check_record};
+use crate::change_text::push_change;
 use crate::error::ShowError;
-use crate::history::{Change, changes, is_within};
+use crate::history::{Change, changes};
 use crate::moment::moment_at;
+use crate::page::is_within;
 use drawings::{Moment, Question, mapping_at, push_mapping, push_place};
 use mapdb::Mapping;
 use space::Place;
@@ -55,7 +58,7 @@ fn places_of(
     Ok(places)
 }
 
-/// Appends where a page of a trace with this name came from, and which records changed its rights.
+/// Appends where a page of a trace with this name came from, and which records changed its frame, rights or origin.
 pub fn push_why(
     alloc: Global,
     text: &mut String,
@@ -64,10 +67,9 @@ pub fn push_why(
     question: &Question,
 ) -> Result<(), ShowError> {
     let Question { place, at } = *question;
-    let moment = moment_at(alloc, bytes, at)?;
-    if !is_within(&moment.limits, place) {
-        return Err(ShowError::Unknown);
-    }
+    let moment = moment_at(alloc, bytes, at.unwrap_or(u64::MAX))?;
+    check_record(&moment, at)?;
+    check_page(&moment.limits, place)?;
     let chain = chain_of(alloc, &moment.after, place, LEVELS)?;
     let places = places_of(alloc, &moment.limits, &chain, place)?;
     let changes = changes(alloc, bytes, moment.records, &places)?;
@@ -162,7 +164,7 @@ fn push_chain(
     }
 }
 
-/// Appends the records that changed the rights of a page, or from where it has them; the last ones, where there are many.
+/// Appends the records that changed the frame, the rights or the origin of a page; the last ones, where there are many.
 fn push_changes(
     text: &mut String,
     place: Place,
@@ -174,9 +176,9 @@ fn push_changes(
         .filter(|change| change.place == place)
         .count();
     if count == 0 {
-        return text.push_str("no record changed its rights\n");
+        return text.push_str("no record changed its frame, rights or origin\n");
     }
-    text.push_str("what changed its rights\n")?;
+    text.push_str("what changed its frame, rights or origin\n")?;
     let untold = count.saturating_sub(RECORDS);
     if untold > 0 {
         write!(text, "  .. {untold} records before these\n")?;
@@ -193,46 +195,4 @@ fn push_changes(
         text.push_str("\n")?;
     }
     Ok(())
-}
-
-/// Appends what a record changed of a page.
-fn push_change(text: &mut String, change: &Change) -> Result<(), AllocError> {
-    match (change.before, change.after) {
-        (None, Some(after)) => push_come(text, &after),
-        (Some(before), None) => {
-            text.push_str("took ")?;
-            push_rights(text, before.rights)?;
-            text.push_str("; nothing is left")
-        }
-        (Some(before), Some(after)) => {
-            if change.is_link() {
-                text.push_str("replaced what was held: ")?;
-                push_come(text, &after)?;
-                return Ok(());
-            }
-            let taken = before.rights.without(after.rights);
-            let given = after.rights.without(before.rights);
-            text.push_str(if given.is_empty() { "took " } else { "gave " })?;
-            push_rights(text, if given.is_empty() { taken } else { given })?;
-            text.push_str(": ")?;
-            push_rights(text, before.rights)?;
-            text.push_str(" became ")?;
-            push_rights(text, after.rights)
-        }
-        (None, None) => Ok(()),
-    }
-}
-
-/// Appends what came to be held, and from where.
-fn push_come(text: &mut String, mapping: &Mapping) -> Result<(), AllocError> {
-    text.push_str("gave ")?;
-    push_rights(text, mapping.rights)?;
-    write!(text, " of frame {}", mapping.frame)?;
-    match mapping.origin {
-        Some(origin) => {
-            text.push_str(" from ")?;
-            push_place(text, origin)
-        }
-        None => text.push_str(", as a root"),
-    }
 }
