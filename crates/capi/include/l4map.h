@@ -196,7 +196,8 @@ static inline uint32_t l4map_grant_item(uint32_t page) {
     return (page << 12) + 10;
 }
 
-/* The control word of an unmap of n fpage words, 1 to 64. Where flush is not 0, the caller's own pages lose rights too. */
+/* The control word of an unmap of n fpage words, 1 to 64. Where flush is not 0, the caller's own pages lose rights as
+ * well. */
 static inline uint32_t l4map_control(uint32_t n, int flush) {
     return n - 1 + (flush ? 64 : 0);
 }
