@@ -28,8 +28,8 @@ pub struct SendReply {
     pub norights: u32,
     /// The receiver's page is one from which the sender's page came.
     pub origin: u32,
-    /// The sender's page was gone before its turn: it came from a receiver's page that the item replaces. The receiver's
-    /// page of the pair is gone too, if it was held.
+    /// The sender's page was gone before its turn: it came from a receiver's page that the item replaces. The
+    /// receiver's page of the pair is gone too, if it was held.
     pub lost: u32,
     /// The receiver's page came from the sender's already, and got the rights that it lacked.
     pub extended: u32,

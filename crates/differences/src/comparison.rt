@@ -259,8 +259,8 @@ fn compare_parts<T: AllocGlobal + Threads + Sync, W: Sink>(
     tell(rt, comparison, difference, line_count(&ours), writer)
 }
 
-/// Writes that texts of so many lines are the same, or where they differ first: the line of each, and for the reply to a
-/// record what stands in the trace and what the record changed.
+/// Writes that texts of so many lines are the same, or where they differ first: the line of each, and for the reply to
+/// a record what stands in the trace and what the record changed.
 fn tell<T: AllocGlobal + Threads + Sync, W: Sink>(
     rt: &T,
     comparison: &Comparison<'_>,

@@ -52,8 +52,8 @@ impl Holdings {
         outcome_of(shards, trees, pages.kind, pages.rights, source, target)
     }
 
-    /// The next pages of an item, from one on, whose sources are held, side by side in one shard. The sources of all pages
-    /// before them are absent. It passes over shards that are not there without a look at their pages.
+    /// The next pages of an item, from one on, whose sources are held, side by side in one shard. The sources of all
+    /// pages before them are absent. It passes over shards that are not there without a look at their pages.
     pub fn next_sources(&self, pages: &ItemPages, from: u32) -> Range<u32>
         requires pages { AreItemPages self.now.limits pages.now }
         requires within { from < pages.now.count }

@@ -43,7 +43,8 @@ const LEFT: u64 = 0x1_0000_0505;
 /// How often each crew is timed.
 const RUNS: u32 = 5;
 
-/// How many looks are timed at most, and how many are made beside workers between two questions whether these have ended.
+/// How many looks are timed at most, and how many are made beside workers between two questions whether these have
+/// ended.
 const LOOKS: u64 = 1_000_000;
 
 const LOOKS_AT_ONCE: u64 = 100;

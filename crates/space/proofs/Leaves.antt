@@ -5,7 +5,7 @@ use Rattle.std.specs.Int.{div_ceil}
 use Rattle.std.proofs.lemmas.Bool.{eq-eqb, eqb-true, ltb-true, ltb-false, lt-ltb}
 use Rattle.std.proofs.lemmas.Grind.{div_ceil_times}
 use Rattle.std.proofs.lemmas.List.{length-append, length-replicate, length-set, get_or-set_same, get_or-set_other, get_or_past, get_or-replicate, get_or_append_left, get_or-append_right}
-use Rattle.space.specs.Leaves.{nowhere, leaf_at, slot_of, position_at, count_up, has_leaf, is_there, AreInOrder, IsDirectory}
+use Rattle.space.specs.Leaves.{nowhere, leaf_at, slot_of, position_at, count_up, has_leaf, is_there, AreInOrder, IsDirectory, AreSpans}
 
 pub same_or_not : (i j : ℕ) → (i ≡ j) ⊎ (i ≡ j → ⊥)
 same_or_not i j = by (i == j) refl
@@ -306,3 +306,70 @@ module _ (most count : ℕ) (leaves positions : List ℕ) (found : IsDirectory m
                 | inr k_differs ↦ found.apart j k low (sym (shards_elsewhere j j_differs) ∙ same ∙ shards_elsewhere k k_differs)
               ]
         ]
+
+-- ---- the first and the last of each run
+
+-- of a directory without shards
+pub no_spans : (most : ℕ) (leaves positions firsts lasts : List ℕ) → IsDirectory most 0 leaves positions → length firsts ≡ length leaves → length lasts ≡ length leaves → AreSpans leaves positions firsts lasts
+no_spans most leaves positions firsts lasts found firsts_count lasts_count = record {
+  firsts_count = firsts_count;
+  lasts_count = lasts_count;
+  from_first = λ shard there. let low = found.placed shard there in absurd (omega (arith, low));
+  to_last = λ shard there. let low = found.placed shard there in absurd (omega (arith, low));
+}
+
+-- where each shard is where it was
+pub same_spans : (leaves positions after more firsts lasts : List ℕ) → AreSpans leaves positions firsts lasts → length after ≡ length leaves
+    → ((shard : ℕ) → position_at after more shard ≡ position_at leaves positions shard) → AreSpans after more firsts lasts
+same_spans leaves positions after more firsts lasts spans count same = record {
+  firsts_count = spans.firsts_count ∙ sym count;
+  lasts_count = spans.lasts_count ∙ sym count;
+  from_first = λ shard there. spans.from_first shard (λ is. there (same shard ∙ is));
+  to_last = λ shard there. spans.to_last shard (λ is. there (same shard ∙ is));
+}
+
+-- where a shard is added
+module _ (leaves positions after firsts lasts : List ℕ) (spans : AreSpans leaves positions firsts lasts) (shard first last : ℕ) (within : shard / 128 < length leaves)
+    (elsewhere : (other : ℕ) → (other ≡ shard → ⊥) → position_at leaves after other ≡ position_at leaves positions other)
+    (first_low : first ≤ slice_index firsts (shard / 128)) (first_here : first ≤ shard % 128) (last_high : slice_index lasts (shard / 128) ≤ last) (last_here : shard % 128 ≤ last) where
+  first_now : slice_index (slice_set firsts (shard / 128) first) (shard / 128) ≡ first
+  first_now = get_or-set_same firsts (shard / 128) first 0 (omega (arith, within, spans.firsts_count))
+
+  last_now : slice_index (slice_set lasts (shard / 128) last) (shard / 128) ≡ last
+  last_now = get_or-set_same lasts (shard / 128) last 0 (omega (arith, within, spans.lasts_count))
+
+  first_of : (other : ℕ) → (position_at leaves after other ≡ nowhere → ⊥) → slice_index (slice_set firsts (shard / 128) first) (other / 128) ≤ other % 128
+  first_of other there = elim (same_or_not other shard) as (λ _. slice_index (slice_set firsts (shard / 128) first) (other / 128) ≤ other % 128) [
+    | inl same ↦ let now = ap (λ n. slice_index (slice_set firsts (shard / 128) first) (n / 128)) same ∙ first_now in omega (arith, now, first_here, same)
+    | inr differ ↦
+        let before = spans.from_first other (λ is. there (elsewhere other differ ∙ is)) in
+        elim (same_or_not (other / 128) (shard / 128)) as (λ _. slice_index (slice_set firsts (shard / 128) first) (other / 128) ≤ other % 128) [
+          | inl same ↦
+              let now = ap (slice_index (slice_set firsts (shard / 128) first)) same ∙ first_now in
+              let was = ap (slice_index firsts) same in
+              omega (arith, now, was, first_low, before)
+          | inr apart ↦ let now = get_or-set_other firsts (shard / 128) (other / 128) first 0 (λ same. apart same) in omega (arith, now, before)
+        ]
+  ]
+
+  last_of : (other : ℕ) → (position_at leaves after other ≡ nowhere → ⊥) → other % 128 ≤ slice_index (slice_set lasts (shard / 128) last) (other / 128)
+  last_of other there = elim (same_or_not other shard) as (λ _. other % 128 ≤ slice_index (slice_set lasts (shard / 128) last) (other / 128)) [
+    | inl same ↦ let now = ap (λ n. slice_index (slice_set lasts (shard / 128) last) (n / 128)) same ∙ last_now in omega (arith, now, last_here, same)
+    | inr differ ↦
+        let before = spans.to_last other (λ is. there (elsewhere other differ ∙ is)) in
+        elim (same_or_not (other / 128) (shard / 128)) as (λ _. other % 128 ≤ slice_index (slice_set lasts (shard / 128) last) (other / 128)) [
+          | inl same ↦
+              let now = ap (slice_index (slice_set lasts (shard / 128) last)) same ∙ last_now in
+              let was = ap (slice_index lasts) same in
+              omega (arith, now, was, last_high, before)
+          | inr apart ↦ let now = get_or-set_other lasts (shard / 128) (other / 128) last 0 (λ same. apart same) in omega (arith, now, before)
+        ]
+  ]
+
+  pub more_spans : AreSpans leaves after (slice_set firsts (shard / 128) first) (slice_set lasts (shard / 128) last)
+  more_spans = record {
+    firsts_count = length-set firsts (shard / 128) first ∙ spans.firsts_count;
+    lasts_count = length-set lasts (shard / 128) last ∙ spans.lasts_count;
+    from_first = first_of;
+    to_last = last_of;
+  }

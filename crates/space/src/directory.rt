@@ -1,12 +1,15 @@
 //! Where the words of each shard stand.
 
 ghost use Rattle.std.specs.Prelude.{◌≡◌, ◌≤◌, ◌^◌, length, IsTrue, IfOk};
-ghost use Rattle.space.specs.Leaves.{nowhere, IsDirectory, AreInOrder};
+ghost use Rattle.space.specs.Leaves.{nowhere, IsDirectory, AreInOrder, AreSpans};
 
 use std::alloc::{AllocError, Global};
 
 /// How many shards one leaf finds.
 const LEAF_SHARDS: usize = 128;
+
+/// The last shard of a leaf, within it.
+const LAST_OF_LEAF: u8 = 127;
 
 /// With so many shards at most each run of them has its leaf from the start: 128 KiB. Then a position is found without
 /// a look at the leaves.
@@ -31,7 +34,11 @@ pub struct Directory {
     leaves: Vec<u32>,
     /// The positions of the shards of each leaf, leaf behind leaf.
     positions: Vec<u32>,
+    /// The first and the last shard of each run of 128 that are there, within the run; 127 and 0 where none is.
+    firsts: Vec<u8>,
+    lasts: Vec<u8>,
     ghost found: { IsDirectory most count leaves.items positions.items },
+    ghost spans: { AreSpans leaves.items positions.items firsts.items lasts.items },
     ghost dense: { IsTrue is_dense → AreInOrder leaves.items },
 }
 
@@ -65,12 +72,16 @@ impl Directory {
         let runs = (most as usize).div_ceil(LEAF_SHARDS);
         let leaves = leaves_in_order(alloc, runs)?;
         let positions = vec![in alloc; NOWHERE; (runs + 1) * LEAF_SHARDS]?;
+        let firsts = vec![in alloc; LAST_OF_LEAF; runs]?;
+        let lasts = vec![in alloc; 0; runs]?;
         Ok(Directory {
             most,
             count: 0,
             is_dense: true,
             leaves,
             positions,
+            firsts,
+            lasts,
         })
     }
 
@@ -84,12 +95,16 @@ impl Directory {
         let runs = (most as usize).div_ceil(LEAF_SHARDS);
         let leaves = vec![in alloc; 0; runs]?;
         let positions = vec![in alloc; NOWHERE; LEAF_SHARDS]?;
+        let firsts = vec![in alloc; LAST_OF_LEAF; runs]?;
+        let lasts = vec![in alloc; 0; runs]?;
         Ok(Directory {
             most,
             count: 0,
             is_dense: false,
             leaves,
             positions,
+            firsts,
+            lasts,
         })
     }
 
@@ -149,13 +164,17 @@ impl Directory {
         requires leaf { 0 < leaf_in self.old (shard / 128) }
         ensures { IsAdded self.old self.new shard }
     {
-        let leaf = self.leaves[shard / LEAF_SHARDS] as usize;
-        self.positions[leaf * LEAF_SHARDS + shard % LEAF_SHARDS] = self.count;
+        let run = shard / LEAF_SHARDS;
+        let at = shard % LEAF_SHARDS;
+        let leaf = self.leaves[run] as usize;
+        self.positions[leaf * LEAF_SHARDS + at] = self.count;
         self.count += 1;
+        self.firsts[run] = self.firsts[run].min(at as u8);
+        self.lasts[run] = self.lasts[run].max(at as u8);
     }
 
-    /// The first shard from one on that is there, or the end of those that are asked for. A leaf in which none is there is
-    /// passed over whole.
+    /// The first shard from one on that is there, or the end of those that are asked for. Of each run of 128 those before
+    /// its first and behind its last are passed over.
     pub fn next(&self, from: usize, end: usize) -> usize
         requires from { from ≤ end }
         requires end { end ≤ most_of self.now }
@@ -167,10 +186,13 @@ impl Directory {
         let mut shard = from;
         while shard < end {
             let run = shard / LEAF_SHARDS;
-            let run_end = ((run + 1) * LEAF_SHARDS).min(end);
-            if self.leaves[run] != 0 {
-                let found = self.next_in_run(shard, run_end);
-                if found < run_end {
+            let start = run * LEAF_SHARDS;
+            let run_end = (start + LEAF_SHARDS).min(end);
+            let first = shard.max(start + usize::from(self.firsts[run]));
+            let behind = run_end.min(start + usize::from(self.lasts[run]) + 1);
+            if first < behind {
+                let found = self.next_in_run(first, behind);
+                if found < behind {
                     return found;
                 }
             }

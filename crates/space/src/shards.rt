@@ -197,8 +197,9 @@ impl Shards {
         self.directory.position(self.shard(place)) < self.directory.count()
     }
 
-    /// The first page of a space, from a page on and before an end, whose shard is there; the end where there is none. No
-    /// page before it has its shard there, so all are absent. What is not there is passed over in runs of 8,192 pages.
+    /// The first page of a space, from a page on and before an end, whose shard is there; the end where there is none.
+    /// No page before it has its shard there, so all are absent. What is not there is passed over in runs of 8,192
+    /// pages.
     pub fn first_from(&self, place: Place, end: u32) -> u32
         requires place { IsPlace self.now place }
         requires from { place.page ≤ end }
@@ -220,8 +221,8 @@ impl Shards {
         page.min(end)
     }
 
-    /// The first page of a space, from a page on and before an end, that is held; the end where there is none. What is not
-    /// there is passed over in the same way, and the words of what is there are looked at one behind another.
+    /// The first page of a space, from a page on and before an end, that is held; the end where there is none. What is
+    /// not there is passed over in the same way, and the words of what is there are looked at one behind another.
     pub fn first_held(&self, place: Place, end: u32) -> u32
         requires place { IsPlace self.now place }
         requires from { place.page ≤ end }
@@ -294,8 +295,8 @@ impl Shards {
         end
     }
 
-    /// The next pages of a space, from a page on and before an end, that are held: the first, with those behind it, side by
-    /// side in its shard. Both ends are the end where there is none.
+    /// The next pages of a space, from a page on and before an end, that are held: the first, with those behind it,
+    /// side by side in its shard. Both ends are the end where there is none.
     pub fn next_run(&self, place: Place, end: u32) -> Range<u32>
         requires place { IsPlace self.now place }
         requires from { place.page < end }

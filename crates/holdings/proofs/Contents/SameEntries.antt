@@ -1,16 +1,20 @@
 -- Where each word says what it said, the same is held, wherever the words stand; and so where shards were made.
-use Rattle.std.proofs.Common.{◌≡◌, ◌∙◌, List, length, sym, ap, subst, arith, ◌≤◌}
+use Rattle.std.proofs.Common.{◌≡◌, ◌∙◌, List, length, sym, ap, subst, arith, ◌≤◌, get_or}
+use Rattle.std.specs.List.{All}
 use Rattle.std.specs.Prelude.{IsFalse, option_map}
 use Rattle.fpage.specs.declared.rights.Rights.{Rights}
 use Rattle.space.specs.declared.place.Place.{Place}
 use Rattle.space.specs.declared.shards.Shards.{Shards}
-use Rattle.space.specs.Shards.{word_count, IsMade, entry_at, spaces_of, bits_of, is_taken}
+use Rattle.space.specs.Shards.{HasWord, IsPlace, word_count, IsMade, entry_at, spaces_of, bits_of, is_taken}
+use Rattle.space.proofs.Made.{place_on}
 use Rattle.maptree.specs.Origins.{Shape}
 use Rattle.model.specs.Calls.{Limits}
 use Rattle.model.specs.Lawful.{is_lawful}
 use Rattle.holdings.specs.Contents.{Contents, AreMapped, AreMoved, laid_out}
 use Rattle.holdings.specs.Layout.{OnlyGrows}
 use Rattle.holdings.specs.Places.{listing}
+use Rattle.holdings.specs.Sending.{IsTransferWithin}
+use Rattle.holdings.specs.Inner.Words.{IsThere}
 use Rattle.holdings.specs.declared.transfer.Transfer.{Transfer}
 use Rattle.holdings.specs.declared.transfer_counts.TransferCounts.{TransferCounts}
 use Rattle.holdings.specs.Inner.Held.{contents_of, has_frame, held_of, holdings_of, layout_in, limits_in}
@@ -96,3 +100,13 @@ module _ (held : Contents) (s : Shards) (trees : List Shape) (made : AreMadeFrom
   moved_from r are =
       let from = subst (λ (c : Contents). AreMoved c ts r) made.view are in
       record { left = from.left; grows = λ p i is. from.grows p i (made.grows p i is); counted = from.counted }
+
+-- where the words of targets were made, sources are pages and targets have words
+pub made_there : (s n : Shards) (trees : List Shape) → IsMade s n → (held : Contents) → contents_of s trees ≡ held → (ts : List Transfer) → All (IsTransferWithin held.limits) ts → All (λ t. HasWord n t.target) ts
+    → All (λ t. IsPlace n t.source × IsThere n t.target) ts
+made_there s n trees made held is ts within there k d less =
+    let t = get_or ts k d in
+    let in_limits : IsTransferWithin (limits_in s trees) t = subst (λ (h : Contents). IsTransferWithin h.limits t) (sym is) (within k d less) in
+    let source : IsPlace s t.source = record { space = in_limits.source_space; page = in_limits.source_page } in
+    let target : IsPlace s t.target = record { space = in_limits.target_space; page = in_limits.target_page } in
+    (place_on s n made t.source source, record { place = place_on s n made t.target target; word = there k d less })

@@ -7,8 +7,12 @@ use Rattle.holdings.specs.Inner.Held.{contents_of}
 use Rattle.holdings.specs.Inner.Links.{links_of}
 use Rattle.holdings.specs.Inner.Sound.{AreSound}
 use Rattle.holdings.proofs.Phases.MapPhase.{new_linkable, stores_distinct, stores_can, mapped_sound, are_mapped}
-use Rattle.holdings.proofs.Contents.SameEntries.{made_from, made_says, sound_stays}
+use Rattle.holdings.proofs.Contents.SameEntries.{made_from, made_says, made_there, sound_stays}
 use Rattle.holdings.proofs.holdings.Holdings.map.Goals as goal
+
+pub stores-requires-clause-places : goal.stores-requires-clause-places
+stores-requires-clause-places g c =
+    made_there c.self.inside.shards c.make_targets.new.shards c.self.inside.trees.items c.in_ok-make_targets.ensures.made c.args.self c.self.view_is c.args.transfers.now c.requires.planned.within c.in_ok-make_targets.ensures.there
 
 pub links-requires-clause-distinct : goal.links-requires-clause-distinct
 links-requires-clause-distinct g c =

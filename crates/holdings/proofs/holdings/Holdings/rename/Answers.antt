@@ -7,8 +7,12 @@ use Rattle.holdings.specs.Inner.Held.{contents_of}
 use Rattle.holdings.specs.Inner.Links.{links_of}
 use Rattle.holdings.specs.Inner.Sound.{AreSound}
 use Rattle.holdings.proofs.Phases.MovePhase.{trees_movable, pairs_distinct, pairs_can, moved_sound, are_moved}
-use Rattle.holdings.proofs.Contents.SameEntries.{made_from, made_says, sound_stays}
+use Rattle.holdings.proofs.Contents.SameEntries.{made_from, made_says, made_there, sound_stays}
 use Rattle.holdings.proofs.holdings.Holdings.rename.Goals as goal
+
+pub pairs-requires-clause-places : goal.pairs-requires-clause-places
+pairs-requires-clause-places g c =
+    made_there c.self.inside.shards c.make_targets.new.shards c.self.inside.trees.items c.in_ok-make_targets.ensures.made c.args.self c.self.view_is c.args.transfers.now c.requires.planned.within c.in_ok-make_targets.ensures.there
 
 pub moves-requires-clause-distinct : goal.moves-requires-clause-distinct
 moves-requires-clause-distinct g c =

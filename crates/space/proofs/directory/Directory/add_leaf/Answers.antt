@@ -1,9 +1,9 @@
 -- The leaf stands behind the others, and no shard is there in it.
 use Rattle.std.proofs.Common.{◌≡◌, ◌∙◌, refl, sym, ap, arith, ◌+◌, ◌-◌, ◌/◌, ◌++◌, length, slice_set, vec_len}
 use Rattle.std.specs.Prelude.{replicate}
-use Rattle.std.proofs.lemmas.List.{take_all, get_or_default}
+use Rattle.std.proofs.lemmas.List.{take_all, get_or_default, length-set}
 use Rattle.space.specs.Leaves.{nowhere}
-use Rattle.space.proofs.Leaves.{leaves_few, leaf_added, same_positions, leaf_some}
+use Rattle.space.proofs.Leaves.{leaves_few, leaf_added, same_positions, leaf_some, same_spans}
 use Rattle.space.proofs.directory.Directory.add_leaf.Goals as goal
 
 pub overflow_cast-len : goal.overflow_cast-len
@@ -24,6 +24,10 @@ invariant_of-self-2 c =
       found =
           leaf_added d.most d.count d.leaves.items d.positions.items d.found c.args.run c.requires.within none _ _
           (ap (λ n. slice_set d.leaves.items c.args.run (n / 128)) len) (c.in_ok-resize.ensures.items ∙ (λ i. whole i ++ replicate (more i) nowhere));
+      spans =
+          same_spans d.leaves.items d.positions.items _ _ d.firsts.items d.lasts.items d.spans (length-set d.leaves.items c.args.run (c.len-len.result / 128))
+          (same_positions d.most d.count d.leaves.items d.positions.items d.found c.args.run c.requires.within none _ _
+          (ap (λ n. slice_set d.leaves.items c.args.run (n / 128)) len) (c.in_ok-resize.ensures.items ∙ (λ i. whole i ++ replicate (more i) nowhere)));
       dense = λ dense. absurd (omega (arith, none, d.dense dense c.args.run c.requires.within));
     }
 

@@ -1,14 +1,21 @@
 -- Each run has a leaf, and no shard is there.
-use Rattle.std.proofs.Common.{◌∙◌, ap, ◌+◌, ◌*◌}
+use Rattle.std.proofs.Common.{◌≡◌, ◌∙◌, ℕ, sym, ap, length, ◌+◌, ◌*◌}
 use Rattle.std.specs.Prelude.{replicate}
+use Rattle.std.proofs.lemmas.List.{length-replicate}
 use Rattle.space.specs.Leaves.{nowhere}
-use Rattle.space.proofs.Leaves.{dense_directory}
+use Rattle.space.proofs.Leaves.{dense_directory, no_spans}
 use Rattle.space.proofs.directory.Directory.dense.Goals as goal
 
 pub invariant_of-result : goal.invariant_of-result
-invariant_of-result c = record {
-  found =
-      dense_directory c.args.most c.in_ok-leaves.leaves.items c.in_ok-positions.positions.items c.requires.few (c.in_ok-leaves.ensures.count ∙ c.div_ceil-runs.ensures) c.in_ok-leaves.ensures.order
-      (c.in_ok-positions.ensures.items_if_clones_equal (λ y is. is) ∙ ap (λ n. replicate ((n + 1) * 128) nowhere) c.div_ceil-runs.ensures);
-  dense = λ _. c.in_ok-leaves.ensures.order;
-}
+invariant_of-result c =
+    let found =
+    dense_directory c.args.most c.in_ok-leaves.leaves.items c.in_ok-positions.positions.items c.requires.few (c.in_ok-leaves.ensures.count ∙ c.div_ceil-runs.ensures) c.in_ok-leaves.ensures.order
+    (c.in_ok-positions.ensures.items_if_clones_equal (λ y is. is) ∙ ap (λ n. replicate ((n + 1) * 128) nowhere) c.div_ceil-runs.ensures) in
+    let runs : length c.in_ok-leaves.leaves.items ≡ c.div_ceil-runs.result = c.in_ok-leaves.ensures.count in
+    record {
+      found = found;
+      spans = no_spans c.args.most c.in_ok-leaves.leaves.items c.in_ok-positions.positions.items c.in_ok-firsts.firsts.items c.in_ok-lasts.lasts.items found
+          (ap length (c.in_ok-firsts.ensures.items_if_clones_equal (λ y is. is)) ∙ length-replicate {A = ℕ} c.div_ceil-runs.result 127 ∙ sym runs)
+          (ap length (c.in_ok-lasts.ensures.items_if_clones_equal (λ y is. is)) ∙ length-replicate {A = ℕ} c.div_ceil-runs.result 0 ∙ sym runs);
+      dense = λ _. c.in_ok-leaves.ensures.order;
+    }
