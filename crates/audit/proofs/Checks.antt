@@ -16,8 +16,7 @@ use Rattle.space.specs.declared.place.Place.{Place}
 use Rattle.space.specs.Place.{place_cmp, same_place}
 use Rattle.space.proofs.Places.{places_total, same_self, same_is}
 use Rattle.model.specs.Holdings.{Held, Holdings, at}
-use Rattle.holdings.specs.declared.mapping.Mapping.{Mapping}
-use Rattle.holdings.specs.Mappings.{mapped_of}
+use Rattle.mapdb.specs.Held.{Mapping, mapped_of}
 
 -- any mapping
 abbrev pub blank : Mapping

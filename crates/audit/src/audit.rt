@@ -3,7 +3,7 @@
 ghost use Rattle.std.specs.Prelude.{◌≡◌, ◌↔◌, ◌⊎◌, true, map, IfOk, IfErr, IsErrOf};
 ghost use Rattle.model.specs.Lawful.{is_lawful};
 ghost use Rattle.model.specs.Text.{audit_lines};
-ghost use Rattle.holdings.specs.Mappings.{mapped_of};
+ghost use Rattle.mapdb.specs.Held.{mapped_of};
 ghost use Rattle.audit.specs.declared.error.AuditError.TheVariants.{Halted, NoMemory};
 
 use crate::checker::check;
@@ -91,7 +91,7 @@ fn text_of(
 }
 
 ghost use Rattle.std.specs.Prelude.{◌++◌, OnOk, flat_map};
-ghost use Rattle.holdings.specs.Mappings.{held_from};
+ghost use Rattle.mapdb.specs.Held.{held_from};
 
 /// The spaces that hold anything, by rising number.
 fn held_spaces(alloc: Global, mappings: &Mappings<'_>) -> Result<Vec<u16>, AllocError>

@@ -2,7 +2,7 @@
 
 ghost use Rattle.std.specs.Prelude.{◌≡◌, map};
 ghost use Rattle.model.specs.Lawful.{is_lawful};
-ghost use Rattle.holdings.specs.Mappings.{mapped_of};
+ghost use Rattle.mapdb.specs.Held.{mapped_of};
 
 use crate::line::Line;
 use space::Place;

@@ -4,7 +4,7 @@ ghost use Rattle.std.specs.Prelude.{◌≡◌, ◌++◌, OnOk, codes, string_byt
 ghost use Rattle.std.specs.Fmt.{decimal};
 ghost use Rattle.space.specs.Place.{place_text};
 ghost use Rattle.model.specs.Text.{audit_line, origin_text, rights_text, status_text};
-ghost use Rattle.holdings.specs.Mappings.{mapped_of};
+ghost use Rattle.mapdb.specs.Held.{mapped_of};
 
 use fpage::Rights;
 use itoa::Buffer;

@@ -1,22 +1,29 @@
 -- What comes of a call, by how it ended.
-use Rattle.std.proofs.Common.{◌≡◌, inl, inr, ℕ, Bool, true, false, not, ◌&&◌, Option, Some, None, Result, Ok, Err, if◌then◌else◌, refl, sym, ap, ◌∙◌, subst}
-use Rattle.std.specs.Prelude.{IfSome}
-use Rattle.std.specs.Option.{option_map}
+use Rattle.std.proofs.Common.{◌≡◌, inl, inr, ℕ, Bool, true, false, not, ◌&&◌, Some, None, Result, Ok, Err, if◌then◌else◌, refl, sym, ap, ◌∙◌, subst}
 use Rattle.std.specs.Result.{IsErrAnd}
-use Rattle.model.specs.Calls.{Call, Refusal, no_such_space, same_space, no_window, Reply, refused, Request}
-use Rattle.model.specs.Answers.{Answer, answer, call_answer, call_refusal, unless_refused}
-use Rattle.mapdb.specs.State.{State, halted, left_with, error_of, refusal, IsRefused}
-use Rattle.mapdb.specs.declared.error.DbError.{DbError}
-use Rattle.mapdb.specs.declared.error.DbError.TheVariants.{Halted, NoMemory, NoWorker}
-use Rattle.c_handle.specs.Codes.{done, is_halted_code, refusal_code, code_of}
+use Rattle.fpage.specs.declared.error.FpageError.{FpageError}
+use Rattle.model.specs.Calls as calls
+use Rattle.model.specs.Calls.{Call, send, access, unmap, clear, Refusal, Reply, sent, accessed, unmapped, cleared, refused, Request}
+use Rattle.model.specs.Answers.{Answer, answer, call_answer, unless_refused}
+use Rattle.model.specs.Holdings.{Holdings}
+use Rattle.mapdb.specs.Calls.{refusal_of}
+use Rattle.mapdb.specs.State.{State, laid_out, left_with}
+use Rattle.c_handle.specs.Codes.{done, is_halted_code, refusal_code}
 use Rattle.c_handle.specs.Called.{After, IsCalled, answered, called, unchanged, run_out, is_refused, reply_code}
-use Rattle.c_handle.specs.Errors.{error_code, result_code}
+use Rattle.c_handle.specs.Done.{IsNotDone}
+use Rattle.c_handle.specs.Errors.{HasCodeOf, error_code, result_code}
 use Rattle.c_handle.specs.declared.error.CallError.{CallError}
+use Rattle.c_handle.specs.declared.error.CallError.TheVariants.{Refused, Halted}
 
 -- the code of a result that is an error
 pub coded : {A : Type 0} (r : Result A CallError) (e : CallError) → IsErrAnd r (λ d. d ≡ e) → result_code r ≡ error_code e
 coded (Ok x) e is = absurd is
 coded (Err d) e is = ap error_code is
+
+-- the code of a result that is the error of a word
+pub word_coded : {A : Type 0} (r : Result A CallError) (word : FpageError) → IsErrAnd r (HasCodeOf word) → result_code r ≡ refusal_code (calls.refusal_of word)
+word_coded (Ok x) word is = absurd is
+word_coded (Err d) word is = is
 
 module _ {A : Type 0} (told : A → Reply → A) (request : Request) (s : State) (lent : A) where
   -- by a halted database
@@ -40,84 +47,40 @@ module _ {A : Type 0} (told : A → Reply → A) (request : Request) (s : State)
   pub called_run_out : s.is_halted ≡ false → is_refused (answer s.limits s.holdings request).reply ≡ false → IsCalled told request s lent (run_out s lent)
   called_run_out runs accepted = inr ((λ i. not (runs i) && not (accepted i)), refl)
 
--- the database names a refusal of a call by an error with the same code
-abbrev pub IsNamed : Option Refusal → Type 0
-IsNamed why = IfSome why (λ r. code_of (error_of r) ≡ refusal_code r)
+-- an accepted call is answered by no refusal
+not_refusal : (h : Holdings) (call : Call) → is_refused (call_answer h call).reply ≡ false
+not_refusal h (send from to window items) = refl
+not_refusal h (access place kind) = refl
+not_refusal h (unmap space flush words) = refl
+not_refusal h (clear space) = refl
 
-pub send_named : (there same nil : Bool) → IsNamed (if not there then Some no_such_space else if same then Some same_space else if nil then Some no_window else None)
-send_named false same nil = refl
-send_named true true nil = refl
-send_named true false true = refl
-send_named true false false = tt
+-- a reply that is no refusal is that of a call that was done
+pub done_code : (r : Reply) → is_refused r ≡ false → done ≡ reply_code r
+done_code (sent counts) is = refl
+done_code (accessed made) is = refl
+done_code (unmapped words) is = refl
+done_code (cleared status) is = refl
+done_code (refused why) is = absurd (cc is)
 
-pub unmap_named : (there : Bool) → IsNamed (if there then None else Some no_such_space)
-unmap_named true = tt
-unmap_named false = refl
+module _ {A : Type 0} (told : A → Reply → A) (request : Request) (s : State) (lent : A) (call : Call) (asked : request ≡ Ok call) where
+  -- it was answered
+  pub called_done : s.is_halted ≡ false → (new : State) (r : Reply) → answer s.limits s.holdings (Ok call) ≡ record { reply = r; left = new.holdings } → new ≡ left_with s new.holdings
+      → (code : ℕ) → code ≡ reply_code r → (mine : A) → mine ≡ told lent r → IsCalled told request s lent (record { code = code; held = Some new; lent = mine })
+  called_done runs new r answer_is new_is code code_is mine mine_is =
+      called_as told request s lent runs (record { reply = r; left = new.holdings }) (ap (answer s.limits s.holdings) asked ∙ answer_is) (record { code = code; held = Some new; lent = mine })
+      (λ i. record { code = code_is i; held = Some (new_is i); lent = mine_is i })
 
--- a call that was done was not refused
-pub not_refused : {B : Type 0} (s new : State) (call : Call) (x : B) → s.is_halted ≡ false → IsRefused {A = B} (refusal s call) s new (Ok x) → call_refusal s.limits call ≡ None
-not_refused {B} s new call x runs why = by (call_refusal s.limits call) refl (subst (λ b. IsRefused {A = B} (if b then Some Halted else option_map error_of (call_refusal s.limits call)) s new (Ok x)) runs why)
-  where
-    by : (o : Option Refusal) → call_refusal s.limits call ≡ o → IsRefused {A = B} (option_map error_of o) s new (Ok x) → call_refusal s.limits call ≡ None
-    by None none why = none
-    by (Some r) some why = absurd (cc why.0)
+  -- it was not
+  pub called_not_done : ((r : Refusal) → told lent (refused r) ≡ lent) → (new : State) (e : CallError) → IsNotDone s call new e → IsCalled told request s lent (record { code = error_code e; held = Some new; lent = lent })
+  called_not_done kept new (Refused r) is =
+      called_done is.running new (refused (refusal_of r)) is.told (subst (λ (n : State). n ≡ left_with s n.holdings) (sym is.stays) refl) (error_code (Refused r)) refl lent (sym (kept (refusal_of r)))
+  called_not_done kept new Halted (inl is) =
+      subst (λ (n : State). IsCalled told request s lent (record { code = is_halted_code; held = Some n; lent = lent })) (sym is.1) (called_halted told request s lent is.0)
+  called_not_done kept new Halted (inr is) =
+      let accepted = ap (λ q. is_refused (answer s.limits s.holdings q).reply) asked
+      ∙ ap (λ o. is_refused (unless_refused o s.holdings (call_answer s.holdings call)).reply) is.0.none ∙ not_refusal s.holdings call in
+      subst (λ (n : State). IsCalled told request s lent (record { code = is_halted_code; held = Some n; lent = lent })) (sym is.1) (called_run_out told request s lent is.0.running accepted)
 
--- nor was the database halted
-pub not_halted : {B : Type 0} (s new : State) (call : Call) (x : B) → IsRefused {A = B} (refusal s call) s new (Ok x) → s.is_halted ≡ false
-not_halted {B} s new call x why = by s.is_halted refl why
-  where
-    by : (b : Bool) → s.is_halted ≡ b → IsRefused {A = B} (if b then Some Halted else option_map error_of (call_refusal s.limits call)) s new (Ok x) → s.is_halted ≡ false
-    by true is why = absurd (cc why.0)
-    by false is why = is
-
-module _ {A : Type 0} (told : A → Reply → A) (request : Request) (s : State) (lent : A) (call : Call) (asked : request ≡ Ok call) (runs : s.is_halted ≡ false) where
-  -- done
-  pub called_done : call_refusal s.limits call ≡ None → (new : State) → new ≡ left_with s (call_answer s.holdings call).left
-      → reply_code (call_answer s.holdings call).reply ≡ done → (mine : A) → mine ≡ told lent (call_answer s.holdings call).reply → IsCalled told request s lent (record { code = done; held = Some new; lent = mine })
-  called_done none new new_is is_done mine mine_is =
-      let a = call_answer s.holdings call in
-      called_as told request s lent runs a (ap (answer s.limits s.holdings) asked ∙ ap (λ o. unless_refused o s.holdings a) none) (record { code = done; held = Some new; lent = mine })
-      (λ i. record { code = sym is_done i; held = Some (new_is i); lent = mine_is i })
-
-  -- out of memory in the middle
-  pub called_halting : call_refusal s.limits call ≡ None → is_refused (call_answer s.holdings call).reply ≡ false → (new : State) → new ≡ halted s → (code : ℕ) → code ≡ is_halted_code
-      → IsCalled told request s lent (record { code = code; held = Some new; lent = lent })
-  called_halting none accepted new new_is code code_is =
-      let a = call_answer s.holdings call in
-      let is_accepted = ap (λ q. is_refused (answer s.limits s.holdings q).reply) asked ∙ ap (λ o. is_refused (unless_refused o s.holdings a).reply) none ∙ accepted in
-      let P : After A → Type 0 = λ after. IsCalled told request s lent after in
-      subst P (λ i. record { code = sym code_is i; held = Some (sym new_is i); lent = lent }) (called_run_out told request s lent runs is_accepted)
-
-  -- refused by the database, or out of memory in the middle
-  pub called_error : (B : Type 0) → ((r : Refusal) → told lent (refused r) ≡ lent) → IsNamed (call_refusal s.limits call) → is_refused (call_answer s.holdings call).reply ≡ false
-      → (new : State) (e : DbError) → IsRefused {A = B} (refusal s call) s new (Err e) → (e ≡ NoMemory → new ≡ halted s) → (e ≡ NoWorker → new ≡ halted s)
-      → IsCalled told request s lent (record { code = code_of e; held = Some new; lent = lent })
-  called_error B kept named accepted new e why no_memory no_worker =
-      by (call_refusal s.limits call) refl named (subst (λ b. IsRefused {A = B} (if b then Some Halted else option_map error_of (call_refusal s.limits call)) s new (Err e)) runs why)
-    where
-      after : After A
-      after = record { code = code_of e; held = Some new; lent = lent }
-
-      by : (o : Option Refusal) → call_refusal s.limits call ≡ o → IsNamed o → IsRefused {A = B} (option_map error_of o) s new (Err e) → IsCalled told request s lent after
-      by None none named (inl is) = called_halting none accepted new (no_memory is) (code_of e) (ap code_of is)
-      by None none named (inr is) = called_halting none accepted new (no_worker is) (code_of e) (ap code_of is)
-      by (Some r) some named why =
-          let is : e ≡ error_of r = cc why.0 in
-          called_as told request s lent runs (record { reply = refused r; left = s.holdings })
-          (ap (answer s.limits s.holdings) asked ∙ ap (λ o. unless_refused o s.holdings (call_answer s.holdings call)) some) after
-          (λ i. record { code = (ap code_of is ∙ named) i; held = Some (why.1 i); lent = sym (kept r) i })
-
--- refused by the database, which may be halted, or out of memory in the middle
-pub called_at_once : {A : Type 0} (told : A → Reply → A) (request : Request) (s : State) (lent : A) (call : Call) → request ≡ Ok call
-    → (B : Type 0) → ((r : Refusal) → told lent (refused r) ≡ lent) → IsNamed (call_refusal s.limits call) → is_refused (call_answer s.holdings call).reply ≡ false
-    → (new : State) (e : DbError) → IsRefused {A = B} (refusal s call) s new (Err e) → (e ≡ NoMemory → new ≡ halted s) → (e ≡ NoWorker → new ≡ halted s)
-    → IsCalled told request s lent (record { code = code_of e; held = Some new; lent = lent })
-called_at_once {A} told request s lent call asked B kept named accepted new e why no_memory no_worker = by s.is_halted refl why
-  where
-    by : (b : Bool) → s.is_halted ≡ b → IsRefused {A = B} (if b then Some Halted else option_map error_of (call_refusal s.limits call)) s new (Err e)
-        → IsCalled told request s lent (record { code = code_of e; held = Some new; lent = lent })
-    by true is why =
-        let same : e ≡ Halted = cc why.0 in
-        let P : After A → Type 0 = λ after. IsCalled told request s lent after in
-        subst P (λ i. record { code = ap code_of (sym same) i; held = Some (sym why.1 i); lent = lent }) (called_halted told request s lent is)
-    by false is _ = called_error told request s lent call asked is B kept named accepted new e why no_memory no_worker
+-- a call that makes no words leaves the layout
+pub kept_layout : (s new : State) → new ≡ laid_out (left_with s new.holdings) new.layout → new.layout ≡ s.layout → new ≡ left_with s new.holdings
+kept_layout s new keeps same = keeps ∙ ap (laid_out (left_with s new.holdings)) same

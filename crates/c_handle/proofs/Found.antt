@@ -7,7 +7,7 @@ use Rattle.space.specs.declared.place.Place.{Place}
 use Rattle.space.specs.Directory.{pages_of}
 use Rattle.model.specs.Calls.{Limits}
 use Rattle.model.specs.Holdings.{Held, Holdings, keep, at}
-use Rattle.holdings.specs.Places.{pages_from, spaces_from, listed, listing}
+use Rattle.mapdb.specs.Held.{pages_from, spaces_from, listed, listing}
 use Rattle.c_handle.specs.Listed.{mapping_told, mappings_at, mappings_from, from_page, WritesBehind}
 use Rattle.c_handle.specs.declared.mappings.MappingReply.{MappingReply}
 use Rattle.c_handle.proofs.Buffers.{writes_none, writes_more, writes_full, writes_both}

@@ -1,6 +1,7 @@
 mod Steps
 mod Buffers
 mod Calling
+mod Ending
 mod Sendings
 mod Listings
 mod Found

@@ -4,7 +4,7 @@ use Rattle.std.proofs.lemmas.Bool.{lt-ltb, le-ltb, le-leb, lt-leb, eq-eqb, ne_eq
 use Rattle.std.proofs.lemmas.List.Elements.{filter-append}
 use Rattle.space.specs.declared.place.Place.{Place}
 use Rattle.model.specs.Holdings.{Held, Holdings, PlaceSet, keep}
-use Rattle.holdings.specs.Places.{pages_from, spaces_from, listed}
+use Rattle.mapdb.specs.Held.{pages_from, spaces_from, listed}
 use Rattle.c_handle.specs.Listed.{from_page}
 
 abbrev place : ℕ → ℕ → Place

@@ -1,67 +1,28 @@
--- Words that come back with their status, one after another.
-use Rattle.std.proofs.Common.{◌≡◌, ℕ, zero, suc, ◌+◌, ◌<◌, Bool, List, [], ◌∷◌, map, length, set, get_or, Result, Ok, Err, refl, sym, ap, ◌∙◌, arith, add-one}
+-- The words of an unmap, as a control word and a reply have them.
+use Rattle.std.proofs.Common.{◌≡◌, ℕ, suc, ◌+◌, Bool, List, [], ◌∷◌, length, Option, Some, None, Result, Ok, Err, refl, sym, ap, ◌∙◌, arith}
 use Rattle.std.specs.List.{zip}
-use Rattle.fpage.specs.Control.{ControlWord, control_with, read_control, with_status}
+use Rattle.fpage.specs.Control.{ControlWord, control_with, read_control}
 use Rattle.fpage.specs.Fpage.{Flexpage}
 use Rattle.fpage.specs.declared.error.FpageError.{FpageError}
-use Rattle.fpage.specs.declared.rights.Rights.{Rights}
-use Rattle.model.specs.Answers.{UnmapAnswer, pages_in, unmap_answer}
+use Rattle.model.specs.Answers.{answer, call_answer, call_refusal, pages_in, unless_refused, unmap_answer}
+use Rattle.model.specs.Calls.{Limits, Refusal, unmap, unmapped}
 use Rattle.model.specs.Holdings.{Holdings}
-use Rattle.model.specs.Strip.{strip, strip_word}
-use Rattle.mapdb.specs.State.{unmap_status, unmap_left}
+use Rattle.model.specs.Strip.{strip}
 
--- words of which so many have their status
-abbrev pub told_to : ℕ → List ℕ → List Rights → List ℕ
-told_to zero words status = words
-told_to (suc n) [] status = []
-told_to (suc n) (w ∷ words) [] = w ∷ words
-told_to (suc n) (w ∷ words) (s ∷ status) = with_status w s ∷ told_to n words status
+-- as many words come back as were named
+pub words_told_back : (space : ℕ) (f : Bool) (words : List ℕ) (fpages : List Flexpage) (h : Holdings) → length fpages ≡ length words → length (unmap_answer space f (zip words fpages) h).words ≡ length words
+words_told_back space f [] [] h same = refl
+words_told_back space f [] (p ∷ fpages) h same = absurd (omega (arith, same))
+words_told_back space f (w ∷ words) [] h same = absurd (omega (arith, same))
+words_told_back space f (w ∷ words) (p ∷ fpages) h same = ap suc (words_told_back space f words fpages (strip h (pages_in space p) p.rights f) (omega (arith, same)))
 
--- one more
-pub told_next : (n : ℕ) (words : List ℕ) (status : List Rights) (d : Rights) → n < length words → n < length status
-    → set (told_to n words status) n (with_status (get_or (told_to n words status) n 0) (get_or status n d)) ≡ told_to (suc n) words status
-told_next zero [] status d some one = absurd (omega (arith, some))
-told_next zero (w ∷ words) [] d some one = absurd (omega (arith, one))
-told_next zero (w ∷ words) (s ∷ status) d some one = refl
-told_next (suc n) [] status d some one = absurd (omega (arith, some))
-told_next (suc n) (w ∷ words) [] d some one = absurd (omega (arith, one))
-told_next (suc n) (w ∷ words) (s ∷ status) d some one = ap (λ l. with_status w s ∷ l) (told_next n words status d (omega (arith, some)) (omega (arith, one)))
-
--- one more, in a loop
-pub told_then : (n : ℕ) (words now : List ℕ) (status : List Rights) (d : Rights) (value : ℕ) → now ≡ told_to n words status → value ≡ with_status (get_or now n 0) (get_or status n d) → n < length words → n < length status
-    → set now n value ≡ told_to (n + 1) words status
-told_then n words now status d value before is some one =
-    (λ j. set (before j) n (is j)) ∙ ap (λ l. set (told_to n words status) n (with_status (get_or l n 0) (get_or status n d))) before
-    ∙ told_next n words status d some one ∙ ap (λ k. told_to k words status) (sym (add-one n))
-
--- all
-pub told_all : (words : List ℕ) (status : List Rights) → length status ≡ length words → told_to (length words) words status ≡ map (λ e. with_status e.0 e.1) (zip words status)
-told_all [] [] same = refl
-told_all [] (s ∷ status) same = refl
-told_all (w ∷ words) [] same = absurd (omega (arith, same))
-told_all (w ∷ words) (s ∷ status) same = ap (λ l. with_status w s ∷ l) (told_all words status (omega (arith, same)))
-
--- ---- an unmap
-
--- each word comes back with its status
-abbrev pub told : List ℕ → List Rights → List ℕ
-told words status = map (λ e. with_status e.0 e.1) (zip words status)
-
--- a status for each word
-pub status_length : (space : ℕ) (f : Bool) (fpages : List Flexpage) (h : Holdings) → length (unmap_status space f fpages h) ≡ length fpages
-status_length space f [] h = refl
-status_length space f (p ∷ fpages) h = ap suc (status_length space f fpages (strip h (pages_in space p) p.rights f))
-
--- the answer to an unmap, in the parts that the database gives
-pub unmap_told : (space : ℕ) (f : Bool) (words : List ℕ) (fpages : List Flexpage) (h : Holdings) → length fpages ≡ length words
-    → unmap_answer space f (zip words fpages) h ≡ record { words = told words (unmap_status space f fpages h); left = unmap_left space f fpages h }
-unmap_told space f [] [] h same = refl
-unmap_told space f [] (p ∷ fpages) h same = absurd (omega (arith, same))
-unmap_told space f (w ∷ words) [] h same = absurd (omega (arith, same))
-unmap_told space f (w ∷ words) (p ∷ fpages) h same =
-    let named = pages_in space p in
-    ap (λ (a : UnmapAnswer). record { words = with_status w (strip_word h named) ∷ a.words; left = a.left })
-    (unmap_told space f words fpages (strip h named p.rights f) (omega (arith, same)))
+-- as many as the reply tells
+pub words_answered : (limits : Limits) (h : Holdings) (space : ℕ) (f : Bool) (words : List ℕ) (fpages : List Flexpage) (told : List ℕ) → length fpages ≡ length words → (answer limits h (Ok (unmap space f (zip words fpages)))).reply ≡ unmapped told → length words ≡ length told
+words_answered limits h space f words fpages told same is = by (call_refusal limits (unmap space f (zip words fpages))) is
+  where
+    by : (o : Option Refusal) → (unless_refused o h (call_answer h (unmap space f (zip words fpages)))).reply ≡ unmapped told → length words ≡ length told
+    by None is = let words_are : (unmap_answer space f (zip words fpages) h).words ≡ told = cc is in sym (words_told_back space f words fpages h same) ∙ ap length words_are
+    by (Some r) is = absurd (cc is)
 
 -- how many words a control word names
 pub words_are : (n : ℕ) (r : Result Bool FpageError) (control : ControlWord) → Ok control ≡ control_with n r → control.words ≡ n

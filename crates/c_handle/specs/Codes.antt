@@ -2,8 +2,6 @@
 use Rattle.std.specs.Prelude.{ℕ}
 use Rattle.model.specs.Calls as calls
 use Rattle.model.specs.Calls.{Refusal}
-use Rattle.mapdb.specs.declared.error.DbError.{DbError}
-use Rattle.mapdb.specs.declared.error.DbError.TheVariants.{BadLimits, NoSuchSpace, SameSpace, NoWindow, NoMemory, NoWorker, Halted}
 
 -- the call was done
 abbrev pub done : ℕ
@@ -67,14 +65,3 @@ refusal_code calls.no_such_space = no_such_space
 refusal_code calls.same_space = same_space
 refusal_code calls.no_window = no_window
 refusal_code calls.bad_record = bad_call
-
--- the code of an error of a call of the database, which halts it where memory is refused; a call on the calling thread
--- needs no worker
-abbrev pub code_of : DbError → ℕ
-code_of BadLimits = bad_limits
-code_of NoSuchSpace = no_such_space
-code_of SameSpace = same_space
-code_of NoWindow = no_window
-code_of NoMemory = is_halted_code
-code_of NoWorker = is_halted_code
-code_of Halted = is_halted_code

@@ -9,5 +9,6 @@ pub mod New
 pub mod Asked
 pub mod Replied
 pub mod Called
+pub mod Done
 pub mod Sent
 pub mod Listed

@@ -3,7 +3,7 @@ use Rattle.std.specs.Prelude.{◌≡◌, ℕ, Option, Some, None, if◌then◌el
 use Rattle.fpage.specs.Rights.{number}
 use Rattle.space.specs.declared.place.Place.{Place}
 use Rattle.model.specs.Holdings.{Held, Holdings, PlaceSet}
-use Rattle.holdings.specs.Places.{listed}
+use Rattle.mapdb.specs.Held.{listed}
 use Rattle.mapdb.specs.State.{State}
 use Rattle.c_handle.specs.Codes.{done, is_empty, is_halted_code}
 use Rattle.c_handle.specs.Look.{origin_told}

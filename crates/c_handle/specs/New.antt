@@ -2,7 +2,7 @@
 use Rattle.std.specs.Prelude.{◌≡◌, ◌⊎◌, ℕ, false, Option, Some, None}
 use Rattle.model.specs.Calls.{Limits}
 use Rattle.model.specs.Records.{are_limits}
-use Rattle.holdings.specs.Layout.{Layout}
+use Rattle.mapdb.specs.Held.{Layout}
 use Rattle.mapdb.specs.State.{State, laid_out, new_state}
 use Rattle.c_handle.specs.Codes.{done, bad_limits, no_memory, holds_one}
 

@@ -1,7 +1,7 @@
 -- What comes of a send, which may make words.
 use Rattle.std.specs.Prelude.{◌≡◌, false, Option, Some, None}
 use Rattle.model.specs.Calls.{Limits, Request}
-use Rattle.holdings.specs.Layout.{Layout, OnlyGrows}
+use Rattle.mapdb.specs.Held.{Layout, OnlyGrows}
 use Rattle.mapdb.specs.State.{State, laid_out}
 use Rattle.c_handle.specs.Called.{After, IsCalled, is_accepted, unchanged}
 use Rattle.c_handle.specs.Codes.{is_empty}

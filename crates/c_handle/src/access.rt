@@ -6,10 +6,11 @@ ghost use Rattle.c_handle.specs.Called.{IsCalled};
 ghost use Rattle.c_handle.specs.Errors.{result_code};
 ghost use Rattle.c_handle.specs.Replied.{made_told};
 
+use crate::answer::done;
 use crate::error::CallError;
 use crew::Alone;
 use fpage::Access;
-use mapdb::{Database, DbError};
+use mapdb::{Database, Refusal, Reply};
 use space::Place;
 use std::alloc::Global;
 
@@ -27,7 +28,7 @@ fn kind_of(number: u32) -> Option<Access>
 
 /// Accesses the page of an address, in bytes, and writes to `made` 1 if the access was made, and 0 if it is a fault.
 ///
-/// Refused, the first that fits: a halted database; `BadCall`, for the kind; `NoSuchSpace`; `OutOfSpace`; and where memory
+/// Refused, the first that fits: a halted database; `BadRecord`, for the kind; `NoSuchSpace`; `OutOfSpace`; and where memory
 /// is. Then `made` is as it was.
 pub fn access(
     alloc: Global,
@@ -41,21 +42,23 @@ pub fn access(
         (record { code = result_code result; held = Some database.new; lent = made.new }) }
 {
     if database.is_halted() {
-        return Err(CallError::Database(DbError::Halted));
+        return Err(CallError::Halted);
     }
-    let access = kind_of(kind).ok_or(CallError::BadCall)?;
+    let access = kind_of(kind).ok_or(CallError::Refused(Refusal::BadRecord))?;
     let limits = database.limits();
     if u32::from(space) >= limits.spaces {
-        return Err(CallError::Database(DbError::NoSuchSpace));
+        return Err(CallError::Refused(Refusal::NoSuchSpace));
     }
     if u64::from(address) >= 1 << limits.bits {
-        return Err(CallError::OutOfSpace);
+        return Err(CallError::Refused(Refusal::OutOfSpace));
     }
     let place = Place {
         space,
         page: address / 4096,
     };
-    let answers = database.access_all(alloc, &[(place, access)], &Alone)?;
-    *made = u32::from(answers[0]);
+    let reply = done(database.answer_access(alloc, place, access, &Alone))?;
+    if let Reply::Accessed(was_made) = reply {
+        *made = u32::from(was_made);
+    }
     Ok(())
 }

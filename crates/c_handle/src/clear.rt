@@ -6,9 +6,10 @@ ghost use Rattle.c_handle.specs.Called.{IsCalled};
 ghost use Rattle.c_handle.specs.Errors.{result_code};
 ghost use Rattle.c_handle.specs.Replied.{status_told};
 
+use crate::answer::done;
 use crate::error::CallError;
 use crew::Alone;
-use mapdb::Database;
+use mapdb::{Database, Reply};
 use std::alloc::Global;
 
 /// Takes all pages from a space, and all that derives from them, and writes their status to `status`.
@@ -23,7 +24,9 @@ pub fn clear_space(
     ensures { IsCalled status_told (clear_asked space database.old.limits) database.old status.old
         (record { code = result_code result; held = Some database.new; lent = status.new }) }
 {
-    let cleared = database.clear(alloc, space, &Alone)?;
-    *status = cleared.number();
+    let reply = done(database.answer_clear(alloc, space, false, &Alone))?;
+    if let Reply::Cleared(cleared) = reply {
+        *status = cleared.number();
+    }
     Ok(())
 }

@@ -1,7 +1,6 @@
 //! The codes that the functions answer, in the order of the header.
 
-use fpage::FpageError;
-use mapdb::DbError;
+use mapdb::Refusal;
 
 /// The call was done.
 pub const DONE: u32 = 0;
@@ -22,7 +21,7 @@ const SAME_SPACE: u32 = 7;
 /// The receiver's window is nil.
 const NO_WINDOW: u32 = 8;
 /// The words of items are not 2 to 62 and even in number, or there is no such kind of access.
-pub const BAD_CALL: u32 = 9;
+const BAD_CALL: u32 = 9;
 /// The limits are not served.
 pub const BAD_LIMITS: u32 = 10;
 /// Memory for a new database was refused.
@@ -35,31 +34,22 @@ pub const EMPTY: u32 = 13;
 pub const HOLDS_ONE: u32 = 14;
 
 ghost use Rattle.std.specs.Prelude.{◌≡◌};
-ghost use Rattle.model.specs.Calls.{refusal_of};
-ghost use Rattle.c_handle.specs.Codes.{code_of, refusal_code};
+ghost use Rattle.mapdb.specs.Calls.{refusal_of};
+ghost use Rattle.c_handle.specs.Codes.{refusal_code};
 
-/// The code of a word that is refused.
-pub fn word_code(error: FpageError) -> u32
-    ensures { result ≡ refusal_code (refusal_of error) }
+/// The code of a refusal.
+pub fn refusal_code(refusal: Refusal) -> u32
+    ensures { result ≡ refusal_code (refusal_of refusal) }
 {
-    match error {
-        FpageError::BadSize => BAD_SIZE,
-        FpageError::Misaligned => MISALIGNED,
-        FpageError::OutOfSpace => OUT_OF_SPACE,
-        FpageError::NotAnItem => NOT_AN_ITEM,
-        FpageError::BadControl => BAD_CONTROL,
-    }
-}
-
-/// The code of an error of a call of the database, which halts it where memory is refused.
-pub fn code_of(error: DbError) -> u32
-    ensures { result ≡ code_of error }
-{
-    match error {
-        DbError::NoSuchSpace => NO_SUCH_SPACE,
-        DbError::SameSpace => SAME_SPACE,
-        DbError::NoWindow => NO_WINDOW,
-        DbError::BadLimits => BAD_LIMITS,
-        DbError::NoMemory | DbError::NoWorker | DbError::Halted => HALTED,
+    match refusal {
+        Refusal::BadSize => BAD_SIZE,
+        Refusal::Misaligned => MISALIGNED,
+        Refusal::OutOfSpace => OUT_OF_SPACE,
+        Refusal::NotAnItem => NOT_AN_ITEM,
+        Refusal::BadControl => BAD_CONTROL,
+        Refusal::NoSuchSpace => NO_SUCH_SPACE,
+        Refusal::SameSpace => SAME_SPACE,
+        Refusal::NoWindow => NO_WINDOW,
+        Refusal::BadRecord => BAD_CALL,
     }
 }

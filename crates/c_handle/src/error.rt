@@ -3,42 +3,26 @@
 ghost use Rattle.std.specs.Prelude.{◌≡◌};
 ghost use Rattle.c_handle.specs.Errors.{result_code};
 
-use crate::code::{BAD_CALL, DONE, OUT_OF_SPACE, code_of, word_code};
+use crate::code::{DONE, HALTED, refusal_code};
 use fpage::FpageError;
-use mapdb::DbError;
+use mapdb::Refusal;
 
 /// Why a call was not done.
 #[derive(Clone, Copy, Debug, PartialEq, Eq)]
 pub enum CallError {
-    /// The words of items are not 2 to 62 and even in number, or there is no such kind of access.
-    BadCall,
-    /// A word is refused.
-    Word(FpageError),
-    /// An address lies past the end of its space.
-    OutOfSpace,
-    /// The database refuses the call, or ran out of memory by it.
-    Database(DbError),
+    /// It is refused for what it asks.
+    Refused(Refusal),
+    /// The database was halted before, or the call ran out of memory in the middle.
+    Halted,
 }
 
 impl From<FpageError> for CallError {
-    ghost use Rattle.std.specs.Prelude.{◌≡◌};
-    ghost use Rattle.c_handle.specs.declared.error.CallError.TheVariants.{Word};
+    ghost use Rattle.c_handle.specs.Errors.{HasCodeOf};
 
-    ghost from_gives = { λ error e. e ≡ Word error };
+    ghost from_gives = { HasCodeOf };
 
     fn from(error: FpageError) -> Self {
-        CallError::Word(error)
-    }
-}
-
-impl From<DbError> for CallError {
-    ghost use Rattle.std.specs.Prelude.{◌≡◌};
-    ghost use Rattle.c_handle.specs.declared.error.CallError.TheVariants.{Database};
-
-    ghost from_gives = { λ error e. e ≡ Database error };
-
-    fn from(error: DbError) -> Self {
-        CallError::Database(error)
+        CallError::Refused(Refusal::from(error))
     }
 }
 
@@ -48,9 +32,7 @@ pub fn result_code(outcome: Result<(), CallError>) -> u32
 {
     match outcome {
         Ok(()) => DONE,
-        Err(CallError::BadCall) => BAD_CALL,
-        Err(CallError::Word(error)) => word_code(error),
-        Err(CallError::OutOfSpace) => OUT_OF_SPACE,
-        Err(CallError::Database(error)) => code_of(error),
+        Err(CallError::Refused(refusal)) => refusal_code(refusal),
+        Err(CallError::Halted) => HALTED,
     }
 }

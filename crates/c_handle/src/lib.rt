@@ -2,6 +2,7 @@
 #![tactic(auto)]
 
 mod access;
+mod answer;
 mod calls;
 mod clear;
 mod code;

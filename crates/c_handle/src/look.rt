@@ -1,7 +1,7 @@
 //! What a page holds, and from where it came, in numbers.
 
 ghost use Rattle.std.specs.Prelude.{◌≡◌, option_map};
-ghost use Rattle.holdings.specs.Contents.{entry_of};
+ghost use Rattle.mapdb.specs.Held.{entry_of};
 ghost use Rattle.c_handle.specs.Told.{entry_numbers};
 ghost use Rattle.c_handle.specs.Look.{place_code, entry_left, origin_left, origin_told};
 

@@ -4,8 +4,7 @@ ghost use Rattle.std.specs.Prelude.{◌≡◌, ◌<◌, ◌≤◌, ◌-◌, ◌^
 ghost use Rattle.std.specs.Option.{option_map};
 ghost use Rattle.space.specs.Directory.{pages_of};
 ghost use Rattle.model.specs.Holdings.{at};
-ghost use Rattle.holdings.specs.Places.{IsWithin, pages_from};
-ghost use Rattle.holdings.specs.Mappings.{AreAbsentFrom, IsNextHeldOf};
+ghost use Rattle.mapdb.specs.Held.{IsWithin, pages_from, AreAbsentFrom, IsNextHeldOf};
 ghost use Rattle.c_handle.specs.Listed.{mapping_told, mappings_at, mappings_from, IsWritten, WritesBehind, listed_of};
 
 use crate::code::{DONE, HALTED};

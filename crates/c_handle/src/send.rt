@@ -8,10 +8,11 @@ ghost use Rattle.c_handle.specs.Errors.{result_code};
 ghost use Rattle.c_handle.specs.Replied.{counts_in};
 ghost use Rattle.c_handle.specs.Sent.{IsSent};
 
+use crate::answer::done;
 use crate::error::CallError;
 use crew::Alone;
 use fpage::{Fpage, Item, ItemKind};
-use mapdb::{Database, DbError};
+use mapdb::{Database, Refusal, Reply};
 use std::alloc::Global;
 use words::read_items;
 
@@ -54,7 +55,7 @@ fn counts(reply: mapdb::SendReply) -> SendReply
 
 /// Sends the items of words, and writes how many pages had which outcome to `reply`. The words take no memory.
 ///
-/// Refused, the first that fits: a halted database; `BadCall`, for the number of words; what `Fpage::read` refuses of the
+/// Refused, the first that fits: a halted database; `BadRecord`, for the number of words; what `Fpage::read` refuses of the
 /// window, and then what `Item::read` refuses of each item in order; and what `Database::send` refuses. Then `reply` is as it
 /// was.
 pub fn send(
@@ -70,10 +71,10 @@ pub fn send(
         (record { code = result_code result; held = Some database.new; lent = reply.new }) }
 {
     if database.is_halted() {
-        return Err(CallError::Database(DbError::Halted));
+        return Err(CallError::Halted);
     }
     if words.len() % 2 != 0 || words.len() < 2 || words.len() > 2 * MOST_ITEMS {
-        return Err(CallError::BadCall);
+        return Err(CallError::Refused(Refusal::BadRecord));
     }
     let bits = database.limits().bits;
     let window = Fpage::read(window, bits)?;
@@ -85,7 +86,9 @@ pub fn send(
     }; MOST_ITEMS];
     read_items(words, bits, &mut items)?;
     let items = &items[..words.len() / 2];
-    let sent = database.send(alloc, from, to, &window, items, &Alone)?;
-    *reply = counts(sent);
+    let answered = done(database.answer_send(alloc, from, to, &window, items, &Alone))?;
+    if let Reply::Sent(sent) = answered {
+        *reply = counts(sent);
+    }
     Ok(())
 }

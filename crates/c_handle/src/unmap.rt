@@ -1,17 +1,16 @@
 //! Unmaps and flushes.
 
-ghost use Rattle.std.specs.Prelude.{◌≡◌, length, map, Some};
-ghost use Rattle.std.specs.List.{zip};
-ghost use Rattle.fpage.specs.Control.{with_status};
+ghost use Rattle.std.specs.Prelude.{Some};
 ghost use Rattle.c_handle.specs.Asked.{unmap_asked};
 ghost use Rattle.c_handle.specs.Called.{IsCalled};
 ghost use Rattle.c_handle.specs.Errors.{result_code};
 ghost use Rattle.c_handle.specs.Replied.{words_told};
 
+use crate::answer::done;
 use crate::error::CallError;
 use crew::Alone;
-use fpage::{Control, Fpage, Rights, with_status};
-use mapdb::{Database, DbError};
+use fpage::{Control, Fpage};
+use mapdb::{Database, Reply, Scratch, Unmap};
 use std::alloc::Global;
 use words::read_fpages;
 
@@ -34,7 +33,7 @@ pub fn unmap(
         (record { code = result_code result; held = Some database.new; lent = words.new }) }
 {
     if database.is_halted() {
-        return Err(CallError::Database(DbError::Halted));
+        return Err(CallError::Halted);
     }
     let bits = database.limits().bits;
     let control = Control::read(control, words.len())?;
@@ -43,17 +42,16 @@ pub fn unmap(
     let mut fpages = [first; MOST_WORDS];
     read_fpages(words, bits, &mut fpages)?;
     let fpages = &fpages[..words.len()];
-    let status = database.unmap(alloc, space, control, fpages, &Alone)?;
-    put_status(words, &status);
-    Ok(())
-}
-
-/// Puts the status of each word in place of its rights.
-fn put_status(words: &mut [u32], status: &[Rights])
-    requires { length status.now ≡ length words.old }
-    ensures { words.new ≡ map (λ e. with_status e.0 e.1) (zip words.old status.now) }
-{
-    for i in 0..words.len() {
-        words[i] = with_status(words[i], status[i]);
+    let unmap = Unmap {
+        space,
+        flush: control.is_flush(),
+        words: &*words,
+        fpages,
+    };
+    let mut scratch = Scratch::new(alloc);
+    let reply = done(database.answer_words(alloc, &unmap, false, &mut scratch, &Alone))?;
+    if let Reply::Unmapped(told) = reply {
+        words.copy_from_slice(&told);
     }
+    Ok(())
 }

@@ -4,7 +4,7 @@ ghost use Rattle.std.specs.Prelude.{◌≡◌, ◌+◌, ◌-◌, ◌^◌, ◌<�
 ghost use Rattle.fpage.specs.Fpage.{IsSpaceBits};
 ghost use Rattle.model.specs.Calls.{no_such_space};
 ghost use Rattle.model.specs.Records.{are_limits};
-ghost use Rattle.holdings.specs.Meaning.{limits_of};
+ghost use Rattle.mapdb.specs.Held.{limits_of};
 ghost use Rattle.trace.specs.Meaning.{refusal_of, request_of};
 ghost use Rattle.checks.specs.Check.{IsFound, CountsRest, is_refused_record, refusal_in};
 

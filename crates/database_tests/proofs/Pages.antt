@@ -5,9 +5,7 @@ use Rattle.space.specs.declared.place.Entry.{Entry}
 use Rattle.space.specs.declared.place.Place.{Place}
 use Rattle.model.specs.Holdings.{Held, Holdings, at}
 use Rattle.pieces.specs.Applied.{before}
-use Rattle.holdings.specs.Contents.{entry_of}
-use Rattle.holdings.specs.Layout.{Layout, index_in}
-use Rattle.holdings.specs.Observing.{SayWhatIsHeld}
+use Rattle.mapdb.specs.Held.{entry_of, Layout, index_in, SayWhatIsHeld}
 use Rattle.database_tests.specs.Monitors.{found_in}
 
 -- frame and rights of an entry

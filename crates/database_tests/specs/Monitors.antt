@@ -5,8 +5,7 @@ use Rattle.fpage.specs.declared.rights.Rights.{Rights}
 use Rattle.space.specs.declared.place.Place.{Place}
 use Rattle.model.specs.Holdings.{Holdings, at}
 use Rattle.pieces.specs.declared.piece.Piece.{Piece}
-use Rattle.holdings.specs.Layout.{index_in}
-use Rattle.holdings.specs.Observing.{IsPhaseOf}
+use Rattle.mapdb.specs.Held.{index_in, IsPhaseOf}
 use Rattle.mapdb.specs.State.{State, unmap_left}
 
 -- frame and rights that a page holds, or none

@@ -2,7 +2,7 @@
 
 ghost use Rattle.std.specs.Prelude.{◌≡◌, false, true};
 ghost use Rattle.model.specs.Records.{are_limits};
-ghost use Rattle.holdings.specs.Meaning.{limits_of};
+ghost use Rattle.mapdb.specs.Held.{limits_of};
 
 use crate::assertions::{assert_equal, assert_holds};
 use fpage::{Access, Fpage, Item, ItemKind, Rights};

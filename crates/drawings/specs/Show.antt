@@ -1,6 +1,6 @@
 -- Which mappings are shown.
 use Rattle.std.specs.Prelude.{ℕ, Bool, true, ◌==◌, ◌&&◌, Option, Some, None}
-use Rattle.holdings.specs.declared.mapping.Mapping.{Mapping}
+use Rattle.mapdb.specs.Held.{Mapping}
 
 -- whether a number is that which is asked for, if one is
 abbrev pub is_asked : Option ℕ → ℕ → Bool

@@ -1,5 +1,5 @@
 -- Derivation trees as they are drawn.
-use Rattle.holdings.specs.declared.mapping.Mapping.{Mapping}
+use Rattle.mapdb.specs.Held.{Mapping}
 use Rattle.drawings.specs.declared.tree.Row.{Row}
 
 -- the mapping that a row draws

@@ -1,9 +1,11 @@
 -- The words of an unmap, one after another.
 use Rattle.std.proofs.Common.{◌≡◌, ℕ, zero, suc, ◌+◌, ◌<◌, ◌≤◌, arith, Bool, List, [], ◌∷◌, ◌++◌, length, take, drop, get_or, refl, sym, ap, ◌∙◌}
 use Rattle.std.proofs.lemmas.List.{drop_more, drop_all, append_assoc, append-nil}
+use Rattle.std.specs.List.{zip}
+use Rattle.fpage.specs.Control.{with_status}
 use Rattle.fpage.specs.Fpage.{Flexpage}
 use Rattle.fpage.specs.declared.rights.Rights.{Rights}
-use Rattle.model.specs.Answers.{pages_in}
+use Rattle.model.specs.Answers.{UnmapAnswer, pages_in, unmap_answer}
 use Rattle.model.specs.Holdings.{Holdings}
 use Rattle.model.specs.Strip.{strip, strip_word}
 use Rattle.holdings.specs.Contents.{Contents, IsStripped, left_with}
@@ -58,3 +60,54 @@ left_by_more space f fpages i d h within = let one : i + 1 ≡ suc i = omega ari
     more [] k h within = absurd (omega (arith, within))
     more (w ∷ ws) zero h within = refl
     more (w ∷ ws) (suc k) h within = more ws k (strip h (pages_in space w) w.rights f) (omega (arith, within))
+
+-- ---- the same, as the words of a reply
+
+-- the first words of the reply stand there, and the others follow from what is left
+pub record AreAnsweredUpTo (old : Contents) (space : ℕ) (f : Bool) (words : List ℕ) (fpages : List Flexpage) (i : ℕ) (now : Contents) (reply : List ℕ) : Type 0 where
+  pub limits : now.limits ≡ old.limits
+  pub layout : now.layout ≡ old.layout
+  pub told : record { words = reply ++ (unmap_answer space f (zip (drop i words) (drop i fpages)) now.holdings).words; left = (unmap_answer space f (zip (drop i words) (drop i fpages)) now.holdings).left }
+      ≡ unmap_answer space f (zip words fpages) old.holdings
+
+module _ (old : Contents) (space : ℕ) (f : Bool) (words : List ℕ) (fpages : List Flexpage) where
+  pub no_answer : AreAnsweredUpTo old space f words fpages 0 old []
+  no_answer = record { limits = refl; layout = refl; told = refl }
+
+  -- one word more
+  pub one_answer : (i w : ℕ) (d : Flexpage) → i < length words → i < length fpages → (now : Contents) (reply : List ℕ) → AreAnsweredUpTo old space f words fpages i now reply
+      → (r : Contents × Rights) → IsStripped now (pages_in space (get_or fpages i d)) (get_or fpages i d).rights f r
+      → AreAnsweredUpTo old space f words fpages (i + 1) r.0 (reply ++ with_status (get_or words i w) r.1 ∷ [])
+  one_answer i w d some one now reply so_far r is =
+      let h = now.holdings in
+      let word = get_or words i w in
+      let named = pages_in space (get_or fpages i d) in
+      let others : Holdings → UnmapAnswer = λ k. unmap_answer space f (zip (drop (i + 1) words) (drop (i + 1) fpages)) k in
+      let whole : List ℕ → Holdings → UnmapAnswer = λ front k. record { words = front ++ (others k).words; left = (others k).left } in
+      record {
+        limits = ap (λ (c : Contents). c.limits) is.left ∙ so_far.limits;
+        layout = ap (λ (c : Contents). c.layout) is.left ∙ so_far.layout;
+        told = (λ k. record { words = append_assoc reply (with_status word r.1 ∷ []) (others r.0.holdings).words k; left = (others r.0.holdings).left })
+            ∙ ap (λ (s : Rights). record { words = reply ++ with_status word s ∷ (others r.0.holdings).words; left = (others r.0.holdings).left }) is.status
+            ∙ ap (λ (c : Contents). record { words = reply ++ with_status word (strip_word h named) ∷ (others c.holdings).words; left = (others c.holdings).left }) is.left
+            ∙ (λ k. record {
+              words = reply ++ (unmap_answer space f (zip (sym (drop_more words i w some) k) (sym (drop_more fpages i d one) k)) h).words;
+              left = (unmap_answer space f (zip (sym (drop_more words i w some) k) (sym (drop_more fpages i d one) k)) h).left;
+            })
+            ∙ so_far.told;
+      }
+
+  -- all words
+  pub all_answers : (i : ℕ) (now : Contents) (reply : List ℕ) → length fpages ≤ i → length fpages ≡ length words → AreAnsweredUpTo old space f words fpages i now reply
+      → (now ≡ left_with old now.holdings) × (record { words = reply; left = now.holdings } ≡ unmap_answer space f (zip words fpages) old.holdings)
+  all_answers i now reply past same so_far =
+      let no_words = drop_all i words (omega (arith, past, same)) in
+      let no_fpages = drop_all i fpages past in (
+        (λ k. record { limits = so_far.limits k; holdings = now.holdings; layout = so_far.layout k }),
+        (λ k. record { words = sym (append-nil reply) k; left = now.holdings })
+            ∙ (λ k. record {
+              words = reply ++ (unmap_answer space f (zip (sym no_words k) (sym no_fpages k)) now.holdings).words;
+              left = (unmap_answer space f (zip (sym no_words k) (sym no_fpages k)) now.holdings).left;
+            })
+            ∙ so_far.told,
+      )

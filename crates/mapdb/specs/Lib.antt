@@ -1,4 +1,7 @@
 pub mod Meaning
 pub mod State
+pub mod Held
+pub mod Calls
+pub mod Answered
 pub mod Sending
 pub mod Error

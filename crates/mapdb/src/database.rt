@@ -1,8 +1,9 @@
+use crate::call::Unmap;
 use crate::clear::{clear_space, clear_space_by_recursion};
 use crate::error::DbError;
 use crate::item::work_items;
 use crate::reply::SendReply;
-use crate::unmap::{unmap_words, unmap_words_by_recursion, unmap_words_watched};
+use crate::unmap::{answer_unmap, unmap_words, unmap_words_by_recursion, unmap_words_watched};
 use crew::{Crew, Gate, Observe, Workers};
 use fpage::{Access, Control, Fpage, Item, Rights};
 use holdings::{Holdings, Limits, Mapping, Mappings};
@@ -39,10 +40,11 @@ impl Database {
     ghost use Rattle.std.specs.Prelude.{ℕ, ◌<◌, ◌+◌, List, length, take, IfOk, OnOk, IfErr, OnErr, IsErrOf, MatchOption};
     ghost use Rattle.pieces.specs.declared.piece.Piece.{Piece};
     ghost use Rattle.holdings.specs.Observing.{IsPhaseOf};
-    ghost use Rattle.std.specs.List.{All};
+    ghost use Rattle.std.specs.List.{All, zip};
     ghost use Rattle.model.specs.Holdings.{at, origin_at};
     ghost use Rattle.model.specs.Records.{are_limits};
-    ghost use Rattle.model.specs.Answers.{send_answer, in_space, clear_answer};
+    ghost use Rattle.model.specs.Answers.{send_answer, in_space, unmap_answer, clear_answer};
+    ghost use Rattle.mapdb.specs.Calls.{AreWordsWithin, unmap_of};
     ghost use Rattle.model.specs.Calls.{send, clear};
     ghost use Rattle.model.specs.Recursion.{recur};
     ghost use Rattle.fpage.specs.Fpage.{IsFpageOf};
@@ -291,32 +293,6 @@ impl Database {
         ensures left { OnOk result (self.new ≡
             left_with self.old (unmap_left space control.flush fpages.now self.old.holdings)) }
     {
-        let mut status = Vec::new(alloc);
-        self.unmap_into(alloc, space, control, fpages, &mut status, workers)?;
-        Ok(status)
-    }
-
-    /// The same as `unmap`; the status of each word is put in place of what the list had, so that one list serves many calls.
-    ///
-    /// Refused as `unmap` is. Then the list has anything.
-    pub fn unmap_into<W: Workers>(
-        &mut self,
-        alloc: Global,
-        space: u16,
-        control: Control,
-        fpages: &[Fpage],
-        status: &mut Vec<Rights>,
-        workers: &W,
-    ) -> Result<(), DbError>
-        requires bits { All (IsFpageOf self.old.limits.bits) fpages.now }
-        ensures refused { IsRefused (unmap_refusal self.old space) self.old self.new result }
-        ensures no_memory { IsErrOf result NoMemory → self.new ≡ halted self.old }
-        ensures no_worker { IsErrOf result NoWorker → self.new ≡ halted self.old }
-        ensures status { OnOk result (
-            status.new.items ≡ unmap_status space control.flush fpages.now self.old.holdings) }
-        ensures left { OnOk result (self.new ≡
-            left_with self.old (unmap_left space control.flush fpages.now self.old.holdings)) }
-    {
         if self.held.is_none() {
             return Err(DbError::Halted);
         }
@@ -325,7 +301,39 @@ impl Database {
         }
         let held = self.held.take().unwrap();
         let flush = control.is_flush();
-        let held = unmap_words(alloc, held, space, flush, fpages, status, workers)?;
+        let (held, status) = unmap_words(alloc, held, space, flush, fpages, workers)?;
+        self.held = Some(held);
+        Ok(status)
+    }
+
+    /// The same as `unmap`; each word of the reply is the word with the status of its pages in place of its rights. By
+    /// recursion if `plain`.
+    ///
+    /// Refused as `unmap` is. Then the reply has anything.
+    pub(crate) fn answer_unmap<W: Workers>(
+        &mut self,
+        alloc: Global,
+        unmap: &Unmap<'_>,
+        plain: bool,
+        reply: &mut Vec<u32>,
+        workers: &W,
+    ) -> Result<(), DbError>
+        requires within { AreWordsWithin self.old.limits unmap.now.words.now unmap.now.fpages.now }
+        ensures refused { IsRefused (refusal self.old (unmap_of unmap.now)) self.old self.new result }
+        ensures no_memory { IsErrOf result NoMemory → self.new ≡ halted self.old }
+        ensures no_worker { IsErrOf result NoWorker → self.new ≡ halted self.old }
+        ensures told { OnOk result (record { words = reply.new.items; left = self.new.holdings }
+            ≡ unmap_answer unmap.now.space unmap.now.flush (zip unmap.now.words.now unmap.now.fpages.now) self.old.holdings) }
+        ensures left { OnOk result (self.new ≡ left_with self.old self.new.holdings) }
+    {
+        if self.held.is_none() {
+            return Err(DbError::Halted);
+        }
+        if u32::from(unmap.space) >= self.limits().spaces {
+            return Err(DbError::NoSuchSpace);
+        }
+        let held = self.held.take().unwrap();
+        let held = answer_unmap(alloc, held, unmap, plain, reply, workers)?;
         self.held = Some(held);
         Ok(())
     }

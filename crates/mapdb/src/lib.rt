@@ -1,6 +1,8 @@
 //! The mapping database: which space holds which page, with which rights, and from whom the page came.
 #![tactic(auto)]
 
+mod answer;
+mod call;
 mod clear;
 mod database;
 mod error;
@@ -10,7 +12,9 @@ mod plan;
 mod reply;
 mod unmap;
 
+pub use answer::Scratch;
+pub use call::{Call, Refusal, Unmap};
 pub use database::Database;
 pub use error::DbError;
 pub use holdings::{Limits, Mapping, Mappings};
-pub use reply::SendReply;
+pub use reply::{Reply, SendReply};

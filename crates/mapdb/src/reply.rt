@@ -6,7 +6,24 @@ ghost use Rattle.holdings.specs.Sending.{fate_of_outcome};
 ghost use Rattle.mapdb.specs.Meaning.{counts_of};
 ghost use Rattle.mapdb.specs.Sending.{count_before_flush};
 
+use crate::call::Refusal;
+use fpage::Rights;
 use holdings::{Outcome, TransferCounts};
+
+/// The answer to a call, or to a record that is refused before it is one.
+#[derive(Debug, Drop)]
+pub enum Reply {
+    /// What became of the pages of a send.
+    Sent(SendReply),
+    /// Whether the access was made; otherwise it was a fault.
+    Accessed(bool),
+    /// The words of an unmap, each with the status of its pages in place of its rights.
+    Unmapped(Vec<u32>),
+    /// The status of the pages that a clear took.
+    Cleared(Rights),
+    /// Nothing was done.
+    Refused(Refusal),
+}
 
 /// How many pairs of a send had which outcome. Their numbers have no bound but that of a slice of items.
 #[derive(Clone, Copy, Debug, PartialEq, Eq)]

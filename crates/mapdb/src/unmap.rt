@@ -1,13 +1,16 @@
 //! The words of an unmap, one after another.
 
-ghost use Rattle.std.specs.Prelude.{◌≡◌, ◌<◌, IfOk, OnOk};
-ghost use Rattle.std.specs.List.{All};
+ghost use Rattle.std.specs.Prelude.{◌≡◌, ◌<◌, IfOk};
+ghost use Rattle.std.specs.List.{All, zip};
 ghost use Rattle.fpage.specs.Fpage.{IsFpageOf};
-ghost use Rattle.holdings.specs.Contents.{left_with};
+ghost use Rattle.model.specs.Answers.{pages_in, unmap_answer};
+ghost use Rattle.holdings.specs.Contents.{IsStripped, left_with};
+ghost use Rattle.mapdb.specs.Calls.{AreWordsWithin};
 ghost use Rattle.mapdb.specs.State.{unmap_status, unmap_left};
 
+use crate::call::Unmap;
 use crew::{Crew, CrewError, Gate, Observe, Workers};
-use fpage::{Fpage, Rights};
+use fpage::{Fpage, Rights, with_status};
 use holdings::Holdings;
 use space::{NoMemory, Place};
 use std::alloc::{AllocError, Global};
@@ -15,7 +18,7 @@ use std::sync::Wait;
 use std::thread::Threads;
 
 /// Works the words of an unmap one after another. Each tells the status of its pages and of all that derives from them, and
-/// these lose its rights; with `flush` the pages themselves do. What they tell is put in place of what the list had.
+/// these lose its rights; with `flush` the pages themselves do. What they tell is returned.
 ///
 /// Refused, where memory or a worker is: `NoMemory`, `NoWorker`.
 pub fn unmap_words<W: Workers>(
@@ -24,23 +27,84 @@ pub fn unmap_words<W: Workers>(
     space: u16,
     flush: bool,
     fpages: &[Fpage],
-    status: &mut Vec<Rights>,
     workers: &W,
-) -> Result<Holdings, CrewError>
+) -> Result<(Holdings, Vec<Rights>), CrewError>
     requires space { space < held.limits.spaces }
     requires fpages { All (IsFpageOf held.limits.bits) fpages.now }
-    ensures left { IfOk result (λ left. left ≡ left_with held (unmap_left space flush fpages.now held.holdings)) }
-    ensures status { OnOk result (status.new.items ≡ unmap_status space flush fpages.now held.holdings) }
+    ensures left { IfOk result (λ r. r.0 ≡ left_with held (unmap_left space flush fpages.now held.holdings)) }
+    ensures status { IfOk result (λ r. r.1.items ≡ unmap_status space flush fpages.now held.holdings) }
 {
     let mut held = held;
-    status.clear();
-    status.reserve(fpages.len())?;
+    let mut status = Vec::with_capacity(alloc, fpages.len())?;
     for fpage in fpages {
         let (left, word) = unmap_word(alloc, held, space, flush, fpage, workers)?;
         held = left;
         status.push(word).map_err(AllocError::from)?;
     }
+    Ok((held, status))
+}
+
+/// Works the words of an unmap one after another, and puts each with what it tells into the reply, in place of what that
+/// had; by recursion if `plain`.
+///
+/// Refused, where memory or a worker is: `NoMemory`, `NoWorker`.
+pub fn answer_unmap<W: Workers>(
+    alloc: Global,
+    held: Holdings,
+    unmap: &Unmap<'_>,
+    plain: bool,
+    reply: &mut Vec<u32>,
+    workers: &W,
+) -> Result<Holdings, CrewError>
+    requires space { unmap.now.space < held.limits.spaces }
+    requires within { AreWordsWithin held.limits unmap.now.words.now unmap.now.fpages.now }
+    ensures left { IfOk result (λ left. left ≡ left_with held left.holdings) }
+    ensures told { IfOk result (λ left. record { words = reply.new.items; left = left.holdings }
+        ≡ unmap_answer unmap.now.space unmap.now.flush (zip unmap.now.words.now unmap.now.fpages.now) held.holdings) }
+{
+    let mut held = held;
+    reply.clear();
+    reply.reserve(unmap.words.len())?;
+    for i in 0..unmap.fpages.len() {
+        let fpage = &unmap.fpages[i];
+        let (left, status) = unmap_word_by(
+            alloc,
+            held,
+            unmap.space,
+            unmap.flush,
+            fpage,
+            plain,
+            workers,
+        )?;
+        held = left;
+        reply
+            .push(with_status(unmap.words[i], status))
+            .map_err(AllocError::from)?;
+    }
     Ok(held)
+}
+
+/// Works one word of an unmap; by recursion if `plain`.
+///
+/// Refused, where memory or a worker is: `NoMemory`, `NoWorker`.
+fn unmap_word_by<W: Workers>(
+    alloc: Global,
+    held: Holdings,
+    space: u16,
+    flush: bool,
+    fpage: &Fpage,
+    plain: bool,
+    workers: &W,
+) -> Result<(Holdings, Rights), CrewError>
+    requires space { space < held.limits.spaces }
+    requires fpage { IsFpageOf held.limits.bits fpage.now }
+    ensures { IfOk result (IsStripped held (pages_in space fpage.now) fpage.now.rights flush) }
+{
+    if plain {
+        let stripped = unmap_word_by_recursion(alloc, held, space, flush, fpage)?;
+        return Ok(stripped);
+    }
+    unmap_word(alloc, held, space, flush, fpage, workers)
 }
 
 /// The same, each word by recursion, on the calling thread; what the words tell is returned.
@@ -67,9 +131,6 @@ pub fn unmap_words_by_recursion(
     }
     Ok((held, status))
 }
-
-ghost use Rattle.model.specs.Answers.{pages_in};
-ghost use Rattle.holdings.specs.Contents.{IsStripped};
 
 /// Works one word of an unmap.
 ///

@@ -10,8 +10,7 @@ use Rattle.model.specs.Calls.{Limits, Request, unmap, no_such_space}
 use Rattle.model.specs.Answers.{answer, pages_in, unless_refused, unmap_answer, unmapped_answer}
 use Rattle.model.specs.Replay.{replay, start}
 use Rattle.model.specs.Records.{Fields, Version, Header, Trace, are_limits, bad_limits, checked_header, request, trace_of, trace_of_records, with_header}
-use Rattle.holdings.specs.Layout.{Layout}
-use Rattle.holdings.specs.Mappings.{mapped_of}
+use Rattle.mapdb.specs.Held.{Layout, mapped_of}
 use Rattle.mapdb.specs.State.{State, IsRefused, error_of, laid_out, left_with, new_state, unmap_left, unmap_refusal}
 use Rattle.mapdb.specs.declared.error.DbError.{DbError}
 use Rattle.mapdb.specs.declared.error.DbError.TheVariants.{NoSuchSpace, Halted}

@@ -3,10 +3,8 @@ use Rattle.std.specs.Prelude.{◌≡◌, false, List}
 use Rattle.std.specs.List.{All}
 use Rattle.space.specs.declared.place.Place.{Place}
 use Rattle.model.specs.Holdings.{Held}
-use Rattle.holdings.specs.Places.{IsWithin}
+use Rattle.mapdb.specs.Held.{IsWithin, mapped_of, Mapping}
 use Rattle.mapdb.specs.State.{State}
-use Rattle.holdings.specs.Mappings.{mapped_of}
-use Rattle.holdings.specs.declared.mapping.Mapping.{Mapping}
 
 -- what a mapping says of its page
 abbrev pub held_of : Mapping → Held

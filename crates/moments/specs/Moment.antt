@@ -5,7 +5,7 @@ use Rattle.model.specs.Calls.{Limits}
 use Rattle.model.specs.Answers.{answer}
 use Rattle.model.specs.Replay.{replay, start}
 use Rattle.model.specs.Records.{Fields, Version, Trace, records_of, request, trace_of}
-use Rattle.holdings.specs.Mappings.{mapped_of}
+use Rattle.mapdb.specs.Held.{mapped_of}
 use Rattle.drawings.specs.declared.moment.Moment.{Moment}
 
 -- what these records of a trace of a version leave of what was held

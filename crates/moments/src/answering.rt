@@ -1,25 +1,18 @@
 //! Records, answered one by one on the calling thread.
 
-ghost use Rattle.std.specs.Prelude.{◌≡◌, ◌<◌, drop, length, take, true, false, Ok, IfOk, IfErr, IfSome, OnOk};
-ghost use Rattle.std.specs.List.{All, zip};
-ghost use Rattle.fpage.specs.Fpage.{IsFpageOf};
-ghost use Rattle.model.specs.Calls.{access, send, unmap, clear};
+ghost use Rattle.std.specs.Prelude.{◌≡◌, ◌<◌, drop, length, take, true, false, IfOk, IfSome, OnOk};
 ghost use Rattle.model.specs.Answers.{answer};
 ghost use Rattle.model.specs.Records.{are_limits};
-ghost use Rattle.holdings.specs.Meaning.{limits_of};
-ghost use Rattle.holdings.specs.Places.{IsWithin};
+ghost use Rattle.mapdb.specs.Held.{limits_of};
 ghost use Rattle.mapdb.specs.State.{laid_out, left_with, new_state};
-ghost use Rattle.mapdb.specs.declared.error.DbError.TheVariants.{NoSuchSpace};
 ghost use Rattle.trace.specs.Meaning.{IsWithinLimits, request_of};
 ghost use Rattle.moments.specs.Moment.{left_by};
 
 use crate::error::ShowError;
 use crew::Alone;
-use fpage::{Access, Control, Fpage, Item, Rights};
-use mapdb::{Database, DbError, Limits};
-use space::Place;
+use mapdb::{Database, DbError, Limits, Refusal, Scratch};
 use std::alloc::Global;
-use trace::{Call, Refusal, TraceReader};
+use trace::{Call, TraceReader};
 
 /// A database at the start.
 pub fn start(alloc: Global, limits: &Limits) -> Result<Database, ShowError>
@@ -112,103 +105,12 @@ pub fn answer_record(
     ensures left { OnOk result (database.new ≡ laid_out (left_with database.old
         (answer database.old.limits database.old.holdings (request_of asked.now)).left) database.new.layout) }
 {
-    match asked {
-        Err(_) => Ok(()),
-        Ok(Call::Access { place, access }) => { access_page(alloc, database, *place, *access) }
-        Ok(
-            Call::Send {
-                from,
-                to,
-                window,
-                items,
-            },
-        ) => send_items(alloc, database, *from, *to, window, items),
-        Ok(
-            Call::Unmap {
-                space,
-                control,
-                words,
-                fpages,
-            },
-        ) => unmap_pages(alloc, database, *space, *control, words, fpages),
-        Ok(Call::Clear { space }) => clear_space(alloc, database, *space),
-    }
-}
-
-/// An access of a page.
-fn access_page(
-    alloc: Global,
-    database: &mut Database,
-    place: Place,
-    kind: Access,
-) -> Result<(), ShowError>
-    requires within { IsWithin database.old.limits place }
-    ensures left { OnOk result (database.new ≡ left_with database.old
-        (answer database.old.limits database.old.holdings (Ok (access place kind))).left) }
-{
-    match database.access_all(alloc, &[(place, kind)], &Alone) {
+    let Ok(call) = asked else {
+        return Ok(());
+    };
+    match database.answer(alloc, call, &mut Scratch::new(alloc), &Alone) {
         Ok(_) => Ok(()),
         Err(error) => Err(unanswered(error)),
-    }
-}
-
-/// A send, whose items are worked in order.
-fn send_items(
-    alloc: Global,
-    database: &mut Database,
-    from: u16,
-    to: u16,
-    window: &Fpage,
-    items: &[Item],
-) -> Result<(), ShowError>
-    requires window { IsFpageOf database.old.limits.bits window.now }
-    requires items { All (λ item. IsFpageOf database.old.limits.bits item.sent) items.now }
-    ensures left { OnOk result (database.new ≡ laid_out (left_with database.old
-        (answer database.old.limits database.old.holdings (Ok (send from to window.now items.now))).left) database.new.layout) }
-{
-    match database.send(alloc, from, to, window, items, &Alone) {
-        Ok(_) | Err(DbError::NoSuchSpace | DbError::SameSpace | DbError::NoWindow) => Ok(()),
-        Err(error) => Err(unanswered(error)),
-    }
-}
-
-/// An unmap, whose words come with the fpage of each.
-fn unmap_pages(
-    alloc: Global,
-    database: &mut Database,
-    space: u16,
-    control: Control,
-    words: &[u32],
-    fpages: &[Fpage],
-) -> Result<(), ShowError>
-    requires within { All (IsFpageOf database.old.limits.bits) fpages.now }
-    requires count { length fpages.now ≡ length words.now }
-    ensures left { OnOk result (database.new ≡ left_with database.old
-        (answer database.old.limits database.old.holdings (Ok (unmap space control.flush (zip words.now fpages.now)))).left) }
-{
-    let outcome = database.unmap(alloc, space, control, fpages, &Alone);
-    check_answered(&outcome)?;
-    Ok(())
-}
-
-/// A clear of a space.
-fn clear_space(alloc: Global, database: &mut Database, space: u16) -> Result<(), ShowError>
-    ensures left { OnOk result (database.new ≡ left_with database.old
-        (answer database.old.limits database.old.holdings (Ok (clear space))).left) }
-{
-    match database.clear(alloc, space, &Alone) {
-        Ok(_) | Err(DbError::NoSuchSpace) => Ok(()),
-        Err(error) => Err(unanswered(error)),
-    }
-}
-
-/// Whether an unmap was answered: it was done, or refused for what it asks.
-fn check_answered(outcome: &Result<Vec<Rights>, DbError>) -> Result<(), ShowError>
-    ensures { OnOk result (IfErr outcome.now (λ e. e ≡ NoSuchSpace)) }
-{
-    match outcome {
-        Ok(_) | Err(DbError::NoSuchSpace) => Ok(()),
-        Err(error) => Err(unanswered(*error)),
     }
 }
 

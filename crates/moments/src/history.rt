@@ -2,8 +2,7 @@
 
 ghost use Rattle.std.specs.Prelude.{◌≡◌, IfOk, map, option_map};
 ghost use Rattle.model.specs.Holdings.{at};
-ghost use Rattle.holdings.specs.Meaning.{limits_of};
-ghost use Rattle.holdings.specs.Places.{IsWithin};
+ghost use Rattle.mapdb.specs.Held.{limits_of, IsWithin};
 ghost use Rattle.std.specs.List.{All};
 ghost use Rattle.moments.specs.History.{held_of};
 

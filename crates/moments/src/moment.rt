@@ -1,7 +1,7 @@
 //! What a trace holds after one of its records.
 
 ghost use Rattle.std.specs.Prelude.{◌≡◌, IfOk, map};
-ghost use Rattle.holdings.specs.Mappings.{mapped_of};
+ghost use Rattle.mapdb.specs.Held.{mapped_of};
 ghost use Rattle.moments.specs.Moment.{IsMoment, IsRecordCount};
 
 use crate::answering::{answer_records, start};

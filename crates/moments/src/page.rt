@@ -2,8 +2,7 @@
 
 ghost use Rattle.std.specs.Prelude.{◌≡◌, true, IfOk, option_map};
 ghost use Rattle.model.specs.Holdings.{at};
-ghost use Rattle.holdings.specs.Meaning.{limits_of};
-ghost use Rattle.holdings.specs.Places.{IsWithin};
+ghost use Rattle.mapdb.specs.Held.{limits_of, IsWithin};
 ghost use Rattle.moments.specs.History.{held_of};
 
 use crate::error::ShowError;

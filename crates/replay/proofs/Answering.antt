@@ -9,7 +9,7 @@ use Rattle.model.specs.Calls.{Limits, Reply, accessed, Request, send, access, un
 use Rattle.model.specs.Answers.{answer}
 use Rattle.model.specs.Replay.{replay}
 use Rattle.model.specs.Records.{Fields, Version, request}
-use Rattle.holdings.specs.Contents.{access_answers, touched_all}
+use Rattle.mapdb.specs.Held.{access_answers, touched_all}
 use Rattle.trace.specs.Unread.{Unread, past, first_request, access_in}
 use Rattle.replay.specs.Steps.{told_of, told_behind, asked, AreAsked}
 

@@ -1,4 +1,3 @@
-mod Unmaps
 mod Streams
 mod Answering
 mod Replays

@@ -1,28 +1,22 @@
 //! Records, answered.
 
 ghost use Rattle.std.specs.Prelude.{◌≡◌, ◌<◌, ◌≤◌, ◌+◌, ◌-◌, ◌∷◌, ◌++◌, [], true, false, Ok, Some, map, take, length, IfOk, IfSome, MatchOption, OnOk};
-ghost use Rattle.std.specs.List.{All, zip};
-ghost use Rattle.fpage.specs.Fpage.{IsFpageOf};
-ghost use Rattle.fpage.specs.Control.{with_status};
-ghost use Rattle.model.specs.Calls.{send, unmap, clear, accessed};
-ghost use Rattle.model.specs.Answers.{answer, clear_answer};
+ghost use Rattle.std.specs.List.{All};
 ghost use Rattle.model.specs.Records.{Version, are_limits};
-ghost use Rattle.holdings.specs.Contents.{access_answers, touched_all};
-ghost use Rattle.holdings.specs.Meaning.{limits_of};
-ghost use Rattle.holdings.specs.Places.{IsWithin};
-ghost use Rattle.mapdb.specs.State.{laid_out, left_with, IsRefused, refusal, unmap_refusal, unmap_status, unmap_left};
-ghost use Rattle.trace.specs.Meaning.{reply_of, request_of, IsWithinLimits};
+ghost use Rattle.mapdb.specs.Held.{access_answers, touched_all, limits_of, IsWithin};
+ghost use Rattle.mapdb.specs.Answered.{IsAnswered};
+ghost use Rattle.mapdb.specs.State.{laid_out, left_with};
+ghost use Rattle.trace.specs.Meaning.{call_of, request_of, IsWithinLimits};
 ghost use Rattle.trace.specs.Unread.{past, first_request, access_in};
 ghost use Rattle.replay.specs.Steps.{AreAsked, replies_of, told_of, told_behind};
 
 use crate::buffers::Buffers;
 use crew::{CrewError, Workers};
-use fpage::{Access, Control, Fpage, Item, Rights, with_status};
-use mapdb::{Database, DbError, Limits};
+use fpage::Access;
+use mapdb::{Database, DbError, Limits, Refusal, Reply, Scratch};
 use space::{NoMemory, Place};
-use std::alloc::{AllocError, Global};
-use std::mem;
-use trace::{Call, Refusal, Reply, TraceReader};
+use std::alloc::Global;
+use trace::{Call, TraceReader};
 
 /// How many accesses in a row are one call of the database at most. The lists of a longer call would take more memory and no
 /// less time.
@@ -100,34 +94,33 @@ fn answer_call<W: Workers>(
             let answers = access_pages(alloc, database, workers, accesses)?;
             Ok(Replies::Accesses(answers))
         }
-        Ok(
-            Call::Send {
-                from,
-                to,
-                window,
-                items,
-            },
-        ) => {
-            let reply = send_items(alloc, database, workers, *from, *to, window, items)?;
+        Ok(call) => {
+            let reply = answer_one(alloc, database, call, workers, plain, &mut buffers.scratch)?;
             Ok(Replies::One(reply))
         }
-        Ok(
-            Call::Unmap {
-                space,
-                control,
-                words,
-                fpages,
-            },
-        ) => {
-            let reply = unmap_pages(
-                alloc, database, workers, plain, *space, *control, words, fpages, buffers,
-            )?;
-            Ok(Replies::One(reply))
-        }
-        Ok(Call::Clear { space }) => {
-            let reply = clear_space(alloc, database, workers, plain, *space)?;
-            Ok(Replies::One(reply))
-        }
+    }
+}
+
+/// Answers a call; an unmap and a clear by recursion if `plain`.
+fn answer_one<W: Workers>(
+    alloc: Global,
+    database: &mut Database,
+    call: &Call,
+    workers: &W,
+    plain: bool,
+    scratch: &mut Scratch,
+) -> Result<Reply, CrewError>
+    requires within { IsWithinLimits database.old.limits call.now }
+    ensures { IfOk result (IsAnswered database.old (call_of call.now) database.new) }
+{
+    let answered = if plain {
+        database.answer_plain(alloc, call, scratch, workers)
+    } else {
+        database.answer(alloc, call, scratch, workers)
+    };
+    match answered {
+        Ok(reply) => Ok(reply),
+        Err(error) => Err(unanswered(error)),
     }
 }
 
@@ -197,145 +190,10 @@ fn access_pages<W: Workers>(
     }
 }
 
-/// A send, whose items are worked in order.
-fn send_items<W: Workers>(
-    alloc: Global,
-    database: &mut Database,
-    workers: &W,
-    from: u16,
-    to: u16,
-    window: &Fpage,
-    items: &[Item],
-) -> Result<Reply, CrewError>
-    requires window { IsFpageOf database.old.limits.bits window.now }
-    requires items { All (λ item. IsFpageOf database.old.limits.bits item.sent) items.now }
-    ensures ok { IfOk result (λ reply. answer database.old.limits database.old.holdings (Ok (send from to window.now items.now))
-        ≡ record { reply = reply_of reply; left = database.new.holdings }) }
-    ensures keeps { OnOk result (
-        database.new ≡ laid_out (left_with database.old database.new.holdings) database.new.layout) }
-{
-    match database.send(alloc, from, to, window, items, workers) {
-        Ok(reply) => Ok(Reply::Sent(reply)),
-        Err(DbError::NoSuchSpace) => Ok(Reply::Refused(Refusal::NoSuchSpace)),
-        Err(DbError::SameSpace) => Ok(Reply::Refused(Refusal::SameSpace)),
-        Err(DbError::NoWindow) => Ok(Reply::Refused(Refusal::NoWindow)),
-        Err(error) => Err(unanswered(error)),
-    }
-}
-
-/// An unmap, whose words come with the fpage of each; by recursion if `plain`.
-fn unmap_pages<W: Workers>(
-    alloc: Global,
-    database: &mut Database,
-    workers: &W,
-    plain: bool,
-    space: u16,
-    control: Control,
-    words: &[u32],
-    fpages: &[Fpage],
-    buffers: &mut Buffers,
-) -> Result<Reply, CrewError>
-    requires within { All (IsFpageOf database.old.limits.bits) fpages.now }
-    requires count { length fpages.now ≡ length words.now }
-    ensures ok { IfOk result (λ reply. answer database.old.limits database.old.holdings (Ok (unmap space control.flush (zip words.now fpages.now)))
-        ≡ record { reply = reply_of reply; left = database.new.holdings }) }
-    ensures keeps { OnOk result (database.new ≡ left_with database.old database.new.holdings) }
-{
-    let status = &mut buffers.status;
-    match unmap_by(
-        alloc, database, workers, plain, space, control, fpages, status,
-    ) {
-        Ok(()) => {
-            let reply = mem::replace(&mut buffers.words, Vec::new(alloc));
-            Ok(Reply::Unmapped(reply_words(reply, words, status)?))
-        }
-        Err(DbError::NoSuchSpace) => Ok(Reply::Refused(Refusal::NoSuchSpace)),
-        Err(error) => Err(unanswered(error)),
-    }
-}
-
-/// The status that each word of an unmap tells, in place of what the list had; by recursion if `plain`.
-fn unmap_by<W: Workers>(
-    alloc: Global,
-    database: &mut Database,
-    workers: &W,
-    plain: bool,
-    space: u16,
-    control: Control,
-    fpages: &[Fpage],
-    status: &mut Vec<Rights>,
-) -> Result<(), DbError>
-    requires within { All (IsFpageOf database.old.limits.bits) fpages.now }
-    ensures refused { IsRefused (unmap_refusal database.old space) database.old database.new result }
-    ensures status { OnOk result (
-        status.new.items ≡ unmap_status space control.flush fpages.now database.old.holdings) }
-    ensures left { OnOk result (
-        database.new ≡ left_with database.old (unmap_left space control.flush fpages.now database.old.holdings)) }
-{
-    if plain {
-        *status = database.unmap_plain(alloc, space, control, fpages)?;
-        return Ok(());
-    }
-    database.unmap_into(alloc, space, control, fpages, status, workers)
-}
-
-/// A clear of a space; by recursion if `plain`.
-fn clear_space<W: Workers>(
-    alloc: Global,
-    database: &mut Database,
-    workers: &W,
-    plain: bool,
-    space: u16,
-) -> Result<Reply, CrewError>
-    ensures ok { IfOk result (λ reply. answer database.old.limits database.old.holdings (Ok (clear space))
-        ≡ record { reply = reply_of reply; left = database.new.holdings }) }
-    ensures keeps { OnOk result (database.new ≡ left_with database.old database.new.holdings) }
-{
-    match clear_by(alloc, database, workers, plain, space) {
-        Ok(status) => Ok(Reply::Cleared(status)),
-        Err(DbError::NoSuchSpace) => Ok(Reply::Refused(Refusal::NoSuchSpace)),
-        Err(error) => Err(unanswered(error)),
-    }
-}
-
-/// The status that a clear tells; by recursion if `plain`.
-fn clear_by<W: Workers>(
-    alloc: Global,
-    database: &mut Database,
-    workers: &W,
-    plain: bool,
-    space: u16,
-) -> Result<Rights, DbError>
-    ensures refused { IsRefused (refusal database.old (clear space)) database.old database.new result }
-    ensures status { IfOk result (λ status. status ≡ (clear_answer space database.old.holdings).status) }
-    ensures left { OnOk result (database.new ≡ left_with database.old (clear_answer space database.old.holdings).left) }
-{
-    if plain {
-        return database.clear_plain(alloc, space);
-    }
-    database.clear(alloc, space, workers)
-}
-
 /// Why a call has no answer that was not refused for what it asks.
 fn unanswered(error: DbError) -> CrewError {
     match error {
         DbError::NoWorker => CrewError::NoWorker,
         _ => CrewError::NoMemory,
     }
-}
-
-/// Each word with its status in place of its rights, in place of what the reply had.
-fn reply_words(
-    mut reply: Vec<u32>,
-    words: &[u32],
-    status: &[Rights],
-) -> Result<Vec<u32>, AllocError>
-    ensures { IfOk result (λ reply. reply.items ≡ map (λ e. with_status e.0 e.1) (zip words.now status.now)) }
-{
-    reply.clear();
-    reply.reserve(words.len())?;
-    for (word, status) in words.iter().zip(status) {
-        reply.push(with_status(*word, *status))?;
-    }
-    Ok(reply)
 }

@@ -1,20 +1,18 @@
 //! Lists that are used again from record to record.
 
 use crate::answer::Replies;
-use fpage::{Access, Rights};
+use fpage::Access;
+use mapdb::Scratch;
 use space::Place;
 use std::alloc::Global;
-use trace::Reply;
 
 /// Lists that are used again from record to record, so that a record takes no memory of its own. What they have means nothing.
 #[derive(Drop)]
 pub struct Buffers {
     /// The accesses of a call of the database.
     pub(crate) accesses: Vec<(Place, Access)>,
-    /// The status that each word of an unmap tells.
-    pub(crate) status: Vec<Rights>,
-    /// The words of the reply to an unmap.
-    pub(crate) words: Vec<u32>,
+    /// What an answer needs.
+    pub(crate) scratch: Scratch,
 }
 
 impl Buffers {
@@ -22,15 +20,14 @@ impl Buffers {
     pub fn new(alloc: Global) -> Buffers {
         Buffers {
             accesses: Vec::new(alloc),
-            status: Vec::new(alloc),
-            words: Vec::new(alloc),
+            scratch: Scratch::new(alloc),
         }
     }
 
     /// Keeps the memory of replies that were written for those to come.
     pub fn keep(&mut self, replies: Replies) {
-        if let Replies::One(Reply::Unmapped(words)) = replies {
-            self.words = words;
+        if let Replies::One(reply) = replies {
+            self.scratch.keep(reply);
         }
     }
 }

@@ -4,7 +4,7 @@ ghost use Rattle.std.specs.Prelude.{◌≡◌, ◌<◌, ◌≤◌, ◌+◌, ◌+
 ghost use Rattle.std.specs.Io.KnownBytes.{Appends};
 ghost use Rattle.model.specs.Calls.{accessed};
 ghost use Rattle.model.specs.Text.{reply_line, reply_lines, is_refused, refused_count, audit_lines, end_line};
-ghost use Rattle.holdings.specs.Meaning.{limits_of};
+ghost use Rattle.mapdb.specs.Held.{limits_of};
 ghost use Rattle.trace.specs.Meaning.{reply_of};
 ghost use Rattle.trace.specs.Stream.{TellsFailure};
 ghost use Rattle.replay.specs.Options.{AreServed};

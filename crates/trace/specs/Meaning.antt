@@ -1,18 +1,11 @@
 -- What records, calls, refusals and replies stand for in the definitions.
-use Rattle.std.specs.Prelude.{◌≡◌, ⊤, ℕ, List, map, length, Result, Ok, Err}
+use Rattle.std.specs.Prelude.{ℕ, List, map, Result, Ok, Err}
 use Rattle.std.specs.Borrow.{Bor}
-use Rattle.std.specs.List.{All, zip}
-use Rattle.fpage.specs.Fpage.{IsFpageOf}
-use Rattle.model.specs.Calls.{Limits, Call, send, access, unmap, clear, Refusal, bad_size, misaligned, out_of_space, not_an_item, bad_control, no_such_space, same_space, no_window, bad_record, Request, Reply, sent, accessed, unmapped, cleared, refused}
+use Rattle.model.specs.Calls.{Request}
 use Rattle.model.specs.Records.{Fields, Version}
-use Rattle.holdings.specs.Places.{IsWithin}
-use Rattle.mapdb.specs.Meaning.{counts_of}
-use Rattle.trace.specs.declared.call.Call.{Call as TheCall}
-use Rattle.trace.specs.declared.call.Call.TheVariants.{Send, Access, Unmap, Clear}
-use Rattle.trace.specs.declared.call.Refusal.{Refusal as TheRefusal}
-use Rattle.trace.specs.declared.call.Refusal.TheVariants as why
-use Rattle.trace.specs.declared.reply.Reply.{Reply as TheReply}
-use Rattle.trace.specs.declared.reply.Reply.TheVariants.{Sent, Accessed, Unmapped, Cleared, Refused}
+pub use Rattle.mapdb.specs.Calls.{call_of, refusal_of, reply_of, IsWithinLimits}
+use Rattle.mapdb.specs.declared.call.Call.{Call as TheCall}
+use Rattle.mapdb.specs.declared.call.Refusal.{Refusal as TheRefusal}
 
 -- the bytes of borrowed fields
 abbrev pub shown : List (Bor (List ℕ)) → Fields
@@ -23,41 +16,7 @@ pub record TraceRecord : Type 0 where
   pub version : Version
   pub fields : Fields
 
--- the refusal that one of the program is
-abbrev pub refusal_of : TheRefusal → Refusal
-refusal_of why.BadSize = bad_size
-refusal_of why.Misaligned = misaligned
-refusal_of why.OutOfSpace = out_of_space
-refusal_of why.NotAnItem = not_an_item
-refusal_of why.BadControl = bad_control
-refusal_of why.NoSuchSpace = no_such_space
-refusal_of why.SameSpace = same_space
-refusal_of why.NoWindow = no_window
-refusal_of why.BadRecord = bad_record
-
--- the call that one of the program is
-abbrev pub call_of : TheCall → Call
-call_of (Send from to window items) = send from to window items.items
-call_of (Access place kind) = access place kind
-call_of (Unmap space control words fpages) = unmap space control.flush (zip words.items fpages.items)
-call_of (Clear space) = clear space
-
--- the pages that a call names lie within the limits, and each word of an unmap has its fpage
-abbrev pub IsWithinLimits : Limits → TheCall → Type 0
-IsWithinLimits limits (Send from to window items) = IsFpageOf limits.bits window × All (λ item. IsFpageOf limits.bits item.sent) items.items
-IsWithinLimits limits (Access place kind) = IsWithin limits place
-IsWithinLimits limits (Unmap space control words fpages) = All (IsFpageOf limits.bits) fpages.items × (length fpages.items ≡ length words.items)
-IsWithinLimits limits (Clear space) = ⊤
-
 -- the request that a call or a refusal of the program is
 abbrev pub request_of : Result TheCall TheRefusal → Request
 request_of (Ok call) = Ok (call_of call)
 request_of (Err e) = Err (refusal_of e)
-
--- the reply that one of the program is
-abbrev pub reply_of : TheReply → Reply
-reply_of (Sent r) = sent (counts_of r)
-reply_of (Accessed ok) = accessed ok
-reply_of (Unmapped words) = unmapped words.items
-reply_of (Cleared status) = cleared status
-reply_of (Refused r) = refused (refusal_of r)

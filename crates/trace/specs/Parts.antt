@@ -7,12 +7,12 @@ use Rattle.space.specs.declared.place.Place.{Place}
 use Rattle.model.specs.Calls as calls
 use Rattle.model.specs.Calls.{Request, access}
 use Rattle.model.specs.Records.{Fields, Header, AccessFields, SendFields, UnmapFields}
-use Rattle.trace.specs.declared.call.Call.{Call}
+use Rattle.mapdb.specs.declared.call.Call.{Call}
 use Rattle.trace.specs.declared.call.CallError.{CallError}
 use Rattle.trace.specs.declared.call.CallError.TheVariants.{Refused, NoMemory}
-use Rattle.trace.specs.declared.call.Refusal.{Refusal}
-use Rattle.trace.specs.declared.call.Refusal.TheVariants.{BadRecord}
-use Rattle.holdings.specs.Meaning.{limits_of}
+use Rattle.mapdb.specs.declared.call.Refusal.{Refusal}
+use Rattle.mapdb.specs.declared.call.Refusal.TheVariants.{BadRecord}
+use Rattle.mapdb.specs.Held.{limits_of}
 use Rattle.field.specs.Meaning.{version_of}
 use Rattle.trace.specs.declared.request.Header.{Header as TheHeader}
 use Rattle.trace.specs.declared.request.SendFields.{SendFields as TheSendFields}
@@ -40,10 +40,6 @@ send_of words s = record { from = s.from; to = s.to; window = s.window; words = 
 -- the fields of an unmap record, with its words
 abbrev pub unmap_of : List ℕ → TheUnmapFields → UnmapFields
 unmap_of words u = record { space = u.space; control = u.control; words = words }
-
--- the refusal that a word's error is
-abbrev pub IsRefusalOf : FpageError → Refusal → Type 0
-IsRefusalOf e r = refusal_of r ≡ calls.refusal_of e
 
 -- the record is refused as a word's error says
 abbrev pub Refuses : FpageError → CallError → Type 0

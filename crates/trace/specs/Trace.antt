@@ -1,7 +1,7 @@
 -- What a trace that was read stands for.
 use Rattle.std.specs.Prelude.{◌≡◌, ℕ, Bool, true, false, ⊤, List, [], ◌∷◌, map, Option, Some, None}
 use Rattle.model.specs.Records.{Fields, Version, Header, header_fields, records_of}
-use Rattle.holdings.specs.Meaning.{limits_of}
+use Rattle.mapdb.specs.Held.{limits_of}
 use Rattle.trace.specs.Meaning.{TraceRecord}
 use Rattle.trace.specs.declared.read.Trace.{Trace}
 use Rattle.trace.specs.declared.read.TraceError.{TraceError}

@@ -9,10 +9,10 @@ mod reply;
 mod request;
 mod stream;
 
-pub use call::{Call, Refusal};
 pub use field::Version;
+pub use mapdb::{Call, Refusal, Reply};
 pub use read::{Trace, TraceError, read_all};
 pub use reader::TraceReader;
 pub use records::{Fields, Record};
-pub use reply::{Reply, push_access, push_reply, reply_text};
+pub use reply::{push_access, push_reply, reply_text};
 pub use stream::{Failed, ReadError, Sink, Source, Std, read_to_end};

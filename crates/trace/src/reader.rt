@@ -3,19 +3,18 @@
 ghost use Rattle.std.specs.Prelude.{◌≡◌, ◌==◌, ◌<◌, ◌∷◌, [], true, Some, length, IfOk, IfErr, OnOk, OnErr, IfSome, MatchOption};
 ghost use Rattle.model.specs.Records.{are_limits};
 ghost use Rattle.field.specs.Meaning.{version_of};
-ghost use Rattle.holdings.specs.Meaning.{limits_of};
-ghost use Rattle.holdings.specs.Places.{IsWithin};
+ghost use Rattle.mapdb.specs.Held.{limits_of, IsWithin};
 ghost use Rattle.trace.specs.Meaning.{request_of, IsWithinLimits};
 ghost use Rattle.trace.specs.Unread.{past, IsOpened, IsFaultIn, first_request, access_in};
 
-use crate::call::{Call, CallError, Refusal};
+use crate::call::CallError;
 use crate::read::TraceError;
 use crate::records::{Fields, Record, next_row, rows};
 use crate::request::{Buffers, Header, access_only, read_header, request};
 use csv::{ByteRecord, Reader};
 use field::Version;
 use fpage::Access;
-use mapdb::Limits;
+use mapdb::{Call, Limits, Refusal};
 use space::{NoMemory, Place};
 use std::alloc::Global;
 use std::marker::Model;
@@ -45,7 +44,7 @@ impl<'a> Model for TraceReader<'a> {
     ghost use Rattle.std.specs.Prelude.{◌≡◌, true};
     ghost use Rattle.csv.specs.Records.{fields_of};
     ghost use Rattle.field.specs.Meaning.{version_of};
-    ghost use Rattle.holdings.specs.Meaning.{limits_of};
+    ghost use Rattle.mapdb.specs.Held.{limits_of};
     ghost use Rattle.trace.specs.Rows.{IsReading, with_row};
 
     ghost view = { λ r. record {

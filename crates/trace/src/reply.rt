@@ -7,25 +7,11 @@ ghost use Rattle.model.specs.Text.{reply_line, reply_text, refusal_name, counts_
 ghost use Rattle.mapdb.specs.Meaning.{counts_of};
 ghost use Rattle.trace.specs.Meaning.{reply_of, refusal_of};
 
-use crate::call::Refusal;
 use fpage::{Rights, with_status};
 use itoa::{Buffer, write_digits};
-use mapdb::SendReply;
+use mapdb::{Refusal, Reply, SendReply};
 use space::NoMemory;
 use std::alloc::{AllocError, Global};
-
-/// The answer to a record.
-#[derive(Debug, Drop)]
-pub enum Reply {
-    Sent(SendReply),
-    /// Whether the access was made; otherwise it was a fault.
-    Accessed(bool),
-    /// The words of an unmap, each with the status of its pages in place of its rights.
-    Unmapped(Vec<u32>),
-    /// The status of the pages that a clear took.
-    Cleared(Rights),
-    Refused(Refusal),
-}
 
 /// The word of the complete space, without rights.
 const COMPLETE_SPACE: u32 = 0x10;

@@ -4,9 +4,7 @@ ghost use Rattle.std.specs.Prelude.{◌≡◌, Some, IfOk};
 ghost use Rattle.std.specs.List.{All};
 ghost use Rattle.fpage.specs.Fpage.{IsSpaceBits, IsFpageOf};
 ghost use Rattle.space.specs.Directory.{pages_of};
-ghost use Rattle.holdings.specs.Layout.{index_in};
-ghost use Rattle.holdings.specs.Meaning.{limits_of};
-ghost use Rattle.holdings.specs.Places.{IsWithin};
+ghost use Rattle.mapdb.specs.Held.{index_in, limits_of, IsWithin};
 
 use crate::assertions::assert_equal;
 use crew::Workers;

@@ -3,8 +3,7 @@
 
 ghost use Rattle.std.specs.Prelude.{◌≡◌, ◌⊎◌, ℕ, List, Some};
 ghost use Rattle.pieces.specs.declared.piece.Piece.{Piece};
-ghost use Rattle.holdings.specs.Layout.{index_in};
-ghost use Rattle.holdings.specs.Observing.{IsPhaseOf};
+ghost use Rattle.mapdb.specs.Held.{index_in, IsPhaseOf};
 ghost use Rattle.database_tests.specs.Monitors.{IsBeside, found_in, left_by};
 
 use super::calls::{ALL, At, READ_EXECUTE, fpage, index_of, page, work_all};

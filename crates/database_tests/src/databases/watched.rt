@@ -3,7 +3,7 @@
 ghost use Rattle.std.specs.Prelude.{◌≡◌, ℕ, List};
 ghost use Rattle.pieces.specs.declared.piece.Piece.{Piece};
 ghost use Rattle.model.specs.Holdings.{Holdings};
-ghost use Rattle.holdings.specs.Observing.{IsPhaseOf};
+ghost use Rattle.mapdb.specs.Held.{IsPhaseOf};
 
 use super::calls::{ALL, Case, NONE, READ_EXECUTE, Step, expect, fpages, index_of, page, work_all};
 use super::unmaps::CHAIN;

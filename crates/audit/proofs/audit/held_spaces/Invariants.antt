@@ -1,6 +1,6 @@
 -- What the spaces so far hold, with what those to come do, is all.
 use Rattle.std.proofs.Common.{◌≡◌, ◌++◌, flat_map}
-use Rattle.holdings.specs.Mappings.{held_from}
+use Rattle.mapdb.specs.Held.{held_from}
 use Rattle.holdings.proofs.Contents.FromPages.{from_space}
 use Rattle.audit.proofs.audit.held_spaces.Given as goal
 

@@ -3,7 +3,7 @@ use Rattle.std.proofs.Common.{ℕ, ap, ◌∙◌, ◌++◌, flat_map, subst}
 use Rattle.model.specs.Holdings.{Holdings}
 use Rattle.std.specs.List.{All}
 use Rattle.std.specs.Result.{IsOk}
-use Rattle.holdings.specs.Mappings.{held_from}
+use Rattle.mapdb.specs.Held.{held_from}
 use Rattle.audit.specs.Sections.{bytes_in}
 use Rattle.audit.proofs.Texts.{all_texts}
 use Rattle.audit.proofs.audit.push_spaces.Goals as goal

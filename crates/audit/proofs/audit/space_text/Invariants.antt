@@ -1,7 +1,7 @@
 -- The text so far, with that of the mappings to come, is that of the space.
 use Rattle.std.proofs.Common.{◌≡◌, ◌++◌, length, string_bytes}
 use Rattle.model.specs.Text.{audit_lines}
-use Rattle.holdings.specs.Mappings.{held_from}
+use Rattle.mapdb.specs.Held.{held_from}
 use Rattle.audit.proofs.audit.space_text.Given as goal
 
 abbrev pub invariant-loop-line : goal.invariant-loop-line

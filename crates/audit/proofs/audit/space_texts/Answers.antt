@@ -3,7 +3,7 @@ use Rattle.std.proofs.Common.{ap, ◌∙◌, subst}
 use Rattle.std.specs.List.{AllZip}
 use Rattle.rayon.proofs.ListFacts.{IfOk-then}
 use Rattle.rayon.proofs.ToStd.{slice-AllZip}
-use Rattle.holdings.specs.Mappings.{held_from}
+use Rattle.mapdb.specs.Held.{held_from}
 use Rattle.audit.specs.Sections.{IsTextOf}
 use Rattle.audit.proofs.audit.space_texts.Goals as goal
 

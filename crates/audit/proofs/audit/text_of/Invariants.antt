@@ -1,7 +1,7 @@
 -- The text so far, with that of the spaces that are left, is that of all.
 use Rattle.std.proofs.Common.{◌≡◌, ◌++◌, flat_map, length}
 use Rattle.model.specs.Text.{audit_lines}
-use Rattle.holdings.specs.Mappings.{held_from}
+use Rattle.mapdb.specs.Held.{held_from}
 use Rattle.audit.proofs.audit.text_of.Given as goal
 
 abbrev pub invariant-loop-left : goal.invariant-loop-left

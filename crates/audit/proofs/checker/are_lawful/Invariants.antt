@@ -2,7 +2,7 @@
 use Rattle.std.proofs.Common.{◌≡◌, drop, map}
 use Rattle.std.specs.List.{list_all}
 use Rattle.model.specs.Lawful.{is_lawful_at}
-use Rattle.holdings.specs.Mappings.{mapped_of}
+use Rattle.mapdb.specs.Held.{mapped_of}
 use Rattle.audit.proofs.checker.are_lawful.Given as goal
 
 abbrev pub invariant-loop-line : goal.invariant-loop-line

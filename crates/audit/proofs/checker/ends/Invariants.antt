@@ -1,7 +1,7 @@
 -- Whether the chain ends is decided by the origins to come.
 use Rattle.std.proofs.Common.{◌≡◌, ◌-◌, length, map}
 use Rattle.model.specs.Lawful.{ends}
-use Rattle.holdings.specs.Mappings.{mapped_of}
+use Rattle.mapdb.specs.Held.{mapped_of}
 use Rattle.audit.proofs.checker.ends.Given as goal
 
 abbrev pub invariant-loop : goal.invariant-loop

@@ -1,7 +1,7 @@
 -- Whether it is the only root is decided by the lines to come.
 use Rattle.std.proofs.Common.{◌≡◌, drop, map}
 use Rattle.std.specs.List.{list_all}
-use Rattle.holdings.specs.Mappings.{mapped_of}
+use Rattle.mapdb.specs.Held.{mapped_of}
 use Rattle.audit.proofs.Checks.{is_other_root}
 use Rattle.audit.proofs.checker.is_only_root.Given as goal
 

@@ -2,7 +2,7 @@
 use Rattle.std.proofs.Common.{◌≡◌, ◌-◌, ◌+◌, drop, map, sym, ap, ◌∙◌, is_ge, arith}
 use Rattle.std.specs.FinMap.Entries.{is_sorted}
 use Rattle.space.specs.Place.{place_cmp}
-use Rattle.holdings.specs.Mappings.{mapped_of}
+use Rattle.mapdb.specs.Held.{mapped_of}
 use Rattle.audit.proofs.Checks.{blank, rise_on, fall_there, at_least, not_at_least, last_rises}
 use Rattle.audit.proofs.checker.is_rising.Goals as goal
 

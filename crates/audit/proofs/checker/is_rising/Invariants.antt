@@ -2,7 +2,7 @@
 use Rattle.std.proofs.Common.{◌≡◌, ◌-◌, drop, map}
 use Rattle.std.specs.FinMap.Entries.{is_sorted}
 use Rattle.space.specs.Place.{place_cmp}
-use Rattle.holdings.specs.Mappings.{mapped_of}
+use Rattle.mapdb.specs.Held.{mapped_of}
 use Rattle.audit.proofs.checker.is_rising.Given as goal
 
 abbrev pub invariant-loop-i : goal.invariant-loop-i

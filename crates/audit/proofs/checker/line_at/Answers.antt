@@ -2,7 +2,7 @@
 use Rattle.std.proofs.Common.{◌≡◌, rules}
 use Rattle.std.proofs.lemmas.List.Sorted.{answers_always}
 use Rattle.space.specs.declared.place.Place.{Place}
-use Rattle.holdings.specs.declared.mapping.Mapping.{Mapping}
+use Rattle.mapdb.specs.Held.{Mapping}
 use Rattle.audit.proofs.Checks.{blank, searchable, searched_line, absent_line}
 use Rattle.audit.proofs.checker.line_at.Goals as goal
 

@@ -4,14 +4,14 @@ use Rattle.std.proofs.lemmas.List.Elements.{All-cons}
 use Rattle.fpage.specs.declared.rights.Access.{Access}
 use Rattle.space.specs.declared.place.Place.{Place}
 use Rattle.model.specs.Calls.{Limits}
-use Rattle.holdings.specs.Places.{IsWithin}
+use Rattle.mapdb.specs.Held.{IsWithin}
 use Rattle.mapdb.specs.State.{State}
 use Rattle.c_handle.proofs.Pages.{page_within, shifted}
 use Rattle.c_handle.proofs.Served.{served}
 use Rattle.c_handle.proofs.access.access.Goals as goal
 
-pub access_all-requires : goal.access_all-requires
-access_all-requires c =
+pub answer_access-requires : goal.answer_access-requires
+answer_access-requires c =
     let s : State = c.args.database.now in
     let runs : s.is_halted ≡ false = sym c.if-is_halted.ensures in
     let same_bits = ap (λ (l : Limits). l.bits) c.limits-limits.ensures.limits in
@@ -21,5 +21,4 @@ access_all-requires c =
     let below : c.args.address < 2 ^ s.limits.bits = omega (arith, all, c.from-2.ensures, c.if-from-limits-2.false) in
     let there : c.args.space < s.limits.spaces = omega (arith, same_spaces, c.from.ensures, c.if-from-limits.false) in
     let within : IsWithin s.limits (record { space = c.args.space; page = c.args.address / 4096 }) = record { space = there; page = page_within s.limits.bits c.args.address are.low below } in
-    let P : Place × Access → Type 0 = λ a. IsWithin s.limits a.0 in
-    record { within = All-cons P (record { space = c.args.space; page = c.args.address / 4096 }, c.in_ok-access.access) [] within (λ k d none. absurd (omega (arith, none))) }
+    record { within = within }

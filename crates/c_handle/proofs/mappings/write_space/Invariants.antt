@@ -2,7 +2,7 @@
 use Rattle.std.proofs.Common.{◌≡◌, ◌-◌, ◌<◌, ◌≤◌, length}
 use Rattle.space.specs.Directory.{pages_of}
 use Rattle.model.specs.Holdings.{at}
-use Rattle.holdings.specs.Places.{pages_from}
+use Rattle.mapdb.specs.Held.{pages_from}
 use Rattle.c_handle.specs.Listed.{mappings_at, WritesBehind}
 use Rattle.c_handle.proofs.mappings.write_space.Given as goal
 

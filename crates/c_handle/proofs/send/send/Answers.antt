@@ -1,5 +1,5 @@
 -- The words are read as a record's are, and the database answers as it is asked.
-use Rattle.std.proofs.Common.{◌≡◌, inl, inr, ℕ, ◌/◌, ◌<◌, ◌≤◌, false, length, take, Some, Err, refl, sym, ap, ◌∙◌, subst, arith}
+use Rattle.std.proofs.Common.{◌≡◌, inl, inr, ℕ, ◌/◌, ◌<◌, ◌≤◌, false, List, length, take, Some, Ok, Err, refl, sym, ap, ◌∙◌, subst, arith}
 use Rattle.std.proofs.lemmas.List.{length-take-le}
 use Rattle.fpage.specs.Fpage.{IsSpaceBits, read_fpage}
 use Rattle.model.specs.Calls.{Call, Limits, send, bad_record, refusal_of, Request}
@@ -7,17 +7,23 @@ use Rattle.model.specs.Items.{Counts}
 use Rattle.model.specs.Records.{are_item_words, read_items}
 use Rattle.model.specs.SendLaws.{total}
 use Rattle.mapdb.specs.State.{State}
-use Rattle.mapdb.specs.declared.reply.SendReply.{SendReply as Reply}
+use Rattle.mapdb.specs.Calls.{reply_of}
+use Rattle.mapdb.specs.Meaning.{counts_of}
+use Rattle.mapdb.specs.declared.reply.Reply.{Reply}
+use Rattle.model.specs.Answers.{Answer}
+use Rattle.fpage.specs.declared.item.Item.{Item}
+use Rattle.c_handle.specs.Done.{IsDone, IsNotDone}
+use Rattle.c_handle.specs.declared.error.CallError.{CallError}
 use Rattle.c_handle.specs.Asked.{send_asked}
 use Rattle.c_handle.specs.Replied.{counts_in, counts_told}
 use Rattle.c_handle.specs.Sent.{IsSent}
-use Rattle.c_handle.specs.declared.error.CallError.TheVariants.{Word, Database}
-use Rattle.c_handle.proofs.Calling.{coded, called_halted, called_refused, called_error, not_refused, send_named}
+use Rattle.c_handle.proofs.Calling.{word_coded, coded, called_halted, called_refused}
 use Rattle.c_handle.proofs.Requests.{are_words, not_words, words_refused, window_refused, send_is, send_refused}
-use Rattle.c_handle.proofs.Sendings.{sent_called, sent_done}
+use Rattle.c_handle.proofs.Ending.{was_done, was_not_done}
+use Rattle.c_handle.proofs.Sendings.{counts_are, sent_called, sent_done, sent_not_done, told_none}
 use Rattle.c_handle.proofs.Served.{served}
 use Rattle.c_handle.proofs.Totals.{send_total}
-use Rattle.c_handle.proofs.send.send.Goals.{then-words-ne0-via-then-words-ne0, then-words-ne0-via-else-words-ne0+then-words-lt2, then-words-ne0-via-else-words-ne0+else-words-lt2+then-words}
+use Rattle.c_handle.proofs.send.send.Goals.{in-Sent, in_default, then-words-ne0-via-then-words-ne0, then-words-ne0-via-else-words-ne0+then-words-lt2, then-words-ne0-via-else-words-ne0+else-words-lt2+then-words}
 use Rattle.c_handle.proofs.send.send.Goals as goal
 
 pub returns-then-is_halted : goal.returns-then-is_halted
@@ -52,7 +58,7 @@ returns-in_err-window c =
     let are = are_words words c.if-words-ne0.false c.if-words-lt2.false c.if-words.false in
     let window = ap (λ b. read_fpage b c.args.window) (sym same_bits) ∙ sym c.in_err-window.ensures.read in
     let is = window_refused c.args.from c.args.to c.args.window words s.limits are e window in
-    let code = coded c.from_residual.result (Word e) c.from_residual.ensures.1 in
+    let code = word_coded c.from_residual.result e c.from_residual.ensures.1 in
     let P : ℕ → Type 0 = λ k. IsSent asked s c.args.reply.now (record { code = k; held = Some s; lent = c.args.reply.now }) in
     subst P (sym code) (sent_called asked s c.args.reply.now _ (called_refused counts_told asked s c.args.reply.now runs (refusal_of e) is refl))
 
@@ -75,28 +81,27 @@ returns-in_err-read_items c =
     let window = ap (λ b. read_fpage b c.args.window) (sym same_bits) ∙ sym c.in_ok-window.ensures.read in
     let read = ap (λ b. read_items b words) (sym same_bits) ∙ sym c.in_err-read_items.ensures.items in
     let is = send_refused c.args.from c.args.to c.args.window words s.limits are c.in_ok-window.window window e read in
-    let code = coded c.from_residual-in_err-read_items.result (Word e) c.from_residual-in_err-read_items.ensures.1 in
+    let code = word_coded c.from_residual-in_err-read_items.result e c.from_residual-in_err-read_items.ensures.1 in
     let P : ℕ → Type 0 = λ k. IsSent asked s c.args.reply.now (record { code = k; held = Some s; lent = c.args.reply.now }) in
     subst P (sym code) (sent_called asked s c.args.reply.now _ (called_refused counts_told asked s c.args.reply.now runs (refusal_of e) is refl))
 
-pub returns-in_err-sent : goal.returns-in_err-sent
-returns-in_err-sent c =
+pub returns-in_err-answered : goal.returns-in_err-answered
+returns-in_err-answered c =
     let s : State = c.args.database.now in
+    let asked : Request = send_asked c.args.from c.args.to c.args.window c.args.words.now s.limits in
     let words = c.args.words.now in
     let items = take (length words / 2) c.read_items.new.items in
-    let asked : Request = send_asked c.args.from c.args.to c.args.window words s.limits in
     let call : Call = send c.args.from c.args.to c.in_ok-window.window items in
-    let e = c.in_err-sent.field-0.0 in
-    let runs : s.is_halted ≡ false = sym c.if-is_halted.ensures in
     let same_bits = ap (λ (l : Limits). l.bits) c.limits-bits.ensures.limits in
     let are = are_words words c.if-words-ne0.false c.if-words-lt2.false c.if-words.false in
     let window = ap (λ b. read_fpage b c.args.window) (sym same_bits) ∙ sym c.in_ok-window.ensures.read in
     let read = ap (λ b. read_items b words) (sym same_bits) ∙ sym c.in_ok-read_items.ensures.items in
     let is = send_is c.args.from c.args.to c.args.window words s.limits are c.in_ok-window.window window items read in
-    let code = coded c.from_residual-in_err-sent.result (Database e) c.from_residual-in_err-sent.ensures.1 in
-    let P : ℕ → Type 0 = λ k. IsSent asked s c.args.reply.now (record { code = k; held = Some c.send.new.self; lent = c.args.reply.now }) in
-    let told = c.in_err-sent.ensures in
-    subst P (sym code) (sent_called asked s c.args.reply.now _ (called_error counts_told asked s c.args.reply.now call is runs Reply (λ r. refl) (send_named _ _ _) refl c.send.new.self e told.refused (λ is. told.no_memory (ap Err is)) (λ is. told.no_worker (ap Err is))))
+    let e = c.in_err-answered.field-0.0 in
+    let code = coded c.from_residual-in_err-answered.result e c.from_residual-in_err-answered.ensures.1 in
+    let P : ℕ → Type 0 = λ k. IsSent asked s c.args.reply.now (record { code = k; held = Some c.answer_send.new.self; lent = c.args.reply.now }) in
+    subst P (sym code) (sent_not_done asked s c.args.reply.now call is c.answer_send.new.self e
+    (was_not_done s c.answer_send.new.self call c.answer_send.result c.answer_send.ensures.ok c.answer_send.ensures.err c.done.result c.done.ensures e c.in_err-answered.was))
 
 pub counts-requires : goal.counts-requires
 counts-requires c =
@@ -112,21 +117,29 @@ counts-requires c =
     let few : length words ≤ 62 = c.if-words.false in
     let room : length words / 2 ≤ length all = omega (arith, few) in
     let many = length-take-le (length words / 2) all room in
-    subst (λ (k : Counts). total k < 4294967296) (sym c.in_ok-sent.ensures.counts) (omega (arith, most, many, few))
+    let call : Call = send c.args.from c.args.to c.in_ok-window.window items in
+    let done = was_done s c.answer_send.new.self call c.answer_send.result c.answer_send.ensures.ok c.answer_send.ensures.err c.done.result c.done.ensures c.in_ok-answered.answered c.in_ok-answered.was in
+    let counts = counts_are s.limits s.holdings c.args.from c.args.to c.in_ok-window.window items (counts_of c.in-Sent.sent) (ap (λ (a : Answer). a.reply) done.answered.told ∙ ap reply_of c.in-Sent.is) in
+    subst (λ (k : Counts). total k < 4294967296) counts (omega (arith, most, many, few))
 
 pub returns : goal.returns
 returns c =
     let s : State = c.args.database.now in
+    let lent = c.args.reply.now in
+    let asked : Request = send_asked c.args.from c.args.to c.args.window c.args.words.now s.limits in
     let words = c.args.words.now in
     let items = take (length words / 2) c.read_items.new.items in
-    let asked : Request = send_asked c.args.from c.args.to c.args.window words s.limits in
     let call : Call = send c.args.from c.args.to c.in_ok-window.window items in
-    let runs : s.is_halted ≡ false = sym c.if-is_halted.ensures in
     let same_bits = ap (λ (l : Limits). l.bits) c.limits-bits.ensures.limits in
     let are = are_words words c.if-words-ne0.false c.if-words-lt2.false c.if-words.false in
     let window = ap (λ b. read_fpage b c.args.window) (sym same_bits) ∙ sym c.in_ok-window.ensures.read in
     let read = ap (λ b. read_items b words) (sym same_bits) ∙ sym c.in_ok-read_items.ensures.items in
     let is = send_is c.args.from c.args.to c.args.window words s.limits are c.in_ok-window.window window items read in
-    let told = c.in_ok-sent.ensures in
-    let none = not_refused s c.send.new.self call c.in_ok-sent.sent runs told.refused in
-    sent_done asked s c.args.reply.now call is runs none refl refl c.send.new.self told.left told.grows c.counts.result (c.counts.ensures ∙ ap counts_in told.counts)
+    let answered = c.in_ok-answered.answered in
+    let done = was_done s c.answer_send.new.self call c.answer_send.result c.answer_send.ensures.ok c.answer_send.ensures.err c.done.result c.done.ensures answered c.in_ok-answered.was in
+    let mine : c.match-answered.reply ≡ counts_told lent (reply_of answered) =
+    elim c.match-answered.branch [
+      | in-Sent w ↦ w.reply-is ∙ w.counts.ensures ∙ sym (ap (λ (r : Reply). counts_told lent (reply_of r)) w.in-Sent.is)
+      | in_default w ↦ w.reply-is ∙ told_none lent answered w.in_default.not-Sent
+    ] in
+    sent_done asked s lent call is c.answer_send.new.self answered done done.answered.layout c.match-answered.reply mine

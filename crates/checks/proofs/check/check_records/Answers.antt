@@ -1,6 +1,6 @@
 -- One record more is counted, and told where it is refused.
 use Rattle.std.proofs.Common.{◌≡◌, ◌∷◌, List, sym, ap, subst, ◌∙◌, refl}
-use Rattle.holdings.specs.Meaning.{limits_of}
+use Rattle.mapdb.specs.Held.{limits_of}
 use Rattle.model.specs.Records.{Fields, Version}
 use Rattle.trace.specs.Unread.{Unread}
 use Rattle.checks.specs.Check.{is_refused_record}

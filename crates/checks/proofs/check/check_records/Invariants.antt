@@ -1,6 +1,6 @@
 -- The records so far are counted, and those of them that are refused.
 use Rattle.std.proofs.Common.{◌≡◌, length}
-use Rattle.holdings.specs.Meaning.{limits_of}
+use Rattle.mapdb.specs.Held.{limits_of}
 use Rattle.checks.proofs.Counting.{Counted}
 use Rattle.checks.proofs.check.check_records.Given as goal
 

@@ -1,6 +1,6 @@
 -- What was counted behind the header is counted of the replay.
 use Rattle.std.proofs.Common.{rules, ◌≡◌, ℕ, List, true, Result, Ok, Err, IfOk, ap, sym, subst, ◌∙◌}
-use Rattle.holdings.specs.Meaning.{limits_of}
+use Rattle.mapdb.specs.Held.{limits_of}
 use Rattle.model.specs.Calls.{Limits}
 use Rattle.model.specs.Records.{are_limits}
 use Rattle.trace.specs.Unread.{Unread, IsOpened}

@@ -1,7 +1,6 @@
 -- There is each page so far.
 use Rattle.std.specs.List.{All}
-use Rattle.holdings.specs.Meaning.{limits_of}
-use Rattle.holdings.specs.Places.{IsWithin}
+use Rattle.mapdb.specs.Held.{limits_of, IsWithin}
 use Rattle.moments.proofs.history.places_within.Given as goal
 
 abbrev pub invariant-loop-place : goal.invariant-loop-place

@@ -2,9 +2,9 @@
 use Rattle.std.proofs.Common.{rules, ◌≡◌, ◌∙◌, ap, Ok}
 use Rattle.fpage.specs.declared.rights.Access.{Access}
 use Rattle.space.specs.declared.place.Place.{Place}
-use Rattle.holdings.specs.Contents.{access_answers, touched_all}
+use Rattle.mapdb.specs.Held.{access_answers, touched_all}
 use Rattle.mapdb.specs.State.{State}
-use Rattle.trace.specs.declared.call.Call.TheVariants.{Access as CallAccess}
+use Rattle.mapdb.specs.declared.call.Call.TheVariants.{Access as CallAccess}
 use Rattle.replay.proofs.Answering.{accesses_are_told}
 use Rattle.replay.proofs.answer.answer_call.Goals as goal
 

@@ -5,8 +5,7 @@ use Rattle.std.proofs.lemmas.List.Elements.{All-cons, All-nil, All-push, All-sam
 use Rattle.fpage.specs.declared.rights.Access.{Access}
 use Rattle.space.specs.declared.place.Place.{Place}
 use Rattle.model.specs.Records.{Fields, Version}
-use Rattle.holdings.specs.Meaning.{limits_of}
-use Rattle.holdings.specs.Places.{IsWithin}
+use Rattle.mapdb.specs.Held.{limits_of, IsWithin}
 use Rattle.trace.specs.Unread.{Unread, past, first_request, access_in}
 use Rattle.replay.proofs.Answering.{AskedSoFar, asked_start, asked_more, asked_past, past_none}
 use Rattle.replay.proofs.answer.read_accesses.Goals as goal

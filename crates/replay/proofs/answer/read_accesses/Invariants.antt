@@ -1,8 +1,7 @@
 -- The records so far asked for the accesses behind the first.
 use Rattle.std.specs.List.{All}
 use Rattle.std.proofs.Common.{◌≡◌, ◌-◌, ◌<◌, length}
-use Rattle.holdings.specs.Meaning.{limits_of}
-use Rattle.holdings.specs.Places.{IsWithin}
+use Rattle.mapdb.specs.Held.{limits_of, IsWithin}
 use Rattle.trace.specs.Unread.{past}
 use Rattle.replay.proofs.Answering.{AskedSoFar}
 use Rattle.replay.proofs.answer.read_accesses.Given as goal

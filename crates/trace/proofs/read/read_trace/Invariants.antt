@@ -1,6 +1,6 @@
 -- the records so far, and those that are left
 use Rattle.std.proofs.Common.{length}
-use Rattle.holdings.specs.Meaning.{limits_of}
+use Rattle.mapdb.specs.Held.{limits_of}
 use Rattle.trace.proofs.Readings.{SoFar}
 use Rattle.trace.proofs.read.read_trace.Given as goal
 

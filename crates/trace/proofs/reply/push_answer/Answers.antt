@@ -3,7 +3,7 @@ use Rattle.std.proofs.Common.{◌≡◌, ◌++◌, subst, OnOk, codes, rules, st
 use Rattle.model.specs.Calls.{Reply, cleared}
 use Rattle.model.specs.Text.{reply_text, clear_word, hex_digits}
 use Rattle.trace.specs.Meaning.{reply_of}
-use Rattle.trace.specs.declared.reply.Reply.TheVariants.{Cleared}
+use Rattle.mapdb.specs.declared.reply.Reply.TheVariants.{Cleared}
 use Rattle.trace.proofs.Told.{told_behind}
 use Rattle.trace.proofs.reply.push_answer.Goals as goal
 

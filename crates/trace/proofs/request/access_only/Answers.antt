@@ -2,7 +2,7 @@
 use Rattle.std.proofs.Common.{◌≡◌, ◌∷◌, false, Some, codes, rules, sym, ap, ◌∙◌}
 use Rattle.std.specs.Str.{bytes_eq}
 use Rattle.model.specs.Records.{Fields, request}
-use Rattle.holdings.specs.Meaning.{limits_of}
+use Rattle.mapdb.specs.Held.{limits_of}
 use Rattle.trace.specs.Unread.{access_in}
 use Rattle.trace.proofs.NoAccess.{no_access}
 use Rattle.trace.proofs.request.access_only.Goals as goal

@@ -1,6 +1,6 @@
 -- The places so far lie within the limits.
 use Rattle.std.specs.List.{All}
-use Rattle.holdings.specs.Places.{IsWithin}
+use Rattle.mapdb.specs.Held.{IsWithin}
 use Rattle.database_tests.proofs.databases.calls.placed.Given as goal
 
 abbrev pub invariant-loop-at : goal.invariant-loop-at
