@@ -392,6 +392,21 @@ def large_spaces(bench):
         row(f"`dense` by {count} workers, by the clock", f"{clock:,.1f} ms", "")
 
 
+def by_default(bench):
+    """The sixth table: each trace by four workers, the default, beside one."""
+    head("Trace", "one worker, clock ms", "processor ms", "four workers, clock ms", "processor ms")
+    for it in compared():
+        progress(f"{it.name}, four workers")
+        trace, one, four = bench.trace(it.records, it.header), [], []
+        for _ in range(RUNS):
+            one.append(bench.run(bench.ours, trace, "one.txt"))
+            four.append(bench.run(bench.ours[:1], trace, "four.txt"))
+            if not filecmp.cmp(bench.path("one.txt"), bench.path("four.txt"), shallow=False):
+                sys.exit(f"performance.py: four workers write other bytes on {trace}")
+        times = ((statistics.median(run.clock for run in runs), median(runs)) for runs in (one, four))
+        row(it.name, *(f"{number:,.1f}" for pair in times for number in pair))
+
+
 def given_up(rounds):
     """All pages go to space 1, which gives up one after another; again and again."""
     for _ in range(rounds):
@@ -458,7 +473,7 @@ def main():
             beside(bench, os.path.abspath(other))
             return
         print(f"medians of {RUNS} runs; {version_of_rustc()}; {os.cpu_count()} processors\n")
-        for table in (compare, growth, one_page, workers, large_spaces):
+        for table in (compare, growth, one_page, workers, large_spaces, by_default):
             table(bench)
             print()
 

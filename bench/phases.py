@@ -9,11 +9,9 @@ five times in turn. It times only the call of `work` of `crew`, which shares the
 turns and takes the words back. It is run three times, and the medians and the least times are printed:
 
     1 worker, 2 workers, 4 workers
-                  the pieces are turns, with a gate that counts their ends, so that one worker takes them from its deque
-                  too
-    in place      one worker, which nobody hears, works the same pieces one after another on the words themselves
+                  a crew of so many, with a gate that counts the ends of pieces
     1 to 2, 1 to 4
-                  how many times faster 2 and 4 workers are than one that takes turns
+                  how many times faster 2 and 4 workers are than one
 
 and then the nanoseconds of a look of a watcher, at entries that stand 389 apart, one after another:
 
@@ -35,7 +33,7 @@ TESTS = os.path.join(os.path.dirname(HERE), "crates", "phase_tests", "out", "pha
 TEST = "times::works_a_thousand_nodes_or_as_many_as_are_asked_for"
 NODES = [1_048_576]
 RUNS = 3
-CREWS = ["1 worker", "2 workers", "4 workers", "in place"]
+CREWS = ["1 worker", "2 workers", "4 workers"]
 LOOKS = {"looks": "alone", "beside": "beside four"}
 
 
@@ -46,8 +44,6 @@ def told(nodes):
         match words:
             case ["phase", "pieces-of", length, "workers", workers, "ns", nanos]:
                 yield (int(length), "1 worker" if workers == "1" else f"{workers} workers"), int(nanos) / 1e6
-            case ["phase", "pieces-of", length, "in-place", "ns", nanos]:
-                yield (int(length), "in place"), int(nanos) / 1e6
             case ["phase", "pieces-of", length, "looks" | "beside" as kind, looks, "ns", nanos] if looks != "0":
                 yield (int(length), LOOKS[kind]), int(nanos) / int(looks)
 

@@ -59,12 +59,16 @@ TESTS = {
         "audits::halted::a_halted_database_refuses_every_call",
         "audits::halted::a_database_that_a_watched_unmap_halted_refuses_every_call",
         "replays::flushes_what_it_has_written_where_memory_runs_out",
+        "replays::shared::three_workers_make_accesses_of_one_page",
+        "replays::shared::three_workers_work_calls_of_every_kind",
     ],
 }
 # Those of them whose calls start threads.
 TESTS_WITH_THREADS = {
     ("database_tests", "audits::halted::a_halted_database_refuses_every_call"),
     ("database_tests", "audits::halted::a_database_that_a_watched_unmap_halted_refuses_every_call"),
+    ("database_tests", "replays::shared::three_workers_make_accesses_of_one_page"),
+    ("database_tests", "replays::shared::three_workers_work_calls_of_every_kind"),
 }
 
 # What a test ends with that was refused memory, by a call, or for a list of its own; or a thread.

@@ -7,6 +7,9 @@ Each trace of replays/ and examples/ runs with every choice of options, and must
 Random traces, made from a fixed table of seeds, run with some of the choices each; their answers are not known, so all
 runs of a trace must end as the first does, with status 0. A trace whose calls are worked by up to 64 threads each runs
 a thousand times, several runs at once, and must always end the same. The audit of a random trace must be lawful.
+
+The program shares large phases alone. So each trace is also given to a test of crates/database_tests, as `rt ci` leaves
+it, that replays it by crews that share every phase, with 1, 4 and 64 workers and pieces of 1, 2, 7 and 256.
 """
 
 import glob
@@ -20,6 +23,12 @@ from support.program import TOP, Cases, Ended, difference, program_path, run
 FOLDERS = ["examples", "tests/replays/*"]
 WORKERS = [1, 4, 64]
 PIECES = [1, 2, 7, 256, 65536]
+SHARES = [
+    os.path.join(TOP, "crates/database_tests/out/database_tests_tests"),
+    "replays::shared::crews_that_share_every_phase_write_what_one_worker_writes",
+    "standard-input",
+]
+SHARED = b"12 crews wrote what one worker writes\n"
 CHOICES = [["--workers", str(w), "--piece", str(p)] for w in WORKERS for p in PIECES] + [["--plain"]]
 
 SEEDS = range(1, 201)
@@ -156,11 +165,18 @@ def check_many_runs(program, pool):
     return next(filter(None, wrong), "")
 
 
+def what_crews_write(given):
+    """What is wrong with how crews work a trace that share every phase."""
+    got = run(SHARES, given)
+    return "" if got.status == 0 and SHARED in got.stdout else f"status {got.status}, {got.stdout + got.stderr!r}"
+
+
 def check_stored(program, name):
     """What is wrong with the runs of a stored trace, choice by choice."""
     given, wanted = read(name + ".csv"), Ended(0, read(name + ".txt"), b"")
     for choice in CHOICES:
         yield f"{name} {' '.join(choice)}", difference(wanted, run([program] + choice, given))
+    yield f"{name} by crews that share every phase", what_crews_write(given)
 
 
 def check_random(program, seed):
@@ -172,6 +188,7 @@ def check_random(program, seed):
     yield f"seed {seed}", difference(wanted, first) or fault_in_audit(first.stdout)
     for choice in choices:
         yield f"seed {seed} {' '.join(choice)}", difference(wanted, run([program] + choice, given))
+    yield f"seed {seed} by crews that share every phase", what_crews_write(given)
 
 
 def main():

@@ -24,7 +24,7 @@ pub fn clear_space(
     ensures { IsCalled status_told (clear_asked space database.old.limits) database.old status.old
         (record { code = result_code result; held = Some database.new; lent = status.new }) }
 {
-    let reply = done(database.answer_clear(alloc, space, false, &Alone))?;
+    let reply = done(database.answer_clear(alloc, space, &Alone))?;
     if let Reply::Cleared(cleared) = reply {
         *status = cleared.number();
     }

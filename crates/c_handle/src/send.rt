@@ -12,7 +12,7 @@ use crate::answer::done;
 use crate::error::CallError;
 use crew::Alone;
 use fpage::{Fpage, Item, ItemKind};
-use mapdb::{Database, Refusal, Reply};
+use mapdb::{Database, Refusal, Reply, Sending};
 use std::alloc::Global;
 use words::read_items;
 
@@ -86,7 +86,13 @@ pub fn send(
     }; MOST_ITEMS];
     read_items(words, bits, &mut items)?;
     let items = &items[..words.len() / 2];
-    let answered = done(database.answer_send(alloc, from, to, &window, items, &Alone))?;
+    let send = Sending {
+        from,
+        to,
+        window,
+        items,
+    };
+    let answered = done(database.answer_send(alloc, &send, &Alone))?;
     if let Reply::Sent(sent) = answered {
         *reply = counts(sent);
     }

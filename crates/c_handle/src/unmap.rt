@@ -44,12 +44,11 @@ pub fn unmap(
     let fpages = &fpages[..words.len()];
     let unmap = Unmap {
         space,
-        flush: control.is_flush(),
-        words: &*words,
+        control,
         fpages,
     };
     let mut scratch = Scratch::new(alloc);
-    let reply = done(database.answer_words(alloc, &unmap, false, &mut scratch, &Alone))?;
+    let reply = done(database.answer_words(alloc, &unmap, &*words, &mut scratch, &Alone))?;
     if let Reply::Unmapped(told) = reply {
         words.copy_from_slice(&told);
     }

@@ -1,6 +1,3 @@
-pub mod InPlace
-pub mod InTurn
-pub mod Working
 pub mod Balances
 pub mod Places
 pub mod Lots

@@ -5,11 +5,6 @@ use turns::{Open, Turn};
 
 /// Hears when work on a piece begins and ends.
 pub trait Gate: Sync {
-    /// Whether it listens. One that does not need not be told of a piece that is worked alone.
-    fn listens(&self) -> bool {
-        true
-    }
-
     /// A worker begins with a piece, both by number.
     fn begin(&self, worker: usize, piece: usize);
 
@@ -24,10 +19,6 @@ pub trait Gate: Sync {
 pub struct NoGate;
 
 impl Gate for NoGate {
-    fn listens(&self) -> bool {
-        false
-    }
-
     fn begin(&self, worker: usize, piece: usize) {}
 
     fn end(&self, worker: usize, turn: &Turn, shared: &Open) {}

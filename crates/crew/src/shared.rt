@@ -1,12 +1,13 @@
 //! The pieces of a phase, worked on words that the workers share.
 
-ghost use Rattle.std.specs.Prelude.{◌≡◌, ℕ, ◌<◌, ◌≤◌, length, IfOk};
+ghost use Rattle.std.specs.Prelude.{◌≡◌, ℕ, ◌<◌, ◌≤◌, length, IfOk, IsErrOf};
 ghost use Rattle.std.specs.List.{All};
 ghost use Rattle.pieces.specs.Phases.{CanBeWorked};
 ghost use Rattle.turns.specs.Closing.{numbers_of};
 ghost use Rattle.crew.specs.Crews.{IsEnded, dealt};
 ghost use Rattle.crew.specs.Hands.{IsFresh, weigh};
 ghost use Rattle.crew.specs.Worked.{IsWorked};
+ghost use Rattle.crew.specs.declared.error.CrewError.TheVariants.{NoWorker};
 
 use crate::bench::Bench;
 use crate::dealing::{deal, lots_of, owns_of};
@@ -37,7 +38,8 @@ pub fn work_shared<R: Threads + Wait, G: Gate>(
     requires some { 1 ≤ workers }
     requires few { workers < 1024 }
     requires can { CanBeWorked words.items pieces.items }
-    ensures { IfOk result (λ r. IsWorked words.items pieces.items r.0.items r.1.items) }
+    ensures worked { IfOk result (λ r. IsWorked words.items pieces.items r.0.items r.1.items) }
+    ensures no_worker { IsErrOf result NoWorker → 1 < workers }
 {
     let (shared, turns) = Open::open(alloc, words, pieces)?;
     let turns = work_turns::<Brand, R, G>(rt, alloc, gate, workers, &shared, turns)?;
@@ -62,6 +64,7 @@ pub fn work_turns<N: Which + Send + Sync, R: Threads + Wait, G: Gate>(
     requires fresh { All (IsFresh N.sheet) turns.items }
     ensures ended { IfOk result (λ ended. All (IsEnded N.sheet) ended.items) }
     ensures sums { IfOk result (λ ended. (h : ℕ → ℕ) → weigh h (numbers_of ended.items) ≡ weigh h (numbers_of turns.items)) }
+    ensures no_worker { IsErrOf result NoWorker → 1 < workers }
 {
     let deques = deal::<N>(alloc, workers, turns)?;
     work_deques::<N, Brand, R, G>(rt, alloc, gate, shared, deques)
@@ -81,6 +84,7 @@ fn work_deques<N: Which + Send + Sync, M: Crewed + Send + Sync, R: Threads + Wai
     requires deques { deques.items ≡ M.crew }
     ensures ended { IfOk result (λ ended. All (IsEnded N.sheet) ended.items) }
     ensures sums { IfOk result (λ ended. (h : ℕ → ℕ) → weigh h (numbers_of ended.items) ≡ dealt h M.crew) }
+    ensures no_worker { IsErrOf result NoWorker → 1 < length M.crew }
 {
     let owns = owns_of::<N, M>(alloc, deques)?;
     let bench = Bench::new(alloc, shared, gate, &owns)?;

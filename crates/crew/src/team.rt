@@ -1,7 +1,8 @@
 //! The threads of the workers of a phase.
 
-ghost use Rattle.std.specs.Prelude.{◌≡◌, ◌<◌, ◌+◌, ◌++◌, ◌∷◌, ℕ, [], get_or, length, IfOk, OnOk};
+ghost use Rattle.std.specs.Prelude.{◌≡◌, ◌<◌, ◌+◌, ◌++◌, ◌∷◌, ℕ, [], get_or, length, IfOk, IfErr, OnOk, IsErrOf};
 ghost use Rattle.crew.specs.Crews.{ArePlacedFrom};
+ghost use Rattle.crew.specs.declared.error.CrewError.TheVariants.{NoWorker};
 
 use crate::bench::Bench;
 use crate::error::CrewError;
@@ -33,7 +34,8 @@ fn start<'s, 'e, N: Which + Send + Sync + 'e, M: Crewed + Send + Sync + 'e, G: G
     bench: &'e Bench<'e, N, M, G>,
     lot: Lot<N, M>,
 ) -> Result<Started<N, M>, CrewError>
-    ensures { IfOk result (λ h. h.promise.0 ≡ lot.own.place) }
+    ensures place { IfOk result (λ h. h.promise.0 ≡ lot.own.place) }
+    ensures refused { IfErr result (λ e. e ≡ NoWorker) }
 {
     let promise = OfPlace(lot.place());
     match scope.spawn_with(promise, move || lot.work_all(bench)) {
@@ -54,7 +56,8 @@ pub fn work_together<N: Which + Send + Sync, M: Crewed + Send + Sync, R: Threads
 ) -> Result<Vec<Emptied<N, M>>, CrewError>
     requires first { first.own.place ≡ 0 }
     requires others { ArePlacedFrom 1 others.items }
-    ensures { IfOk result (λ lots. ArePlacedFrom 0 lots.items × (length lots.items ≡ length others.items + 1)) }
+    ensures placed { IfOk result (λ lots. ArePlacedFrom 0 lots.items × (length lots.items ≡ length others.items + 1)) }
+    ensures no_worker { IsErrOf result NoWorker → 0 < length others.items }
 {
     if others.is_empty() {
         let mut lots = Vec::with_capacity(alloc, 1)?;

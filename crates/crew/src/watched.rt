@@ -1,12 +1,13 @@
 //! The pieces of a phase, worked on shared words while an observer looks at these.
 
-ghost use Rattle.std.specs.Prelude.{◌≡◌, ◌≤◌, ◌<◌, ℕ, length, IfOk};
+ghost use Rattle.std.specs.Prelude.{◌≡◌, ◌≤◌, ◌<◌, ℕ, length, IfOk, IfErr};
 ghost use Rattle.std.specs.List.{All};
 ghost use Rattle.pieces.specs.Phases.{CanBeWorked};
 ghost use Rattle.turns.specs.Closing.{numbers_of};
 ghost use Rattle.crew.specs.Crews.{IsEnded};
 ghost use Rattle.crew.specs.Hands.{IsFresh, weigh};
 ghost use Rattle.crew.specs.Worked.{IsWorked};
+ghost use Rattle.crew.specs.declared.error.CrewError.TheVariants.{NoWorker};
 
 use crate::error::CrewError;
 use crate::gate::Gate;
@@ -136,7 +137,8 @@ fn start<'s, 'e, O: Observe + 'e>(
 ) -> Result<PromisedHandle<Watcher, SameWatcher>, CrewError>
     requires of { watcher.sheet ≡ shared.now }
     requires told { O.told observer.now shared.now.opening.words shared.now.opening.pieces }
-    ensures { IfOk result (λ h. h.promise.0.value ≡ watcher) }
+    ensures watcher { IfOk result (λ h. h.promise.0.value ≡ watcher) }
+    ensures refused { IfErr result (λ e. e ≡ NoWorker) }
 {
     let promise = SameWatcher(Snapshot::of(&watcher));
     match scope.spawn_with(

@@ -4,21 +4,23 @@ use crate::error::CrewError;
 use pieces::{Done, Piece};
 use std::alloc::Global;
 
-/// Who works the pieces of a phase: a `Crew` that hears nothing, or the calling thread, `Alone`.
+/// Who works the pieces of a phase: a `Crew`, or the calling thread, `Alone`.
 pub trait Workers {
-    ghost use Rattle.std.specs.Prelude.{◌<◌, ◌≤◌, length, IfOk};
+    ghost use Rattle.std.specs.Prelude.{◌<◌, ◌≤◌, length, IfOk, IsErrOf};
     ghost use Rattle.pieces.specs.Phases.{CanBeWorked};
     ghost use Rattle.crew.specs.Worked.{IsWorked};
+    ghost use Rattle.crew.specs.declared.error.CrewError.TheVariants.{NoWorker};
+
+    /// That they start no thread.
+    ghost starts_none: { Self → Type 0 };
 
     /// The most nodes, stores, pairs or accesses that a piece is to have.
     fn piece_length(&self) -> usize
         ensures { 1 ≤ result };
 
-    /// Whether the calling thread would work so many pieces alone, with nobody told. A caller may then do without pieces what
-    /// they would do.
-    fn works_alone(&self, _pieces: usize) -> bool {
-        false
-    }
+    /// How many full pieces a phase must fill for its pieces to be worked by `work`. Where it fills fewer, the calling thread
+    /// works it alone, in place, and tells nobody; with 0 it never does.
+    fn shared_from(&self) -> usize;
 
     /// Works all pieces of a phase, and returns the words as they leave them and what each piece found out. The pieces are
     /// numbered from 0, in the order in which they are given.
@@ -32,7 +34,8 @@ pub trait Workers {
     ) -> Result<(Vec<u64>, Vec<Done>), CrewError>
         requires some { 0 < length pieces.items }
         requires can { CanBeWorked words.items pieces.items }
-        ensures { IfOk result (λ r. IsWorked words.items pieces.items r.0.items r.1.items) };
+        ensures worked { IfOk result (λ r. IsWorked words.items pieces.items r.0.items r.1.items) }
+        ensures needs_no_worker { Self.starts_none self.now → IsErrOf result NoWorker → ⊥ };
 }
 
 /// The calling thread works alone: it starts no thread and waits for none.

@@ -8,6 +8,7 @@ mod frames;
 mod layouts;
 mod looks;
 mod monitors;
+mod planned;
 mod together;
 mod unmaps;
 pub mod watched;

@@ -3,6 +3,7 @@
 ghost use Rattle.std.specs.Prelude.{◌≡◌, false, true, IfOk, OnOk, OnErr};
 ghost use Rattle.replay.specs.Options.{AreServed};
 
+mod shared;
 mod worked;
 
 use crate::assertions::{assert_equal, assert_holds};
@@ -314,8 +315,16 @@ struct Counted<'a, R> {
 }
 
 impl<'a, R: Threads + Wait> Workers for Counted<'a, R> {
+    ghost use Rattle.std.specs.Prelude.{◌≤◌};
+
+    ghost starts_none = { λ held. held.crew.workers ≤ 1 };
+
     fn piece_length(&self) -> usize {
         self.crew.piece_length()
+    }
+
+    fn shared_from(&self) -> usize {
+        self.crew.shared_from()
     }
 
     fn work(

@@ -224,7 +224,7 @@ fn a_source_that_fails_after_any_byte_is_unreadable(rt: HostRuntime) -> Result<(
 }
 
 /// The record of fields that commas part, in a trace of a version.
-fn record_of(alloc: Global, version: Version, text: &str) -> Result<Record, NoMemory> {
+pub fn record_of(alloc: Global, version: Version, text: &str) -> Result<Record, NoMemory> {
     let mut fields = Vec::new(alloc);
     for field in text.split(',') {
         if fields.push(field.as_bytes()).is_err() {

@@ -5,6 +5,7 @@ pub mod Groups
 pub mod AllKept
 pub mod Apart
 pub mod Plan
+pub mod Outermost
 pub mod Trees
 pub mod StripPhase
 pub mod Observed

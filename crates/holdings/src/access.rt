@@ -1,7 +1,7 @@
 //! Accesses of pages, one phase for all of them.
 
 use crate::holdings::Holdings;
-use crate::phase::{is_worked_alone, work_phase};
+use crate::phase::{is_small, work_phase};
 use crew::{CrewError, Workers};
 use fpage::Access;
 use pieces::{WordAccess, touches};
@@ -9,8 +9,9 @@ use space::{Place, Shards};
 use std::alloc::{AllocError, Global};
 
 impl Holdings {
-    ghost use Rattle.std.specs.Prelude.{IfOk};
+    ghost use Rattle.std.specs.Prelude.{IfOk, IsErrOf};
     ghost use Rattle.std.specs.List.{All};
+    ghost use Rattle.crew.specs.declared.error.CrewError.TheVariants.{NoWorker};
     ghost use Rattle.holdings.specs.Contents.{AreAccessed};
     ghost use Rattle.holdings.specs.Places.{IsWithin};
 
@@ -24,10 +25,10 @@ impl Holdings {
         workers: &W,
     ) -> Result<(Self, Vec<bool>), CrewError>
         requires within { All (λ access. IsWithin self.limits access.0) accesses.now }
-        ensures { IfOk result (AreAccessed self accesses.now) }
+        ensures accessed { IfOk result (AreAccessed self accesses.now) }
+        ensures needs_no_worker { W.starts_none workers.now → IsErrOf result NoWorker → ⊥ }
     {
-        // Of one access a list of pieces would cost more than the access.
-        if accesses.len() == 1 || is_worked_alone(accesses.len(), workers) {
+        if is_small(accesses.len(), workers) {
             let made = self.access_alone(alloc, accesses)?;
             return Ok(made);
         }

@@ -3,6 +3,7 @@
 #![tactic(auto)]
 
 mod access;
+mod extent;
 mod group;
 mod holdings;
 mod item_pages;

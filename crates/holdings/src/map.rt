@@ -3,7 +3,7 @@
 use crate::holdings::Holdings;
 use crate::link::link_all;
 use crate::making::make_targets;
-use crate::phase::is_worked_alone;
+use crate::phase::is_small;
 use crate::transfer::Transfer;
 use crate::transfer_counts::TransferCounts;
 use crate::writes::write_phase;
@@ -15,7 +15,8 @@ use space::{Place, Shards};
 use std::alloc::{AllocError, Global};
 
 impl Holdings {
-    ghost use Rattle.std.specs.Prelude.{IfOk};
+    ghost use Rattle.std.specs.Prelude.{IfOk, IsErrOf};
+    ghost use Rattle.crew.specs.declared.error.CrewError.TheVariants.{NoWorker};
     ghost use Rattle.holdings.specs.Contents.{AreMapped};
     ghost use Rattle.holdings.specs.Sending.{ArePlanned, AreReady};
 
@@ -32,9 +33,10 @@ impl Holdings {
     ) -> Result<(Self, TransferCounts), CrewError>
         requires planned { ArePlanned self.limits transfers.now }
         requires ready { AreReady self.holdings rights transfers.now }
-        ensures { IfOk result (AreMapped self transfers.now rights) }
+        ensures mapped { IfOk result (AreMapped self transfers.now rights) }
+        ensures needs_no_worker { W.starts_none workers.now → IsErrOf result NoWorker → ⊥ }
     {
-        if is_worked_alone(transfers.len(), workers) {
+        if is_small(transfers.len(), workers) {
             let mapped = self.map_alone(alloc, transfers, rights)?;
             return Ok(mapped);
         }

@@ -2,7 +2,7 @@
 
 use crate::holdings::Holdings;
 use crate::making::make_targets;
-use crate::phase::is_worked_alone;
+use crate::phase::is_small;
 use crate::renaming::rename_all;
 use crate::transfer::Transfer;
 use crate::transfer_counts::TransferCounts;
@@ -14,7 +14,8 @@ use space::{Place, Shards};
 use std::alloc::{AllocError, Global};
 
 impl Holdings {
-    ghost use Rattle.std.specs.Prelude.{IfOk};
+    ghost use Rattle.std.specs.Prelude.{IfOk, IsErrOf};
+    ghost use Rattle.crew.specs.declared.error.CrewError.TheVariants.{NoWorker};
     ghost use Rattle.holdings.specs.Contents.{AreMoved};
     ghost use Rattle.holdings.specs.Sending.{ArePlanned, AllGo, AreFree};
 
@@ -31,9 +32,10 @@ impl Holdings {
         requires planned { ArePlanned self.limits transfers.now }
         requires all_go { AllGo transfers.now }
         requires free { AreFree self.holdings transfers.now }
-        ensures { IfOk result (AreMoved self transfers.now) }
+        ensures moved { IfOk result (AreMoved self transfers.now) }
+        ensures needs_no_worker { W.starts_none workers.now → IsErrOf result NoWorker → ⊥ }
     {
-        if is_worked_alone(transfers.len(), workers) {
+        if is_small(transfers.len(), workers) {
             let moved = self.rename_alone(alloc, transfers)?;
             return Ok(moved);
         }

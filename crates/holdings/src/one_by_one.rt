@@ -1,10 +1,8 @@
 //! Pages that are stripped one after another, each with all that derives from it, on the words and trees themselves.
 
 use crate::holdings::Holdings;
-use crate::phase::is_worked_alone;
 use crate::prune::{Left, prune_run};
 use crate::recursion::{take, visit};
-use crew::Workers;
 use fpage::Rights;
 use maptree::Tree;
 use space::{NoMemory, Place, Shards, Status};
@@ -64,60 +62,6 @@ impl Holdings {
         }
         Ok((Holdings { shards, trees }, status))
     }
-
-    /// Whether the calling thread would strip these pages alone, and one after another is the short way: each page has a greater
-    /// frame than the one before it, so that none derives from another, and none is passed over twice. Threads pay by the
-    /// mappings that they pass over, however few of these derive from each page: as many as would be pieces if all stood in one run.
-    pub(crate) fn are_stripped_alone<W: Workers>(&self, places: &[Place], workers: &W) -> bool
-        requires { All (IsWithin self.now.limits) places.now }
-    {
-        let Some(most) = self.most_mappings_from(places) else {
-            return false;
-        };
-        is_worked_alone(most, workers) || is_worked_alone(self.mappings_from(places), workers)
-    }
-
-    /// How many mappings derive from these pages at most, with their own, if each page has a greater frame than the one before it.
-    fn most_mappings_from(&self, places: &[Place]) -> Option<usize>
-        requires { All (IsWithin self.now.limits) places.now }
-    {
-        let mut last = None;
-        let mut most: usize = 0;
-        for place in places {
-            let Some(entry) = self.shards.get(*place) else {
-                continue;
-            };
-            if last >= Some(entry.frame) {
-                return None;
-            }
-            last = Some(entry.frame);
-            most = most.saturating_add(self.trees[entry.frame as usize].len());
-        }
-        Some(most)
-    }
-
-    /// How many mappings derive from these pages, with their own.
-    fn mappings_from(&self, places: &[Place]) -> usize
-        requires { All (IsWithin self.now.limits) places.now }
-    {
-        let mut mappings: usize = 0;
-        for place in places {
-            if let Some(entry) = self.shards.get(*place) {
-                let more = run_len(&self.trees[entry.frame as usize], *place);
-                mappings = mappings.saturating_add(more);
-            }
-        }
-        mappings
-    }
-}
-
-/// How many places of a tree derive from a place, with itself.
-fn run_len(tree: &Tree, place: Place) -> usize {
-    let Some(i) = tree.find(place) else {
-        return 0;
-    };
-    let run = tree.run_of(i);
-    run.end.saturating_sub(run.start)
 }
 
 ghost use Rattle.std.specs.Prelude.{◌≡◌, ◌<◌, ◌≤◌, true, length, IfOk, OnOk};

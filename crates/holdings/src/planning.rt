@@ -56,6 +56,55 @@ pub fn plan_strip(
     Ok(StripPlan { frames, pieces })
 }
 
+ghost use Rattle.std.specs.Prelude.{◌++◌, OnOk};
+ghost use Rattle.maptree.specs.Origins.{AreRising};
+ghost use Rattle.holdings.specs.Inner.Stripping.{firsts};
+ghost use Rattle.holdings.specs.Inner.StripPlans.{AreOuterPlaces, HaveRuns, all_firsts};
+
+/// The first places of the outermost runs of some pages: all that derives from the pages derives from these, and none of
+/// these from another.
+///
+/// Refused, where memory is: `NoMemory`.
+pub fn outer_places(
+    alloc: Global,
+    shards: &Shards,
+    trees: &[Tree],
+    places: &[Place],
+) -> Result<Vec<Place>, NoMemory>
+    requires sound { AreSound shards.now trees.now }
+    requires within { All (IsWithin (limits_in shards.now trees.now)) places.now }
+    ensures { IfOk result (λ outer. AreOuterPlaces shards.now trees.now places.now outer.items) }
+{
+    let pages = sorted_pages(alloc, shards, places)?;
+    let frames = runs_by_frame(alloc, trees, &pages)?;
+    first_places(alloc, trees, &frames)
+}
+
+/// The first places of all these runs, one run after another.
+///
+/// Refused, where memory is: `NoMemory`.
+fn first_places(alloc: Global, trees: &[Tree], frames: &[FrameRuns]) -> Result<Vec<Place>, NoMemory>
+    requires { All (HaveRuns trees.now) frames.now }
+    ensures { IfOk result (λ outer. outer.items ≡ all_firsts trees.now frames.now) }
+{
+    let mut outer = Vec::new(alloc);
+    for frame in frames {
+        add_firsts(&trees[frame.frame as usize], &frame.runs, &mut outer)?;
+    }
+    Ok(outer)
+}
+
+/// Adds the first places of runs of a tree to others.
+fn add_firsts(tree: &Tree, runs: &Runs, outer: &mut Vec<Place>) -> Result<(), AllocError>
+    requires { AreRising 0 runs.now (length tree.now.links) }
+    ensures { OnOk result (outer.new.items ≡ outer.old.items ++ firsts tree.now.links runs.now) }
+{
+    for run in runs.as_slice() {
+        outer.push(tree.node(run.start).place)?;
+    }
+    Ok(())
+}
+
 ghost use Rattle.std.specs.List.Sorted.{IsNonDecreasingBy};
 ghost use Rattle.holdings.specs.Inner.StripPlans.{AreFrameRuns};
 
@@ -86,7 +135,7 @@ fn runs_by_frame(
     Ok(frames)
 }
 
-ghost use Rattle.holdings.specs.Inner.StripPlans.{HaveRuns, ArePlannedStrips};
+ghost use Rattle.holdings.specs.Inner.StripPlans.{ArePlannedStrips};
 
 /// The strips of all these runs, one run after another, in parts of at most so many nodes.
 ///
@@ -121,7 +170,6 @@ fn strips(
     Ok(pieces)
 }
 
-ghost use Rattle.std.specs.Prelude.{OnOk};
 ghost use Rattle.holdings.specs.Inner.StripPlans.{AreAdded};
 
 /// Adds the strips of the runs of a frame to others.

@@ -3,21 +3,23 @@
 use crate::holdings::Holdings;
 use crate::one_by_one::Order;
 use crate::phase::work_phase_by;
-use crate::planning::{StripPlan, plan_strip};
+use crate::planning::{StripPlan, outer_places, plan_strip};
 use crate::prune::prune_gone;
 use crew::{CrewError, Workers};
 use fpage::Rights;
 use pieces::{Done, Piece};
-use space::Place;
+use space::{NoMemory, Place};
 use std::alloc::Global;
 
 impl Holdings {
-    ghost use Rattle.std.specs.Prelude.{◌<◌, ◌≤◌, length, IfOk};
+    ghost use Rattle.std.specs.Prelude.{◌<◌, ◌≤◌, length, IfOk, IsErrOf};
     ghost use Rattle.std.specs.List.{All};
     ghost use Rattle.pieces.specs.Phases.{CanBeWorked};
     ghost use Rattle.crew.specs.Worked.{IsWorked};
+    ghost use Rattle.crew.specs.declared.error.CrewError.TheVariants.{NoWorker};
     ghost use Rattle.model.specs.Strip.{strip};
     ghost use Rattle.holdings.specs.Contents.{IsStripped};
+    ghost use Rattle.holdings.specs.Inner.StripPlans.{StandFor};
     ghost use Rattle.holdings.specs.Observing.{IsPhaseOf};
     ghost use Rattle.holdings.specs.Places.{IsWithin, any_of};
 
@@ -25,8 +27,7 @@ impl Holdings {
     /// them is cleared and returned, and what it was is added to that of the page from which they come. A page that has no
     /// rights left is no longer held (L4 X.2, Unmap).
     ///
-    /// Each tree is passed over by the outermost runs of the pages that it has, once each. Where the calling thread would work
-    /// alone, pages of different frames are stripped one after another, without pieces.
+    /// Each tree is passed over by the outermost runs of the pages that it has, once each.
     ///
     /// Refused, where memory or a worker is: `NoMemory`, `NoWorker`.
     pub fn strip<W: Workers>(
@@ -38,7 +39,28 @@ impl Holdings {
         workers: &W,
     ) -> Result<(Self, Rights), CrewError>
         requires within { All (IsWithin self.limits) places.now }
-        ensures { IfOk result (IsStripped self (any_of places.now) revoked flush) }
+        ensures stripped { IfOk result (IsStripped self (any_of places.now) revoked flush) }
+        ensures needs_no_worker { W.starts_none workers.now → IsErrOf result NoWorker → ⊥ }
+    {
+        if places.len() < 2 || self.are_apart(places) {
+            return self.strip_apart(alloc, places, revoked, flush, workers);
+        }
+        let outer = self.outermost(alloc, places)?;
+        self.strip_apart(alloc, &outer, revoked, flush, workers)
+    }
+
+    /// The same for pages of which none derives from another, one after another or by pieces.
+    fn strip_apart<W: Workers>(
+        self,
+        alloc: Global,
+        places: &[Place],
+        revoked: Rights,
+        flush: bool,
+        workers: &W,
+    ) -> Result<(Self, Rights), CrewError>
+        requires within { All (IsWithin self.limits) places.now }
+        ensures stripped { IfOk result (IsStripped self (any_of places.now) revoked flush) }
+        ensures needs_no_worker { W.starts_none workers.now → IsErrOf result NoWorker → ⊥ }
     {
         if self.are_stripped_alone(places, workers) {
             let stripped = self.strip_one_by_one(alloc, places, revoked, flush, Order::List)?;
@@ -48,6 +70,15 @@ impl Holdings {
         self.strip_in_pieces(alloc, places, revoked, flush, most, |words, pieces| {
             workers.work(alloc, words, pieces)
         })
+    }
+
+    /// Pages from which all derives that derives from these, and of which none derives from another.
+    fn outermost(&self, alloc: Global, places: &[Place]) -> Result<Vec<Place>, NoMemory>
+        requires { All (IsWithin self.now.limits) places.now }
+        ensures within { IfOk result (λ outer. All (IsWithin self.now.limits) outer.items) }
+        ensures stand { IfOk result (λ outer. StandFor self.now places.now outer.items) }
+    {
+        outer_places(alloc, &self.shards, &self.trees, places)
     }
 
     /// The same as one phase, if any of the pages is held. A function is given the words and the pieces, and works them.
@@ -69,7 +100,8 @@ impl Holdings {
         requires may { (words pieces : _) → IsPhaseOf self.layout self.holdings (strip self.holdings (any_of places.now) revoked flush) words.items pieces.items → F.pre work words pieces }
         requires does { (words pieces r : _) → 0 < length pieces.items → CanBeWorked words.items pieces.items → F.post work words pieces r
             → IfOk r (λ w. IsWorked words.items pieces.items w.0.items w.1.items) }
-        ensures { IfOk result (IsStripped self (any_of places.now) revoked flush) }
+        ensures stripped { IfOk result (IsStripped self (any_of places.now) revoked flush) }
+        ensures needs_no_worker { ((words pieces r : _) → F.post work words pieces r → IsErrOf r NoWorker → ⊥) → IsErrOf result NoWorker → ⊥ }
     {
         let Holdings {
             mut shards,

@@ -1,7 +1,8 @@
 //! A phase of a call that only writes: its pieces find nothing out, so nothing is gathered.
 
-ghost use Rattle.std.specs.Prelude.{OnOk, IsFalse};
+ghost use Rattle.std.specs.Prelude.{◌≡◌, OnOk, IsErrOf, IsFalse};
 ghost use Rattle.space.specs.Shards.{is_taken};
+ghost use Rattle.crew.specs.declared.error.CrewError.TheVariants.{NoWorker};
 ghost use Rattle.holdings.specs.Inner.Words.{CanBeWorkedIn, IsWritten};
 
 use crew::{CrewError, Workers};
@@ -18,7 +19,8 @@ pub fn write_phase<W: Workers>(
 ) -> Result<(), CrewError>
     requires present { IsFalse (is_taken shards.old) }
     requires can { CanBeWorkedIn shards.old pieces.items }
-    ensures { OnOk result (IsWritten shards.old shards.new pieces.items) }
+    ensures written { OnOk result (IsWritten shards.old shards.new pieces.items) }
+    ensures needs_no_worker { W.starts_none workers.now → IsErrOf result NoWorker → ⊥ }
 {
     if pieces.is_empty() {
         return Ok(());

@@ -18,6 +18,13 @@ IsLaidOutBy (access place kind) old new = new ≡ old
 IsLaidOutBy (unmap space flush words) old new = new ≡ old
 IsLaidOutBy (clear space) old new = new ≡ old
 
+-- the calls that the recursion leaves to workers
+abbrev pub IsSendOrAccess : Call → Type 0
+IsSendOrAccess (send from to window items) = ⊤
+IsSendOrAccess (access place kind) = ⊤
+IsSendOrAccess (unmap space flush words) = ⊥
+IsSendOrAccess (clear space) = ⊥
+
 -- a refused call changes nothing
 abbrev pub StaysIfRefused : Reply → State → State → Type 0
 StaysIfRefused (Sent counts) old new = ⊤

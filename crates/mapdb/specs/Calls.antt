@@ -1,7 +1,9 @@
 -- What calls, refusals and replies stand for in the definitions.
-use Rattle.std.specs.Prelude.{◌≡◌, ⊤, ℕ, List, length}
+use Rattle.std.specs.Prelude.{◌≡◌, ⊤, ℕ, List, length, map}
 use Rattle.std.specs.List.{All, zip}
+use Rattle.fpage.specs.Control.{with_status}
 use Rattle.fpage.specs.Fpage.{Flexpage, IsFpageOf}
+use Rattle.fpage.specs.declared.rights.Rights.{Rights}
 use Rattle.fpage.specs.declared.error.FpageError.{FpageError}
 use Rattle.model.specs.Calls as calls
 use Rattle.model.specs.Calls.{Limits, Call, send, access, unmap, clear, Refusal, bad_size, misaligned, out_of_space, not_an_item, bad_control, no_such_space, same_space, no_window, bad_record, Reply, sent, accessed, unmapped, cleared, refused}
@@ -9,6 +11,7 @@ use Rattle.holdings.specs.Places.{IsWithin}
 use Rattle.mapdb.specs.Meaning.{counts_of}
 use Rattle.mapdb.specs.declared.call.Call.{Call as TheCall}
 use Rattle.mapdb.specs.declared.call.Call.TheVariants.{Send, Access, Unmap, Clear}
+use Rattle.mapdb.specs.declared.call.Sending.{Sending}
 use Rattle.mapdb.specs.declared.call.Unmap.{Unmap as TheUnmap}
 use Rattle.mapdb.specs.declared.call.Refusal.{Refusal as TheRefusal}
 use Rattle.mapdb.specs.declared.call.Refusal.TheVariants as why
@@ -38,9 +41,13 @@ call_of (Access place kind) = access place kind
 call_of (Unmap space control words fpages) = unmap space control.flush (zip words.items fpages.items)
 call_of (Clear space) = clear space
 
--- the same of an unmap
-abbrev pub unmap_of : TheUnmap → Call
-unmap_of u = unmap u.space u.flush (zip u.words.now u.fpages.now)
+-- the same of a send
+abbrev pub send_of : Sending → Call
+send_of s = send s.from s.to s.window s.items.now
+
+-- the same of an unmap, whose words are given
+abbrev pub unmap_of : TheUnmap → List ℕ → Call
+unmap_of u words = unmap u.space u.control.flush (zip words u.fpages.now)
 
 -- each word of an unmap has its fpage, which lies within a space
 abbrev pub AreWordsWithin : Limits → List ℕ → List Flexpage → Type 0
@@ -52,6 +59,10 @@ IsWithinLimits limits (Send from to window items) = IsFpageOf limits.bits window
 IsWithinLimits limits (Access place kind) = IsWithin limits place
 IsWithinLimits limits (Unmap space control words fpages) = AreWordsWithin limits words.items fpages.items
 IsWithinLimits limits (Clear space) = ⊤
+
+-- words, each with its status in place of its rights
+abbrev pub words_with : List ℕ → List Rights → List ℕ
+words_with words status = map (λ e. with_status e.0 e.1) (zip words status)
 
 -- the reply that one of the program is
 abbrev pub reply_of : TheReply → Reply

@@ -5,12 +5,12 @@ ghost use Rattle.model.specs.Answers.{clear_answer};
 ghost use Rattle.model.specs.Calls.{clear};
 ghost use Rattle.mapdb.specs.Answered.{refused_by};
 
-use crate::call::{Call, Refusal, Unmap};
+use crate::call::{Call, Refusal, Sending, Unmap};
 use crate::database::Database;
 use crate::error::DbError;
 use crate::reply::Reply;
 use crew::Workers;
-use fpage::{Access, Fpage, Item, Rights};
+use fpage::Access;
 use space::Place;
 use std::alloc::Global;
 use std::mem;
@@ -23,11 +23,22 @@ pub struct Scratch {
 }
 
 impl Scratch {
+    ghost use Rattle.std.specs.Prelude.{◌≡◌};
+    ghost use Rattle.model.specs.Calls.{unmapped};
+    ghost use Rattle.mapdb.specs.Calls.{reply_of};
+
     /// No memory yet.
     pub fn new(alloc: Global) -> Scratch {
         Scratch {
             words: Vec::new(alloc),
         }
+    }
+
+    /// The reply that the words are.
+    fn reply(&mut self, alloc: Global) -> Reply
+        ensures { reply_of result ≡ unmapped self.old.words.items }
+    {
+        Reply::Unmapped(mem::replace(&mut self.words, Vec::new(alloc)))
     }
 
     /// Keeps the memory of a reply that is not needed any more.
@@ -43,10 +54,10 @@ impl Database {
     ghost use Rattle.model.specs.Answers.{clear_answer};
     ghost use Rattle.std.specs.List.{All};
     ghost use Rattle.fpage.specs.Fpage.{IsFpageOf};
-    ghost use Rattle.model.specs.Calls.{send as send_to, access as access_to, clear};
+    ghost use Rattle.model.specs.Calls.{access as access_to, clear};
     ghost use Rattle.holdings.specs.Places.{IsWithin};
-    ghost use Rattle.mapdb.specs.Answered.{IsAnswered, IsUnanswered};
-    ghost use Rattle.mapdb.specs.Calls.{call_of, unmap_of, AreWordsWithin, IsWithinLimits};
+    ghost use Rattle.mapdb.specs.Answered.{IsAnswered, IsUnanswered, IsSendOrAccess};
+    ghost use Rattle.mapdb.specs.Calls.{call_of, send_of, unmap_of, AreWordsWithin, IsWithinLimits};
     ghost use Rattle.mapdb.specs.State.{halted, left_with, refusal, IsRefused};
     ghost use Rattle.mapdb.specs.declared.error.DbError.TheVariants.{NoMemory, NoWorker};
 
@@ -65,13 +76,44 @@ impl Database {
         requires within { IsWithinLimits self.old.limits call.now }
         ensures ok { IfOk result (IsAnswered self.old (call_of call.now) self.new) }
         ensures err { IfErr result (IsUnanswered self.old (call_of call.now) self.new) }
+        ensures needs_no_worker { W.starts_none workers.now → IsErrOf result NoWorker → ⊥ }
     {
-        self.answer_by(alloc, call, false, scratch, workers)
+        match call {
+            Call::Send {
+                from,
+                to,
+                window,
+                items,
+            } => {
+                let send = Sending {
+                    from: *from,
+                    to: *to,
+                    window: *window,
+                    items,
+                };
+                self.answer_send(alloc, &send, workers)
+            }
+            Call::Access { place, access } => self.answer_access(alloc, *place, *access, workers),
+            Call::Unmap {
+                space,
+                control,
+                words,
+                fpages,
+            } => {
+                let unmap = Unmap {
+                    space: *space,
+                    control: *control,
+                    fpages,
+                };
+                self.answer_words(alloc, &unmap, words, scratch, workers)
+            }
+            Call::Clear { space } => self.answer_clear(alloc, *space, workers),
+        }
     }
 
-    /// The same, an unmap and a clear by recursion on the calling thread, as `unmap_plain` and `clear_plain` work them.
+    /// The same, an unmap and a clear as `unmap_plain` and `clear_plain` work them: by recursion, on the calling thread.
     ///
-    /// Not answered where `answer` does not.
+    /// Not answered where `answer` does not answer, but that an unmap and a clear need no worker.
     pub fn answer_plain<W: Workers>(
         &mut self,
         alloc: Global,
@@ -82,31 +124,11 @@ impl Database {
         requires within { IsWithinLimits self.old.limits call.now }
         ensures ok { IfOk result (IsAnswered self.old (call_of call.now) self.new) }
         ensures err { IfErr result (IsUnanswered self.old (call_of call.now) self.new) }
-    {
-        self.answer_by(alloc, call, true, scratch, workers)
-    }
-
-    /// Answers a call; an unmap and a clear by recursion if `plain`.
-    fn answer_by<W: Workers>(
-        &mut self,
-        alloc: Global,
-        call: &Call,
-        plain: bool,
-        scratch: &mut Scratch,
-        workers: &W,
-    ) -> Result<Reply, DbError>
-        requires within { IsWithinLimits self.old.limits call.now }
-        ensures ok { IfOk result (IsAnswered self.old (call_of call.now) self.new) }
-        ensures err { IfErr result (IsUnanswered self.old (call_of call.now) self.new) }
+        ensures worker { IsErrOf result NoWorker → IsSendOrAccess (call_of call.now) }
+        ensures needs_no_worker { W.starts_none workers.now → IsErrOf result NoWorker → ⊥ }
     {
         match call {
-            Call::Send {
-                from,
-                to,
-                window,
-                items,
-            } => self.answer_send(alloc, *from, *to, window, items, workers),
-            Call::Access { place, access } => self.answer_access(alloc, *place, *access, workers),
+            Call::Send { .. } | Call::Access { .. } => self.answer(alloc, call, scratch, workers),
             Call::Unmap {
                 space,
                 control,
@@ -115,13 +137,12 @@ impl Database {
             } => {
                 let unmap = Unmap {
                     space: *space,
-                    flush: control.is_flush(),
-                    words,
+                    control: *control,
                     fpages,
                 };
-                self.answer_words(alloc, &unmap, plain, scratch, workers)
+                self.answer_words_plain(alloc, &unmap, words, scratch)
             }
-            Call::Clear { space } => self.answer_clear(alloc, *space, plain, workers),
+            Call::Clear { space } => self.answer_clear_plain(alloc, *space),
         }
     }
 
@@ -129,18 +150,16 @@ impl Database {
     pub fn answer_send<W: Workers>(
         &mut self,
         alloc: Global,
-        from: u16,
-        to: u16,
-        window: &Fpage,
-        items: &[Item],
+        send: &Sending<'_>,
         workers: &W,
     ) -> Result<Reply, DbError>
-        requires window { IsFpageOf self.old.limits.bits window.now }
-        requires items { All (λ item. IsFpageOf self.old.limits.bits item.sent) items.now }
-        ensures ok { IfOk result (IsAnswered self.old (send_to from to window.now items.now) self.new) }
-        ensures err { IfErr result (IsUnanswered self.old (send_to from to window.now items.now) self.new) }
+        requires window { IsFpageOf self.old.limits.bits send.now.window }
+        requires items { All (λ item. IsFpageOf self.old.limits.bits item.sent) send.now.items.now }
+        ensures ok { IfOk result (IsAnswered self.old (send_of send.now) self.new) }
+        ensures err { IfErr result (IsUnanswered self.old (send_of send.now) self.new) }
+        ensures needs_no_worker { W.starts_none workers.now → IsErrOf result NoWorker → ⊥ }
     {
-        match self.send(alloc, from, to, window, items, workers) {
+        match self.send(alloc, send.from, send.to, &send.window, send.items, workers) {
             Ok(counts) => Ok(Reply::Sent(counts)),
             Err(error) => refused_by(error),
         }
@@ -157,6 +176,7 @@ impl Database {
         requires within { IsWithin self.old.limits place }
         ensures ok { IfOk result (IsAnswered self.old (access_to place access) self.new) }
         ensures err { IfErr result (IsUnanswered self.old (access_to place access) self.new) }
+        ensures needs_no_worker { W.starts_none workers.now → IsErrOf result NoWorker → ⊥ }
     {
         if self.is_halted() {
             return Err(DbError::Halted);
@@ -165,60 +185,72 @@ impl Database {
         Ok(Reply::Accessed(answers[0]))
     }
 
-    /// Answers an unmap; by recursion if `plain`.
+    /// Answers an unmap, as `answer` does.
     pub fn answer_words<W: Workers>(
         &mut self,
         alloc: Global,
         unmap: &Unmap<'_>,
-        plain: bool,
+        words: &[u32],
         scratch: &mut Scratch,
         workers: &W,
     ) -> Result<Reply, DbError>
-        requires within { AreWordsWithin self.old.limits unmap.now.words.now unmap.now.fpages.now }
-        ensures ok { IfOk result (IsAnswered self.old (unmap_of unmap.now) self.new) }
-        ensures err { IfErr result (IsUnanswered self.old (unmap_of unmap.now) self.new) }
+        requires within { AreWordsWithin self.old.limits words.now unmap.now.fpages.now }
+        ensures ok { IfOk result (IsAnswered self.old (unmap_of unmap.now words.now) self.new) }
+        ensures err { IfErr result (IsUnanswered self.old (unmap_of unmap.now words.now) self.new) }
+        ensures needs_no_worker { W.starts_none workers.now → IsErrOf result NoWorker → ⊥ }
     {
-        match self.answer_unmap(alloc, unmap, plain, &mut scratch.words, workers) {
-            Ok(()) => Ok(Reply::Unmapped(mem::replace(&mut scratch.words, Vec::new(alloc)))),
+        match self.answer_unmap(alloc, unmap, words, &mut scratch.words, workers) {
+            Ok(()) => Ok(scratch.reply(alloc)),
             Err(error) => refused_by(error),
         }
     }
 
-    /// Answers a clear; by recursion if `plain`.
+    /// Answers an unmap, as `answer_plain` does.
+    fn answer_words_plain(
+        &mut self,
+        alloc: Global,
+        unmap: &Unmap<'_>,
+        words: &[u32],
+        scratch: &mut Scratch,
+    ) -> Result<Reply, DbError>
+        requires within { AreWordsWithin self.old.limits words.now unmap.now.fpages.now }
+        ensures ok { IfOk result (IsAnswered self.old (unmap_of unmap.now words.now) self.new) }
+        ensures err { IfErr result (IsUnanswered self.old (unmap_of unmap.now words.now) self.new) }
+        ensures needs_no_worker { IfErr result (λ e. e ≡ NoWorker → ⊥) }
+    {
+        match self.answer_unmap_plain(alloc, unmap, words, &mut scratch.words) {
+            Ok(()) => Ok(scratch.reply(alloc)),
+            Err(error) => refused_by(error),
+        }
+    }
+
+    /// Answers a clear, as `answer` does.
     pub fn answer_clear<W: Workers>(
         &mut self,
         alloc: Global,
         space: u16,
-        plain: bool,
         workers: &W,
     ) -> Result<Reply, DbError>
         ensures ok { IfOk result (IsAnswered self.old (clear space) self.new) }
         ensures err { IfErr result (IsUnanswered self.old (clear space) self.new) }
+        ensures needs_no_worker { W.starts_none workers.now → IsErrOf result NoWorker → ⊥ }
     {
-        match self.clear_by(alloc, space, plain, workers) {
+        match self.clear(alloc, space, workers) {
             Ok(status) => Ok(Reply::Cleared(status)),
             Err(error) => refused_by(error),
         }
     }
 
-    /// The status that a clear tells; by recursion if `plain`.
-    fn clear_by<W: Workers>(
-        &mut self,
-        alloc: Global,
-        space: u16,
-        plain: bool,
-        workers: &W,
-    ) -> Result<Rights, DbError>
-        ensures refused { IsRefused (refusal self.old (clear space)) self.old self.new result }
-        ensures no_memory { IsErrOf result NoMemory → self.new ≡ halted self.old }
-        ensures no_worker { IsErrOf result NoWorker → self.new ≡ halted self.old }
-        ensures status { IfOk result (λ status. status ≡ (clear_answer space self.old.holdings).status) }
-        ensures left { OnOk result (self.new ≡ left_with self.old (clear_answer space self.old.holdings).left) }
+    /// Answers a clear, as `answer_plain` does.
+    fn answer_clear_plain(&mut self, alloc: Global, space: u16) -> Result<Reply, DbError>
+        ensures ok { IfOk result (IsAnswered self.old (clear space) self.new) }
+        ensures err { IfErr result (IsUnanswered self.old (clear space) self.new) }
+        ensures needs_no_worker { IfErr result (λ e. e ≡ NoWorker → ⊥) }
     {
-        if plain {
-            return self.clear_plain(alloc, space);
+        match self.clear_plain(alloc, space) {
+            Ok(status) => Ok(Reply::Cleared(status)),
+            Err(error) => refused_by(error),
         }
-        self.clear(alloc, space, workers)
     }
 }
 

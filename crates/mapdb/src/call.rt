@@ -33,13 +33,20 @@ pub enum Call {
     },
 }
 
+/// What a send asks for.
+#[derive(Clone, Copy)]
+pub struct Sending<'a> {
+    pub from: u16,
+    pub to: u16,
+    pub window: Fpage,
+    pub items: &'a [Item],
+}
+
 /// What an unmap asks for.
 #[derive(Clone, Copy)]
 pub struct Unmap<'a> {
     pub space: u16,
-    pub flush: bool,
-    /// The fpage words as given.
-    pub words: &'a [u32],
+    pub control: Control,
     /// The fpage of each word.
     pub fpages: &'a [Fpage],
 }

@@ -1,9 +1,10 @@
 //! A space, cleared of all that it holds.
 
-ghost use Rattle.std.specs.Prelude.{◌≡◌, ◌<◌, true, IfOk};
+ghost use Rattle.std.specs.Prelude.{◌≡◌, ◌<◌, true, IfOk, IsErrOf};
 ghost use Rattle.fpage.specs.Fpage.{IsSpaceBits, pages_of_space};
 ghost use Rattle.fpage.specs.Rights.{all_rights};
 ghost use Rattle.model.specs.Answers.{in_space};
+ghost use Rattle.crew.specs.declared.error.CrewError.TheVariants.{NoWorker};
 ghost use Rattle.holdings.specs.Contents.{IsStripped};
 
 use crate::unmap::{unmap_word, unmap_word_by_recursion};
@@ -26,7 +27,8 @@ pub fn clear_space<W: Workers>(
     workers: &W,
 ) -> Result<(Holdings, Rights), CrewError>
     requires { space < held.limits.spaces }
-    ensures { IfOk result (IsStripped held (in_space space) all_rights true) }
+    ensures stripped { IfOk result (IsStripped held (in_space space) all_rights true) }
+    ensures needs_no_worker { W.starts_none workers.now → IsErrOf result NoWorker → ⊥ }
 {
     let complete = complete_space(held.limits().bits);
     unmap_word(alloc, held, space, true, &complete, workers)

@@ -1,9 +1,11 @@
-use crate::call::Unmap;
+use crate::call::{Sending, Unmap};
 use crate::clear::{clear_space, clear_space_by_recursion};
 use crate::error::DbError;
 use crate::item::work_items;
 use crate::reply::SendReply;
-use crate::unmap::{answer_unmap, unmap_words, unmap_words_by_recursion, unmap_words_watched};
+use crate::unmap::{
+    answer_unmap, put_status, unmap_words, unmap_words_by_recursion, unmap_words_watched,
+};
 use crew::{Crew, Gate, Observe, Workers};
 use fpage::{Access, Control, Fpage, Item, Rights};
 use holdings::{Holdings, Limits, Mapping, Mappings};
@@ -212,6 +214,7 @@ impl Database {
         ensures halted { IsErrOf result Halted ↔ (self.old.is_halted ≡ true) }
         ensures errors { IfErr result (λ e. (e ≡ Halted) ⊎ (e ≡ NoMemory) ⊎ (e ≡ NoWorker)) }
         ensures err { OnErr result (self.new ≡ halted self.old) }
+        ensures needs_no_worker { W.starts_none workers.now → IsErrOf result NoWorker → ⊥ }
         ensures answers { IfOk result (λ answers.
             answers.items ≡ access_answers self.old.holdings accesses.now) }
         ensures left { OnOk result (self.new ≡ left_with self.old (touched_all self.old.holdings accesses.now)) }
@@ -244,6 +247,7 @@ impl Database {
         ensures refused { IsRefused (refusal self.old (send from to window.now items.now)) self.old self.new result }
         ensures no_memory { IsErrOf result NoMemory → self.new ≡ halted self.old }
         ensures no_worker { IsErrOf result NoWorker → self.new ≡ halted self.old }
+        ensures needs_no_worker { W.starts_none workers.now → IsErrOf result NoWorker → ⊥ }
         ensures limits { self.new.limits ≡ self.old.limits }
         ensures counts { IfOk result (λ reply.
             counts_of reply ≡ (send_answer from to window.now items.now self.old.holdings).counts) }
@@ -264,7 +268,17 @@ impl Database {
             return Err(DbError::NoWindow);
         }
         let held = self.held.take().unwrap();
-        let (held, reply) = work_items(alloc, held, from, to, window, items, workers)?;
+        let (held, reply) = work_items(
+            alloc,
+            held,
+            &Sending {
+                from,
+                to,
+                window: *window,
+                items,
+            },
+            workers,
+        )?;
         self.held = Some(held);
         Ok(reply)
     }
@@ -288,6 +302,7 @@ impl Database {
         ensures refused { IsRefused (unmap_refusal self.old space) self.old self.new result }
         ensures no_memory { IsErrOf result NoMemory → self.new ≡ halted self.old }
         ensures no_worker { IsErrOf result NoWorker → self.new ≡ halted self.old }
+        ensures needs_no_worker { W.starts_none workers.now → IsErrOf result NoWorker → ⊥ }
         ensures status { IfOk result (λ status.
             status.items ≡ unmap_status space control.flush fpages.now self.old.holdings) }
         ensures left { OnOk result (self.new ≡
@@ -300,30 +315,34 @@ impl Database {
             return Err(DbError::NoSuchSpace);
         }
         let held = self.held.take().unwrap();
-        let flush = control.is_flush();
-        let (held, status) = unmap_words(alloc, held, space, flush, fpages, workers)?;
+        let unmap = Unmap {
+            space,
+            control,
+            fpages,
+        };
+        let (held, status) = unmap_words(alloc, held, &unmap, workers)?;
         self.held = Some(held);
         Ok(status)
     }
 
-    /// The same as `unmap`; each word of the reply is the word with the status of its pages in place of its rights. By
-    /// recursion if `plain`.
+    /// The same as `unmap`; each word of the reply is the word with the status of its pages in place of its rights.
     ///
     /// Refused as `unmap` is. Then the reply has anything.
     pub(crate) fn answer_unmap<W: Workers>(
         &mut self,
         alloc: Global,
         unmap: &Unmap<'_>,
-        plain: bool,
+        words: &[u32],
         reply: &mut Vec<u32>,
         workers: &W,
     ) -> Result<(), DbError>
-        requires within { AreWordsWithin self.old.limits unmap.now.words.now unmap.now.fpages.now }
-        ensures refused { IsRefused (refusal self.old (unmap_of unmap.now)) self.old self.new result }
+        requires within { AreWordsWithin self.old.limits words.now unmap.now.fpages.now }
+        ensures refused { IsRefused (refusal self.old (unmap_of unmap.now words.now)) self.old self.new result }
         ensures no_memory { IsErrOf result NoMemory → self.new ≡ halted self.old }
         ensures no_worker { IsErrOf result NoWorker → self.new ≡ halted self.old }
+        ensures needs_no_worker { W.starts_none workers.now → IsErrOf result NoWorker → ⊥ }
         ensures told { OnOk result (record { words = reply.new.items; left = self.new.holdings }
-            ≡ unmap_answer unmap.now.space unmap.now.flush (zip unmap.now.words.now unmap.now.fpages.now) self.old.holdings) }
+            ≡ unmap_answer unmap.now.space unmap.now.control.flush (zip words.now unmap.now.fpages.now) self.old.holdings) }
         ensures left { OnOk result (self.new ≡ left_with self.old self.new.holdings) }
     {
         if self.held.is_none() {
@@ -333,8 +352,34 @@ impl Database {
             return Err(DbError::NoSuchSpace);
         }
         let held = self.held.take().unwrap();
-        let held = answer_unmap(alloc, held, unmap, plain, reply, workers)?;
+        let held = answer_unmap(alloc, held, unmap, words, reply, workers)?;
         self.held = Some(held);
+        Ok(())
+    }
+
+    /// The same, as `unmap_plain` works it.
+    ///
+    /// Refused as `unmap_plain` is. Then the reply has anything.
+    pub(crate) fn answer_unmap_plain(
+        &mut self,
+        alloc: Global,
+        unmap: &Unmap<'_>,
+        words: &[u32],
+        reply: &mut Vec<u32>,
+    ) -> Result<(), DbError>
+        requires within { AreWordsWithin self.old.limits words.now unmap.now.fpages.now }
+        ensures refused { IsRefused (refusal self.old (unmap_of unmap.now words.now)) self.old self.new result }
+        ensures needs_no_worker { IfErr result (λ e. e ≡ NoWorker → ⊥) }
+        ensures no_memory { IsErrOf result NoMemory → self.new ≡ halted self.old }
+        ensures told { OnOk result (record { words = reply.new.items; left = self.new.holdings }
+            ≡ unmap_answer unmap.now.space unmap.now.control.flush (zip words.now unmap.now.fpages.now) self.old.holdings) }
+        ensures left { OnOk result (self.new ≡ left_with self.old self.new.holdings) }
+    {
+        let status = self.unmap_plain(alloc, unmap.space, unmap.control, unmap.fpages)?;
+        if put_status(words, &status, reply).is_err() {
+            self.held = None;
+            return Err(DbError::NoMemory);
+        }
         Ok(())
     }
 
@@ -372,10 +417,12 @@ impl Database {
             return Err(DbError::NoSuchSpace);
         }
         let held = self.held.take().unwrap();
-        let flush = control.is_flush();
-        let (held, status) = unmap_words_watched(
-            alloc, held, space, flush, fpages, crew, observer,
-        )?;
+        let unmap = Unmap {
+            space,
+            control,
+            fpages,
+        };
+        let (held, status) = unmap_words_watched(alloc, held, &unmap, crew, observer)?;
         self.held = Some(held);
         Ok(status)
     }
@@ -411,8 +458,12 @@ impl Database {
             return Err(DbError::NoSuchSpace);
         }
         let held = self.held.take().unwrap();
-        let flush = control.is_flush();
-        let (held, status) = unmap_words_by_recursion(alloc, held, space, flush, fpages)?;
+        let unmap = Unmap {
+            space,
+            control,
+            fpages,
+        };
+        let (held, status) = unmap_words_by_recursion(alloc, held, &unmap)?;
         self.held = Some(held);
         Ok(status)
     }
@@ -433,6 +484,7 @@ impl Database {
         ensures refused { IsRefused (refusal self.old (clear space)) self.old self.new result }
         ensures no_memory { IsErrOf result NoMemory → self.new ≡ halted self.old }
         ensures no_worker { IsErrOf result NoWorker → self.new ≡ halted self.old }
+        ensures needs_no_worker { W.starts_none workers.now → IsErrOf result NoWorker → ⊥ }
         ensures status { IfOk result (λ status. status ≡ (clear_answer space self.old.holdings).status) }
         ensures left { OnOk result (self.new ≡ left_with self.old (clear_answer space self.old.holdings).left) }
     {

@@ -1,17 +1,19 @@
 //! The items of a send, one after another, each in phases.
 
-ghost use Rattle.std.specs.Prelude.{◌≡◌, ◌<◌, IfOk};
+ghost use Rattle.std.specs.Prelude.{◌≡◌, ◌<◌, IfOk, IsErrOf};
 ghost use Rattle.std.specs.List.{All};
 ghost use Rattle.fpage.specs.Fpage.{IsFpageOf};
 ghost use Rattle.model.specs.Answers.{item_answer, send_answer};
+ghost use Rattle.crew.specs.declared.error.CrewError.TheVariants.{NoWorker};
 ghost use Rattle.holdings.specs.Sending.{job_of_pages, AreItemPages};
 ghost use Rattle.mapdb.specs.Sending.{IsSent};
 
+use crate::call::Sending;
 use crate::item_pages::item_pages;
 use crate::plan::{End, ends, plan_item, transfer_of};
 use crate::reply::SendReply;
 use crew::{CrewError, Workers};
-use fpage::{Fpage, Item, ItemKind, Rights};
+use fpage::{ItemKind, Rights};
 use holdings::{Holdings, ItemPages, Transfer};
 use space::Place;
 use std::alloc::Global;
@@ -22,24 +24,23 @@ use std::alloc::Global;
 pub fn work_items<W: Workers>(
     alloc: Global,
     held: Holdings,
-    from: u16,
-    to: u16,
-    window: &Fpage,
-    items: &[Item],
+    send: &Sending<'_>,
     workers: &W,
 ) -> Result<(Holdings, SendReply), CrewError>
-    requires from { from < held.limits.spaces }
-    requires to { to < held.limits.spaces }
-    requires differ { from ≡ to → ⊥ }
-    requires window { IsFpageOf held.limits.bits window.now }
-    requires some { 0 < window.now.count }
-    requires items { All (λ item. IsFpageOf held.limits.bits item.sent) items.now }
-    ensures { IfOk result (IsSent held (send_answer from to window.now items.now held.holdings).left (send_answer from to window.now items.now held.holdings).counts) }
+    requires from { send.now.from < held.limits.spaces }
+    requires to { send.now.to < held.limits.spaces }
+    requires differ { send.now.from ≡ send.now.to → ⊥ }
+    requires window { IsFpageOf held.limits.bits send.now.window }
+    requires some { 0 < send.now.window.count }
+    requires items { All (λ item. IsFpageOf held.limits.bits item.sent) send.now.items.now }
+    ensures sent { IfOk result (IsSent held (send_answer send.now.from send.now.to send.now.window send.now.items.now held.holdings).left
+        (send_answer send.now.from send.now.to send.now.window send.now.items.now held.holdings).counts) }
+    ensures needs_no_worker { W.starts_none workers.now → IsErrOf result NoWorker → ⊥ }
 {
     let mut held = held;
     let mut reply = SendReply::none();
-    for item in items {
-        let pages = item_pages(from, to, window, item);
+    for item in send.items {
+        let pages = item_pages(send.from, send.to, &send.window, item);
         let (left, worked) = if pages.count == 1 {
             work_page(alloc, held, &pages, workers)?
         } else {
@@ -67,6 +68,7 @@ fn work_item<W: Workers>(
     requires pages { AreItemPages held.limits pages.now }
     ensures sent { IfOk result (IsSent held (item_answer held.holdings (job_of_pages pages.now)).left (item_answer held.holdings (job_of_pages pages.now)).counts) }
     ensures few { IfOk result (λ r. total (counts_of r.1) < 2 ^ 32) }
+    ensures needs_no_worker { W.starts_none workers.now → IsErrOf result NoWorker → ⊥ }
 {
     let plan = plan_item(alloc, &held, pages)?;
     let targets = ends(alloc, &plan.transfers, End::Target)?;
@@ -96,6 +98,7 @@ fn work_page<W: Workers>(
     requires one { pages.now.count ≡ 1 }
     ensures sent { IfOk result (IsSent held (item_answer held.holdings (job_of_pages pages.now)).left (item_answer held.holdings (job_of_pages pages.now)).counts) }
     ensures few { IfOk result (λ r. total (counts_of r.1) < 2 ^ 32) }
+    ensures needs_no_worker { W.starts_none workers.now → IsErrOf result NoWorker → ⊥ }
 {
     let outcome = held.outcome(pages, pages.source, pages.target);
     let none = Phases {
@@ -166,6 +169,7 @@ fn work_phases<W: Workers>(
     requires sources { pages.now.kind ≡ Grant → (p : Place) → any_of phases.now.sources.now p ≡ ends_of Source phases.now.transfers.now p }
     ensures sent { IfOk result (IsSent held (item_answer held.holdings (job_of_pages pages.now)).left (item_answer held.holdings (job_of_pages pages.now)).counts) }
     ensures few { IfOk result (λ r. total (counts_of r.1) < 2 ^ 32) }
+    ensures needs_no_worker { W.starts_none workers.now → IsErrOf result NoWorker → ⊥ }
 {
     let (held, _) = held.strip(alloc, phases.targets, Rights::all(), true, workers)?;
     let (held, worked) = match pages.kind {

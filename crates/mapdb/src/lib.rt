@@ -13,7 +13,7 @@ mod reply;
 mod unmap;
 
 pub use answer::Scratch;
-pub use call::{Call, Refusal, Unmap};
+pub use call::{Call, Refusal, Sending, Unmap};
 pub use database::Database;
 pub use error::DbError;
 pub use holdings::{Limits, Mapping, Mappings};

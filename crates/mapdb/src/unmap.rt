@@ -1,11 +1,12 @@
 //! The words of an unmap, one after another.
 
-ghost use Rattle.std.specs.Prelude.{◌≡◌, ◌<◌, IfOk};
+ghost use Rattle.std.specs.Prelude.{◌≡◌, ◌<◌, IfOk, OnOk, IsErrOf};
 ghost use Rattle.std.specs.List.{All, zip};
 ghost use Rattle.fpage.specs.Fpage.{IsFpageOf};
 ghost use Rattle.model.specs.Answers.{pages_in, unmap_answer};
+ghost use Rattle.crew.specs.declared.error.CrewError.TheVariants.{NoWorker};
 ghost use Rattle.holdings.specs.Contents.{IsStripped, left_with};
-ghost use Rattle.mapdb.specs.Calls.{AreWordsWithin};
+ghost use Rattle.mapdb.specs.Calls.{AreWordsWithin, words_with};
 ghost use Rattle.mapdb.specs.State.{unmap_status, unmap_left};
 
 use crate::call::Unmap;
@@ -24,20 +25,20 @@ use std::thread::Threads;
 pub fn unmap_words<W: Workers>(
     alloc: Global,
     held: Holdings,
-    space: u16,
-    flush: bool,
-    fpages: &[Fpage],
+    unmap: &Unmap<'_>,
     workers: &W,
 ) -> Result<(Holdings, Vec<Rights>), CrewError>
-    requires space { space < held.limits.spaces }
-    requires fpages { All (IsFpageOf held.limits.bits) fpages.now }
-    ensures left { IfOk result (λ r. r.0 ≡ left_with held (unmap_left space flush fpages.now held.holdings)) }
-    ensures status { IfOk result (λ r. r.1.items ≡ unmap_status space flush fpages.now held.holdings) }
+    requires space { unmap.now.space < held.limits.spaces }
+    requires fpages { All (IsFpageOf held.limits.bits) unmap.now.fpages.now }
+    ensures left { IfOk result (λ r. r.0 ≡ left_with held (unmap_left unmap.now.space unmap.now.control.flush unmap.now.fpages.now held.holdings)) }
+    ensures status { IfOk result (λ r. r.1.items ≡ unmap_status unmap.now.space unmap.now.control.flush unmap.now.fpages.now held.holdings) }
+    ensures needs_no_worker { W.starts_none workers.now → IsErrOf result NoWorker → ⊥ }
 {
     let mut held = held;
-    let mut status = Vec::with_capacity(alloc, fpages.len())?;
-    for fpage in fpages {
-        let (left, word) = unmap_word(alloc, held, space, flush, fpage, workers)?;
+    let flush = unmap.control.is_flush();
+    let mut status = Vec::with_capacity(alloc, unmap.fpages.len())?;
+    for fpage in unmap.fpages {
+        let (left, word) = unmap_word(alloc, held, unmap.space, flush, fpage, workers)?;
         held = left;
         status.push(word).map_err(AllocError::from)?;
     }
@@ -45,87 +46,71 @@ pub fn unmap_words<W: Workers>(
 }
 
 /// Works the words of an unmap one after another, and puts each with what it tells into the reply, in place of what that
-/// had; by recursion if `plain`.
+/// had.
 ///
 /// Refused, where memory or a worker is: `NoMemory`, `NoWorker`.
 pub fn answer_unmap<W: Workers>(
     alloc: Global,
     held: Holdings,
     unmap: &Unmap<'_>,
-    plain: bool,
+    words: &[u32],
     reply: &mut Vec<u32>,
     workers: &W,
 ) -> Result<Holdings, CrewError>
     requires space { unmap.now.space < held.limits.spaces }
-    requires within { AreWordsWithin held.limits unmap.now.words.now unmap.now.fpages.now }
+    requires within { AreWordsWithin held.limits words.now unmap.now.fpages.now }
     ensures left { IfOk result (λ left. left ≡ left_with held left.holdings) }
     ensures told { IfOk result (λ left. record { words = reply.new.items; left = left.holdings }
-        ≡ unmap_answer unmap.now.space unmap.now.flush (zip unmap.now.words.now unmap.now.fpages.now) held.holdings) }
+        ≡ unmap_answer unmap.now.space unmap.now.control.flush (zip words.now unmap.now.fpages.now) held.holdings) }
+    ensures needs_no_worker { W.starts_none workers.now → IsErrOf result NoWorker → ⊥ }
 {
     let mut held = held;
+    let flush = unmap.control.is_flush();
     reply.clear();
-    reply.reserve(unmap.words.len())?;
+    reply.reserve(words.len())?;
     for i in 0..unmap.fpages.len() {
         let fpage = &unmap.fpages[i];
-        let (left, status) = unmap_word_by(
-            alloc,
-            held,
-            unmap.space,
-            unmap.flush,
-            fpage,
-            plain,
-            workers,
-        )?;
+        let (left, status) = unmap_word(alloc, held, unmap.space, flush, fpage, workers)?;
         held = left;
         reply
-            .push(with_status(unmap.words[i], status))
+            .push(with_status(words[i], status))
             .map_err(AllocError::from)?;
     }
     Ok(held)
 }
 
-/// Works one word of an unmap; by recursion if `plain`.
+/// Words, each with its status in place of its rights, in place of what the reply had.
 ///
-/// Refused, where memory or a worker is: `NoMemory`, `NoWorker`.
-fn unmap_word_by<W: Workers>(
-    alloc: Global,
-    held: Holdings,
-    space: u16,
-    flush: bool,
-    fpage: &Fpage,
-    plain: bool,
-    workers: &W,
-) -> Result<(Holdings, Rights), CrewError>
-    requires space { space < held.limits.spaces }
-    requires fpage { IsFpageOf held.limits.bits fpage.now }
-    ensures { IfOk result (IsStripped held (pages_in space fpage.now) fpage.now.rights flush) }
+/// Refused, where memory is: `NoMemory`.
+pub fn put_status(words: &[u32], status: &[Rights], reply: &mut Vec<u32>) -> Result<(), AllocError>
+    ensures { OnOk result (reply.new.items ≡ words_with words.now status.now) }
 {
-    if plain {
-        let stripped = unmap_word_by_recursion(alloc, held, space, flush, fpage)?;
-        return Ok(stripped);
+    reply.clear();
+    reply.reserve(words.len())?;
+    for (word, status) in words.iter().zip(status) {
+        reply.push(with_status(*word, *status))?;
     }
-    unmap_word(alloc, held, space, flush, fpage, workers)
+    Ok(())
 }
 
-/// The same, each word by recursion, on the calling thread; what the words tell is returned.
+/// The same as `unmap_words`, each word by recursion, on the calling thread.
 ///
 /// Refused, where memory is: `NoMemory`.
 pub fn unmap_words_by_recursion(
     alloc: Global,
     held: Holdings,
-    space: u16,
-    flush: bool,
-    fpages: &[Fpage],
+    unmap: &Unmap<'_>,
 ) -> Result<(Holdings, Vec<Rights>), NoMemory>
-    requires space { space < held.limits.spaces }
-    requires fpages { All (IsFpageOf held.limits.bits) fpages.now }
-    ensures left { IfOk result (λ r. r.0 ≡ left_with held (unmap_left space flush fpages.now held.holdings)) }
-    ensures status { IfOk result (λ r. r.1.items ≡ unmap_status space flush fpages.now held.holdings) }
+    requires space { unmap.now.space < held.limits.spaces }
+    requires fpages { All (IsFpageOf held.limits.bits) unmap.now.fpages.now }
+    ensures left { IfOk result (λ r. r.0 ≡ left_with held (unmap_left unmap.now.space unmap.now.control.flush unmap.now.fpages.now held.holdings)) }
+    ensures status { IfOk result (λ r. r.1.items ≡ unmap_status unmap.now.space unmap.now.control.flush unmap.now.fpages.now held.holdings) }
 {
     let mut held = held;
-    let mut status = Vec::with_capacity(alloc, fpages.len())?;
-    for fpage in fpages {
-        let (left, word) = unmap_word_by_recursion(alloc, held, space, flush, fpage)?;
+    let flush = unmap.control.is_flush();
+    let mut status = Vec::with_capacity(alloc, unmap.fpages.len())?;
+    for fpage in unmap.fpages {
+        let (left, word) = unmap_word_by_recursion(alloc, held, unmap.space, flush, fpage)?;
         held = left;
         status.push(word).map_err(AllocError::from)?;
     }
@@ -145,7 +130,8 @@ pub fn unmap_word<W: Workers>(
 ) -> Result<(Holdings, Rights), CrewError>
     requires space { space < held.limits.spaces }
     requires fpage { IsFpageOf held.limits.bits fpage.now }
-    ensures { IfOk result (IsStripped held (pages_in space fpage.now) fpage.now.rights flush) }
+    ensures stripped { IfOk result (IsStripped held (pages_in space fpage.now) fpage.now.rights flush) }
+    ensures needs_no_worker { W.starts_none workers.now → IsErrOf result NoWorker → ⊥ }
 {
     let pages = fpage.pages();
     if pages.end - pages.start == 1 {
@@ -190,24 +176,32 @@ ghost use Rattle.holdings.specs.Observing.{IsPhaseOf};
 pub fn unmap_words_watched<R: Threads + Wait, G: Gate, O: Observe>(
     alloc: Global,
     held: Holdings,
-    space: u16,
-    flush: bool,
-    fpages: &[Fpage],
+    unmap: &Unmap<'_>,
     crew: &Crew<'_, R, G>,
     observer: &O,
 ) -> Result<(Holdings, Vec<Rights>), CrewError>
-    requires space { space < held.limits.spaces }
-    requires fpages { All (IsFpageOf held.limits.bits) fpages.now }
-    requires told { (i : ℕ) (words : List ℕ) (pieces : List Piece) → i < length fpages.now
-        → IsPhaseOf held.layout (unmap_left space flush (take i fpages.now) held.holdings) (unmap_left space flush (take (i + 1) fpages.now) held.holdings) words pieces
+    requires space { unmap.now.space < held.limits.spaces }
+    requires fpages { All (IsFpageOf held.limits.bits) unmap.now.fpages.now }
+    requires told { (i : ℕ) (words : List ℕ) (pieces : List Piece) → i < length unmap.now.fpages.now
+        → IsPhaseOf held.layout (unmap_left unmap.now.space unmap.now.control.flush (take i unmap.now.fpages.now) held.holdings)
+        (unmap_left unmap.now.space unmap.now.control.flush (take (i + 1) unmap.now.fpages.now) held.holdings) words pieces
         → O.told observer.now words pieces }
-    ensures left { IfOk result (λ r. r.0 ≡ left_with held (unmap_left space flush fpages.now held.holdings)) }
-    ensures status { IfOk result (λ r. r.1.items ≡ unmap_status space flush fpages.now held.holdings) }
+    ensures left { IfOk result (λ r. r.0 ≡ left_with held (unmap_left unmap.now.space unmap.now.control.flush unmap.now.fpages.now held.holdings)) }
+    ensures status { IfOk result (λ r. r.1.items ≡ unmap_status unmap.now.space unmap.now.control.flush unmap.now.fpages.now held.holdings) }
 {
     let mut held = held;
-    let mut status = Vec::with_capacity(alloc, fpages.len())?;
-    for fpage in fpages {
-        let (left, word) = unmap_word_watched(alloc, held, space, flush, fpage, crew, observer)?;
+    let flush = unmap.control.is_flush();
+    let mut status = Vec::with_capacity(alloc, unmap.fpages.len())?;
+    for fpage in unmap.fpages {
+        let (left, word) = unmap_word_watched(
+            alloc,
+            held,
+            unmap.space,
+            flush,
+            fpage,
+            crew,
+            observer,
+        )?;
         held = left;
         status.push(word).map_err(AllocError::from)?;
     }

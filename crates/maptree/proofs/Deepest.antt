@@ -1,5 +1,5 @@
 -- A number that no depth of some nodes goes above, and what it says of fans.
-use Rattle.std.proofs.Common.{◌≡◌, ℕ, zero, suc, ◌<◌, ◌≤◌, true, Bool, ◌&&◌, nat_le, List, [], ◌∷◌, ◌++◌, length, take, drop, set, get_or, Option, Some, refl, sym, ap, ◌∙◌, arith}
+use Rattle.std.proofs.Common.{◌≡◌, ℕ, zero, suc, ◌<◌, ◌≤◌, true, Bool, ◌&&◌, nat_le, List, [], ◌∷◌, ◌++◌, length, take, drop, set, get_or, Option, Some, refl, sym, ap, arith}
 use Rattle.std.specs.Prelude.{insert}
 use Rattle.std.proofs.lemmas.Bool.{and_parts, leb-true, le-leb}
 use Rattle.space.specs.declared.place.Place.{Place}

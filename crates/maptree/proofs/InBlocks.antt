@@ -65,6 +65,14 @@ at_seat bs k off d within inside =
     ∙ get_or-append-add (nodes_in (take k bs)) (get_or bs k [] ++ nodes_in (drop (k + 1) bs)) off d
     ∙ get_or_append_left (get_or bs k []) (nodes_in (drop (k + 1) bs)) d off inside
 
+-- behind all nodes of a block stands the seat before those of the next
+pub next_seat : (bs : List (List Node)) (k off i : ℕ) → IsSeat bs i (record { block = k; offset = off }) → length (get_or bs k []) ≤ off → k + 1 < length bs → IsSeat bs i (record { block = k + 1; offset = 0 })
+next_seat bs k off i is end within =
+    let upto = is.upto in
+    let before = is.before in
+    let count = count_to bs k is.within in
+    record { within = within; upto = omega arith; before = omega (arith, count, upto, before, end) }
+
 -- what is behind a seat
 pub behind_seat : (bs : List (List Node)) (k off : ℕ) → k < length bs → off ≤ length (get_or bs k []) → drop (length (nodes_in (take k bs)) + off) (nodes_in bs) ≡ drop off (get_or bs k []) ++ nodes_in (drop (k + 1) bs)
 behind_seat bs k off within inside =

@@ -17,6 +17,7 @@ pub mod Origin
 pub mod Mapped
 pub mod Renaming
 pub mod ManyRenamed
+pub mod EachReplaced
 pub mod Insertion
 pub mod Outermost
 pub mod Cuttings

@@ -14,7 +14,7 @@ use Rattle.maptree.proofs.Paths.{HasPlace}
 use Rattle.maptree.proofs.Mapped.{with_place, links-mapped, are_depths-mapped, are_distinct-mapped}
 
 -- a node's place is one of the tree
-has_link : (p : Place) (path : List Place) (ns : List Node) → HasPlace p ns → list_any (λ o. same_place p o.0) (links path ns) ≡ true
+pub has_link : (p : Place) (path : List Place) (ns : List Node) → HasPlace p ns → list_any (λ o. same_place p o.0) (links path ns) ≡ true
 has_link p path [] there = absurd there
 has_link p path (n ∷ ns) (inl is) = let here : same_place p n.place ≡ true = ap (same_place p) (sym is) ∙ same_self p in rw here refl
 has_link p path (n ∷ ns) (inr there) = ap (λ b. same_place p n.place || b) (has_link p (n.place ∷ above n path) ns there) ∙ or-true (same_place p n.place)

@@ -250,15 +250,22 @@ impl Block {
         self.nodes.truncate(from + (len - to));
     }
 
+    /// Takes all nodes out.
+    pub fn clear(&mut self)
+        ensures { self.new ≡ [] }
+    {
+        self.nodes.clear();
+        self.least = usize::MAX;
+        self.behind = usize::MAX;
+    }
+
     /// Moves the nodes from a position on to another block.
     pub fn split_into(&mut self, at: usize, other: &mut Block)
         requires { at ≤ length self.old }
         ensures front { self.new ≡ take at self.old }
         ensures back { other.new ≡ drop at self.old }
     {
-        other.nodes.clear();
-        other.least = usize::MAX;
-        other.behind = usize::MAX;
+        other.clear();
         other.extend(&self.nodes[at..]);
         self.nodes.truncate(at);
         self.least = least_of(&self.nodes);

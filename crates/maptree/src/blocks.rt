@@ -23,17 +23,18 @@ const FILLED: usize = 120;
 /// How many nodes a block has at most when it was joined from two.
 const JOINED: usize = 96;
 
-/// A block of fewer nodes is joined to one beside it, if that has room for them.
-const SPARSE: usize = 32;
-
-/// Of so many blocks one may have few nodes, or none, before such blocks are joined.
+/// Of so many blocks one may come to have no nodes, or few enough to be joined to one beside it, before such blocks are
+/// joined.
 const THIN: usize = 64;
 
-/// How many nodes stay in a block that is split in the middle.
-const HALF: usize = 64;
+/// How many blocks are held ready at most that are not promised, where many were.
+const SPARES: usize = 512;
 
-/// How many nodes from either end of a block on are its end.
-const END: usize = 8;
+/// How many nodes either part of a split has at least: a third of a block.
+const THIRD: usize = 43;
+
+/// How many of the first nodes of a list may come to have a block to themselves.
+const FRONT: usize = 8;
 
 /// A seat in a list of blocks: a block, and how many of its nodes stand before the seat.
 #[derive(Clone, Copy)]
@@ -60,7 +61,8 @@ pub struct Blocks {
     behind: usize,
     /// None of the nodes is deeper than this.
     deepest: usize,
-    /// How often a block came to have few nodes, or none, since such blocks were joined. No clause rests on it.
+    /// How often a block came to have no nodes, or few enough to be joined, since such blocks were joined. No clause
+    /// rests on it.
     thinned: usize,
     hints: Hints,
     notes: Notes,
@@ -97,6 +99,13 @@ impl Blocks {
         ensures { result ≡ length (nodes_in self.now.blocks) }
     {
         self.len
+    }
+
+    /// How many blocks there are.
+    pub fn block_count(&self) -> usize
+        ensures { result ≡ length self.now.blocks }
+    {
+        self.blocks.len()
     }
 
     /// How many insertions will take no memory.
@@ -344,6 +353,26 @@ impl Blocks {
         self.renew_notes(1);
     }
 
+    /// A seat behind so many nodes for one more. Behind all nodes of a full block that is the one before the nodes of
+    /// the next block, if there is one: nodes that come and go there do not split the full block each time.
+    fn seat_for_one(&self, i: usize) -> Seat
+        requires { i ≤ length (nodes_in self.now.blocks) }
+        ensures { IsSeat self.now.blocks i result }
+    {
+        let seat = self.seat(i);
+        let len = self.blocks[seat.block].len();
+        if len < BLOCK_SIZE || seat.offset < len {
+            return seat;
+        }
+        if self.blocks.len() - seat.block == 1 {
+            return seat;
+        }
+        Seat {
+            block: seat.block + 1,
+            offset: 0,
+        }
+    }
+
     /// A seat behind so many nodes in a block that has room for one more; a full block is split. One insertion less is
     /// promised.
     fn seat_with_room(&mut self, i: usize) -> Seat
@@ -355,12 +384,12 @@ impl Blocks {
         ensures room { self.new.room + 1 ≡ self.old.room }
         ensures fits { length (nodes_in self.new.blocks) + self.old.room < 2 ^ 64 }
     {
-        let seat = self.seat(i);
+        let seat = self.seat_for_one(i);
         if self.blocks[seat.block].len() < BLOCK_SIZE {
             self.room -= 1;
             return seat;
         }
-        let front = front_of_split(seat.offset);
+        let front = front_of_split(seat, self.blocks.len());
         self.split(seat.block, front);
         if seat.offset <= front {
             return seat;
@@ -412,6 +441,14 @@ impl Blocks {
         fill(&mut self.spare, n)?;
         self.room = n;
         Ok(())
+    }
+
+    /// Frees blocks that are held ready beyond those that are promised, all but some.
+    pub fn free_spares(&mut self)
+        ensures { self.new ≡ self.old }
+    {
+        let kept = self.room.saturating_add(SPARES);
+        self.spare.truncate(kept);
     }
 
     /// Each node whose place has one in the map gets that.
@@ -501,9 +538,9 @@ impl Blocks {
         ensures blocks { self.new.blocks ≡ set self.old.blocks block (take from (get_or self.old.blocks block []) ++ drop to (get_or self.old.blocks block [])) }
         ensures room { self.new.room ≡ self.old.room }
     {
+        let thins = thins(&self.blocks, block, to - from);
         let removed = &mut self.blocks[block];
         forget_nodes(&mut self.hints, &removed.nodes()[from..to]);
-        let thins = thins(removed.len(), to - from);
         removed.remove(from, to);
         self.thinned = self.thinned.saturating_add(usize::from(thins));
         self.len -= to - from;
@@ -627,28 +664,43 @@ fn list_leasts(leasts: &mut Leasts, blocks: &[Block])
     }
 }
 
-/// Whether a block of so many nodes has few when so many go, or none.
-fn thins(nodes: usize, gone: usize) -> bool {
-    let left = nodes.saturating_sub(gone);
-    left == 0 || left < SPARSE && SPARSE <= nodes
+/// Whether a block comes to have no nodes, when so many go, or so few that it can be joined to one beside it.
+fn thins(blocks: &[Block], block: usize, gone: usize) -> bool {
+    let before = len_of(blocks, block);
+    let left = before.saturating_sub(gone);
+    let front = len_of(blocks, block.wrapping_sub(1));
+    let beside = front.min(len_of(blocks, block.saturating_add(1)));
+    left == 0 || left.saturating_add(beside) <= JOINED && JOINED < before.saturating_add(beside)
 }
 
-/// How many nodes of a full block stay in it when it is split, where a node is put behind so many of them. At the ends of a
-/// block most of them stay together, so that nodes that are put in one behind another, or one before another, leave full blocks.
-fn front_of_split(offset: usize) -> usize
-    ensures some { 0 < result }
-    ensures less { result < 128 }
-{
-    if offset <= END {
-        offset.max(1)
-    } else if offset >= BLOCK_SIZE - END {
-        offset.min(BLOCK_SIZE - 1)
-    } else {
-        HALF
+/// How many nodes a block has; where there is no such block, as many as a full one, to which none is joined.
+fn len_of(blocks: &[Block], block: usize) -> usize {
+    match blocks.get(block) {
+        Some(block) => block.len(),
+        None => BLOCK_SIZE,
     }
 }
 
-/// Joins blocks that stand side by side, where they have few enough nodes together.
+/// How many nodes of a full block stay in it when it is split for a node at a seat. Either part has a third of a block
+/// at least, so that many nodes have to come before it is split again. At the front and at the end of the list one part
+/// may have fewer, and the other is almost full: nodes put in there, one before or behind another, leave full blocks.
+fn front_of_split(seat: Seat, blocks: usize) -> usize
+    ensures some { 0 < result }
+    ensures less { result < 128 }
+    ensures front { 0 < seat.block → seat.block + 1 < blocks → 43 ≤ result }
+    ensures back { 0 < seat.block → seat.block + 1 < blocks → result + 43 ≤ block_size }
+{
+    if seat.block == 0 && seat.offset <= FRONT {
+        seat.offset.max(1)
+    } else if seat.block.saturating_add(1) >= blocks && seat.offset >= BLOCK_SIZE {
+        BLOCK_SIZE - 1
+    } else {
+        seat.offset.max(THIRD).min(BLOCK_SIZE - THIRD)
+    }
+}
+
+/// Joins blocks that stand side by side, where they have few enough nodes together. The second of two that are joined
+/// has no nodes then.
 fn join_sparse(blocks: &mut Vec<Block>, hints: &mut Hints)
     ensures nodes { nodes_in blocks.new.items ≡ nodes_in blocks.old.items }
     ensures fewer { length blocks.new.items ≤ length blocks.old.items }
@@ -661,20 +713,21 @@ fn join_sparse(blocks: &mut Vec<Block>, hints: &mut Hints)
     }
 }
 
-/// Joins a block to the one before it.
-fn join(blocks: &mut Vec<Block>, hints: &mut Hints, k: usize)
+/// Moves the nodes of a block to the one before it.
+fn join(blocks: &mut [Block], hints: &mut Hints, k: usize)
     requires some { 0 < k }
-    requires within { k < length blocks.old.items }
-    requires few { length (get_or blocks.old.items (k - 1) []) + length (get_or blocks.old.items k []) ≤ block_size }
-    ensures nodes { nodes_in blocks.new.items ≡ nodes_in blocks.old.items }
-    ensures fewer { length blocks.new.items + 1 ≡ length blocks.old.items }
-    ensures capacity { vec_capacity blocks.old ≤ vec_capacity blocks.new }
+    requires within { k < length blocks.old }
+    requires few { length (get_or blocks.old (k - 1) []) + length (get_or blocks.old k []) ≤ block_size }
+    ensures nodes { nodes_in blocks.new ≡ nodes_in blocks.old }
+    ensures count { length blocks.new ≡ length blocks.old }
 {
-    let back = blocks.remove(k);
-    let front = &mut blocks[k - 1];
+    let (fronts, backs) = blocks.split_at_mut(k);
+    let front = &mut fronts[k - 1];
+    let back = &mut backs[0];
+    let before = front.len();
     front.extend(back.nodes());
-    hints.free(back.number());
-    hint_nodes(hints, front);
+    back.clear();
+    hint_from(hints, front, before);
 }
 
 /// Blocks of no nodes, until there are so many.
@@ -736,9 +789,14 @@ fn forget_nodes(hints: &mut Hints, nodes: &[Node]) {
 
 /// The places of a block stand there.
 fn hint_nodes(hints: &mut Hints, block: &Block) {
+    hint_from(hints, block, 0);
+}
+
+/// The places of the nodes of a block from a position on stand there.
+fn hint_from(hints: &mut Hints, block: &Block, from: usize) {
     let number = block.number();
     let nodes = block.nodes();
-    for i in 0..nodes.len() {
+    for i in from..nodes.len() {
         hints.put(nodes[i].place, number, i, nodes.len());
     }
 }

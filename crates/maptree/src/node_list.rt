@@ -22,8 +22,12 @@ use std::ops::Range;
 /// How many nodes stand in one vector at most, where no more room is asked for at once.
 const FEW: usize = 512;
 
-/// How many nodes are put back one by one at most. For each of them a block is held ready.
+/// So many nodes are put back one by one at most, if the list is no larger than `LARGER` times as many. For each of them
+/// a block is held ready.
 const PUT_BACK_IN_PLACE: usize = 512;
+
+/// More nodes are put back one by one where the list has so many for each of them.
+const LARGER: usize = 64;
 
 /// A list of nodes.
 #[derive(Drop)]
@@ -101,6 +105,19 @@ impl NodeList {
             Form::Few(nodes) => nodes.len(),
             Form::Many(blocks) => blocks.len(),
         }
+    }
+
+    /// In how many blocks its nodes stand, if they stand in blocks; they do once there are many. No clause speaks of it.
+    pub fn block_count(&self) -> Option<usize> {
+        match &self.form {
+            Form::Few(_) => None,
+            Form::Many(blocks) => Some(blocks.block_count()),
+        }
+    }
+
+    /// Whether it stands in blocks, where a search for a place does not pass over all nodes.
+    pub fn is_in_blocks(&self) -> bool {
+        matches!(&self.form, Form::Many(_))
     }
 
     /// The node at a position.
@@ -373,10 +390,14 @@ impl NodeList {
                 joined(alloc, &left, nodes.capacity(), gaps, parts)?
             }
             Form::Many(blocks) => {
-                if let Some(kept) = kept_up_to(parts, PUT_BACK_IN_PLACE) {
+                if let Some(kept) = kept_up_to(
+                    parts,
+                    PUT_BACK_IN_PLACE.max(blocks.len() / LARGER),
+                ) {
                     let room = blocks.room() + kept;
                     blocks.reserve(room)?;
                     blocks.put_back(gaps, parts);
+                    blocks.free_spares();
                     return Ok(());
                 }
                 joined(alloc, &blocks.flat(alloc, blocks.len())?, 0, gaps, parts)?

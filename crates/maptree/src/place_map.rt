@@ -14,18 +14,21 @@ pub struct PlaceMap {
 }
 
 impl Model for PlaceMap {
+    ghost use Rattle.std.specs.Prelude.{◌≤◌, ◌+◌, ◌^◌, length};
     ghost use Rattle.maptree.specs.PlaceMaps.{Places};
 
     ghost Value = { Places };
 
     ghost view = { λ m. record { space = m.space; first = m.first; places = m.places.items } };
+
+    ghost invariant = { λ m. m.first + length m.places.items ≤ 2 ^ 32 };
 }
 
 impl PlaceMap {
-    ghost use Rattle.std.specs.Prelude.{◌≡◌, ◌≤◌, OnOk, OnErr, IfSome, None, Some, if◌then◌else◌};
+    ghost use Rattle.std.specs.Prelude.{◌≡◌, ◌≤◌, ◌<◌, ◌+◌, true, length, OnOk, OnErr, IfSome, None, Some, if◌then◌else◌};
     ghost use Rattle.space.specs.declared.place.Place.{Place};
     ghost use Rattle.space.specs.Place.{same_place};
-    ghost use Rattle.maptree.specs.PlaceMaps.{place_for};
+    ghost use Rattle.maptree.specs.PlaceMaps.{place_for, IsApart};
 
     /// No places yet, for the pages of a space from this one on.
     pub fn none(alloc: Global, space: u16, first: u32) -> PlaceMap
@@ -68,6 +71,48 @@ impl PlaceMap {
         let at = self.places.get((key.page - self.first) as usize);
         at.copied().flatten()
     }
+
+    /// How many pages, from the first on, may have a place.
+    pub fn len(&self) -> usize
+        ensures { result ≡ length self.now.places }
+    {
+        self.places.len()
+    }
+
+    /// The page so many behind the first.
+    pub fn key(&self, k: usize) -> Place
+        requires { k < length self.now.places }
+        ensures space { result.space ≡ self.now.space }
+        ensures page { result.page ≡ self.now.first + k }
+    {
+        Place {
+            space: self.space,
+            page: self.first + k as u32,
+        }
+    }
+
+    /// Whether none of its places is one that has a place itself. Such places can be replaced one after another.
+    pub fn is_apart(&self) -> bool
+        ensures { result ≡ true → IsApart (place_for self.now) }
+    {
+        for k in 0..self.places.len() {
+            if !self.ends_at(self.key(k)) {
+                return false;
+            }
+        }
+        true
+    }
+
+    /// Whether the place for one, if it has any, has none itself.
+    fn ends_at(&self, key: Place) -> bool
+        ensures { result ≡ true → (q : Place) → place_for self.now key ≡ Some q → place_for self.now q ≡ None }
+    {
+        match self.get(key) {
+            Some(place) => self.get(place).is_none(),
+            None => true,
+        }
+    }
+
     /// The one entry, the first page's, where the map was never asked to hold another.
     pub fn only(&self) -> Option<(Place, Place)>
         ensures { IfSome result (λ o. (p : Place) → place_for self.now p ≡ (if same_place p o.0 then Some o.1 else None)) }

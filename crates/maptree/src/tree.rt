@@ -1,11 +1,11 @@
-ghost use Rattle.std.specs.Prelude.{◌≡◌, ◌<◌, true, length, position, option_map, IfSome, IfOk};
+ghost use Rattle.std.specs.Prelude.{◌≡◌, ◌<◌, true, length, position, option_map, IfSome, IfOk, Option, None, Some, if◌then◌else◌};
 ghost use Rattle.std.specs.List.{list_any};
 ghost use Rattle.space.specs.Place.{same_place};
 ghost use Rattle.space.specs.declared.place.Place.{Place};
 ghost use Rattle.maptree.specs.Origins.{origin_in, place_at, AreOuterRuns};
 ghost use Rattle.maptree.specs.Nodes.{is_forest, are_distinct, origins_of, run_len};
-ghost use Rattle.maptree.specs.PlaceMaps.{place_for};
-ghost use Rattle.maptree.specs.Renamings.{nodes_renamed};
+ghost use Rattle.maptree.specs.PlaceMaps.{place_for, IsApart};
+ghost use Rattle.maptree.specs.Renamings.{nodes_renamed, StayApart};
 
 use crate::nodes::Nodes;
 use crate::place_map::PlaceMap;
@@ -22,6 +22,9 @@ use std::ops::Range;
 /// Places are searched for one by one where the tree has so many nodes for each of them; where it has fewer, one pass over the
 /// tree serves them all.
 const SEARCHED: usize = 3;
+
+/// Many places are replaced one by one where a list in blocks has so many nodes for each of them.
+const REPLACED: usize = 4;
 
 /// The derivation tree of one frame.
 ///
@@ -87,6 +90,12 @@ impl Tree {
         ensures { result ≡ length self.now.links }
     {
         self.nodes.len()
+    }
+
+    /// In how many blocks of up to 128 nodes its nodes stand, once there are many; `None` before. The memory of a large
+    /// tree is that of its blocks. No clause speaks of it.
+    pub fn block_count(&self) -> Option<usize> {
+        self.nodes.block_count()
     }
 
     /// The position of a place, if it is in the tree.
@@ -298,7 +307,7 @@ impl Tree {
         ensures links { self.new.links ≡ all_renamed (place_for new.now) self.old.links }
         ensures room { self.new.room ≡ self.old.room }
     {
-        replace_in(&mut self.nodes, new);
+        replace(&mut self.nodes, new);
     }
 
     /// Puts a new node directly behind a node, one deeper. This takes no memory.
@@ -312,6 +321,49 @@ impl Tree {
     {
         let depth = self.nodes.get(i).depth + 1;
         self.nodes.insert(i + 1, Node { place, depth });
+    }
+}
+
+/// Each node whose place has one in the map gets that: in one pass, or one after another where they are few for the
+/// list.
+fn replace(nodes: &mut TreeNodes, new: &PlaceMap)
+    requires distinct { are_distinct nodes.old.nodes ≡ true }
+    requires apart { StayApart (place_for new.now) (origins_of nodes.old.nodes) }
+    ensures nodes { nodes.new.nodes ≡ nodes_renamed (place_for new.now) nodes.old.nodes }
+    ensures room { nodes.new.room ≡ nodes.old.room }
+{
+    let few = nodes.is_in_blocks() && new.len() <= nodes.len() / REPLACED;
+    if few && new.is_apart() {
+        replace_each(nodes, new);
+        return;
+    }
+    replace_in(nodes, new);
+}
+
+/// The same one after another, each by a search.
+fn replace_each(nodes: &mut TreeNodes, new: &PlaceMap)
+    requires distinct { are_distinct nodes.old.nodes ≡ true }
+    requires apart { StayApart (place_for new.now) (origins_of nodes.old.nodes) }
+    requires alone { IsApart (place_for new.now) }
+    ensures nodes { nodes.new.nodes ≡ nodes_renamed (place_for new.now) nodes.old.nodes }
+    ensures room { nodes.new.room ≡ nodes.old.room }
+{
+    for k in 0..new.len() {
+        let old = new.key(k);
+        if let Some(place) = new.get(old) {
+            replace_one(nodes, old, place);
+        }
+    }
+}
+
+/// A node that has a place gets another, if there is one.
+fn replace_one(nodes: &mut TreeNodes, old: Place, place: Place)
+    requires { are_distinct nodes.old.nodes ≡ true }
+    ensures nodes { (new : Place → Option Place) → ((x : Place) → new x ≡ (if same_place x old then Some place else None)) → nodes.new.nodes ≡ nodes_renamed new nodes.old.nodes }
+    ensures room { nodes.new.room ≡ nodes.old.room }
+{
+    if let Some(i) = nodes.find(old) {
+        nodes.set_place(i, place);
     }
 }
 

@@ -85,6 +85,22 @@ impl TreeNodes {
         }
     }
 
+    /// In how many blocks the nodes stand, if they stand in blocks.
+    pub fn block_count(&self) -> Option<usize> {
+        match &self.form {
+            Form::Listed(listing) => listing.nodes.block_count(),
+            _ => None,
+        }
+    }
+
+    /// Whether a search for a place does not pass over all nodes.
+    pub fn is_in_blocks(&self) -> bool {
+        match &self.form {
+            Form::Listed(listing) => listing.nodes.is_in_blocks(),
+            _ => false,
+        }
+    }
+
     /// The node at a position.
     #[inline(always)]
     pub fn get(&self, i: usize) -> Node

@@ -2,6 +2,7 @@
 
 ghost use Rattle.std.specs.Prelude.{◌≡◌, ◌<◌, ◌+◌, IfOk, OnOk, length};
 
+mod block_counts;
 mod cases;
 mod cuts;
 mod large;

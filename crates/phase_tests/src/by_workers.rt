@@ -291,9 +291,18 @@ fn crews_read_words_at_opening_and_add_marks_up(rt: HostRuntime) -> Result<(), F
     link_and_mark(&rt, alloc, 1)?;
     link_and_mark(&rt, alloc, 4)?;
     link_and_mark(&rt, alloc, 64)?;
-    let crew = Crew::new(&rt, 64, 7, &NoGate);
-    assert_equal(&rt, crew.piece_length(), 7, "a crew");
     Ok(())
+}
+
+#[test]
+fn a_crew_shares_every_phase_unless_it_is_told_from_which_on(rt: HostRuntime) {
+    let crew = Crew::new(&rt, 64, 7, &NoGate);
+    assert_equal(&rt, crew.piece_length(), 7, "the length of a piece");
+    assert_equal(&rt, crew.shared_from(), 0, "full pieces");
+    let crew = crew.alone_below(128);
+    assert_equal(&rt, crew.piece_length(), 7, "the length of a piece");
+    assert_equal(&rt, crew.shared_from(), 128, "full pieces");
+    assert_equal(&rt, Alone.shared_from(), usize::MAX, "full pieces");
 }
 
 #[test]
@@ -433,8 +442,16 @@ struct Held<'a, R> {
 }
 
 impl<'a, R: Threads + Wait> Workers for Held<'a, R> {
+    ghost use Rattle.std.specs.Prelude.{◌≤◌};
+
+    ghost starts_none = { λ held. held.crew.workers ≤ 1 };
+
     fn piece_length(&self) -> usize {
         self.crew.piece_length()
+    }
+
+    fn shared_from(&self) -> usize {
+        self.crew.shared_from()
     }
 
     fn work(
@@ -517,7 +534,7 @@ fn two_of_four_workers_work_eighteen_pieces_and_one_steals(rt: HostRuntime) -> R
 }
 
 #[test]
-fn a_gate_that_listens_hears_of_a_single_piece(rt: HostRuntime) -> Result<(), Fail> {
+fn a_gate_hears_of_a_single_piece(rt: HostRuntime) -> Result<(), Fail> {
     let gate = Meeting::new();
     gate.stolen.store(1, Ordering::SeqCst);
     let crew = Held {

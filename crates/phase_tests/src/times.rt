@@ -1,13 +1,13 @@
 //! What phases cost that a crew works. Where a number of nodes is asked for behind the test's name, it tells how many nanoseconds the
-//! work took, by so many workers and in place: bench/phases.py reads these lines. It also tells what a million looks
-//! of a watcher took, and how many looks were made beside four workers.
+//! work took, by so many workers: bench/phases.py reads these lines. It also tells what a million looks of a watcher took,
+//! and how many looks were made beside four workers.
 
 ghost use Rattle.std.specs.Prelude.{◌≡◌, ◌<◌, ◌≤◌, length, IfOk};
 ghost use Rattle.pieces.specs.Distinct.{is_none_of};
 ghost use Rattle.pieces.specs.Phases.{CanBeWorked};
 
 use crate::assertions::assert_equal;
-use crew::{Crew, Gate, NoGate, Observe, work, work_watched};
+use crew::{Crew, Gate, Observe, work, work_watched};
 use fpage::Rights;
 use mapnode::{Node, Slice};
 use pieces::{Piece, Strip, are_distinct, can_be_worked};
@@ -235,7 +235,7 @@ fn are_stripped(rt: &impl Abort, words: &[u64], size: Size) {
     assert_equal(rt, words.get(size.nodes), Some(&GAINED), "the origin");
 }
 
-/// So many workers work a phase by turns, and each piece ends once: the nanoseconds of their work.
+/// So many workers work a phase, and each piece ends once: the nanoseconds of their work.
 fn times_turns<R: Runtime + Threads + Wait + Abort>(
     rt: &R,
     alloc: Global,
@@ -253,18 +253,6 @@ fn times_turns<R: Runtime + Threads + Wait + Abort>(
     are_stripped(rt, &words, size);
     let ended = gate.ended.load(Ordering::SeqCst);
     assert_equal(rt, ended, size.pieces() as u64, "pieces");
-    Ok(nanos)
-}
-
-/// One worker works a phase in place: the nanoseconds of its work.
-fn times_in_place<R: Runtime + Threads + Wait + Abort>(
-    rt: &R,
-    alloc: Global,
-    size: Size,
-) -> Result<u128, Fail> {
-    let crew = Crew::new(rt, 1, size.most.max(1), &NoGate);
-    let (words, nanos) = timed(rt, alloc, &crew, size)?;
-    are_stripped(rt, &words, size);
     Ok(nanos)
 }
 
@@ -353,17 +341,16 @@ fn times_beside<R: Runtime + Threads + Wait + Abort>(
     Ok((looks, looker.nanos.load(Ordering::SeqCst)))
 }
 
-/// The nanoseconds that 1, 2 and 4 workers take by turns, and one in place, in this order.
+/// The nanoseconds that 1, 2 and 4 workers take, in this order.
 fn times_each<R: Runtime + Threads + Wait + Abort>(
     rt: &R,
     alloc: Global,
     size: Size,
-) -> Result<[u128; 4], Fail> {
+) -> Result<[u128; 3], Fail> {
     let one = times_turns(rt, alloc, 1, size)?;
     let two = times_turns(rt, alloc, 2, size)?;
     let four = times_turns(rt, alloc, 4, size)?;
-    let in_place = times_in_place(rt, alloc, size)?;
-    Ok([one, two, four, in_place])
+    Ok([one, two, four])
 }
 
 /// Tells what a phase of this size costs.
@@ -373,12 +360,11 @@ fn tells<R: Runtime + Threads + Wait + Abort>(
     alloc: Global,
     size: Size,
 ) -> Result<(), Fail> {
-    let [one, two, four, in_place] = times_each(rt, alloc, size)?;
+    let [one, two, four] = times_each(rt, alloc, size)?;
     let most = size.most;
     for (workers, nanos) in [(1, one), (2, two), (4, four)] {
         println!(rt; "phase pieces-of {most} workers {workers} ns {nanos}")?;
     }
-    println!(rt; "phase pieces-of {most} in-place ns {in_place}")?;
     let looks = times_looks(rt, alloc, size)?;
     println!(rt; "phase pieces-of {most} looks {LOOKS} ns {looks}")?;
     let (looks, nanos) = times_beside(rt, clock, alloc, size)?;

@@ -1,10 +1,8 @@
 -- Text that is given to a sink piece by piece.
-use Rattle.std.proofs.Common.{◌≡◌, ℕ, Bool, List, [], ◌++◌, Option, refl, sym, ap, subst, ◌∙◌, append_assoc, append-nil}
+use Rattle.std.proofs.Common.{◌≡◌, ℕ, List, [], ◌++◌, Option, refl, sym, ap, subst, ◌∙◌, append_assoc, append-nil}
 use Rattle.std.specs.Io.KnownBytes.{Appends}
 use Rattle.std.proofs.KnownBytes.{Appends-trans, Appends-nil}
-use Rattle.replay.specs.declared.error.RunError.{RunError}
-use Rattle.replay.specs.declared.error.RunError.TheVariants.{BadHeader, BadLimits, NoMemory, NoWorker, Unreadable, WriteFailed}
-use Rattle.replay.specs.Steps.{PassesOn, StopsAt}
+use Rattle.replay.specs.Steps.{PassesOn}
 
 -- bytes that are equal
 pub appends_same : (old new : Option (List ℕ)) {xs ys : List ℕ} → xs ≡ ys → Appends old new xs → Appends old new ys
@@ -35,12 +33,3 @@ passes_end {old} {mid} {text} {left} p new more written =
 
 pub passes_rest : {old mid : Option (List ℕ)} {text left : List ℕ} → PassesOn old mid text left → (new : Option (List ℕ)) → Appends mid new left → Appends old new text
 passes_rest {old} {mid} {text} {left} p new written = appends_same old new (sym p.text_is) (Appends-trans old mid new p.front left p.written written)
-
--- a stop, told from before some lines were given to the sink
-pub stops_from : {old mid : Option (List ℕ)} {text left : List ℕ} → PassesOn old mid text left → {was is : Bool} → is ≡ was → (number : ℕ) (new : Option (List ℕ)) (failed : Bool) (e : RunError) → StopsAt number left mid new is failed e → StopsAt number text old new was failed e
-stops_from p same number new failed (NoMemory n) stop = (stop.0, passes_rest p new stop.1, stop.2 ∙ same)
-stops_from p same number new failed (NoWorker n) stop = (stop.0, passes_rest p new stop.1, stop.2 ∙ same)
-stops_from p same number new failed WriteFailed stop = stop
-stops_from p same number new failed BadHeader stop = stop
-stops_from p same number new failed BadLimits stop = stop
-stops_from p same number new failed Unreadable stop = stop

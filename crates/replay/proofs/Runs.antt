@@ -31,7 +31,7 @@ pub trace_stops : (u : Unread) (old new : Option (List ℕ)) (was failed : Bool)
 trace_stops u old new was failed limits (NoMemory zero) stop = absurd stop
 trace_stops u old new was failed limits (NoMemory (suc k)) stop = (record { served = limits; stopped = stop.0 }, stop.1)
 trace_stops u old new was failed limits (NoWorker zero) stop = absurd stop
-trace_stops u old new was failed limits (NoWorker (suc k)) stop = (record { served = limits; stopped = stop.0 }, stop.1)
+trace_stops u old new was failed limits (NoWorker (suc k)) stop = (record { served = limits; stopped = stop.0; there = stop.1 }, stop.2)
 trace_stops u old new was failed limits WriteFailed stop = (limits, stop)
 trace_stops u old new was failed limits BadHeader stop = stop
 trace_stops u old new was failed limits BadLimits stop = absurd stop
@@ -52,7 +52,7 @@ ended (Some input) u old new was failed (Err BadLimits) is w = unserved input u 
 ended (Some input) u old new was failed (Err (NoMemory zero)) is w = tt
 ended (Some input) u old new was failed (Err (NoMemory (suc k))) is w = record { trace = trace_from u; is_trace = served input u is w.0.served; stopped = w.0.stopped }
 ended (Some input) u old new was failed (Err (NoWorker zero)) is w = absurd w
-ended (Some input) u old new was failed (Err (NoWorker (suc k))) is w = record { trace = trace_from u; is_trace = served input u is w.0.served; stopped = w.0.stopped }
+ended (Some input) u old new was failed (Err (NoWorker (suc k))) is w = record { trace = trace_from u; is_trace = served input u is w.0.served; stopped = w.0.stopped; there = w.0.there }
 ended (Some input) u old new was failed (Err Unreadable) is w = absurd w
 ended (Some input) u old new was failed (Err WriteFailed) is w = record { trace = trace_from u; is_trace = served input u is w.0 }
 

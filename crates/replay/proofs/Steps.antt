@@ -1,5 +1,5 @@
 -- The loop over the records of a trace.
-use Rattle.std.proofs.Common.{◌≡◌, ℕ, zero, suc, ◌+◌, ◌≤◌, Bool, true, List, [], ◌∷◌, ◌++◌, take, drop, length, Option, refl, sym, ap, ◌∙◌, arith, append_assoc, append-nil}
+use Rattle.std.proofs.Common.{◌≡◌, ℕ, zero, suc, ◌+◌, ◌≤◌, ◌<◌, Bool, false, true, List, [], ◌∷◌, ◌++◌, take, drop, length, Option, refl, sym, ap, ◌∙◌, arith, append_assoc, append-nil}
 use Rattle.std.proofs.lemmas.List.{length-append, length-take-le, take-append-drop}
 use Rattle.std.specs.Prelude.{◌==◌}
 use Rattle.std.proofs.lemmas.Bool.{eqb-true}
@@ -9,12 +9,14 @@ use Rattle.model.specs.Calls.{Limits, Reply}
 use Rattle.model.specs.Replay.{Told}
 use Rattle.model.specs.Records.{Fields, Version}
 use Rattle.model.specs.Text.{reply_lines, refused_count, audit_lines, end_line}
+use Rattle.crew.specs.declared.error.CrewError.{CrewError}
+use Rattle.crew.specs.declared.error.CrewError.TheVariants as crew
 use Rattle.replay.specs.declared.error.RunError.{RunError}
 use Rattle.replay.specs.declared.error.RunError.TheVariants.{BadHeader, BadLimits, NoMemory, NoWorker, Unreadable, WriteFailed}
 use Rattle.replay.specs.Run.{StopsBefore, WritesText}
 use Rattle.replay.specs.Steps.{told_of, PassesOn, StopsAt, StopsBehind, StopsAmong, StopsEarly}
 use Rattle.replay.proofs.Passing.{appends_same, passes_none, passes_more, passes_end, passes_rest}
-use Rattle.replay.proofs.Replays.{take_front, lines_append, refused_append, refused_few, told_append}
+use Rattle.replay.proofs.Replays.{take_front, lines_append, refused_append, refused_few, replies_count, told_append}
 
 -- the lines of replies are written or left, and the replies that are wanting are those to the records that are left
 pub record SoFar (t : Told) (version : Version) (limits : Limits) (rows : List Fields) (h : Holdings) (number : ℕ) (old now : Option (List ℕ)) (lines : List ℕ) (refused : ℕ) : Type 0 where
@@ -63,6 +65,10 @@ pub none_left : (rows : List Fields) → true ≡ (length rows == 0) → rows �
 none_left [] is = refl
 none_left (f ∷ rows) is = let none = eqb-true (length (f ∷ rows)) 0 (sym is) in absurd (omega (arith, none))
 
+pub some_left : (rows : List Fields) → false ≡ (length rows == 0) → 0 < length rows
+some_left [] is = absurd (cc is)
+some_left (f ∷ rows) is = omega arith
+
 -- no more refusals than records
 pub few_refused : {t : Told} {version : Version} {limits : Limits} {rows : List Fields} {h : Holdings} {number : ℕ} {old now : Option (List ℕ)} {lines : List ℕ} {refused : ℕ} → SoFar t version limits rows h number old now lines refused → refused + 1 ≤ number
 few_refused s = omega (arith, s.count, s.refused_is, refused_few s.done)
@@ -77,15 +83,20 @@ stopped {t} {old} done others new all written k is =
 
 -- where a record was not answered
 pub so_far-stop : {t : Told} {version : Version} {limits : Limits} {rows : List Fields} {h : Holdings} {number : ℕ} {old now : Option (List ℕ)} {lines : List ℕ} {refused : ℕ} → SoFar t version limits rows h number old now lines refused
-    → (new : Option (List ℕ)) (was is failed : Bool) (e : RunError) → is ≡ was → StopsAt number lines now new is failed e → StopsEarly t old new was failed e
-so_far-stop {t} {version} {limits} {rows} {h} s new was is failed (NoMemory zero) same stop = absurd (omega (arith, stop.0, s.count))
-so_far-stop {t} {version} {limits} {rows} {h} s new was is failed (NoMemory (suc k)) same stop = (stopped s.done (told_of version limits rows h).replies new (ap (λ (x : Told). x.replies) s.told) (passes_rest s.lines_are new stop.1) k (omega (arith, stop.0, s.count)), stop.2 ∙ same)
-so_far-stop {t} {version} {limits} {rows} {h} s new was is failed (NoWorker zero) same stop = absurd (omega (arith, stop.0, s.count))
-so_far-stop {t} {version} {limits} {rows} {h} s new was is failed (NoWorker (suc k)) same stop = (stopped s.done (told_of version limits rows h).replies new (ap (λ (x : Told). x.replies) s.told) (passes_rest s.lines_are new stop.1) k (omega (arith, stop.0, s.count)), stop.2 ∙ same)
-so_far-stop s new was is failed WriteFailed same stop = stop
-so_far-stop s new was is failed BadHeader same stop = stop
-so_far-stop s new was is failed BadLimits same stop = stop
-so_far-stop s new was is failed Unreadable same stop = stop
+    → (why : CrewError) → (why ≡ crew.NoWorker → 0 < length rows) → (new : Option (List ℕ)) (was is failed : Bool) (e : RunError) → is ≡ was → StopsAt why number lines now new is failed e → StopsEarly t old new was failed e
+so_far-stop {t} {version} {limits} {rows} {h} s why there new was is failed (NoMemory zero) same stop = absurd (omega (arith, stop.0, s.count))
+so_far-stop {t} {version} {limits} {rows} {h} s why there new was is failed (NoMemory (suc k)) same stop = (stopped s.done (told_of version limits rows h).replies new (ap (λ (x : Told). x.replies) s.told) (passes_rest s.lines_are new stop.1) k (omega (arith, stop.0, s.count)), stop.2 ∙ same)
+so_far-stop {t} {version} {limits} {rows} {h} s why there new was is failed (NoWorker zero) same stop = absurd (omega (arith, stop.1, s.count))
+so_far-stop {t} {version} {limits} {rows} {h} s why there new was is failed (NoWorker (suc k)) same stop =
+    let others = (told_of version limits rows h).replies in
+    let all = ap (λ (x : Told). x.replies) s.told in
+    let whole : length t.replies ≡ length (s.done ++ others) = ap length all in
+    let some = there stop.0 in
+    (stopped s.done others new all (passes_rest s.lines_are new stop.2) k (omega (arith, stop.1, s.count)), omega (arith, stop.1, s.count, whole, length-append s.done others, replies_count version limits rows h, some), stop.3 ∙ same)
+so_far-stop s why there new was is failed WriteFailed same stop = stop
+so_far-stop s why there new was is failed BadHeader same stop = stop
+so_far-stop s why there new was is failed BadLimits same stop = stop
+so_far-stop s why there new was is failed Unreadable same stop = stop
 
 -- where some of the next lines are there
 among : {t : Told} {version : Version} {limits : Limits} {rows : List Fields} {h : Holdings} {number : ℕ} {old now : Option (List ℕ)} {lines : List ℕ} {refused : ℕ} → SoFar t version limits rows h number old now lines refused
@@ -105,8 +116,7 @@ pub so_far-among : {t : Told} {version : Version} {limits : Limits} {rows : List
     → {replies : List Reply} {last : Holdings} → AreNext version limits rows h replies last → (new : Option (List ℕ)) (was is failed : Bool) (e : RunError) → is ≡ was → StopsAmong number replies lines now new is failed e → StopsEarly t old new was failed e
 so_far-among s next new was is failed (NoMemory zero) same stop = absurd (omega (arith, stop.0.n_is, s.count))
 so_far-among s next new was is failed (NoMemory (suc m)) same stop = (among s next new (suc m) stop.0 m refl, stop.1 ∙ same)
-so_far-among s next new was is failed (NoWorker zero) same stop = absurd (omega (arith, stop.0.n_is, s.count))
-so_far-among s next new was is failed (NoWorker (suc m)) same stop = (among s next new (suc m) stop.0 m refl, stop.1 ∙ same)
+so_far-among s next new was is failed (NoWorker n) same stop = absurd stop
 so_far-among s next new was is failed WriteFailed same stop = stop
 so_far-among s next new was is failed BadHeader same stop = stop
 so_far-among s next new was is failed BadLimits same stop = stop

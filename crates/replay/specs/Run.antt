@@ -1,5 +1,5 @@
 -- What a run writes, and what it leaves where it ends early.
-use Rattle.std.specs.Prelude.{◌≡◌, ℕ, zero, suc, ◌≤◌, ⊤, Bool, true, false, List, length, take, Option, Ok, Err}
+use Rattle.std.specs.Prelude.{◌≡◌, ℕ, zero, suc, ◌≤◌, ◌<◌, ⊤, Bool, true, false, List, length, take, Option, Ok, Err}
 use Rattle.std.specs.Io.KnownBytes.{Appends, Keeps}
 use Rattle.model.specs.Replay.{Told}
 use Rattle.model.specs.Records.{Trace, bad_header, bad_limits, trace_of}
@@ -31,6 +31,13 @@ pub record StopsInReplay (input : List ℕ) (old new : Option (List ℕ)) (k : �
   pub is_trace : trace_of input ≡ Ok trace
   pub stopped : StopsBefore (told trace) old new k
 
+-- the same, before a record that is there
+pub record StopsAtRecord (input : List ℕ) (old new : Option (List ℕ)) (k : ℕ) : Type 0 where
+  pub trace : Trace
+  pub is_trace : trace_of input ≡ Ok trace
+  pub stopped : StopsBefore (told trace) old new k
+  pub there : k < length (told trace).replies
+
 -- the input is a trace
 pub record IsTrace (input : List ℕ) : Type 0 where
   pub trace : Trace
@@ -43,7 +50,7 @@ EndsEarly input old new BadLimits = trace_of input ≡ Err bad_limits
 EndsEarly input old new (NoMemory zero) = ⊤
 EndsEarly input old new (NoMemory (suc k)) = StopsInReplay input old new k
 EndsEarly input old new (NoWorker zero) = ⊥
-EndsEarly input old new (NoWorker (suc k)) = StopsInReplay input old new k
+EndsEarly input old new (NoWorker (suc k)) = StopsAtRecord input old new k
 EndsEarly input old new Unreadable = ⊤
 EndsEarly input old new WriteFailed = IsTrace input
 
@@ -57,6 +64,15 @@ WritesNothing old new (NoWorker zero) = ⊥
 WritesNothing old new (NoWorker (suc k)) = ⊤
 WritesNothing old new Unreadable = Keeps old new
 WritesNothing old new WriteFailed = ⊤
+
+-- a thread could not be started
+abbrev pub IsNoWorker : RunError → Type 0
+IsNoWorker (NoWorker n) = ⊤
+IsNoWorker (NoMemory n) = ⊥
+IsNoWorker BadHeader = ⊥
+IsNoWorker BadLimits = ⊥
+IsNoWorker Unreadable = ⊥
+IsNoWorker WriteFailed = ⊥
 
 -- which of reader and writer has failed
 abbrev pub TellsStreams : Bool → Bool → RunError → Type 0

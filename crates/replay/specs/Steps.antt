@@ -1,6 +1,8 @@
 -- What the parts of a run write, record by record, and what they leave where they end early.
-use Rattle.std.specs.Prelude.{◌≡◌, ℕ, zero, suc, ◌+◌, ◌≤◌, ⊤, Bool, true, false, List, [], ◌∷◌, ◌++◌, map, length, take, Option, Ok}
+use Rattle.std.specs.Prelude.{◌≡◌, ℕ, zero, suc, ◌+◌, ◌≤◌, ◌<◌, ⊤, Bool, true, false, List, [], ◌∷◌, ◌++◌, map, length, take, Option, Ok}
 use Rattle.std.specs.Io.KnownBytes.{Appends, Keeps}
+use Rattle.crew.specs.declared.error.CrewError.{CrewError}
+use Rattle.crew.specs.declared.error.CrewError.TheVariants as crew
 use Rattle.fpage.specs.declared.rights.Access.{Access}
 use Rattle.space.specs.declared.place.Place.{Place}
 use Rattle.model.specs.Holdings.{Holdings}
@@ -54,20 +56,20 @@ abbrev pub StopsEarly : Told → Option (List ℕ) → Option (List ℕ) → Boo
 StopsEarly t old new was is (NoMemory zero) = ⊥
 StopsEarly t old new was is (NoMemory (suc k)) = StopsBefore t old new k × (is ≡ was)
 StopsEarly t old new was is (NoWorker zero) = ⊥
-StopsEarly t old new was is (NoWorker (suc k)) = StopsBefore t old new k × (is ≡ was)
+StopsEarly t old new was is (NoWorker (suc k)) = StopsBefore t old new k × (k < length t.replies) × (is ≡ was)
 StopsEarly t old new was is WriteFailed = is ≡ true
 StopsEarly t old new was is BadHeader = ⊥
 StopsEarly t old new was is BadLimits = ⊥
 StopsEarly t old new was is Unreadable = ⊥
 
--- why a run ends at a record, once the lines before it are written; whether the writer had failed, and has
-abbrev pub StopsAt : ℕ → List ℕ → Option (List ℕ) → Option (List ℕ) → Bool → Bool → RunError → Type 0
-StopsAt number lines old new was is (NoMemory n) = (n ≡ number) × Appends old new lines × (is ≡ was)
-StopsAt number lines old new was is (NoWorker n) = (n ≡ number) × Appends old new lines × (is ≡ was)
-StopsAt number lines old new was is WriteFailed = is ≡ true
-StopsAt number lines old new was is BadHeader = ⊥
-StopsAt number lines old new was is BadLimits = ⊥
-StopsAt number lines old new was is Unreadable = ⊥
+-- how a run ends at a record for want of memory or of a worker, once the lines before it are written; whether the writer had failed, and has
+abbrev pub StopsAt : CrewError → ℕ → List ℕ → Option (List ℕ) → Option (List ℕ) → Bool → Bool → RunError → Type 0
+StopsAt why number lines old new was is (NoMemory n) = (n ≡ number) × Appends old new lines × (is ≡ was)
+StopsAt why number lines old new was is (NoWorker n) = (why ≡ crew.NoWorker) × (n ≡ number) × Appends old new lines × (is ≡ was)
+StopsAt why number lines old new was is WriteFailed = is ≡ true
+StopsAt why number lines old new was is BadHeader = ⊥
+StopsAt why number lines old new was is BadLimits = ⊥
+StopsAt why number lines old new was is Unreadable = ⊥
 
 -- the lines of the first k of these replies, from this number on, were written behind others
 pub record StopsBehind (number : ℕ) (replies : List Reply) (lines : List ℕ) (old new : Option (List ℕ)) (n : ℕ) : Type 0 where
@@ -79,7 +81,7 @@ pub record StopsBehind (number : ℕ) (replies : List Reply) (lines : List ℕ) 
 -- why a run ends before the lines of these replies are all there
 abbrev pub StopsAmong : ℕ → List Reply → List ℕ → Option (List ℕ) → Option (List ℕ) → Bool → Bool → RunError → Type 0
 StopsAmong number replies lines old new was is (NoMemory n) = StopsBehind number replies lines old new n × (is ≡ was)
-StopsAmong number replies lines old new was is (NoWorker n) = StopsBehind number replies lines old new n × (is ≡ was)
+StopsAmong number replies lines old new was is (NoWorker n) = ⊥
 StopsAmong number replies lines old new was is WriteFailed = is ≡ true
 StopsAmong number replies lines old new was is BadHeader = ⊥
 StopsAmong number replies lines old new was is BadLimits = ⊥
@@ -110,13 +112,19 @@ pub record StopsInTrace (u : Unread) (old new : Option (List ℕ)) (k : ℕ) : T
   pub served : are_limits u.limits ≡ true
   pub stopped : StopsBefore (told_of u.version u.limits u.records (start u.limits)) old new k
 
+-- the same, before a record that is there
+pub record StopsAtRecordOf (u : Unread) (old new : Option (List ℕ)) (k : ℕ) : Type 0 where
+  pub served : are_limits u.limits ≡ true
+  pub stopped : StopsBefore (told_of u.version u.limits u.records (start u.limits)) old new k
+  pub there : k < length (told_of u.version u.limits u.records (start u.limits)).replies
+
 -- why such a trace was not replayed to its end; whether the writer had failed, and has
 abbrev pub StopsTrace : Unread → Option (List ℕ) → Option (List ℕ) → Bool → Bool → RunError → Type 0
 StopsTrace u old new was is BadLimits = (are_limits u.limits ≡ false) × Keeps old new × (is ≡ was)
 StopsTrace u old new was is (NoMemory zero) = Keeps old new × (is ≡ was)
 StopsTrace u old new was is (NoMemory (suc k)) = StopsInTrace u old new k × (is ≡ was)
 StopsTrace u old new was is (NoWorker zero) = ⊥
-StopsTrace u old new was is (NoWorker (suc k)) = StopsInTrace u old new k × (is ≡ was)
+StopsTrace u old new was is (NoWorker (suc k)) = StopsAtRecordOf u old new k × (is ≡ was)
 StopsTrace u old new was is WriteFailed = (are_limits u.limits ≡ true) × (is ≡ true)
 StopsTrace u old new was is BadHeader = ⊥
 StopsTrace u old new was is Unreadable = ⊥

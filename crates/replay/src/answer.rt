@@ -1,8 +1,10 @@
 //! Records, answered.
 
-ghost use Rattle.std.specs.Prelude.{◌≡◌, ◌<◌, ◌≤◌, ◌+◌, ◌-◌, ◌∷◌, ◌++◌, [], true, false, Ok, Some, map, take, length, IfOk, IfSome, MatchOption, OnOk};
+ghost use Rattle.std.specs.Prelude.{◌≡◌, ◌<◌, ◌≤◌, ◌+◌, ◌-◌, ◌∷◌, ◌++◌, [], true, false, Ok, Some, map, take, length, IfOk, IfSome, MatchOption, OnOk, IsErrOf};
 ghost use Rattle.std.specs.List.{All};
 ghost use Rattle.model.specs.Records.{Version, are_limits};
+ghost use Rattle.crew.specs.declared.error.CrewError.TheVariants.{NoWorker};
+ghost use Rattle.mapdb.specs.declared.error.DbError.TheVariants.{NoWorker as DbNoWorker};
 ghost use Rattle.mapdb.specs.Held.{access_answers, touched_all, limits_of, IsWithin};
 ghost use Rattle.mapdb.specs.Answered.{IsAnswered};
 ghost use Rattle.mapdb.specs.State.{laid_out, left_with};
@@ -54,6 +56,7 @@ pub fn answer_first<W: Workers>(
         ≡ record { replies = replies_of replies; last = database.new.holdings }) }
     ensures keeps { OnOk result (
         database.new ≡ laid_out (left_with database.old database.new.holdings) database.new.layout) }
+    ensures needs_no_worker { W.starts_none workers.now → IsErrOf result NoWorker → ⊥ }
 {
     let limits = database.limits();
     let asked = trace.next_call(&limits)?;
@@ -84,6 +87,7 @@ fn answer_call<W: Workers>(
         ≡ record { replies = replies_of replies; last = database.new.holdings }) }
     ensures keeps { OnOk result (
         database.new ≡ laid_out (left_with database.old database.new.holdings) database.new.layout) }
+    ensures needs_no_worker { W.starts_none workers.now → IsErrOf result NoWorker → ⊥ }
 {
     match asked {
         Err(refusal) => Ok(Replies::One(Reply::Refused(*refusal))),
@@ -111,7 +115,8 @@ fn answer_one<W: Workers>(
     scratch: &mut Scratch,
 ) -> Result<Reply, CrewError>
     requires within { IsWithinLimits database.old.limits call.now }
-    ensures { IfOk result (IsAnswered database.old (call_of call.now) database.new) }
+    ensures answered { IfOk result (IsAnswered database.old (call_of call.now) database.new) }
+    ensures needs_no_worker { W.starts_none workers.now → IsErrOf result NoWorker → ⊥ }
 {
     let answered = if plain {
         database.answer_plain(alloc, call, scratch, workers)
@@ -183,6 +188,7 @@ fn access_pages<W: Workers>(
     requires within { All (λ access. IsWithin database.old.limits access.0) accesses.now }
     ensures ok { IfOk result (λ answers. answers.items ≡ access_answers database.old.holdings accesses.now) }
     ensures left { OnOk result (database.new ≡ left_with database.old (touched_all database.old.holdings accesses.now)) }
+    ensures needs_no_worker { W.starts_none workers.now → IsErrOf result NoWorker → ⊥ }
 {
     match database.access_all(alloc, accesses, workers) {
         Ok(answers) => Ok(answers),
@@ -191,7 +197,9 @@ fn access_pages<W: Workers>(
 }
 
 /// Why a call has no answer that was not refused for what it asks.
-fn unanswered(error: DbError) -> CrewError {
+fn unanswered(error: DbError) -> CrewError
+    ensures { result ≡ NoWorker → error ≡ DbNoWorker }
+{
     match error {
         DbError::NoWorker => CrewError::NoWorker,
         _ => CrewError::NoMemory,

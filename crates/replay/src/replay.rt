@@ -1,14 +1,15 @@
 //! A run: from the bytes of a trace to the text of its replay.
 
-ghost use Rattle.std.specs.Prelude.{◌≡◌, ◌<◌, ◌≤◌, ◌+◌, ◌++◌, false, map, length, IfOk, IfErr, IfSome, OnOk};
+ghost use Rattle.std.specs.Prelude.{◌≡◌, ◌<◌, ◌≤◌, ◌+◌, ◌++◌, ◌⊎◌, false, true, map, length, IfOk, IfErr, IfSome, OnOk};
 ghost use Rattle.std.specs.Io.KnownBytes.{Appends};
 ghost use Rattle.model.specs.Calls.{accessed};
 ghost use Rattle.model.specs.Text.{reply_line, reply_lines, is_refused, refused_count, audit_lines, end_line};
+ghost use Rattle.crew.specs.declared.error.CrewError.TheVariants.{NoMemory};
 ghost use Rattle.mapdb.specs.Held.{limits_of};
 ghost use Rattle.trace.specs.Meaning.{reply_of};
 ghost use Rattle.trace.specs.Stream.{TellsFailure};
 ghost use Rattle.replay.specs.Options.{AreServed};
-ghost use Rattle.replay.specs.Run.{WritesReplay, EndsEarly, WritesNothing, TellsStreams};
+ghost use Rattle.replay.specs.Run.{WritesReplay, EndsEarly, WritesNothing, IsNoWorker, TellsStreams};
 ghost use Rattle.replay.specs.Steps.{replies_of, PassesOn, StopsAt, StopsAmong, IsStarted, StartsNot};
 ghost use Rattle.replay.specs.Steps.{ReplaysTrace, StopsTrace};
 
@@ -19,12 +20,15 @@ use crate::lines::Lines;
 use crate::options::Options;
 use crate::watch::Watch;
 use audit::report;
-use crew::{Crew, CrewError, NoGate, Workers};
+use crew::{Alone, Crew, CrewError, NoGate, Workers};
 use mapdb::{Database, DbError, Limits};
 use std::alloc::{AllocError, Global};
 use std::sync::Wait;
 use std::thread::Threads;
 use trace::{ReadError, Reply, Sink, Source, TraceReader, read_to_end};
+
+/// How many full pieces a phase must fill for several workers to share it (measured in docs/PERFORMANCE.md).
+const LEAST_SHARED: usize = 128;
 
 /// The numbers of the last line of a run.
 #[derive(Clone, Copy, Debug, PartialEq, Eq)]
@@ -44,7 +48,7 @@ fn write_line<W: Sink>(
 ) -> Result<(), RunError>
     ensures ok { OnOk result (PassesOn (W.contents writer.old) (W.contents writer.new) (lines.old ++ reply_line number (reply_of reply.now)) lines.new) }
     ensures works { OnOk result (W.failed writer.new ≡ W.failed writer.old) }
-    ensures err { IfErr result (StopsAt number lines.old (W.contents writer.old) (W.contents writer.new) (W.failed writer.old) (W.failed writer.new)) }
+    ensures err { IfErr result (StopsAt NoMemory number lines.old (W.contents writer.old) (W.contents writer.new) (W.failed writer.old) (W.failed writer.new)) }
 {
     if lines.push(number, reply).is_err() {
         return Err(stop_at(writer, lines, number, CrewError::NoMemory));
@@ -123,8 +127,9 @@ fn closing_text(
     Ok(text)
 }
 
-/// Replays a trace: reads it to its end, answers its records one by one, and writes the replies and the audit. One crew
-/// works all calls; with `plain` the crew is one worker. The watch hears how far the run has come.
+/// Replays a trace: reads it to its end, answers its records one by one, and writes the replies and the audit. The calling
+/// thread works alone what is small, and all of it where there is one worker, or with `plain`; a crew shares the larger
+/// phases. The watch hears how far the run has come.
 ///
 /// Where memory runs out at a record, or a thread cannot be started, the reply lines before it have been written and flushed.
 pub fn run<T: AllocGlobal + Threads + Wait + Sync, R: Source, W: Sink, V: Watch>(
@@ -148,14 +153,16 @@ pub fn run<T: AllocGlobal + Threads + Wait + Sync, R: Source, W: Sink, V: Watch>
         EndsEarly input (W.contents writer.old) (W.contents writer.new) e)) }
     ensures nothing { IfErr result (WritesNothing (W.contents writer.old) (W.contents writer.new)) }
     ensures streams { IfErr result (TellsStreams (R.failed reader.new) (W.failed writer.new)) }
+    ensures needs_no_worker { (options.now.plain ≡ true) ⊎ (options.now.workers ≡ 1) → IfErr result (λ e. IsNoWorker e → ⊥) }
 {
-    let workers = if options.plain {
-        1
-    } else {
-        options.workers as usize
-    };
-    let crew = Crew::new(rt, workers, options.piece_length as usize, &NoGate);
-    run_by(rt, reader, writer, options.plain, &crew, watch)
+    if options.plain || options.workers == 1 {
+        return run_by(rt, reader, writer, options.plain, &Alone, watch);
+    }
+    let workers = options.workers as usize;
+    let crew = Crew::new(rt, workers, options.piece_length as usize, &NoGate).alone_below(
+        LEAST_SHARED,
+    );
+    run_by(rt, reader, writer, false, &crew, watch)
 }
 
 /// The same, whoever works the calls; with `plain` unmaps and clears go by recursion on the calling thread.
@@ -180,6 +187,7 @@ pub fn run_by<T: AllocGlobal + Threads + Sync, R: Source, W: Sink, C: Workers, V
         EndsEarly input (W.contents writer.old) (W.contents writer.new) e)) }
     ensures nothing { IfErr result (WritesNothing (W.contents writer.old) (W.contents writer.new)) }
     ensures streams { IfErr result (TellsStreams (R.failed reader.new) (W.failed writer.new)) }
+    ensures needs_no_worker { C.starts_none workers.now → IfErr result (λ e. IsNoWorker e → ⊥) }
 {
     let alloc = rt.alloc();
     let bytes = read_input(alloc, reader)?;
@@ -225,6 +233,7 @@ fn replay_trace<T: AllocGlobal + Threads + Sync, W: Sink, C: Workers, V: Watch>(
     ensures ok { IfOk result (ReplaysTrace trace.old (W.contents writer.old) (W.contents writer.new)) }
     ensures works { OnOk result (W.failed writer.new ≡ W.failed writer.old) }
     ensures err { IfErr result (StopsTrace trace.old (W.contents writer.old) (W.contents writer.new) (W.failed writer.old) (W.failed writer.new)) }
+    ensures needs_no_worker { C.starts_none workers.now → IfErr result (λ e. IsNoWorker e → ⊥) }
 {
     let alloc = rt.alloc();
     let mut database = start(alloc, &trace.limits())?;
@@ -269,7 +278,7 @@ fn write_closing<W: Sink>(
     ensures written { OnOk result (Appends (W.contents writer.old) (W.contents writer.new)
         (lines.old ++ (audit_lines database.now.holdings ++ end_line records refused))) }
     ensures works { OnOk result (W.failed writer.new ≡ W.failed writer.old) }
-    ensures err { IfErr result (StopsAt (records + 1) lines.old (W.contents writer.old) (W.contents writer.new) (W.failed writer.old) (W.failed writer.new)) }
+    ensures err { IfErr result (StopsAt NoMemory (records + 1) lines.old (W.contents writer.old) (W.contents writer.new) (W.failed writer.old) (W.failed writer.new)) }
 {
     if lines.pass_on(writer).is_err() {
         return Err(RunError::WriteFailed);
@@ -285,7 +294,7 @@ fn write_closing<W: Sink>(
 
 /// Gives the sink the lines before a record that was not answered, flushes them, and returns why the run ends there.
 fn stop_at<W: Sink>(writer: &mut W, lines: &mut Lines, number: u64, why: CrewError) -> RunError
-    ensures { StopsAt number lines.old (W.contents writer.old) (W.contents writer.new) (W.failed writer.old) (W.failed writer.new) result }
+    ensures { StopsAt why number lines.old (W.contents writer.old) (W.contents writer.new) (W.failed writer.old) (W.failed writer.new) result }
 {
     if lines.pass_on(writer).is_err() || writer.flush().is_err() {
         return RunError::WriteFailed;

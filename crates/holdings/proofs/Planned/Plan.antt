@@ -36,12 +36,12 @@ use Rattle.holdings.proofs.Planned.Apart.{starts_apart, joined_once, any_cases, 
 
 -- ---- lists
 
-first_all : {A : Type 0} (P : A → Type 0) (xs ys : List A) → All P (xs ++ ys) → All P xs
+pub first_all : {A : Type 0} (P : A → Type 0) (xs ys : List A) → All P (xs ++ ys) → All P xs
 first_all P [] ys all k d less = absurd (omega (arith, less))
 first_all P (x ∷ xs) ys all zero d less = all 0 d (omega arith)
 first_all P (x ∷ xs) ys all (suc k) d less = first_all P xs ys (λ j e l. all (suc j) e (omega (arith, l))) k d (omega (arith, less))
 
-second_all : {A : Type 0} (P : A → Type 0) (xs ys : List A) → All P (xs ++ ys) → All P ys
+pub second_all : {A : Type 0} (P : A → Type 0) (xs ys : List A) → All P (xs ++ ys) → All P ys
 second_all P [] ys all = all
 second_all P (x ∷ xs) ys all = second_all P xs ys (λ j e l. all (suc j) e (omega (arith, l)))
 
@@ -204,7 +204,7 @@ module _ (s : Shards) (trees : List Shape) (sound : AreSound s trees) where
   -- ---- the first pages stand for the set
 
   -- a page of a list of pages
-  any_places : (pages : List HeldPage) (p : Place) → any_of (places_in pages) p ≡ any_page pages p
+  pub any_places : (pages : List HeldPage) (p : Place) → any_of (places_in pages) p ≡ any_page pages p
   any_places [] p = refl
   any_places (h ∷ pages) p = ap (λ b. same_place p h.place || b) (any_places pages p)
 
@@ -237,7 +237,7 @@ module _ (s : Shards) (trees : List Shape) (sound : AreSound s trees) where
       ap (λ q. q ∷ firsts (links_in trees frame) (map (λ plan. plan.run) ps)) here ∙ ap (λ qs. first_of trees p ∷ qs) (firsts_are frame ps (λ k d less. same (suc k) d (omega (arith, less))))
 
   -- the pages of a group are of its frame
-  group_of_frame : (frame : ℕ) (group : List HeldPage) → All (λ h. h.frame ≡ frame) group → All (HasItsFrame s) group → AreOfFrame s trees frame (places_in group)
+  pub group_of_frame : (frame : ℕ) (group : List HeldPage) → All (λ h. h.frame ≡ frame) group → All (HasItsFrame s) group → AreOfFrame s trees frame (places_in group)
   group_of_frame frame [] same has p e named inside is = absurd (cc named)
   group_of_frame frame (h ∷ group) same has p e named inside is =
       by (or_cases (same_place p h.place) (any_of (places_in group) p) named) (λ there. group_of_frame frame group (λ k d less. same (suc k) d (omega (arith, less))) (λ k d less. has (suc k) d (omega (arith, less))) p e there inside is)

@@ -174,7 +174,7 @@ module _ (shards : Shards) (trees : List Shape) (sound : AreSound shards trees) 
   lawful = lawful_parts (holdings_in shards trees) sound.kept.lawful
 
   -- the first places are named
-  first_named : (q : Place) → any_of (firsts (links_in trees frame) runs) q ≡ true → any_of places q ≡ true
+  pub first_named : (q : Place) → any_of (firsts (links_in trees frame) runs) q ≡ true → any_of places q ≡ true
   first_named q is = named runs outer.named is
     where
       named : (rs : List (Range ℕ)) → ((k : ℕ) (e : Range ℕ) → k < length rs → (d : Place) → list_any (same_place (place_at (links_in trees frame) (get_or rs k e).start d)) places ≡ true)

@@ -10,17 +10,19 @@ use Rattle.holdings.specs.Inner.Words.{IsThere}
 use Rattle.maptree.specs.Origins.{Origins, Shape, AreOuterRuns, AreRising, IsRun, are_once}
 use Rattle.maptree.specs.Cuts.{outside, kept_of}
 use Rattle.mapnode.specs.declared.node.Node.{Node}
-use Rattle.model.specs.Holdings.{PlaceSet}
+use Rattle.model.specs.Derived.{is_below}
+use Rattle.model.specs.Holdings.{PlaceSet, is_held}
 use Rattle.pieces.specs.Phases.{IsPiece}
 use Rattle.pieces.specs.declared.piece.Piece.{Piece}
 use Rattle.pieces.specs.declared.piece.Piece.TheVariants as piece
 use Rattle.holdings.specs.declared.pages.HeldPage.{HeldPage}
 use Rattle.holdings.specs.declared.planning.FrameRuns.{FrameRuns}
 use Rattle.holdings.specs.declared.planning.StripPlan.{StripPlan}
-use Rattle.holdings.specs.Inner.Held.{links_in, has_entry}
+use Rattle.holdings.specs.Contents.{Contents, IsStripped}
+use Rattle.holdings.specs.Inner.Held.{links_in, has_entry, holdings_in}
 use Rattle.holdings.specs.Places.{any_of}
 use Rattle.holdings.specs.Inner.Planning.{RunPlan, IsRunPlan, IsStripPlan, strips_of_run, strips_of_runs, all_places, come_once}
-use Rattle.holdings.specs.Inner.Stripping.{places_in, OriginsHaveEntries, pruned}
+use Rattle.holdings.specs.Inner.Stripping.{firsts, places_in, OriginsHaveEntries, pruned}
 
 -- pages in front of others are those of a frame, whose outermost runs are these
 pub record IsFrameGroup (trees : List Shape) (group rest : List HeldPage) (f : FrameRuns) : Type 0 where
@@ -95,6 +97,21 @@ pub record IsPlanned (s : Shards) (trees : List Shape) (set : PlaceSet) (revoked
   pub strip : IsStripPlan s trees set plans
   pub pieces_are : plan.pieces.items ≡ map piece.Strip (strips_of_runs s revoked flush plans)
   pub pieces : All IsPiece plan.pieces.items
+
+-- ---- the first places of the runs
+
+-- the first places of the runs of some frames
+abbrev pub all_firsts : List Shape → List FrameRuns → List Place
+all_firsts trees fs = flat_map (λ f. firsts (links_in trees f.frame) f.runs) fs
+
+-- some of these places, and all that is held of the others derives from them
+pub record AreOuterPlaces (s : Shards) (trees : List Shape) (places outer : List Place) : Type 0 where
+  pub named : (q : Place) → any_of outer q ≡ true → any_of places q ≡ true
+  pub covers : (q : Place) → is_held (holdings_in s trees) q ≡ true → any_of places q ≡ true → is_below (holdings_in s trees) (any_of outer) q ≡ true
+
+-- what is stripped of the one is stripped of the others
+abbrev pub StandFor : Contents → List Place → List Place → Type 0
+StandFor old places outer = (a : Rights) (f : Bool) (r : Contents × Rights) → IsStripped old (any_of outer) a f r → IsStripped old (any_of places) a f r
 
 -- ---- the trees afterwards
 

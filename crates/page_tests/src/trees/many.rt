@@ -19,6 +19,9 @@ use std::test::Fail;
 /// How many calls change the tree.
 const CHANGES: u32 = 6_000;
 
+/// How many of each of several orders.
+const FEWER: u32 = 2_000;
+
 /// After how many of them all nodes are compared.
 const BETWEEN: u32 = 100;
 
@@ -296,6 +299,29 @@ fn thins(
     Ok(())
 }
 
+/// Below which node of a list a new one comes.
+#[derive(Clone, Copy)]
+enum Order {
+    Any,
+    Front,
+    NextToLast,
+    /// Each one position behind the one before.
+    Walk,
+    BothEnds,
+}
+
+/// Below which of so many nodes the nth place comes.
+fn below_which(order: Order, n: u32, nodes: usize, chance: &mut Chance) -> usize {
+    let last = nodes.saturating_sub(1);
+    match order {
+        Order::Any => [0, last, chance.below(nodes)][chance.below(3)],
+        Order::Front => 0,
+        Order::NextToLast => last.saturating_sub(1),
+        Order::Walk => n as usize % nodes.max(1),
+        Order::BothEnds => [last.saturating_sub(1), last.min(1)][n as usize % 2],
+    }
+}
+
 /// Makes one call that changes the tree.
 fn changes(
     rt: &impl Abort,
@@ -303,20 +329,18 @@ fn changes(
     tree: &mut Tree,
     list: &mut Vec<Node>,
     place: Place,
+    at: usize,
     chance: &mut Chance,
 ) -> Result<(), Fail> {
     let any = chance.below(list.len());
-    let last = list.len().saturating_sub(1);
-    assert!(rt; any < list.len() && last < list.len());
+    assert!(rt; any < list.len() && at < list.len());
     match chance.below(50) {
         0 if LARGE < list.len() => thins(rt, alloc, tree, list, chance),
         1..=9 => {
             renames(rt, tree, list, any, place);
             Ok(())
         }
-        10..=20 => inserts(rt, tree, list, 0, place),
-        21..=31 => inserts(rt, tree, list, last, place),
-        _ => inserts(rt, tree, list, any, place),
+        _ => inserts(rt, tree, list, at, place),
     }
 }
 
@@ -326,10 +350,12 @@ fn step(
     alloc: Global,
     tree: &mut Tree,
     list: &mut Vec<Node>,
+    order: Order,
     n: u32,
     chance: &mut Chance,
 ) -> Result<(), Fail> {
-    changes(rt, alloc, tree, list, nth_place(n), chance)?;
+    let at = below_which(order, n, list.len(), chance);
+    changes(rt, alloc, tree, list, nth_place(n), at, chance)?;
     let (i, j) = (chance.below(list.len()), chance.below(list.len()));
     assert!(rt; i < list.len() && j < list.len());
     asks(rt, tree, list, i, j);
@@ -345,9 +371,8 @@ fn step(
     Ok(())
 }
 
-#[test]
-fn is_like_a_plain_list_over_thousands_of_calls(rt: HostRuntime) -> Result<(), Fail> {
-    let alloc = rt.alloc();
+/// Makes so many calls on a tree and on a list.
+fn compared(rt: &impl Abort, alloc: Global, order: Order, calls: u32) -> Result<usize, Fail> {
     let mut chance = Chance { state: 1 };
     let mut tree = Tree::root(alloc, nth_place(0));
     let mut list = Vec::new(alloc);
@@ -355,9 +380,28 @@ fn is_like_a_plain_list_over_thousands_of_calls(rt: HostRuntime) -> Result<(), F
         place: nth_place(0),
         depth: 0,
     })?;
-    for n in 1..CHANGES {
-        step(&rt, alloc, &mut tree, &mut list, n, &mut chance)?;
+    for n in 1..calls {
+        step(rt, alloc, &mut tree, &mut list, order, n, &mut chance)?;
     }
-    assert_holds(&rt, LARGE < list.len(), "too few nodes");
+    Ok(list.len())
+}
+
+#[test]
+fn is_like_a_plain_list_over_thousands_of_calls(rt: HostRuntime) -> Result<(), Fail> {
+    let nodes = compared(&rt, rt.alloc(), Order::Any, CHANGES)?;
+    assert_holds(&rt, LARGE < nodes, "too few nodes");
+    Ok(())
+}
+
+#[test]
+fn is_like_a_plain_list_where_nodes_come_at_the_ends(rt: HostRuntime) -> Result<(), Fail> {
+    for order in [
+        Order::Front,
+        Order::NextToLast,
+        Order::Walk,
+        Order::BothEnds,
+    ] {
+        compared(&rt, rt.alloc(), order, FEWER)?;
+    }
     Ok(())
 }

@@ -19,6 +19,6 @@ copy_from_slice-requires c =
     let room : length words ≤ length all = omega (arith, same, c.in_ok-control.ensures.words) in
     let fpages = take (length words) all in
     let many = length-take-le (length words) all room in
-    let flush = c.is_flush.result in
+    let flush = c.in_ok-control.control.flush in
     let done = was_done s c.answer_words.new.self (unmap c.args.space flush (zip words fpages)) c.answer_words.result c.answer_words.ensures.ok c.answer_words.ensures.err c.done.result c.done.ensures c.in_ok-reply.reply c.in_ok-reply.was in
     words_answered s.limits s.holdings c.args.space flush words fpages c.in-Unmapped.told.items many (ap (λ (a : Answer). a.reply) done.answered.told ∙ ap reply_of c.in-Unmapped.is) ∙ ap length (sym c.deref.ensures.value)

@@ -17,8 +17,8 @@ unreachable-requires g c =
     let numbers = ap numbers_of c.in_ok-shared.ensures.turns ∙ numbers_new s (length c.args.pieces.items) ∙ ap (λ ps. range_with_len 0 (length ps)) (sym c.in_ok-shared.ensures.pieces) in
     ⊎_elim (none_wanting s ended (all_there s ended (λ h. c.in_ok-turns.ensures.sums h ∙ ap (weigh h) numbers))) (no_watchers s _ c.in_ok-shared.ensures.unwatched) c.in-Err.ensures.wanting
 
-pub returns : goal.returns
-returns g c =
+pub returns-clause-worked : goal.returns-clause-worked
+returns-clause-worked g c =
     let s = c.in_ok-shared.shared in let o = s.opening in let ended = c.in_ok-turns.turns.items in let w = c.args.words.items in let ps = c.args.pieces.items in
     let words = c.in_ok-shared.ensures.words in let pieces = c.in_ok-shared.ensures.pieces in
     let numbers = ap numbers_of c.in_ok-shared.ensures.turns ∙ numbers_new s (length ps) ∙ ap (λ qs. range_with_len 0 (length qs)) (sym pieces) in

@@ -30,11 +30,11 @@ gathered-requires g c =
     let done = c.requires.does t.result (Ok (c.in_ok-words.words, c.in_ok-words.dones)) are c.in_ok-words.ensures in
     subst (λ n. fault_in n c.in_ok-words.dones.items ≡ None) (sym (c.len-count.ensures ∙ c.args.pieces.ok.0)) done.dones.once
 
-pub returns : goal.returns
-returns g c =
+pub returns-clause-worked : goal.returns-clause-worked
+returns-clause-worked g c =
     let t = c.take_words-words in
     let are = words_taken c.args.shards.now t.result.items t.ensures.count t.ensures.packs t.ensures.words in
     let done = c.requires.does t.result (Ok (c.in_ok-words.words, c.in_ok-words.dones)) are c.in_ok-words.ensures in
     phase_worked c.args.shards.now t.new.self c.put_words.new.self t.result.items c.in_ok-words.words.items c.args.pieces.items c.in_ok-words.dones.items c.gathered.result are t.ensures.layout done
     c.put_words.ensures.entries c.put_words.ensures.present c.put_words.ensures.layout
-    (subst (λ n. IfOk c.gathered.result (IsGathered (all_found n c.in_ok-words.dones.items))) (c.len-count.ensures ∙ c.args.pieces.ok.0) c.gathered.ensures)
+    (subst (λ n. IfOk c.gathered.result (IsGathered (all_found n c.in_ok-words.dones.items))) (c.len-count.ensures ∙ c.args.pieces.ok.0) c.gathered.ensures.gathered)

@@ -14,7 +14,7 @@ unmap_word-requires-clause-fpage g c =
     complete_within c.args.held.limits.bits c.complete_space-complete.result
     (c.complete_space-complete.ensures ∙ ap complete_of (ap (λ (l : Limits). l.bits) c.limits.ensures.limits))
 
-pub returns : goal.returns
-returns g c =
+pub returns-clause-stripped : goal.returns-clause-stripped
+returns-clause-stripped g c =
     whole_stripped c.args.held c.limits.ensures.consistent c.args.space c.complete_space-complete.result
-    (c.complete_space-complete.ensures ∙ ap complete_of (ap (λ (l : Limits). l.bits) c.limits.ensures.limits)) c.unmap_word.result c.unmap_word.ensures
+    (c.complete_space-complete.ensures ∙ ap complete_of (ap (λ (l : Limits). l.bits) c.limits.ensures.limits)) c.unmap_word.result c.unmap_word.ensures.stripped

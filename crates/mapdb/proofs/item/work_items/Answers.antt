@@ -18,8 +18,8 @@ use Rattle.mapdb.proofs.item.work_items.Goals as goal
 
 pub loop-item-init : goal.loop-item-init
 loop-item-init g c =
-    subst (AreWorked c.args.held c.args.from c.args.to c.args.window.now c.args.items.now 0 c.args.held) (sym c.none-reply.ensures)
-    (none_worked c.args.held c.args.from c.args.to c.args.window.now c.args.items.now)
+    subst (AreWorked c.args.held c.args.send.now.from c.args.send.now.to c.args.send.now.window c.args.send.now.items.now 0 c.args.held) (sym c.none-reply.ensures)
+    (none_worked c.args.held c.args.send.now.from c.args.send.now.to c.args.send.now.window c.args.send.now.items.now)
 
 -- the pages of an item lie within the limits
 within : (old now : Limits) (from to : ℕ) (window : Flexpage) (item : Item) (p : ItemPages) → now ≡ old → from < old.spaces → to < old.spaces → (from ≡ to → ⊥)
@@ -44,9 +44,15 @@ pub work_item-requires : goal.work_item-requires
 work_item-requires g c =
     let sent = subst (λ (item : Item). IsFpageOf c.args.held.limits.bits item.sent) (sym c.item-item.is) (c.requires.items c.loop-item.item-index c.item-item.result c.loop-item-test.true) in
     record {
-      pages = within c.args.held.limits c.loop-item.held.limits c.args.from c.args.to c.args.window.now c.item-item.result c.item_pages-pages.result c.loop-item.invariant.limits
+      pages = within c.args.held.limits c.loop-item.held.limits c.args.send.now.from c.args.send.now.to c.args.send.now.window c.item-item.result c.item_pages-pages.result c.loop-item.invariant.limits
           c.requires.from c.requires.to c.requires.differ c.requires.window sent c.item_pages-pages.ensures.source c.item_pages-pages.ensures.target c.item_pages-pages.ensures.within;
     }
+
+pub work_page-requires-clause-pages : goal.work_page-requires-clause-pages
+work_page-requires-clause-pages g c =
+    let sent = subst (λ (item : Item). IsFpageOf c.args.held.limits.bits item.sent) (sym c.item-item.is) (c.requires.items c.loop-item.item-index c.item-item.result c.loop-item-test.true) in
+    within c.args.held.limits c.loop-item.held.limits c.args.send.now.from c.args.send.now.to c.args.send.now.window c.item-item.result c.item_pages-pages.result c.loop-item.invariant.limits
+    c.requires.from c.requires.to c.requires.differ c.requires.window sent c.item_pages-pages.ensures.source c.item_pages-pages.ensures.target c.item_pages-pages.ensures.within
 
 pub plus-reply-requires : goal.plus-reply-requires
 plus-reply-requires g c =
@@ -68,12 +74,12 @@ loop-item-preserved g c =
       | then-pages-eq1+in_ok-work_page w ↦ subst (IsOne c.loop-item.held c.item_pages-pages.result) (sym w.left-is) (record { sent = w.in_ok-work_page.ensures.sent; few = w.in_ok-work_page.ensures.few })
       | else-pages-eq1+in_ok-left w ↦ subst (IsOne c.loop-item.held c.item_pages-pages.result) (sym w.left-is) (record { sent = w.in_ok-left.ensures.sent; few = w.in_ok-left.ensures.few })
     ] in
-    subst (AreWorked c.args.held c.args.from c.args.to c.args.window.now c.args.items.now (c.loop-item.item-index + 1) c.if-pages-eq1.left.0) (sym c.plus-reply.ensures)
-    (one_worked c.args.held c.args.from c.args.to c.args.window.now c.args.items.now c.loop-item.item-index c.item-item.result c.loop-item-test.true c.loop-item.held c.if-pages-eq1.left.0
-    (counts_of c.loop-item.reply) (counts_of c.if-pages-eq1.left.1) c.loop-item.invariant (job_of_pages c.item_pages-pages.result) (c.item_pages-pages.ensures.job ∙ ap (job_of c.args.from c.args.to c.args.window.now) c.item-item.is)
+    subst (AreWorked c.args.held c.args.send.now.from c.args.send.now.to c.args.send.now.window c.args.send.now.items.now (c.loop-item.item-index + 1) c.if-pages-eq1.left.0) (sym c.plus-reply.ensures)
+    (one_worked c.args.held c.args.send.now.from c.args.send.now.to c.args.send.now.window c.args.send.now.items.now c.loop-item.item-index c.item-item.result c.loop-item-test.true c.loop-item.held c.if-pages-eq1.left.0
+    (counts_of c.loop-item.reply) (counts_of c.if-pages-eq1.left.1) c.loop-item.invariant (job_of_pages c.item_pages-pages.result) (c.item_pages-pages.ensures.job ∙ ap (job_of c.args.send.now.from c.args.send.now.to c.args.send.now.window) c.item-item.is)
     one.sent.left_is one.sent.grows one.sent.counted one.few)
 
-pub returns : goal.returns
-returns g c =
-    let all = all_worked c.args.held c.args.from c.args.to c.args.window.now c.args.items.now c.loop-item.item-index c.loop-item.held (counts_of c.loop-item.reply) c.loop-item-test.false c.loop-item.invariant in
+pub returns-clause-sent : goal.returns-clause-sent
+returns-clause-sent g c =
+    let all = all_worked c.args.held c.args.send.now.from c.args.send.now.to c.args.send.now.window c.args.send.now.items.now c.loop-item.item-index c.loop-item.held (counts_of c.loop-item.reply) c.loop-item-test.false c.loop-item.invariant in
     record { left_is = all.0; grows = all.2; counted = all.1 }

@@ -4,4 +4,4 @@ use Rattle.mapdb.proofs.ItemByItem.{AreWorked}
 use Rattle.mapdb.proofs.item.work_items.Given as goal
 
 abbrev pub invariant-loop-item : goal.invariant-loop-item
-invariant-loop-item g l = AreWorked l.fn.held l.from l.to l.window l.items l.item-index l.held (counts_of l.reply)
+invariant-loop-item g l = AreWorked l.fn.held l.send.from l.send.to l.send.window l.send.items.now l.item-index l.held (counts_of l.reply)

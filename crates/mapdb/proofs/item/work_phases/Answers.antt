@@ -31,19 +31,19 @@ strip-requires g c =
 pub map-requires-clause-planned : goal.map-requires-clause-planned
 map-requires-clause-planned g c =
     let f = is_flushed c.args.held c.args.pages.now c.requires.consistent c.requires.pages c.args.phases.now.transfers.now c.requires.transfers c.args.phases.now.targets.now c.requires.targets c.all.result c.all.ensures
-    (c.in_ok-held.held, c.in_ok-held.field-0-1) c.in_ok-held.ensures in
+    (c.in_ok-held.held, c.in_ok-held.field-0-1) c.in_ok-held.ensures.stripped in
     f.are_planned
 
 pub map-requires-clause-ready : goal.map-requires-clause-ready
 map-requires-clause-ready g c =
     let f = is_flushed c.args.held c.args.pages.now c.requires.consistent c.requires.pages c.args.phases.now.transfers.now c.requires.transfers c.args.phases.now.targets.now c.requires.targets c.all.result c.all.ensures
-    (c.in_ok-held.held, c.in_ok-held.field-0-1) c.in_ok-held.ensures in
+    (c.in_ok-held.held, c.in_ok-held.field-0-1) c.in_ok-held.ensures.stripped in
     f.are_ready
 
 pub strip-requires-in-Grant : goal.strip-requires-in-Grant
 strip-requires-in-Grant g c =
     let f = is_flushed c.args.held c.args.pages.now c.requires.consistent c.requires.pages c.args.phases.now.transfers.now c.requires.transfers c.args.phases.now.targets.now c.requires.targets c.all.result c.all.ensures
-    (c.in_ok-held.held, c.in_ok-held.field-0-1) c.in_ok-held.ensures in
+    (c.in_ok-held.held, c.in_ok-held.field-0-1) c.in_ok-held.ensures.stripped in
     record {
       within = all_within c.in_ok-held.held.limits c.args.phases.now.sources.now
           (λ p named. ends_within c.in_ok-held.held.limits Source c.args.phases.now.transfers.now f.are_planned.within p (sym (c.requires.sources c.in-Grant.is p) ∙ named));
@@ -52,36 +52,36 @@ strip-requires-in-Grant g c =
 pub rename-requires-clause-planned : goal.rename-requires-clause-planned
 rename-requires-clause-planned g c =
     let f = is_flushed c.args.held c.args.pages.now c.requires.consistent c.requires.pages c.args.phases.now.transfers.now c.requires.transfers c.args.phases.now.targets.now c.requires.targets c.all.result c.all.ensures
-    (c.in_ok-held.held, c.in_ok-held.field-0-1) c.in_ok-held.ensures in
-    subst (λ (d : Contents). ArePlanned d.limits c.args.phases.now.transfers.now) (sym c.in_ok-held-in-Grant.ensures.left) f.are_planned
+    (c.in_ok-held.held, c.in_ok-held.field-0-1) c.in_ok-held.ensures.stripped in
+    subst (λ (d : Contents). ArePlanned d.limits c.args.phases.now.transfers.now) (sym c.in_ok-held-in-Grant.ensures.stripped.left) f.are_planned
 
 pub rename-requires-clause-all_go : goal.rename-requires-clause-all_go
 rename-requires-clause-all_go g c =
     let f = is_flushed c.args.held c.args.pages.now c.requires.consistent c.requires.pages c.args.phases.now.transfers.now c.requires.transfers c.args.phases.now.targets.now c.requires.targets c.all.result c.all.ensures
-    (c.in_ok-held.held, c.in_ok-held.field-0-1) c.in_ok-held.ensures in
+    (c.in_ok-held.held, c.in_ok-held.field-0-1) c.in_ok-held.ensures.stripped in
     f.all_go c.in-Grant.is
 
 pub rename-requires-clause-free : goal.rename-requires-clause-free
 rename-requires-clause-free g c =
     let f = is_flushed c.args.held c.args.pages.now c.requires.consistent c.requires.pages c.args.phases.now.transfers.now c.requires.transfers c.args.phases.now.targets.now c.requires.targets c.all.result c.all.ensures
-    (c.in_ok-held.held, c.in_ok-held.field-0-1) c.in_ok-held.ensures in
+    (c.in_ok-held.held, c.in_ok-held.field-0-1) c.in_ok-held.ensures.stripped in
     still_free c.in_ok-held.held f.lawful_now c.args.pages.now.rights c.args.phases.now.transfers.now (f.all_go c.in-Grant.is) c.in_ok-held-in-Grant.held c.in_ok-held-in-Grant.field-0-1 c.args.phases.now.sources.now
-    (c.requires.sources c.in-Grant.is) c.without-withheld.result (c.without-withheld.ensures ∙ ap (λ r. without r c.args.pages.now.rights) c.all-in-Grant.ensures) c.in_ok-held-in-Grant.ensures f.are_ready
+    (c.requires.sources c.in-Grant.is) c.without-withheld.result (c.without-withheld.ensures ∙ ap (λ r. without r c.args.pages.now.rights) c.all-in-Grant.ensures) c.in_ok-held-in-Grant.ensures.stripped f.are_ready
 
 pub plus-requires : goal.plus-requires
 plus-requires g c =
     let f = is_flushed c.args.held c.args.pages.now c.requires.consistent c.requires.pages c.args.phases.now.transfers.now c.requires.transfers c.args.phases.now.targets.now c.requires.targets c.all.result c.all.ensures
-    (c.in_ok-held.held, c.in_ok-held.field-0-1) c.in_ok-held.ensures in
+    (c.in_ok-held.held, c.in_ok-held.field-0-1) c.in_ok-held.ensures.stripped in
     let phased : AreWorkedBy c.in_ok-held.held c.args.pages.now.kind c.args.pages.now.rights (the_transfers_of c.args.held c.args.pages.now) c.match-pages.held =
     elim c.match-pages.branch [
       | in-Map+in_ok-map-in-Map w ↦
           worked_as c.in_ok-held.held c.args.pages.now.kind Map c.args.pages.now.rights c.args.phases.now.transfers.now (the_transfers_of c.args.held c.args.pages.now) (w.in_ok-map-in-Map.held, w.in_ok-map-in-Map.worked) c.match-pages.held w.in-Map.is c.requires.transfers w.held-is
-          (mapped_after c.in_ok-held.held c.args.pages.now.rights c.args.phases.now.transfers.now (w.in_ok-map-in-Map.held, w.in_ok-map-in-Map.worked) w.in_ok-map-in-Map.ensures)
+          (mapped_after c.in_ok-held.held c.args.pages.now.rights c.args.phases.now.transfers.now (w.in_ok-map-in-Map.held, w.in_ok-map-in-Map.worked) w.in_ok-map-in-Map.ensures.mapped)
       | in-Grant+in_ok-held-in-Grant+in_ok-held-in-Grant-2 w ↦
           worked_as c.in_ok-held.held c.args.pages.now.kind Grant c.args.pages.now.rights c.args.phases.now.transfers.now (the_transfers_of c.args.held c.args.pages.now) (w.in_ok-held-in-Grant-2.held, w.in_ok-held-in-Grant-2.worked) c.match-pages.held w.in-Grant.is c.requires.transfers w.held-is
           (moved_after c.in_ok-held.held f.lawful_now c.args.pages.now.rights c.args.phases.now.transfers.now (f.all_go w.in-Grant.is) w.in_ok-held-in-Grant.held w.in_ok-held-in-Grant.field-0-1 c.args.phases.now.sources.now
-          (c.requires.sources w.in-Grant.is) w.without-withheld.result (w.without-withheld.ensures ∙ ap (λ r. without r c.args.pages.now.rights) w.all-in-Grant.ensures) w.in_ok-held-in-Grant.ensures f.are_ready
-          (w.in_ok-held-in-Grant-2.held, w.in_ok-held-in-Grant-2.worked) w.in_ok-held-in-Grant-2.ensures)
+          (c.requires.sources w.in-Grant.is) w.without-withheld.result (w.without-withheld.ensures ∙ ap (λ r. without r c.args.pages.now.rights) w.all-in-Grant.ensures) w.in_ok-held-in-Grant.ensures.stripped f.are_ready
+          (w.in_ok-held-in-Grant-2.held, w.in_ok-held-in-Grant-2.worked) w.in_ok-held-in-Grant-2.ensures.moved)
     ] in
     subst (λ (more : Counts). total (counts_of c.args.phases.now.decided) + total more < 2 ^ 128) (sym c.of_transfers-worked.ensures)
     (fits_then c.args.held c.args.pages.now c.requires.consistent c.requires.pages c.in_ok-held.held f.left c.match-pages.held phased (counts_of c.args.phases.now.decided) c.requires.decided)
@@ -90,19 +90,19 @@ module _ (g : Over) (c : After-plus g) where
   f : IsFlushed c.args.held c.args.pages.now c.args.phases.now.transfers.now c.in_ok-held.held
   f =
       is_flushed c.args.held c.args.pages.now c.requires.consistent c.requires.pages c.args.phases.now.transfers.now c.requires.transfers c.args.phases.now.targets.now c.requires.targets c.all.result c.all.ensures
-      (c.in_ok-held.held, c.in_ok-held.field-0-1) c.in_ok-held.ensures
+      (c.in_ok-held.held, c.in_ok-held.field-0-1) c.in_ok-held.ensures.stripped
 
   phased : AreWorkedBy c.in_ok-held.held c.args.pages.now.kind c.args.pages.now.rights (the_transfers_of c.args.held c.args.pages.now) c.match-pages.held
   phased =
       elim c.match-pages.branch [
         | in-Map+in_ok-map-in-Map w ↦
             worked_as c.in_ok-held.held c.args.pages.now.kind Map c.args.pages.now.rights c.args.phases.now.transfers.now (the_transfers_of c.args.held c.args.pages.now) (w.in_ok-map-in-Map.held, w.in_ok-map-in-Map.worked) c.match-pages.held w.in-Map.is c.requires.transfers w.held-is
-            (mapped_after c.in_ok-held.held c.args.pages.now.rights c.args.phases.now.transfers.now (w.in_ok-map-in-Map.held, w.in_ok-map-in-Map.worked) w.in_ok-map-in-Map.ensures)
+            (mapped_after c.in_ok-held.held c.args.pages.now.rights c.args.phases.now.transfers.now (w.in_ok-map-in-Map.held, w.in_ok-map-in-Map.worked) w.in_ok-map-in-Map.ensures.mapped)
         | in-Grant+in_ok-held-in-Grant+in_ok-held-in-Grant-2 w ↦
             worked_as c.in_ok-held.held c.args.pages.now.kind Grant c.args.pages.now.rights c.args.phases.now.transfers.now (the_transfers_of c.args.held c.args.pages.now) (w.in_ok-held-in-Grant-2.held, w.in_ok-held-in-Grant-2.worked) c.match-pages.held w.in-Grant.is c.requires.transfers w.held-is
             (moved_after c.in_ok-held.held f.lawful_now c.args.pages.now.rights c.args.phases.now.transfers.now (f.all_go w.in-Grant.is) w.in_ok-held-in-Grant.held w.in_ok-held-in-Grant.field-0-1 c.args.phases.now.sources.now
-            (c.requires.sources w.in-Grant.is) w.without-withheld.result (w.without-withheld.ensures ∙ ap (λ r. without r c.args.pages.now.rights) w.all-in-Grant.ensures) w.in_ok-held-in-Grant.ensures f.are_ready
-            (w.in_ok-held-in-Grant-2.held, w.in_ok-held-in-Grant-2.worked) w.in_ok-held-in-Grant-2.ensures)
+            (c.requires.sources w.in-Grant.is) w.without-withheld.result (w.without-withheld.ensures ∙ ap (λ r. without r c.args.pages.now.rights) w.all-in-Grant.ensures) w.in_ok-held-in-Grant.ensures.stripped f.are_ready
+            (w.in_ok-held-in-Grant-2.held, w.in_ok-held-in-Grant-2.worked) w.in_ok-held-in-Grant-2.ensures.moved)
       ]
 
   counted : counts_of c.plus.result ≡ add_counts (counts_of c.args.phases.now.decided) (phase.counts_of c.match-pages.held.1)

@@ -6,6 +6,6 @@ use Rattle.mapdb.proofs.unmap.unmap_words_watched.Given as goal
 
 abbrev pub invariant-loop-fpage : goal.invariant-loop-fpage
 invariant-loop-fpage g l = record {
-  worked : AreWorkedUpTo l.fn.held l.space l.flush l.fpages l.fpage-index l.held l.status.items;
-  now : l.held.holdings ≡ unmap_left l.space l.flush (take l.fpage-index l.fpages) l.fn.held.holdings;
+  worked : AreWorkedUpTo l.fn.held l.unmap.space l.unmap.control.flush l.unmap.fpages.now l.fpage-index l.held l.status.items;
+  now : l.held.holdings ≡ unmap_left l.unmap.space l.unmap.control.flush (take l.fpage-index l.unmap.fpages.now) l.fn.held.holdings;
 }

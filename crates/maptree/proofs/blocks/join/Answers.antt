@@ -1,28 +1,36 @@
--- Two blocks have the nodes of both.
-use Rattle.std.proofs.Common.{◌≡◌, ℕ, suc, ◌-◌, ◌<◌, ◌++◌, [], List, length, get_or, set, ap, ◌∙◌, sym, arith}
-use Rattle.std.specs.Prelude.{remove}
-use Rattle.std.proofs.lemmas.List.{get_or_default}
-use Rattle.std.proofs.lemmas.List.Edits.{get_or-remove_below}
+-- The first block has the nodes of both, and the second none.
+use Rattle.std.proofs.Common.{◌≡◌, ℕ, zero, suc, ◌-◌, ◌<◌, ◌++◌, [], ◌∷◌, List, length, get_or, set, ap, ◌∙◌, sym, rules, arith}
+use Rattle.std.proofs.lemmas.List.{append_assoc}
 use Rattle.mapnode.specs.declared.node.Node.{Node}
 use Rattle.maptree.specs.Blocks.{nodes_in}
-use Rattle.maptree.proofs.Parts.{joined_blocks}
 use Rattle.maptree.proofs.blocks.join.Goals as goal
 
--- what becomes of the blocks, as they are read
-joined_is : (bs now : List (List Node)) (k : ℕ) (front back next : List Node) → 0 < k → k < length bs → now ≡ remove bs k → front ≡ get_or now (k - 1) front → back ≡ get_or bs k back → next ≡ front ++ back
-    → nodes_in (set now (k - 1) next) ≡ nodes_in bs
-joined_is bs now k front back next some within is first second whole =
-    let one : suc (k - 1) ≡ k = omega (arith, some) in
-    let there : get_or (remove bs k) (k - 1) front ≡ get_or bs (k - 1) [] = get_or-remove_below bs k front (k - 1) (omega (arith, some)) within ∙ get_or_default bs (k - 1) front [] (omega (arith, within)) in
-    let front_is : front ≡ get_or bs (k - 1) [] = first ∙ ap (λ l. get_or l (k - 1) front) is ∙ there in
-    let back_is : back ≡ get_or bs k [] = second ∙ get_or_default bs k back [] within in
-    ap (λ l. nodes_in (set l (k - 1) next)) is
-    ∙ ap (λ l. nodes_in (set (remove bs k) (k - 1) l)) (whole ∙ ap (λ l. l ++ back) front_is ∙ ap (λ l. get_or bs (k - 1) [] ++ l) back_is)
-    ∙ ap (λ j. nodes_in (set (remove bs j) (k - 1) (get_or bs (k - 1) [] ++ get_or bs j []))) (sym one)
-    ∙ joined_blocks bs (k - 1) (omega (arith, some, within))
+-- the nodes of the first of some blocks moved to the last of those before them
+moved : (fronts backs : List (List Node)) (j : ℕ) (front back : List Node) → suc j ≡ length fronts → 0 < length backs → front ≡ get_or fronts j front → back ≡ get_or backs 0 back
+    → nodes_in (set fronts j (front ++ back) ++ set backs 0 []) ≡ nodes_in (fronts ++ backs)
+moved [] backs j front back last some first second = absurd (omega (arith, last))
+moved fronts [] j front back last some first second = absurd (omega (arith, some))
+moved (x ∷ []) (y ∷ backs) zero front back last some first second =
+    ap (λ l. (l ++ back) ++ nodes_in backs) first ∙ ap (λ l. (x ++ l) ++ nodes_in backs) second ∙ append_assoc x y (nodes_in backs)
+moved (x ∷ z ∷ fronts) backs zero front back last some first second = absurd (omega (arith, last))
+moved (x ∷ []) backs (suc j) front back last some first second = absurd (omega (arith, last))
+moved (x ∷ z ∷ fronts) backs (suc j) front back last some first second =
+    ap (λ l. x ++ l) (moved (z ∷ fronts) backs j front back (omega (arith, last)) some first second)
 
 pub returns-clause-nodes : goal.returns-clause-nodes
 returns-clause-nodes c =
-    let within : c.args.k < length c.args.blocks.now.items = c.requires.within in
-    joined_is c.args.blocks.now.items c.remove-back.new.self.items c.args.k c.index_mut-front.result.now c.remove-back.result c.extend.new.self c.requires.some within
-    c.remove-back.ensures.items c.index_mut-front.ensures.value c.remove-back.ensures.value (c.extend.ensures ∙ ap (λ l. c.index_mut-front.result.now ++ l) c.nodes.ensures)
+    let fronts = c.split_at_mut-fronts.result.0.now in
+    let backs = c.split_at_mut-fronts.result.1.now in
+    let j = c.args.k - 1 in
+    let front = c.index-fronts-k.result in
+    let back = c.index-backs-0.result in
+    let last : suc j ≡ length fronts = search (rules, arith, c.requires.some, c.split_at_mut-fronts.ensures.front_len) in
+    let some : 0 < length backs = search (rules, arith, c.requires.within, c.split_at_mut-fronts.ensures.back_len) in
+    let first : front ≡ get_or fronts j front = c.index-fronts-k.is in
+    let second : back ≡ get_or backs 0 back = c.index-backs-0.is in
+    let whole : fronts ++ backs ≡ c.args.blocks.now = search (rules, c.split_at_mut-fronts.ensures.value) in
+    let one = c.extend.ensures ∙ ap (λ l. l ++ c.nodes.result.now) (sym first) ∙ ap (λ l. front ++ l) (c.nodes.ensures ∙ sym second) in
+    ap (λ l. nodes_in (set fronts j l ++ set backs 0 c.clear.new.self)) one
+    ∙ ap (λ l. nodes_in (set fronts j (front ++ back) ++ set backs 0 l)) c.clear.ensures
+    ∙ moved fronts backs j front back last some first second
+    ∙ ap nodes_in whole

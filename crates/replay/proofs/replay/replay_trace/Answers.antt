@@ -1,6 +1,7 @@
 -- The database at the start is that of the trace's limits, which are served. Records add their replies, and then come the audit and
 -- the end line.
 use Rattle.std.proofs.Common.{◌≡◌, ◌+◌, ◌-◌, true, [], length, arith, sym, subst, ap, refl, ◌∙◌}
+use Rattle.crew.specs.declared.error.CrewError.TheVariants as crew
 use Rattle.model.specs.Calls.{Limits}
 use Rattle.model.specs.Records.{are_limits}
 use Rattle.mapdb.specs.State.{State, laid_out, left_with, new_state}
@@ -8,7 +9,7 @@ use Rattle.trace.specs.Unread.{Unread}
 use Rattle.replay.specs.Steps.{replies_of}
 use Rattle.replay.proofs.Runs.{trace_stops}
 use Rattle.replay.proofs.Streams.{err_of, err_from, closed}
-use Rattle.replay.proofs.Steps.{AreNext, so_far-start, so_far-more, so_far-same, so_far-stop, so_far-among, so_far-whole, none_left}
+use Rattle.replay.proofs.Steps.{AreNext, so_far-start, so_far-more, so_far-same, so_far-stop, so_far-among, so_far-whole, none_left, some_left}
 use Rattle.replay.proofs.replay.replay_trace.Goals as goal
 
 pub loop-alloc-init : goal.loop-alloc-init
@@ -68,8 +69,9 @@ returns-in-Err-clause-err g c =
     let contents = g.W.Sink.contents in
     let failed = g.W.Sink.failed in
     let before = c.loop-alloc.invariant in
+    let some = some_left c.loop-alloc.trace.records c.loop-alloc-test.ensures in
     trace_stops c.args.trace.now (contents c.args.writer.now) (contents c.stop_at.new.writer) (failed c.args.writer.now) (failed c.stop_at.new.writer) before.served c.stop_at.result
-    (so_far-stop before.so_far (contents c.stop_at.new.writer) (failed c.args.writer.now) (failed c.loop-alloc.writer) (failed c.stop_at.new.writer) c.stop_at.result before.works c.stop_at.ensures)
+    (so_far-stop before.so_far c.in-Err.why (λ _. some) (contents c.stop_at.new.writer) (failed c.args.writer.now) (failed c.loop-alloc.writer) (failed c.stop_at.new.writer) c.stop_at.result before.works c.stop_at.ensures)
 
 pub returns-clause-ok : goal.returns-clause-ok
 returns-clause-ok g c =
@@ -88,4 +90,4 @@ returns-clause-err g c =
     let count : c.loop-alloc.number - 1 + 1 ≡ c.loop-alloc.number = omega (arith, before.so_far.count) in
     err_from c.write_closing.result _ _ (rw count at c.write_closing.ensures.err)
     (λ e stop. trace_stops c.args.trace.now (contents c.args.writer.now) (contents c.write_closing.new.writer) (failed c.args.writer.now) (failed c.write_closing.new.writer) before.served e
-    (so_far-stop before.so_far (contents c.write_closing.new.writer) (failed c.args.writer.now) (failed c.loop-alloc.writer) (failed c.write_closing.new.writer) e before.works stop))
+    (so_far-stop before.so_far crew.NoMemory (λ no. absurd (cc no)) (contents c.write_closing.new.writer) (failed c.args.writer.now) (failed c.loop-alloc.writer) (failed c.write_closing.new.writer) e before.works stop))

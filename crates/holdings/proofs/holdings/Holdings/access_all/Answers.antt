@@ -31,21 +31,21 @@ invariant_of-result-2 g c =
     let d = c.self.inside in
     let within = subst (λ (s : Contents). All (λ (t : Place × Access). IsWithin s.limits t.0) c.args.accesses.now) (sym c.self.view_is) c.requires.within in
     accesses_sound d.shards d.trees.items c.self.invariant c.args.accesses.now within c.piece_length.result c.piece_length.ensures c.in_ok-pieces.pieces.items
-    (are_pieces c.in_ok-list.list.items _ c.piece_length.result c.in_ok-pieces.pieces.items c.in_ok-list.ensures c.in_ok-pieces.ensures) c.work_phase.new.shards c.in_ok-found.found c.in_ok-found.ensures
+    (are_pieces c.in_ok-list.list.items _ c.piece_length.result c.in_ok-pieces.pieces.items c.in_ok-list.ensures c.in_ok-pieces.ensures) c.work_phase.new.shards c.in_ok-found.found c.in_ok-found.ensures.worked
 
-pub returns : goal.returns
-returns g c =
+pub returns-clause-accessed : goal.returns-clause-accessed
+returns-clause-accessed g c =
     let d = c.self.inside in
     let within = subst (λ (s : Contents). All (λ (t : Place × Access). IsWithin s.limits t.0) c.args.accesses.now) (sym c.self.view_is) c.requires.within in
     let are = are_pieces c.in_ok-list.list.items _ c.piece_length.result c.in_ok-pieces.pieces.items c.in_ok-list.ensures c.in_ok-pieces.ensures in
     subst (λ (old : Contents). AreAccessed old c.args.accesses.now (contents_of c.work_phase.new.shards d.trees.items, c.in_ok-answers-2.answers)) c.self.view_is
     (record {
-      left = accesses_left d.shards d.trees.items c.self.invariant c.args.accesses.now within c.piece_length.result c.piece_length.ensures c.in_ok-pieces.pieces.items are c.work_phase.new.shards c.in_ok-found.found c.in_ok-found.ensures;
-      answers = c.in_ok-answers-2.ensures ∙ ap (with_faults (map (is_there c.work_phase.new.shards) c.args.accesses.now)) c.deref.ensures.value ∙ accesses_answered d.shards d.trees.items c.self.invariant c.args.accesses.now within c.piece_length.result c.piece_length.ensures c.in_ok-pieces.pieces.items are c.work_phase.new.shards c.in_ok-found.found c.in_ok-found.ensures;
+      left = accesses_left d.shards d.trees.items c.self.invariant c.args.accesses.now within c.piece_length.result c.piece_length.ensures c.in_ok-pieces.pieces.items are c.work_phase.new.shards c.in_ok-found.found c.in_ok-found.ensures.worked;
+      answers = c.in_ok-answers-2.ensures ∙ ap (with_faults (map (is_there c.work_phase.new.shards) c.args.accesses.now)) c.deref.ensures.value ∙ accesses_answered d.shards d.trees.items c.self.invariant c.args.accesses.now within c.piece_length.result c.piece_length.ensures c.in_ok-pieces.pieces.items are c.work_phase.new.shards c.in_ok-found.found c.in_ok-found.ensures.worked;
     })
 
-pub returns-then-is_empty : goal.returns-then-is_empty
-returns-then-is_empty g c =
+pub returns-then-is_empty-clause-accessed : goal.returns-then-is_empty-clause-accessed
+returns-then-is_empty-clause-accessed g c =
     let d = c.self.inside in
     let within = subst (λ (s : Contents). All (λ (t : Place × Access). IsWithin s.limits t.0) c.args.accesses.now) (sym c.self.view_is) c.requires.within in
     let are = are_pieces c.in_ok-list.list.items _ c.piece_length.result c.in_ok-pieces.pieces.items c.in_ok-list.ensures c.in_ok-pieces.ensures in

@@ -9,6 +9,8 @@ use Rattle.mapnode.specs.Slices.{nodes_of}
 use Rattle.maptree.specs.Origins.{Shape}
 use Rattle.mapnode.specs.declared.slice.Slice.{Slice}
 use Rattle.model.specs.Strip.{strip}
+use Rattle.std.specs.Prelude.{IsErrOf}
+use Rattle.crew.specs.declared.error.CrewError.TheVariants.{NoWorker}
 use Rattle.holdings.specs.Contents.{Contents, IsStripped}
 use Rattle.holdings.specs.Observing.{IsPhaseOf}
 use Rattle.holdings.specs.Places.{any_of}
@@ -25,8 +27,8 @@ use Rattle.holdings.proofs.holdings.Holdings.strip_in_pieces.Goals as goal
 planned : (s : Shards) (trees read : List Shape) (set : _) (a : Rights) (flush : _) (plan : StripPlan) → read ≡ trees → IsPlanned s read set a flush plan → IsPlanned s trees set a flush plan
 planned s trees read set a flush plan same is = subst (λ ts. IsPlanned s ts set a flush plan) same is
 
-pub returns-then-is_empty : goal.returns-then-is_empty
-returns-then-is_empty g c =
+pub returns-then-is_empty-clause-stripped : goal.returns-then-is_empty-clause-stripped
+returns-then-is_empty-clause-stripped g c =
     let d = c.self.inside in
     let is = planned d.shards d.trees.items c.deref.result.now (any_of c.args.places.now) c.args.revoked c.args.flush c.in_ok-plan.plan c.deref.ensures.value c.in_ok-plan.ensures in
     let empty = eqb-true c.in_ok-plan.plan.pieces.len 0 (sym c.is_empty.ensures ∙ c.if-is_empty.true) in
@@ -55,7 +57,7 @@ pub prune_gone-requires-clause-can : goal.prune_gone-requires-clause-can
 prune_gone-requires-clause-can g c =
     let d = c.self.inside in
     let is = planned d.shards d.trees.items c.deref.result.now (any_of c.args.places.now) c.args.revoked c.args.flush c.in_ok-plan.plan c.deref.ensures.value c.in_ok-plan.ensures in
-    let can = plan_can_prune d.shards d.trees.items c.self.invariant (any_of c.args.places.now) c.args.revoked c.args.flush c.in_ok-plan.plan is c.work_phase_by.new.shards c.in_ok-found.found c.in_ok-found.ensures in
+    let can = plan_can_prune d.shards d.trees.items c.self.invariant (any_of c.args.places.now) c.args.revoked c.args.flush c.in_ok-plan.plan is c.work_phase_by.new.shards c.in_ok-found.found c.in_ok-found.ensures.worked in
     subst (AllCanBePruned c.work_phase_by.new.shards c.deref_mut.result.now) (sym c.deref-2.ensures.value)
     (subst (λ (ts : List Shape). AllCanBePruned c.work_phase_by.new.shards ts c.in_ok-plan.plan.frames.items) (sym c.deref_mut.ensures.value) can)
 
@@ -69,7 +71,7 @@ prune_gone-requires-clause-kept g c =
     let d = c.self.inside in
     let is = planned d.shards d.trees.items c.deref.result.now (any_of c.args.places.now) c.args.revoked c.args.flush c.in_ok-plan.plan c.deref.ensures.value c.in_ok-plan.ensures in
     kept_of_read c.work_phase_by.new.shards d.trees.items c.deref_mut.result.now c.in_ok-plan.plan.frames.items c.deref-2.result.now c.in_ok-found.found.slices.items c.deref-3.result.now c.deref_mut.ensures.value c.deref-2.ensures.value c.deref-3.ensures.value
-    (plan_keeps d.shards d.trees.items c.self.invariant (any_of c.args.places.now) c.args.revoked c.args.flush c.in_ok-plan.plan is c.work_phase_by.new.shards c.in_ok-found.found c.in_ok-found.ensures)
+    (plan_keeps d.shards d.trees.items c.self.invariant (any_of c.args.places.now) c.args.revoked c.args.flush c.in_ok-plan.plan is c.work_phase_by.new.shards c.in_ok-found.found c.in_ok-found.ensures.worked)
 
 -- the trees were pruned
 pruned_to : (s : Shards) (trees read left : List Shape) (fs shown : List FrameRuns) → read ≡ trees → shown ≡ fs → ArePruned s shown read left → ArePruned s fs trees left
@@ -82,10 +84,10 @@ invariant_of-result-2 g c =
     let are = pruned_to c.work_phase_by.new.shards d.trees.items c.deref_mut.result.now c.prune_gone.new.trees c.in_ok-plan.plan.frames.items c.deref-2.result.now c.deref_mut.ensures.value c.deref-2.ensures.value c.in_ok-prune_gone.ensures in
     let count : length c.prune_gone.new.trees ≡ d.trees.len = omega (arith, are.count, d.trees.ok.0) in
     subst (AreSound c.work_phase_by.new.shards) (sym (with_items_is d.trees c.prune_gone.new.trees count))
-    (plan_left d.shards d.trees.items c.self.invariant (any_of c.args.places.now) c.args.revoked c.args.flush c.in_ok-plan.plan is c.work_phase_by.new.shards c.in_ok-found.found c.in_ok-found.ensures c.prune_gone.new.trees are).sound
+    (plan_left d.shards d.trees.items c.self.invariant (any_of c.args.places.now) c.args.revoked c.args.flush c.in_ok-plan.plan is c.work_phase_by.new.shards c.in_ok-found.found c.in_ok-found.ensures.worked c.prune_gone.new.trees are).sound
 
-pub returns : goal.returns
-returns g c =
+pub returns-clause-stripped : goal.returns-clause-stripped
+returns-clause-stripped g c =
     let d = c.self.inside in
     let set = any_of c.args.places.now in
     let is = planned d.shards d.trees.items c.deref.result.now set c.args.revoked c.args.flush c.in_ok-plan.plan c.deref.ensures.value c.in_ok-plan.ensures in
@@ -93,4 +95,9 @@ returns g c =
     let count : length c.prune_gone.new.trees ≡ d.trees.len = omega (arith, are.count, d.trees.ok.0) in
     subst (λ (old : Contents). IsStripped old set c.args.revoked c.args.flush (contents_of c.work_phase_by.new.shards (with_items d.trees c.prune_gone.new.trees).items, c.in_ok-found.found.status)) c.self.view_is
     (subst (λ ts. IsStripped (contents_of d.shards d.trees.items) set c.args.revoked c.args.flush (contents_of c.work_phase_by.new.shards ts, c.in_ok-found.found.status)) (sym (with_items_is d.trees c.prune_gone.new.trees count))
-    (plan_stripped d.shards d.trees.items c.self.invariant set c.args.revoked c.args.flush c.in_ok-plan.plan is c.work_phase_by.new.shards c.in_ok-found.found c.in_ok-found.ensures c.prune_gone.new.trees are))
+    (plan_stripped d.shards d.trees.items c.self.invariant set c.args.revoked c.args.flush c.in_ok-plan.plan is c.work_phase_by.new.shards c.in_ok-found.found c.in_ok-found.ensures.worked c.prune_gone.new.trees are))
+
+pub returns-in_err-found-clause-needs_no_worker : goal.returns-in_err-found-clause-needs_no_worker
+returns-in_err-found-clause-needs_no_worker g c never is =
+    let no : IsErrOf c.work_phase_by.result NoWorker = search (rules, is) in
+    c.work_phase_by.ensures.needs_no_worker (λ words r post. never words c.in_ok-plan.plan.pieces r post) no

@@ -10,4 +10,4 @@ returns-clause-grows g c =
     let limits = limits_of c.self.inside.limits in
     let seen : state_of limits (Some c.unwrap-held.result) ≡ c.args.self.now =
     ap (state_of limits) (sym c.unwrap-held.ensures ∙ c.take.ensures.value) ∙ c.self.view_is in
-    λ p i at. c.in_ok-held.ensures.grows p i (ap (λ (s : State). index_in s.layout p) seen ∙ at)
+    λ p i at. c.in_ok-held.ensures.sent.grows p i (ap (λ (s : State). index_in s.layout p) seen ∙ at)

@@ -20,12 +20,12 @@ module _ (c : goal.Joined-self) where
 
 pub returns-clause-recursion_status : goal.returns-clause-recursion_status
 returns-clause-recursion_status c =
-    c.in_ok-held.ensures.status ∙ (λ i. unmap_status c.args.space (c.is_flush-flush.ensures i) c.args.fpages.now (held c i))
+    c.in_ok-held.ensures.status ∙ ap (unmap_status c.args.space c.args.control.flush c.args.fpages.now) (held c)
     ∙ sym (plain_status_is c.args.space c.args.control.flush c.args.fpages.now c.args.self.now.holdings (lawful_parts c.args.self.now.holdings (c.limits.ensures.lawful (running c))))
 
 pub returns-clause-recursion_left : goal.returns-clause-recursion_left
 returns-clause-recursion_left c =
-    let left = ap (λ (k : Contents). k.holdings) c.in_ok-held.ensures.left ∙ (λ i. unmap_left c.args.space (c.is_flush-flush.ensures i) c.args.fpages.now (held c i))
+    let left = ap (λ (k : Contents). k.holdings) c.in_ok-held.ensures.left ∙ ap (unmap_left c.args.space c.args.control.flush c.args.fpages.now) (held c)
     ∙ sym (plain_left_is c.args.space c.args.control.flush c.args.fpages.now c.args.self.now.holdings (lawful_parts c.args.self.now.holdings (c.limits.ensures.lawful (running c)))) in
     let layout = ap (λ (k : Contents). k.layout) c.in_ok-held.ensures.left ∙ ap (λ (s : State). s.layout) (seen c) in
     λ i. record { limits = ap (λ (s : State). s.limits) (seen c) i; holdings = left i; layout = layout i; is_halted = sym (running c) i }

@@ -14,9 +14,9 @@ pub split-requires-clause-at : goal.split-requires-clause-at
 split-requires-clause-at c =
     let items = c.self.inside.blocks.items in
     let bs = c.args.self.now.blocks in
-    let seat = c.seat-seat.result in
+    let seat = c.seat_for_one-seat.result in
     let block = c.index.result.now in
-    let within = c.seat-seat.ensures.seat.within in
+    let within = c.seat_for_one-seat.ensures.within in
     let same : items ≡ bs = ap (λ v. v.blocks) c.self.view_is in
     let read = ap length (as_read bs seat.block block within (read_of items bs seat.block block same c.index.ensures)) in
     search (rules, arith, read)
@@ -25,9 +25,9 @@ pub returns-then-len-lt-BLOCK_SIZE-clause-few : goal.returns-then-len-lt-BLOCK_S
 returns-then-len-lt-BLOCK_SIZE-clause-few c =
     let items = c.self.inside.blocks.items in
     let bs = c.args.self.now.blocks in
-    let seat = c.seat-seat.result in
+    let seat = c.seat_for_one-seat.result in
     let block = c.index.result.now in
-    let within = c.seat-seat.ensures.seat.within in
+    let within = c.seat_for_one-seat.ensures.within in
     let same : items ≡ bs = ap (λ v. v.blocks) c.self.view_is in
     let read = ap length (as_read bs seat.block block within (read_of items bs seat.block block same c.index.ensures)) in
     let there = ap (λ l. length (get_or l seat.block [])) same in
@@ -35,35 +35,35 @@ returns-then-len-lt-BLOCK_SIZE-clause-few c =
 
 pub returns-then-seat-front-clause-nodes : goal.returns-then-seat-front-clause-nodes
 returns-then-seat-front-clause-nodes c =
-    ap nodes_in c.split.ensures.blocks ∙ split_nodes c.args.self.now.blocks c.seat-seat.result.block c.front_of_split-front.result c.seat-seat.ensures.seat.within
+    ap nodes_in c.split.ensures.blocks ∙ split_nodes c.args.self.now.blocks c.seat_for_one-seat.result.block c.front_of_split-front.result c.seat_for_one-seat.ensures.within
 
 pub returns-then-seat-front-clause-seat : goal.returns-then-seat-front-clause-seat
 returns-then-seat-front-clause-seat c =
-    subst (λ bs. IsSeat bs c.args.i c.seat-seat.result) (sym c.split.ensures.blocks)
-    (first_half c.args.self.now.blocks c.seat-seat.result.block c.front_of_split-front.result c.args.i c.seat-seat.result.offset c.front_of_split-front.ensures.some c.front_of_split-front.ensures.less c.seat-seat.ensures.seat (full c.args.self.now.blocks c.self.inside.blocks.items c.seat-seat.result.block c.index.result.now c.len.result (ap (λ v. v.blocks) c.self.view_is) c.seat-seat.ensures.seat.within c.index.ensures c.len.ensures.len c.len.ensures.most c.if-len-lt-BLOCK_SIZE.false) c.if-seat-front.true).0
+    subst (λ bs. IsSeat bs c.args.i c.seat_for_one-seat.result) (sym c.split.ensures.blocks)
+    (first_half c.args.self.now.blocks c.seat_for_one-seat.result.block c.front_of_split-front.result c.args.i c.seat_for_one-seat.result.offset c.front_of_split-front.ensures.some c.front_of_split-front.ensures.less c.seat_for_one-seat.ensures (full c.args.self.now.blocks c.self.inside.blocks.items c.seat_for_one-seat.result.block c.index.result.now c.len.result (ap (λ v. v.blocks) c.self.view_is) c.seat_for_one-seat.ensures.within c.index.ensures c.len.ensures.len c.len.ensures.most c.if-len-lt-BLOCK_SIZE.false) c.if-seat-front.true).0
 
 pub returns-then-seat-front-clause-few : goal.returns-then-seat-front-clause-few
 returns-then-seat-front-clause-few c =
-    subst (λ bs. length (get_or bs c.seat-seat.result.block []) < 128) (sym c.split.ensures.blocks)
-    (first_half c.args.self.now.blocks c.seat-seat.result.block c.front_of_split-front.result c.args.i c.seat-seat.result.offset c.front_of_split-front.ensures.some c.front_of_split-front.ensures.less c.seat-seat.ensures.seat (full c.args.self.now.blocks c.self.inside.blocks.items c.seat-seat.result.block c.index.result.now c.len.result (ap (λ v. v.blocks) c.self.view_is) c.seat-seat.ensures.seat.within c.index.ensures c.len.ensures.len c.len.ensures.most c.if-len-lt-BLOCK_SIZE.false) c.if-seat-front.true).1
+    subst (λ bs. length (get_or bs c.seat_for_one-seat.result.block []) < 128) (sym c.split.ensures.blocks)
+    (first_half c.args.self.now.blocks c.seat_for_one-seat.result.block c.front_of_split-front.result c.args.i c.seat_for_one-seat.result.offset c.front_of_split-front.ensures.some c.front_of_split-front.ensures.less c.seat_for_one-seat.ensures (full c.args.self.now.blocks c.self.inside.blocks.items c.seat_for_one-seat.result.block c.index.result.now c.len.result (ap (λ v. v.blocks) c.self.view_is) c.seat_for_one-seat.ensures.within c.index.ensures c.len.ensures.len c.len.ensures.most c.if-len-lt-BLOCK_SIZE.false) c.if-seat-front.true).1
 
 pub returns-clause-nodes : goal.returns-clause-nodes
 returns-clause-nodes c =
-    ap nodes_in c.split.ensures.blocks ∙ split_nodes c.args.self.now.blocks c.seat-seat.result.block c.front_of_split-front.result c.seat-seat.ensures.seat.within
+    ap nodes_in c.split.ensures.blocks ∙ split_nodes c.args.self.now.blocks c.seat_for_one-seat.result.block c.front_of_split-front.result c.seat_for_one-seat.ensures.within
 
 pub returns-clause-seat : goal.returns-clause-seat
 returns-clause-seat c =
-    subst (λ bs. IsSeat bs c.args.i (record { block = c.seat-seat.result.block + 1; offset = c.seat-seat.result.offset - c.front_of_split-front.result })) (sym c.split.ensures.blocks)
-    (second_half c.args.self.now.blocks c.seat-seat.result.block c.front_of_split-front.result c.args.i c.seat-seat.result.offset c.front_of_split-front.ensures.some c.front_of_split-front.ensures.less c.seat-seat.ensures.seat (full c.args.self.now.blocks c.self.inside.blocks.items c.seat-seat.result.block c.index.result.now c.len.result (ap (λ v. v.blocks) c.self.view_is) c.seat-seat.ensures.seat.within c.index.ensures c.len.ensures.len c.len.ensures.most c.if-len-lt-BLOCK_SIZE.false) c.if-seat-front.false).0
+    subst (λ bs. IsSeat bs c.args.i (record { block = c.seat_for_one-seat.result.block + 1; offset = c.seat_for_one-seat.result.offset - c.front_of_split-front.result })) (sym c.split.ensures.blocks)
+    (second_half c.args.self.now.blocks c.seat_for_one-seat.result.block c.front_of_split-front.result c.args.i c.seat_for_one-seat.result.offset c.front_of_split-front.ensures.some c.front_of_split-front.ensures.less c.seat_for_one-seat.ensures (full c.args.self.now.blocks c.self.inside.blocks.items c.seat_for_one-seat.result.block c.index.result.now c.len.result (ap (λ v. v.blocks) c.self.view_is) c.seat_for_one-seat.ensures.within c.index.ensures c.len.ensures.len c.len.ensures.most c.if-len-lt-BLOCK_SIZE.false) c.if-seat-front.false).0
 
 pub returns-clause-few : goal.returns-clause-few
 returns-clause-few c =
-    subst (λ bs. length (get_or bs (c.seat-seat.result.block + 1) []) < 128) (sym c.split.ensures.blocks)
-    (second_half c.args.self.now.blocks c.seat-seat.result.block c.front_of_split-front.result c.args.i c.seat-seat.result.offset c.front_of_split-front.ensures.some c.front_of_split-front.ensures.less c.seat-seat.ensures.seat (full c.args.self.now.blocks c.self.inside.blocks.items c.seat-seat.result.block c.index.result.now c.len.result (ap (λ v. v.blocks) c.self.view_is) c.seat-seat.ensures.seat.within c.index.ensures c.len.ensures.len c.len.ensures.most c.if-len-lt-BLOCK_SIZE.false) c.if-seat-front.false).1
+    subst (λ bs. length (get_or bs (c.seat_for_one-seat.result.block + 1) []) < 128) (sym c.split.ensures.blocks)
+    (second_half c.args.self.now.blocks c.seat_for_one-seat.result.block c.front_of_split-front.result c.args.i c.seat_for_one-seat.result.offset c.front_of_split-front.ensures.some c.front_of_split-front.ensures.less c.seat_for_one-seat.ensures (full c.args.self.now.blocks c.self.inside.blocks.items c.seat_for_one-seat.result.block c.index.result.now c.len.result (ap (λ v. v.blocks) c.self.view_is) c.seat_for_one-seat.ensures.within c.index.ensures c.len.ensures.len c.len.ensures.most c.if-len-lt-BLOCK_SIZE.false) c.if-seat-front.false).1
 
 pub returns-then-seat-front-clause-fits : goal.returns-then-seat-front-clause-fits
 returns-then-seat-front-clause-fits c =
-    let same = ap length (ap nodes_in c.split.ensures.blocks ∙ split_nodes c.args.self.now.blocks c.seat-seat.result.block c.front_of_split-front.result c.seat-seat.ensures.seat.within) in
+    let same = ap length (ap nodes_in c.split.ensures.blocks ∙ split_nodes c.args.self.now.blocks c.seat_for_one-seat.result.block c.front_of_split-front.result c.seat_for_one-seat.ensures.within) in
     let size = ap (λ v. length (nodes_in v.blocks)) c.self.view_is in
     let room = ap (λ v. v.room) c.self.view_is in
     let inv = c.self.invariant in
@@ -71,7 +71,7 @@ returns-then-seat-front-clause-fits c =
 
 pub returns-clause-fits : goal.returns-clause-fits
 returns-clause-fits c =
-    let same = ap length (ap nodes_in c.split.ensures.blocks ∙ split_nodes c.args.self.now.blocks c.seat-seat.result.block c.front_of_split-front.result c.seat-seat.ensures.seat.within) in
+    let same = ap length (ap nodes_in c.split.ensures.blocks ∙ split_nodes c.args.self.now.blocks c.seat_for_one-seat.result.block c.front_of_split-front.result c.seat_for_one-seat.ensures.within) in
     let size = ap (λ v. length (nodes_in v.blocks)) c.self.view_is in
     let room = ap (λ v. v.room) c.self.view_is in
     let inv = c.self.invariant in

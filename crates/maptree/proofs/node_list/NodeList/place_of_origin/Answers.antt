@@ -1,5 +1,5 @@
 -- The origin stands before the node, and is read there.
-use Rattle.std.proofs.Common.{◌≡◌, ◌<◌, length, take, get_or, Some, option_map, ap, sym, ◌∙◌, arith}
+use Rattle.std.proofs.Common.{◌<◌, length, take, get_or, Some, option_map, ap, sym, ◌∙◌, arith}
 use Rattle.std.proofs.lemmas.List.{get_or_default, length-take}
 use Rattle.std.proofs.Math.Nat.{min-le_right}
 use Rattle.mapnode.proofs.Lists.{blank}

@@ -1,0 +1,91 @@
+//! How far a strip of pages reaches, and so who works it.
+
+use crate::holdings::Holdings;
+use crate::phase::{is_small, is_worked_alone};
+use crew::Workers;
+use maptree::Tree;
+use space::Place;
+
+/// What a strip passes over.
+#[derive(Clone, Copy)]
+struct Extent {
+    /// How many mappings derive from the pages, with their own.
+    mappings: usize,
+    /// How many pieces have them.
+    pieces: usize,
+}
+
+impl Holdings {
+    ghost use Rattle.std.specs.Prelude.{◌≤◌};
+    ghost use Rattle.std.specs.List.{All};
+    ghost use Rattle.holdings.specs.Places.{IsWithin};
+
+    /// Whether each of these pages has a greater frame than the one before it, so that none derives from another.
+    pub(crate) fn are_apart(&self, places: &[Place]) -> bool
+        requires { All (IsWithin self.now.limits) places.now }
+    {
+        let mut last = None;
+        for place in places {
+            let Some(entry) = self.shards.get(*place) else {
+                continue;
+            };
+            if last >= Some(entry.frame) {
+                return false;
+            }
+            last = Some(entry.frame);
+        }
+        true
+    }
+
+    /// Whether the calling thread strips these pages alone, of which none derives from another.
+    pub(crate) fn are_stripped_alone<W: Workers>(&self, places: &[Place], workers: &W) -> bool
+        requires { All (IsWithin self.now.limits) places.now }
+    {
+        if is_small(self.most_mappings(places), workers) {
+            return true;
+        }
+        let extent = self.extent(places, workers.piece_length());
+        is_worked_alone(extent.mappings, extent.pieces, workers)
+    }
+
+    /// How many mappings the trees of these pages have, each counted for each page.
+    fn most_mappings(&self, places: &[Place]) -> usize
+        requires { All (IsWithin self.now.limits) places.now }
+    {
+        let mut most: usize = 0;
+        for place in places {
+            if let Some(entry) = self.shards.get(*place) {
+                most = most.saturating_add(self.trees[entry.frame as usize].len());
+            }
+        }
+        most
+    }
+
+    /// What a strip of these pages passes over, in pieces of at most so many mappings.
+    fn extent(&self, places: &[Place], length: usize) -> Extent
+        requires within { All (IsWithin self.now.limits) places.now }
+        requires some { 1 ≤ length }
+    {
+        let mut extent = Extent {
+            mappings: 0,
+            pieces: 0,
+        };
+        for place in places {
+            if let Some(entry) = self.shards.get(*place) {
+                let more = run_len(&self.trees[entry.frame as usize], *place);
+                extent.mappings = extent.mappings.saturating_add(more);
+                extent.pieces = extent.pieces.saturating_add(more.div_ceil(length));
+            }
+        }
+        extent
+    }
+}
+
+/// How many places of a tree derive from a place, with itself.
+fn run_len(tree: &Tree, place: Place) -> usize {
+    let Some(i) = tree.find(place) else {
+        return 0;
+    };
+    let run = tree.run_of(i);
+    run.end.saturating_sub(run.start)
+}
