@@ -8,8 +8,9 @@ It believes to know 256 places that are held, each with its rights and the place
 that it makes; some few beliefs are wrong. By these it picks records that tell something: a page that was linked last, a
 place that has two origins, a right that an unmap has just taken. Some records stand in episodes of a few: a chain that
 grows and is cut, pages that are sent back to where they came from, mappings in a space's own pages. Space 0 keeps its
-roots. The last 80 records ask for status, so that the audit shows where it went. Every walk has at most 256 steps. The
-same arguments give the same bytes; the generator is that of `l4trace random`.
+roots. The last 80 records ask for status, so that the audit shows where it went. Every walk has at most 256 steps.
+
+It is `l4trace random` once more, in plain Python: with the same arguments both make the same bytes.
 """
 
 import argparse
@@ -73,6 +74,8 @@ class Beliefs:
     def __init__(self, dice, frames):
         self.dice = dice
         self.slots = [Slot(0, page, ALL, NONE) for page in range(frames)] + [NONE] * (SLOTS - frames)
+        # How many pairs went to an origin of their source.
+        self.origins = 0
 
     def scan(self, wanted):
         """The first slot from a random one on that is as wanted, or none."""
@@ -141,7 +144,10 @@ class Beliefs:
         """A page of a slot is mapped or granted to a place: the slot of the place where it is now held."""
         sent, target = self.slots[source], self.find(space, page)
         given = sent.rights & rights
-        if not given or target is not NONE and self.is_under(source, target):
+        if not given:
+            return NONE
+        if target is not NONE and self.is_under(source, target):
+            self.origins += 1
             return NONE
         if target is not NONE and self.slots[target].parent == source and not grants:
             self.slots[target].rights |= given
@@ -191,6 +197,8 @@ class Traces:
         self.spoilt = self.dice.below(len(SPOILT))
         self.to_come = plan.records
         self.wide = False
+        # How many sends were made by which a pair is lost.
+        self.lost = 0
 
     # Words
 
@@ -342,6 +350,8 @@ class Traces:
         """The place that a slot is sent to."""
         near = ("fresh", 46), ("bounce", 15), ("ancestor", 14), ("seen", 7)
         how = self.dice.pick(*near, ("held", 7), ("sibling", 4), ("descendant", 7))
+        if self.lacks(self.beliefs.origins):
+            how = "ancestor"
         known = self.known(slot)
         if how == "bounce" and known.parent is not NONE:
             parent = self.known(known.parent)
@@ -356,7 +366,7 @@ class Traces:
         return self.fresh(known.space)
 
     def send(self):
-        how = self.dice.pick(("extend", 14), ("grant", 11), ("replace", 6), ("any", 69))
+        how = self.dice.pick(("extend", 18), ("grant", 11), ("replace", 6), ("any", 65))
         if how == "extend":
             return self.send_extending()
         if how == "grant":
@@ -375,6 +385,10 @@ class Traces:
             sent = 0
         items = self.dice.pick((1, 52), (2, 20), (3, 14), (5, 11), (31, 3))
         return self.send_items(slot, sent, space, page, window, items)
+
+    def lacks(self, count):
+        """Whether something came less often than in one of 36 records."""
+        return count * 36 < self.plan.records - self.to_come
 
     def sizes(self):
         """The sizes of a send fpage and of a window."""
@@ -692,7 +706,9 @@ class Traces:
     # Episodes
 
     def begin_episode(self, is_last):
-        self.episode = self.dice.pick(("chain", 17), ("knot", 40), ("nested", 19), ("fold", 24))
+        self.episode = self.dice.pick(("chain", 17), ("knot", 34), ("nested", 25), ("fold", 24))
+        if self.lacks(self.lost):
+            self.episode = "knot"
         if is_last:
             self.episode = "chain"
         if self.episode == "chain":
@@ -827,6 +843,7 @@ class Traces:
                 return self.send_page(self.knot, *front, self.right_of(ALL) | self.right_of(ALL), False)
             return self.send_something(*front)
         self.left = 0
+        self.lost += 1
         knot, grants = self.knot, self.dice.chance(15)
         words = [self.fpage(origin.page, 2, ALL), *self.item(knot, 2, *self.place(self.parent(knot)), 2, ALL, grants)]
         if self.dice.chance(45):

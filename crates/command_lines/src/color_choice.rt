@@ -3,7 +3,7 @@
 /// When lines are coloured.
 #[derive(Clone, Copy, Debug, PartialEq, Eq)]
 pub enum ColorChoice {
-    /// Where standard output is a terminal.
+    /// Where standard output is a terminal, unless `NO_COLOR` is set or `TERM` is `dumb`.
     Auto,
     Always,
     Never,

@@ -40,7 +40,7 @@ pub const COLOR: Argument = Argument {
     name: "color",
     value: Some("WHEN"),
     default: Some("auto"),
-    help: "When lines are coloured: auto (on a terminal), always or never",
+    help: "When lines are coloured: auto (on a terminal, if NO_COLOR is not set), always or never",
     ..OPTION
 };
 

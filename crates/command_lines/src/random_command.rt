@@ -14,12 +14,19 @@ use std::alloc::Global;
 const ABOUT: &str =
     "Writes a trace made at random, to test a kernel with: the same bytes for the same arguments.";
 
-const EXAMPLE: &str =
-    "Shapes: chain, from each space to the next; tree, to any with a higher number; pagers, from space 0 to pagers and from these to clients; conflicts, many items to few pages; fpages, fpages and windows of any size.
+const EXAMPLE: &str = "Shapes, and what their records reach:
 
-Example: a thousand records, of which some fifty are refused.
+  rules      every rule, within a thousand records: each outcome of a pair 20 times, chains of depth 8, partial unmaps at
+             every depth, grants that withhold, windows of every relation of sizes, and each form of a refused record
+  chain      long chains: sends from each space to the next
+  tree       wide trees: sends from each space to any with a higher number
+  pagers     many grants: sends from space 0 to pagers, and from these to clients
+  conflicts  replaced mappings: many items to few pages
+  fpages     fpages and windows of any size
 
-  l4trace random --seed 7 --records 1000 --shape pagers --refused 5 > trace.csv
+Example: a thousand records that reach every rule, and l4map's answers to them.
+
+  l4trace random --seed 7 --records 1000 > trace.csv
   ./run.sh trace.csv > answers.txt";
 
 static RANDOM: Subcommand = Subcommand {
@@ -50,7 +57,7 @@ static RANDOM: Subcommand = Subcommand {
                 most: u32::MAX,
             },
             value: Some("N"),
-            default: Some("4"),
+            default: Some("16"),
             help: "How many spaces there are, 2 to 512",
             ..OPTION
         },
@@ -83,15 +90,15 @@ static RANDOM: Subcommand = Subcommand {
                 most: u32::MAX,
             },
             value: Some("N"),
-            default: Some("5"),
+            default: Some("8"),
             help: "How many of 100 records are refused, in the long run",
             ..OPTION
         },
         Argument {
             name: "shape",
             value: Some("SHAPE"),
-            default: Some("tree"),
-            help: "chain, tree, pagers, conflicts or fpages",
+            default: Some("rules"),
+            help: "rules, chain, tree, pagers, conflicts or fpages",
             ..OPTION
         },
         Argument {
@@ -120,13 +127,13 @@ pub fn random_task(alloc: Global, asked: &ArgMatches) -> Result<Task, TaskError>
         return Err(refused_value(
             alloc,
             name,
-            "a shape: chain, tree, pagers, conflicts or fpages",
+            "a shape: rules, chain, tree, pagers, conflicts or fpages",
         ));
     };
-    let spaces = asked.get_one::<u32>("spaces").unwrap_or(4);
+    let spaces = asked.get_one::<u32>("spaces").unwrap_or(16);
     let bits = asked.get_one::<u32>("bits").unwrap_or(18);
     let frames = asked.get_one::<u32>("frames").unwrap_or(16);
-    let percent = asked.get_one::<u32>("refused").unwrap_or(5);
+    let percent = asked.get_one::<u32>("refused").unwrap_or(8);
     if spaces < 2 || spaces > 512 {
         return Err(refused(alloc, "there are 2 to 512 spaces"));
     }

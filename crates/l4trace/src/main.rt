@@ -230,7 +230,7 @@ fn print_explained(
     print(rt, text.as_str())
 }
 
-/// Does a task, with standard output on a terminal or elsewhere, and returns whether something was found.
+/// Does a task, with standard output on a terminal that is coloured or elsewhere, and returns whether something was found.
 fn perform(
     rt: &(impl AllocGlobal + Input + Print + Files + Threads + Sync),
     task: &Task,
@@ -266,8 +266,21 @@ fn perform(
     Ok(false)
 }
 
+/// Whether a terminal is to be coloured: `NO_COLOR` is not set, or empty, and `TERM` is not `dumb`.
+fn takes_color(rt: &(impl AllocGlobal + Env)) -> bool {
+    if let Ok(text) = env::var(rt, "NO_COLOR") {
+        if !text.is_empty() {
+            return false;
+        }
+    }
+    match env::var(rt, "TERM") {
+        Ok(name) => name.as_str() != "dumb",
+        Err(_) => true,
+    }
+}
+
 fn main(rt: HostRuntime) -> ExitCode {
-    let is_terminal = rt.stdout().is_terminal();
+    let is_terminal = rt.stdout().is_terminal() && takes_color(&rt);
     let outcome = match read_command_line(&rt) {
         Ok(task) => perform(&rt, &task, is_terminal),
         Err(TaskError::NoMemory) => Err(ToolError::NoMemory),

@@ -2,18 +2,20 @@
 
 use trace::Version;
 
-/// How the sends of a trace go from space to space.
+/// What a trace is like.
 #[derive(Clone, Copy, Debug, PartialEq, Eq)]
 pub enum Shape {
-    /// From each space to the next.
+    /// Records that are picked by what is believed to be held, so that every rule is reached.
+    Rules,
+    /// Sends go from each space to the next.
     Chain,
-    /// From each space to any with a higher number.
+    /// Sends go from each space to any with a higher number.
     Tree,
-    /// From space 0 to pagers, and from these to their clients, by maps and grants.
+    /// Sends go from space 0 to pagers, and from these to their clients, by maps and grants.
     Pagers,
-    /// Between any spaces, to few pages, by many items at once.
+    /// Sends go between any spaces, to few pages, by many items at once.
     Conflicts,
-    /// Fpages of any size, to windows of any size.
+    /// Fpages have any size, and so have windows.
     Fpages,
 }
 
@@ -21,6 +23,7 @@ impl Shape {
     /// The shape that a text names.
     pub fn of_name(name: &str) -> Option<Self> {
         match name {
+            "rules" => Some(Shape::Rules),
             "chain" => Some(Shape::Chain),
             "tree" => Some(Shape::Tree),
             "pagers" => Some(Shape::Pagers),
