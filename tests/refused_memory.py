@@ -45,6 +45,9 @@ LARGE = [
     "windows/complete-space-granted-and-mapped-on",
 ]
 
+# That of them in which a phase fills so many pieces that several workers share it.
+SHARED = "unmaps/complete-space-twice"
+
 # How many pages the largest traces map, which have no file.
 PAGES = 512
 
@@ -56,7 +59,7 @@ RUNS = [
     *((trace, [], False) for trace in SMALL),
     *((trace, options, False) for trace in SMALL for options in WORKERS),
     *((trace, ["--plain"], False) for trace in SMALL),
-    *((trace, options, False) for trace in LARGE for options in WORKERS),
+    *((trace, options, trace == SHARED and options != WORKERS[0]) for trace in LARGE for options in WORKERS),
 ]
 
 

@@ -50,7 +50,6 @@ TESTS = {
     "database_tests": [
         "databases::holds_each_frame_once_at_the_start",
         "databases::maps_a_page_on",
-        "databases::accesses::marks_the_same_with_a_crew",
         "databases::unmaps::revokes_what_derives",
         "databases::unmaps::revokes_by_recursion",
         "databases::clears::takes_all_pages_from_a_space",
@@ -73,8 +72,10 @@ TESTS_WITH_THREADS = {
 
 # What a test ends with that was refused memory, by a call, or for a list of its own; or a thread.
 REFUSED = {
-    "allocation": [b"error: NoMemory\n", b"error: AllocError\n", b"error: AllocFailed { .. }\n", b"error: NoWorker\n"],
-    "thread": [b"error: NoWorker\n"],
+    "allocation": [
+        b"error: NoMemory\n", b"error: AllocError\n", b"error: AllocFailed { .. }\n", b"error: NoWorker\n", b"error: NoMemory(", b"error: NoWorker(",
+    ],
+    "thread": [b"error: NoWorker\n", b"error: NoWorker("],
 }
 
 
