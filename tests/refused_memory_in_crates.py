@@ -5,12 +5,12 @@ thread, too.
     tests/refused_memory_in_crates.py [CRATE..]
 
 The tests that `rt ci`, or `rt test` in the crate, builds are run one by one. Each must end as the undisturbed one, or
-with the error `NoMemory` or `AllocError`, or `AllocFailed` where a list of its own was refused, or `NoWorker` where its
-call starts threads. Where a call is refused, the tests themselves look at what it left, and end otherwise if that is
-not what its contract says: a tree that `reserve`, `outer_runs` or `cut` changed, results that `gather` does not hand
-back, a database that is not halted, or that answers a later call otherwise than by `Halted`; or at what no contract
-says: reply lines that are not flushed. Allocations and starts of threads are refused by the preloaded library of
-support/fail_alloc.c.
+with the error `NoMemory` or `AllocError`, or `AllocFailed` or `WriteFailed` where a list of its own was refused, or
+`NoWorker` where its call starts threads. Where a call is refused, the tests themselves look at what it left, and end
+otherwise if that is not what its contract says: a tree that `reserve`, `outer_runs` or `cut` changed, results that
+`gather` does not hand back, a database that is not halted, or that answers a later call otherwise than by `Halted`; or
+at what no contract says: reply lines that are not flushed. Allocations and starts of threads are refused by the
+preloaded library of support/fail_alloc.c.
 """
 
 import os
@@ -73,7 +73,8 @@ TESTS_WITH_THREADS = {
 # What a test ends with that was refused memory, by a call, or for a list of its own; or a thread.
 REFUSED = {
     "allocation": [
-        b"error: NoMemory\n", b"error: AllocError\n", b"error: AllocFailed { .. }\n", b"error: NoWorker\n", b"error: NoMemory(", b"error: NoWorker(",
+        b"error: NoMemory\n", b"error: AllocError\n", b"error: AllocFailed { .. }\n", b"error: NoWorker\n",
+        b"error: NoMemory(", b"error: NoWorker(", b"error: WriteFailed\n",
     ],
     "thread": [b"error: NoWorker\n", b"error: NoWorker("],
 }
