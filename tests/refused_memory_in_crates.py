@@ -52,6 +52,7 @@ TESTS = {
         "databases::maps_a_page_on",
         "databases::unmaps::revokes_what_derives",
         "databases::unmaps::revokes_by_recursion",
+        "databases::accesses::marks_the_same_with_a_crew",
         "databases::clears::takes_all_pages_from_a_space",
         "databases::clears::takes_all_pages_from_a_space_by_recursion",
         "audits::reports_a_small_database",
@@ -64,6 +65,7 @@ TESTS = {
 }
 # Those of them whose calls start threads.
 TESTS_WITH_THREADS = {
+    ("database_tests", "databases::accesses::marks_the_same_with_a_crew"),
     ("database_tests", "audits::halted::a_halted_database_refuses_every_call"),
     ("database_tests", "audits::halted::a_database_that_a_watched_unmap_halted_refuses_every_call"),
     ("database_tests", "replays::shared::three_workers_make_accesses_of_one_page"),

@@ -6,7 +6,7 @@ use Rattle.std.specs.Option.{option_map, option_map_or, option_to_list}
 use Rattle.std.proofs.lemmas.Bool.{cases_lt, eqb-true, eq-eqb, ne_eqb, lt-leb, true≢false}
 use Rattle.std.proofs.lemmas.List.Elements.{All-cons}
 use Rattle.std.proofs.lemmas.List.Folds.{list_any_none}
-use Rattle.std.proofs.lemmas.List.FromFn.{get_or-range_with_len, length-range_with_len}
+use Rattle.std.proofs.lemmas.List.FromFn.{get_or-range_with_len, length-range_with_len, length-map-range_with_len}
 use Rattle.std.proofs.lemmas.Nat.{mod_below}
 use Rattle.space.specs.Word.{is_pack}
 use Rattle.pieces.specs.Applied.{applied, step_counts}
@@ -40,6 +40,10 @@ numbers_new s n = by 0 n
     by : (a n : ℕ) → numbers_of (map (λ p. let t : PostContent = record { sheet = s; number = p; steps = 0 } in t) (range_with_len a n)) ≡ range_with_len a n
     by a zero = refl
     by a (suc n) = ap (λ ns. a ∷ ns) (by (a + 1) n)
+
+-- and are so many
+pub many_new : (s : SheetContent) (n : ℕ) → length (new_turns s n) ≡ n
+many_new s n = length-map-range_with_len (λ p. record { sheet = s; number = p; steps = 0 }) 0 n
 
 -- ---- turns that are dealt
 

@@ -57,6 +57,10 @@ impl Workers for Alone {
 
     ghost starts_none = { λ _. ⊤ };
 
+    ghost length_of = { λ _. 65536 };
+
+    ghost least_of = { λ _. 18446744073709551615 };
+
     fn piece_length(&self) -> usize {
         LENGTH_ALONE
     }

@@ -1,6 +1,6 @@
 //! What the workers of a phase share.
 
-ghost use Rattle.std.specs.Prelude.{◌≡◌, ◌<◌, ◌++◌, ◌∷◌, [], length, map, IfOk};
+ghost use Rattle.std.specs.Prelude.{◌≡◌, ◌<◌, ◌≤◌, ◌++◌, ◌∷◌, [], length, map, IfOk};
 ghost use Rattle.crossbeam_deque.specs.Handles.{stealer_deque};
 ghost use Rattle.crossbeam_deque.specs.Steals.{MatchSteal};
 ghost use Rattle.crew.specs.Crews.{IsEnded, ArePlaced, deques_of};
@@ -24,7 +24,7 @@ pub struct Bench<'a, N: Which, M: Crewed, G: Gate> {
 }
 
 impl<'a, N: Which, M: Crewed, G: Gate> Model for Bench<'a, N, M, G> {
-    ghost use Rattle.std.specs.Prelude.{◌≡◌, ℕ, length, map};
+    ghost use Rattle.std.specs.Prelude.{◌≡◌, ℕ, ◌≤◌, length, map};
     ghost use Rattle.crossbeam_deque.specs.Handles.{stealer_deque};
     ghost use Rattle.crew.specs.Crews.{deques_of};
 
@@ -32,7 +32,7 @@ impl<'a, N: Which, M: Crewed, G: Gate> Model for Bench<'a, N, M, G> {
 
     ghost view = { λ b. length b.stealers.items };
 
-    ghost invariant = { λ b. (b.shared.now ≡ N.sheet) × (map stealer_deque b.stealers.items ≡ deques_of M.crew) };
+    ghost invariant = { λ b. (b.shared.now ≡ N.sheet) × (map stealer_deque b.stealers.items ≡ deques_of M.crew) × (length M.crew ≤ length N.sheet.opening.pieces) };
 }
 
 impl<'a, N: Which, M: Crewed, G: Gate> Bench<'a, N, M, G> {
@@ -44,6 +44,7 @@ impl<'a, N: Which, M: Crewed, G: Gate> Bench<'a, N, M, G> {
         owns: &[Own<N, M>],
     ) -> Result<Bench<'a, N, M, G>, AllocError>
         requires phase { shared.now ≡ N.sheet }
+        requires few { length M.crew ≤ length N.sheet.opening.pieces }
         requires each { length owns.now ≡ length M.crew }
         requires places { ArePlaced owns.now }
     {
@@ -64,15 +65,17 @@ impl<'a, N: Which, M: Crewed, G: Gate> Bench<'a, N, M, G> {
         self.stealers.len()
     }
 
-    /// Works a turn to its end.
-    pub fn work(&self, worker: usize, mut turn: Turn) -> Turn
+    /// The worker of a deque works a turn to its end.
+    pub fn work(&self, own: &Own<N, M>, mut turn: Turn) -> Turn
         requires { IsFresh N.sheet turn }
         ensures ended { IsEnded N.sheet result }
         ensures number { result.number ≡ turn.number }
     {
-        self.gate.begin(worker, turn.piece());
+        let worker = own.place();
+        let workers = self.workers();
+        self.gate.begin(worker, workers, &turn, self.shared);
         turn.step_to_end(self.shared);
-        self.gate.end(worker, &turn, self.shared);
+        self.gate.end(worker, workers, &turn, self.shared);
         turn
     }
 

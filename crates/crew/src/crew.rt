@@ -1,4 +1,4 @@
-ghost use Rattle.std.specs.Prelude.{◌≡◌, ◌<◌, ◌≤◌, length, IfOk, IsErrOf};
+ghost use Rattle.std.specs.Prelude.{◌≡◌, ◌<◌, ◌≤◌, min, length, IfOk, IsErrOf};
 ghost use Rattle.pieces.specs.Phases.{CanBeWorked};
 ghost use Rattle.crew.specs.Worked.{IsWorked};
 ghost use Rattle.crew.specs.declared.error.CrewError.TheVariants.{NoWorker};
@@ -17,8 +17,8 @@ use std::thread::Threads;
 /// Worker threads, who work the pieces of a phase beside one another.
 #[derive(Drop)]
 pub struct Crew<'a, R, G> {
-    rt: &'a R,
-    gate: &'a G,
+    pub(crate) rt: &'a R,
+    pub(crate) gate: &'a G,
     workers: usize,
     piece_length: usize,
     /// How many full pieces a phase must fill for them to share it.
@@ -77,13 +77,22 @@ impl<'a, R: Threads + Wait, G: Gate> Crew<'a, R, G> {
     {
         self.least
     }
+
+    /// How many of the workers work a phase of so many pieces: all, but at most one for each piece.
+    pub fn workers_for(&self, pieces: usize) -> usize
+        ensures count { result ≡ min self.now.workers pieces }
+        ensures some { 1 ≤ pieces → 1 ≤ result }
+        ensures most { result ≤ 64 }
+    {
+        self.workers.min(pieces)
+    }
 }
 
 /// Works all pieces of a phase, and returns the words as they leave them and what each piece found out. The pieces are
 /// numbered from 0, in the order in which they are given.
 ///
-/// Each piece is a turn on shared words. There are as many workers as the crew has, but at most one for each piece. The
-/// calling thread is the first, and each other a thread of its own; one alone starts none. Pieces that can be worked beside
+/// Each piece is a turn on shared words. There are as many workers as `workers_for` says of these pieces. The calling
+/// thread is the first, and each other a thread of its own; one alone starts none. Pieces that can be worked beside
 /// one another may be worked in any order, and their steps may be mixed: what comes of it is always the same.
 ///
 /// Refused: `NoMemory`; `NoWorker`, where a thread could not be started. Then what was given is gone.
@@ -97,9 +106,9 @@ pub fn work<R: Threads + Wait, G: Gate>(
     requires can { CanBeWorked words.items pieces.items }
     ensures worked { IfOk result (λ r. IsWorked words.items pieces.items r.0.items r.1.items) }
     ensures no_worker { IsErrOf result NoWorker → 1 < crew.now.workers }
+    ensures no_worker_for_one { IsErrOf result NoWorker → 1 < length pieces.items }
 {
-    let count = crew.workers.min(pieces.len());
-    work_shared(crew.rt, alloc, crew.gate, count, words, pieces)
+    work_shared(crew, alloc, words, pieces)
 }
 
 /// Works all pieces of a phase as `work` does, while an observer looks at the entries with one watcher, on a thread
@@ -120,8 +129,7 @@ pub fn work_watched<R: Threads + Wait, G: Gate, O: Observe>(
     requires told { O.told observer.now words.items pieces.items }
     ensures { IfOk result (λ r. IsWorked words.items pieces.items r.0.items r.1.items) }
 {
-    let count = crew.workers.min(pieces.len());
-    work_shared_watched(crew.rt, alloc, crew.gate, observer, count, words, pieces)
+    work_shared_watched(crew, alloc, observer, words, pieces)
 }
 
 /// A crew whose gate listens does the work for a type of its user's: an impl for every gate is refused (docs/DECISIONS.md).
@@ -129,6 +137,10 @@ impl<'a, R: Threads + Wait> Workers for Crew<'a, R, NoGate> {
     ghost use Rattle.std.specs.Prelude.{◌≤◌};
 
     ghost starts_none = { λ crew. crew.workers ≤ 1 };
+
+    ghost length_of = { λ crew. crew.piece_length };
+
+    ghost least_of = { λ crew. crew.least };
 
     fn piece_length(&self) -> usize {
         self.piece_length

@@ -1,15 +1,22 @@
-ghost use Rattle.std.specs.Prelude.{◌≡◌};
+ghost use Rattle.std.specs.Prelude.{◌≡◌, ◌<◌, ◌≤◌, length};
 ghost use Rattle.turns.specs.Turns.{steps_to_do};
 
 use turns::{Open, Turn};
 
 /// Hears when work on a piece begins and ends.
 pub trait Gate: Sync {
-    /// A worker begins with a piece, both by number.
-    fn begin(&self, worker: usize, piece: usize);
+    /// A worker, of so many, begins a turn of this phase: no step of its piece was made. Workers are numbered from 0, and
+    /// there are at most as many as pieces.
+    fn begin(&self, worker: usize, workers: usize, turn: &Turn, shared: &Open)
+        requires below { worker < workers }
+        requires few { workers ≤ length shared.now.opening.pieces }
+        requires of { turn.now.sheet ≡ shared.now }
+        requires fresh { turn.now.steps ≡ 0 };
 
-    /// A worker has ended a turn of this phase: no step of its piece is left.
-    fn end(&self, worker: usize, turn: &Turn, shared: &Open)
+    /// A worker, of so many, has ended a turn of this phase: no step of its piece is left.
+    fn end(&self, worker: usize, workers: usize, turn: &Turn, shared: &Open)
+        requires below { worker < workers }
+        requires few { workers ≤ length shared.now.opening.pieces }
         requires of { turn.now.sheet ≡ shared.now }
         requires ended { turn.now.steps ≡ steps_to_do turn.now };
 }
@@ -19,7 +26,7 @@ pub trait Gate: Sync {
 pub struct NoGate;
 
 impl Gate for NoGate {
-    fn begin(&self, worker: usize, piece: usize) {}
+    fn begin(&self, worker: usize, workers: usize, turn: &Turn, shared: &Open) {}
 
-    fn end(&self, worker: usize, turn: &Turn, shared: &Open) {}
+    fn end(&self, worker: usize, workers: usize, turn: &Turn, shared: &Open) {}
 }

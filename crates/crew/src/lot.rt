@@ -88,7 +88,7 @@ impl<N: Which, M: Crewed> Lot<N, M> {
         let Some(turn) = self.own.take() else {
             return Ok(false);
         };
-        let turn = bench.work(self.own.place(), turn);
+        let turn = bench.work(&self.own, turn);
         self.turns.push_reserved(turn);
         Ok(true)
     }
@@ -132,7 +132,7 @@ impl<N: Which, M: Crewed> Lot<N, M> {
         self.turns.reserve(1)?;
         match bench.steal(&mut self.claims[place]) {
             Steal::Success(turn) => {
-                let turn = bench.work(self.own.place(), turn);
+                let turn = bench.work(&self.own, turn);
                 self.turns.push_reserved(turn);
                 Ok(true)
             }

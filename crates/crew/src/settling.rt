@@ -110,12 +110,13 @@ fn work_next<N: Which, M: Crewed, G: Gate>(
     ensures sums { OnOk result ((h : ℕ → ℕ) → weigh h (numbers_of turns.new.items) + weigh h own.old.hand.taken ≡ weigh h (numbers_of turns.old.items) + weigh h own.new.hand.taken) }
     ensures worked { IfOk result (λ worked. MatchBool worked ((length own.new.hand.taken ≡ length own.old.hand.taken + 1) × IsWithin own.new.hand) (WasEmpty N.sheet own.new.hand)) }
 {
-    let place = own.place();
+    // Its contract tells what was dealt to this deque.
+    let _ = own.place();
     turns.reserve(1)?;
     let Some(turn) = own.take() else {
         return Ok(false);
     };
-    let turn = bench.work(place, turn);
+    let turn = bench.work(own, turn);
     turns.push_reserved(turn);
     Ok(true)
 }

@@ -9,6 +9,7 @@ ghost use Rattle.crew.specs.Hands.{IsFresh, weigh};
 ghost use Rattle.crew.specs.Worked.{IsWorked};
 ghost use Rattle.crew.specs.declared.error.CrewError.TheVariants.{NoWorker};
 
+use crate::crew::Crew;
 use crate::error::CrewError;
 use crate::gate::Gate;
 use crate::hand::Which;
@@ -38,16 +39,13 @@ impl Promise<Watcher> for SameWatcher {
 ///
 /// Refused: `NoMemory`; `NoWorker`, where a thread could not be started, that of the observer too.
 pub fn work_shared_watched<R: Threads + Wait, G: Gate, O: Observe>(
-    rt: &R,
+    crew: &Crew<'_, R, G>,
     alloc: Global,
-    gate: &G,
     observer: &O,
-    workers: usize,
     words: Vec<u64>,
     pieces: Vec<Piece>,
 ) -> Result<(Vec<u64>, Vec<Done>), CrewError>
-    requires some { 1 ≤ workers }
-    requires few { workers < 1024 }
+    requires some { 0 < length pieces.items }
     requires can { CanBeWorked words.items pieces.items }
     requires told { O.told observer.now words.items pieces.items }
     ensures { IfOk result (λ r. IsWorked words.items pieces.items r.0.items r.1.items) }
@@ -57,7 +55,7 @@ pub fn work_shared_watched<R: Threads + Wait, G: Gate, O: Observe>(
         unreachable!()
     };
     let (turns, watcher) = work_turns_watched::<Brand, R, G, O>(
-        rt, alloc, gate, observer, workers, &shared, turns, watcher,
+        crew, alloc, observer, &shared, turns, watcher,
     )?;
     watchers.push_reserved(watcher);
     match shared.close(turns, watchers) {
@@ -68,17 +66,15 @@ pub fn work_shared_watched<R: Threads + Wait, G: Gate, O: Observe>(
 
 /// Works the turns of a phase to their end while an observer has a watcher, which comes back.
 fn work_turns_watched<N: Which + Send + Sync, R: Threads + Wait, G: Gate, O: Observe>(
-    rt: &R,
+    crew: &Crew<'_, R, G>,
     alloc: Global,
-    gate: &G,
     observer: &O,
-    workers: usize,
     shared: &Open,
     turns: Vec<Turn>,
     watcher: Watcher,
 ) -> Result<(Vec<Turn>, Watcher), CrewError>
-    requires some { 1 ≤ workers }
-    requires few { workers < 1024 }
+    requires some { 0 < length turns.items }
+    requires each { length turns.items ≡ length N.sheet.opening.pieces }
     requires phase { shared.now ≡ N.sheet }
     requires fresh { All (IsFresh N.sheet) turns.items }
     requires watcher { watcher.sheet ≡ shared.now }
@@ -89,32 +85,26 @@ fn work_turns_watched<N: Which + Send + Sync, R: Threads + Wait, G: Gate, O: Obs
 {
     thread::scope(
         thread::scope_env(),
-        rt,
+        crew.rt,
         move |scope| -> Result<(Vec<Turn>, Watcher), CrewError>
-            requires { (1 ≤ workers) × (workers < 1024) × (shared.now ≡ N.sheet) × All (IsFresh N.sheet) turns.items × (watcher.sheet ≡ shared.now) × O.told observer.now shared.now.opening.words shared.now.opening.pieces }
+            requires { (0 < length turns.items) × (length turns.items ≡ length N.sheet.opening.pieces) × (shared.now ≡ N.sheet) × All (IsFresh N.sheet) turns.items × (watcher.sheet ≡ shared.now) × O.told observer.now shared.now.opening.words shared.now.opening.pieces }
             ensures { IfOk result (λ r. All (IsEnded N.sheet) r.0.items × ((h : ℕ → ℕ) → weigh h (numbers_of r.0.items) ≡ weigh h (numbers_of turns.items)) × (r.1.sheet ≡ watcher.sheet) × (r.1.number ≡ watcher.number)) }
-        {
-            work_in::<N, R, G, O>(
-                scope, rt, alloc, gate, observer, workers, shared, turns, watcher,
-            )
-        },
+        { work_in::<N, R, G, O>(scope, crew, alloc, observer, shared, turns, watcher) },
     )
 }
 
 /// Works the turns, with the observer's thread in this scope.
 fn work_in<'s, 'e, N: Which + Send + Sync, R: Threads + Wait, G: Gate, O: Observe + 'e>(
     scope: &'s Scope<'s, &'e ()>,
-    rt: &R,
+    crew: &Crew<'_, R, G>,
     alloc: Global,
-    gate: &G,
     observer: &'e O,
-    workers: usize,
     shared: &'e Open,
     turns: Vec<Turn>,
     watcher: Watcher,
 ) -> Result<(Vec<Turn>, Watcher), CrewError>
-    requires some { 1 ≤ workers }
-    requires few { workers < 1024 }
+    requires some { 0 < length turns.items }
+    requires each { length turns.items ≡ length N.sheet.opening.pieces }
     requires phase { shared.now ≡ N.sheet }
     requires fresh { All (IsFresh N.sheet) turns.items }
     requires watcher { watcher.sheet ≡ shared.now }
@@ -124,8 +114,8 @@ fn work_in<'s, 'e, N: Which + Send + Sync, R: Threads + Wait, G: Gate, O: Observ
     ensures watcher { IfOk result (λ r. (r.1.sheet ≡ watcher.sheet) × (r.1.number ≡ watcher.number)) }
 {
     let handle = start(scope, observer, shared, watcher)?;
-    let turns = work_turns::<N, R, G>(rt, alloc, gate, workers, shared, turns)?;
-    Ok((turns, handle.join(rt)))
+    let turns = work_turns::<N, R, G>(crew, alloc, shared, turns)?;
+    Ok((turns, handle.join(crew.rt)))
 }
 
 /// Starts an observer on a thread of its own.

@@ -6,7 +6,7 @@ use std::alloc::Global;
 
 /// Who works the pieces of a phase: a `Crew`, or the calling thread, `Alone`.
 pub trait Workers {
-    ghost use Rattle.std.specs.Prelude.{◌<◌, ◌≤◌, length, IfOk, IsErrOf};
+    ghost use Rattle.std.specs.Prelude.{◌≡◌, ℕ, ◌<◌, ◌≤◌, length, IfOk, IsErrOf};
     ghost use Rattle.pieces.specs.Phases.{CanBeWorked};
     ghost use Rattle.crew.specs.Worked.{IsWorked};
     ghost use Rattle.crew.specs.declared.error.CrewError.TheVariants.{NoWorker};
@@ -14,13 +14,21 @@ pub trait Workers {
     /// That they start no thread.
     ghost starts_none: { Self → Type 0 };
 
+    /// The most nodes, stores, pairs or accesses that a piece of theirs is to have.
+    ghost length_of: { Self → ℕ };
+
+    /// How many full pieces a phase must fill for them to share it.
+    ghost least_of: { Self → ℕ };
+
     /// The most nodes, stores, pairs or accesses that a piece is to have.
     fn piece_length(&self) -> usize
-        ensures { 1 ≤ result };
+        ensures own { result ≡ Self.length_of self.now }
+        ensures some { 1 ≤ result };
 
     /// How many full pieces a phase must fill for its pieces to be worked by `work`. Where it fills fewer, the calling thread
     /// works it alone, in place, and tells nobody; with 0 it never does.
-    fn shared_from(&self) -> usize;
+    fn shared_from(&self) -> usize
+        ensures { result ≡ Self.least_of self.now };
 
     /// Works all pieces of a phase, and returns the words as they leave them and what each piece found out. The pieces are
     /// numbered from 0, in the order in which they are given.

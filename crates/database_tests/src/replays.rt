@@ -301,11 +301,11 @@ struct Counter {
 }
 
 impl Gate for Counter {
-    fn begin(&self, _worker: usize, _piece: usize) {
+    fn begin(&self, _worker: usize, _workers: usize, _turn: &Turn, _shared: &Open) {
         self.begun.fetch_add(1, Ordering::SeqCst);
     }
 
-    fn end(&self, _worker: usize, _turn: &Turn, _shared: &Open) {}
+    fn end(&self, _worker: usize, _workers: usize, _turn: &Turn, _shared: &Open) {}
 }
 
 /// A crew of one worker, whose gate counts pieces.
@@ -318,6 +318,10 @@ impl<'a, R: Threads + Wait> Workers for Counted<'a, R> {
     ghost use Rattle.std.specs.Prelude.{◌≤◌};
 
     ghost starts_none = { λ held. held.crew.workers ≤ 1 };
+
+    ghost length_of = { λ held. held.crew.piece_length };
+
+    ghost least_of = { λ held. held.crew.least };
 
     fn piece_length(&self) -> usize {
         self.crew.piece_length()

@@ -280,6 +280,44 @@ fn turns_hand_in_what_they_found_or_how_far_they_came(rt: HostRuntime) -> Result
     Ok(())
 }
 
+/// How often a piece is among those that have ended, and how often among those that have steps left.
+fn times_in(dones: &[Done], unended: &[Unended], piece: usize) -> (usize, usize) {
+    let ended = dones.iter().filter(|done| done.number() == piece).count();
+    let left = unended.iter().filter(|turn| turn.piece == piece).count();
+    (ended, left)
+}
+
+#[test]
+fn each_piece_is_in_one_of_two_lists_once(rt: HostRuntime) -> Result<(), Fail> {
+    for (first, second, wanted) in [
+        (0, 0, [(0, 1), (0, 1)]),
+        (0, 1, [(0, 1), (0, 1)]),
+        (0, 2, [(0, 1), (1, 0)]),
+        (1, 0, [(0, 1), (0, 1)]),
+        (1, 1, [(0, 1), (0, 1)]),
+        (1, 2, [(0, 1), (1, 0)]),
+        (2, 0, [(1, 0), (0, 1)]),
+        (2, 1, [(1, 0), (0, 1)]),
+        (2, 2, [(1, 0), (1, 0)]),
+    ] {
+        let (_, dones, unended) = closed(rt.alloc(), Phase::TwoStrips, first, second)?;
+        let found = [times_in(&dones, &unended, 0), times_in(&dones, &unended, 1)];
+        assert_equal(
+            &rt,
+            (first, second, found),
+            (first, second, wanted),
+            "steps, and the lists",
+        );
+        assert_equal(
+            &rt,
+            dones.len().wrapping_add(unended.len()),
+            2,
+            "both lists together",
+        );
+    }
+    Ok(())
+}
+
 /// What is left of the touch after so many steps: its page has this word, and its answers are there after the third step.
 fn is_marked(rt: &impl Abort, words: &[u64], dones: &[Done], steps: usize, after: u64) {
     assert_equal(rt, words, [after].as_slice(), steps);

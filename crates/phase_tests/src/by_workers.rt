@@ -416,9 +416,9 @@ impl Meeting {
 }
 
 impl Gate for Meeting {
-    fn begin(&self, worker: usize, piece: usize) {
+    fn begin(&self, worker: usize, _workers: usize, turn: &Turn, _shared: &Open) {
         self.begun.fetch_add(1, Ordering::SeqCst);
-        if worker != piece % 2 {
+        if worker != turn.piece() % 2 {
             self.stolen.fetch_add(1, Ordering::SeqCst);
         }
         if worker == 0 {
@@ -430,7 +430,7 @@ impl Gate for Meeting {
         }
     }
 
-    fn end(&self, _worker: usize, _turn: &Turn, _shared: &Open) {
+    fn end(&self, _worker: usize, _workers: usize, _turn: &Turn, _shared: &Open) {
         self.ended.fetch_add(1, Ordering::SeqCst);
     }
 }
@@ -445,6 +445,10 @@ impl<'a, R: Threads + Wait> Workers for Held<'a, R> {
     ghost use Rattle.std.specs.Prelude.{◌≤◌};
 
     ghost starts_none = { λ held. held.crew.workers ≤ 1 };
+
+    ghost length_of = { λ held. held.crew.piece_length };
+
+    ghost least_of = { λ held. held.crew.least };
 
     fn piece_length(&self) -> usize {
         self.crew.piece_length()

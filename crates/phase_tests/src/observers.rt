@@ -62,11 +62,11 @@ impl Observe for Monitor {
 }
 
 impl Gate for Monitor {
-    fn begin(&self, _worker: usize, _piece: usize) {
+    fn begin(&self, _worker: usize, _workers: usize, _turn: &Turn, _shared: &Open) {
         wait_for(&self.before);
     }
 
-    fn end(&self, _worker: usize, _turn: &Turn, _shared: &Open) {}
+    fn end(&self, _worker: usize, _workers: usize, _turn: &Turn, _shared: &Open) {}
 }
 
 #[test]

@@ -62,9 +62,9 @@ struct Counter {
 }
 
 impl Gate for Counter {
-    fn begin(&self, _worker: usize, _piece: usize) {}
+    fn begin(&self, _worker: usize, _workers: usize, _turn: &Turn, _shared: &Open) {}
 
-    fn end(&self, _worker: usize, _turn: &Turn, _shared: &Open) {
+    fn end(&self, _worker: usize, _workers: usize, _turn: &Turn, _shared: &Open) {
         self.ended.fetch_add(1, Ordering::SeqCst);
     }
 }
@@ -120,14 +120,14 @@ struct Looks {
 
 /// How many nodes a phase has, and how many a piece of it at most.
 #[derive(Clone, Copy)]
-struct Size {
-    nodes: usize,
-    most: usize,
+pub(crate) struct Size {
+    pub(crate) nodes: usize,
+    pub(crate) most: usize,
 }
 
 impl Size {
     /// How many pieces these are.
-    fn pieces(self) -> usize {
+    pub(crate) fn pieces(self) -> usize {
         self.nodes.div_ceil(self.most.max(1))
     }
 }
@@ -184,7 +184,7 @@ fn words(alloc: Global, nodes: usize) -> Result<Vec<u64>, NoMemory> {
 }
 
 /// The words and the pieces of a phase.
-fn phase(alloc: Global, size: Size) -> Result<(Vec<u64>, Vec<Piece>), NoMemory>
+pub(crate) fn phase(alloc: Global, size: Size) -> Result<(Vec<u64>, Vec<Piece>), NoMemory>
     ensures { IfOk result (λ r. (0 < length r.1.items) × CanBeWorked r.0.items r.1.items) }
 {
     let words = words(alloc, size.nodes)?;
@@ -230,7 +230,7 @@ fn count(words: &[u64], sought: u64) -> usize {
 }
 
 /// All nodes have lost the right, and their origin has gained their status.
-fn are_stripped(rt: &impl Abort, words: &[u64], size: Size) {
+pub(crate) fn are_stripped(rt: &impl Abort, words: &[u64], size: Size) {
     assert_equal(rt, count(words, LEFT), size.nodes, "nodes");
     assert_equal(rt, words.get(size.nodes), Some(&GAINED), "the origin");
 }

@@ -1,9 +1,9 @@
 -- The rule at opening and at the end.
-use Rattle.std.proofs.Common.{◌≡◌, ℕ, zero, suc, ◌+◌, ◌<◌, ◌≤◌, Bool, true, false, List, [], ◌∷◌, length, map, get_or, refl, ap, ◌∙◌, sym, subst, arith, zero-add, if◌then◌else◌}
+use Rattle.std.proofs.Common.{◌≡◌, ◌≢◌, ℕ, zero, suc, ◌+◌, ◌<◌, ◌≤◌, Bool, true, false, List, [], ◌∷◌, length, map, get_or, refl, ap, ◌∙◌, sym, subst, arith, zero-add, if◌then◌else◌}
 use Rattle.std.specs.Prelude.{◌==◌}
 use Rattle.std.specs.List.{All, range_with_len}
 use Rattle.std.specs.Int.Bits.{or_zero_r}
-use Rattle.std.proofs.lemmas.Bool.{eqb-true, ne_eqb}
+use Rattle.std.proofs.lemmas.Bool.{eqb-true, eq-eqb, ne_eqb, true≢false}
 use Rattle.std.proofs.lemmas.List.{length-map}
 use mathlib.Core.Option.{some, some-ne-none, some-injective}
 use lib.ListN.{get_elem?}
@@ -44,6 +44,20 @@ named_once p q (suc n) = by (q == p) (λ h. let e : q ≡ p = eqb-true q p h in 
     by true none later = let m : ℕ = names_in p (map (λ k. (k, 0)) (range_with_len (q + 1) n)) in let m0 : m ≡ 0 = none refl in omega arith
     by false none later = let m : ℕ = names_in p (map (λ k. (k, 0)) (range_with_len (q + 1) n)) in let m' : m ≤ 1 = later in omega arith
 
+named_among : (p q n : ℕ) → q ≤ p → p < q + n → names_in p (map (λ k. (k, 0)) (range_with_len q n)) ≡ 1
+named_among p q zero low high = absurd (omega (arith, low, high))
+named_among p q (suc n) low high = by (q == p) refl (named_among p (q + 1) n)
+  where
+    by : (t : Bool) → (q == p) ≡ t → (q + 1 ≤ p → p < q + 1 + n → names_in p (map (λ k. (k, 0)) (range_with_len (q + 1) n)) ≡ 1) → (if t then 1 else 0) + names_in p (map (λ k. (k, 0)) (range_with_len (q + 1) n)) ≡ 1
+    by true is later =
+        let m : ℕ = names_in p (map (λ k. (k, 0)) (range_with_len (q + 1) n)) in
+        let e : q ≡ p = eqb-true q p is in
+        let none : m ≡ 0 = none_before p (q + 1) n (omega (arith, e)) in omega (arith, none)
+    by false is later =
+        let m : ℕ = names_in p (map (λ k. (k, 0)) (range_with_len (q + 1) n)) in
+        let apart : q ≢ p = λ same. true≢false (sym (eq-eqb q p same) ∙ is) in
+        let one : m ≡ 1 = later (omega (arith, low, apart)) (omega (arith, high)) in omega (arith, one)
+
 none_done_yet : (q : ℕ) (ess : List (List Effect)) → done_from q (λ p. 0) ess ≡ []
 none_done_yet q [] = refl
 none_done_yet q (es ∷ ess) = none_done_yet (q + 1) ess
@@ -60,6 +74,7 @@ opens o =
     record {
       words_are = sym (untouched_words o o.at) ∙ ap (words_in o) (λ i p. sym (counts p) i);
       once = λ p. let a : ℕ = names_in p (none_done (length o.pieces)) in let a1 : a ≤ 1 = named_once p 0 (length o.pieces) in omega arith;
+      each = λ p less. let a : ℕ = names_in p (none_done (length o.pieces)) in let a1 : a ≡ 1 = named_among p 0 (length o.pieces) (omega arith) (omega (arith, less)) in let z : a + 0 ≡ 1 = omega (arith, a1) in z;
       same = same;
       noted = noted;
     }

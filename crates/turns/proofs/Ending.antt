@@ -31,6 +31,7 @@ pub record AreTaken (s : SheetContent) (ts : List PostContent) (table : TableId)
   pub seat : IsSeat s table me
   pub counts : me.0.counts ≡ counts_of ts
   pub below : All (λ c. c.0 < length s.opening.pieces) (counts_of ts)
+  pub once : (p : ℕ) → names_in p (counts_of ts) ≤ 1
   pub done : dones.items ≡ flat_map done_of ts
   pub some_unended : unended.items ≡ flat_map unended_of ts
   pub room_done : length s.opening.pieces ≤ vec_capacity dones

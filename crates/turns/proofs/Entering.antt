@@ -22,6 +22,7 @@ enters o slots i s h homes bound =
       record {
         words_are = h.words_are ∙ sym (words_same o (counted vs) (counted (vs ++ new ∷ [])) counts);
         once = λ p. let a : ℕ = named (vs ++ new ∷ []) p in let b : ℕ = named vs p in let e : a ≡ b + 0 = named_append p vs new in let one : b ≤ 1 = h.once p in omega (arith, e, one);
+        each = λ p less. let a : ℕ = named (vs ++ new ∷ []) p in let b : ℕ = named vs p in let e : a ≡ b + 0 = named_append p vs new in let one : b ≡ 1 = h.each p less in omega (arith, e, one);
         same = λ j u there alive. ⊎_elim (λ was. h.same j u was alive) (λ (x : new ≡ u). ap (λ (y : View). y.opening) (sym x)) (at_snoc vs new u j there);
         noted =
             λ j u there.

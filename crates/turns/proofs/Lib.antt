@@ -20,5 +20,6 @@ pub mod Dealing
 pub mod Pigeons
 pub mod Marks
 pub mod Ending
+pub mod HandedIn
 pub mod Crosses
 pub mod AllWords

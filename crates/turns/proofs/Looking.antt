@@ -83,6 +83,10 @@ renoted o words vs k v notes h at so = record {
       λ p.
       let a : ℕ = named (set vs k w) p in let b : ℕ = named vs p in let x : ℕ = names_in p v.counts in
       let sums : a + x ≡ b + x = named_set p vs k v w at in let one : b ≤ 1 = h.once p in omega (arith, sums, one);
+  each =
+      λ p less.
+      let a : ℕ = named (set vs k w) p in let b : ℕ = named vs p in let x : ℕ = names_in p v.counts in
+      let sums : a + x ≡ b + x = named_set p vs k v w at in let one : b ≡ 1 = h.each p less in omega (arith, sums, one);
   same =
       λ j u there alive.
       ⊎_elim
@@ -116,6 +120,10 @@ comes o words vs w h none of so = record {
       λ p.
       let a : ℕ = named (vs ++ w ∷ []) p in let b : ℕ = named vs p in let x : ℕ = names_in p w.counts in
       let e : a ≡ b + x = named_append p vs w in let x0 : x ≡ 0 = ap (names_in p) none in let one : b ≤ 1 = h.once p in omega (arith, e, x0, one);
+  each =
+      λ p less.
+      let a : ℕ = named (vs ++ w ∷ []) p in let b : ℕ = named vs p in let x : ℕ = names_in p w.counts in
+      let e : a ≡ b + x = named_append p vs w in let x0 : x ≡ 0 = ap (names_in p) none in let one : b ≡ 1 = h.each p less in omega (arith, e, x0, one);
   same = λ j u there alive. ⊎_elim (λ was. h.same j u was alive) (λ (x : w ≡ u). subst (λ (y : View). y.live ≡ true → y.opening ≡ o) x of alive) (at_snoc vs w u j there);
   noted =
       λ j u there.

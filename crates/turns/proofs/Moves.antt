@@ -1,5 +1,5 @@
 -- The moves of seats keep the rule.
-use Rattle.std.proofs.Common.{◌≡◌, ◌≢◌, ◌⊎◌, ⊎_elim, ℕ, suc, ◌+◌, ◌≤◌, Bool, true, false, List, [], ◌∷◌, ◌++◌, set, get_or, Some, refl, ap, ◌∙◌, sym, subst, arith, if◌then◌else◌}
+use Rattle.std.proofs.Common.{◌≡◌, ◌≢◌, ◌⊎◌, ⊎_elim, ℕ, suc, ◌+◌, ◌<◌, ◌≤◌, Bool, true, false, List, [], ◌∷◌, ◌++◌, length, set, get_or, Some, refl, ap, ◌∙◌, sym, subst, arith, if◌then◌else◌}
 use Rattle.std.specs.Prelude.{◌==◌, slice_get}
 use Rattle.std.specs.List.{All}
 use Rattle.std.proofs.lemmas.Bool.{eq-eqb, ne_eqb, true≢false}
@@ -105,6 +105,7 @@ counts_raised vs k v c cs at are = record {
 -- a seat's view is replaced: the rule but for its first line
 record KeepRest (o : Opening) (vs : List View) (k : ℕ) (w : View) : Type 0 where
   once : (p : ℕ) → named (set vs k w) p ≤ 1
+  each : (p : ℕ) → p < length o.pieces → named (set vs k w) p ≡ 1
   same : (j : ℕ) (u : View) → get_elem? (set vs k w) j ≡ some u → u.live ≡ true → u.opening ≡ o
   noted : (j : ℕ) (u : View) → get_elem? (set vs k w) j ≡ some u → All (λ n. n.1 ≤ counted (set vs k w) n.0) u.notes
 
@@ -119,6 +120,16 @@ rest_raised o words vs k v h at live = record {
       let sums : a + x ≡ b + y = named_set p vs k v (raised v) at in
       let y' : y ≡ x = same_names p v.counts in
       let one : b ≤ 1 = h.once p in
+      omega (arith, sums, y', one);
+  each =
+      λ p less.
+      let a : ℕ = named (set vs k (raised v)) p in
+      let b : ℕ = named vs p in
+      let x : ℕ = names_in p v.counts in
+      let y : ℕ = names_in p (one_more v.counts) in
+      let sums : a + x ≡ b + y = named_set p vs k v (raised v) at in
+      let y' : y ≡ x = same_names p v.counts in
+      let one : b ≡ 1 = h.each p less in
       omega (arith, sums, y', one);
   same =
       λ j u there alive.
@@ -156,6 +167,7 @@ step_holds o is words vs k v e j of next there h at =
     record {
       words_are = ap (λ ws. set ws j (made e (get_or ws j 0))) h.words_are ∙ sym words_next;
       once = rest.once;
+      each = rest.each;
       same = rest.same;
       noted = rest.noted;
     }
@@ -215,6 +227,19 @@ deals o id v s h at =
           let two : m + z ≡ b + y = named_set p vs id v (others_of v) at in
           let three : y + x ≡ z = names_dealt p v.counts in
           let four : b ≤ 1 = h.once p in
+          omega (arith, one, two, three, four);
+      each =
+          λ p less.
+          let a : ℕ = named dealt p in
+          let m : ℕ = named (set vs id (others_of v)) p in
+          let b : ℕ = named vs p in
+          let x : ℕ = names_in p (first_of v.counts) in
+          let y : ℕ = names_in p (behind_first v.counts) in
+          let z : ℕ = names_in p v.counts in
+          let one : a ≡ m + x = named_append p (set vs id (others_of v)) (first_only v) in
+          let two : m + z ≡ b + y = named_set p vs id v (others_of v) at in
+          let three : y + x ≡ z = names_dealt p v.counts in
+          let four : b ≡ 1 = h.each p less in
           omega (arith, one, two, three, four);
       same = λ j u there alive. of j u alive (at_snoc (set vs id (others_of v)) (first_only v) u j there);
       noted = λ j u there. note (λ p. counts p) j u (at_snoc (set vs id (others_of v)) (first_only v) u j there);
@@ -286,6 +311,7 @@ takes_back o id v other w live s h at apart there =
     record {
       words_are = h.words_are ∙ sym (words_same o (counted vs) (counted after) sums.counts);
       once = λ p. let a : ℕ = named after p in let b : ℕ = named vs p in let e : a ≡ b = sums.names p in let one : b ≤ 1 = h.once p in omega (arith, e, one);
+      each = λ p less. sums.names p ∙ h.each p less;
       same =
           λ j u here alive.
           ⊎_elim

@@ -43,3 +43,13 @@ few_below (suc n) cs once = let a : ℕ = names_in n cs in let b : ℕ = names_b
 
 pub no_more : (n : ℕ) (cs : List (ℕ × ℕ)) → All (λ c. c.0 < n) cs → ((p : ℕ) → names_in p cs ≤ 1) → length cs ≤ n
 no_more n cs all once = let a : ℕ = length cs in let b : ℕ = names_below n cs in let same : a ≡ b = all_below n cs all in let few : b ≤ n = few_below n cs once in omega (arith, same, few)
+
+-- and where each of them is named once, as many are
+full_below : (n : ℕ) (cs : List (ℕ × ℕ)) → ((p : ℕ) → p < n → names_in p cs ≡ 1) → names_below n cs ≡ n
+full_below zero cs each = refl
+full_below (suc n) cs each =
+    let a : ℕ = names_in n cs in let b : ℕ = names_below n cs in let one : a ≡ 1 = each n (omega arith) in
+    let rest : b ≡ n = full_below n cs (λ p less. each p (omega (arith, less))) in let z : a + b ≡ suc n = omega (arith, one, rest) in z
+
+pub as_many : (n : ℕ) (cs : List (ℕ × ℕ)) → All (λ c. c.0 < n) cs → ((p : ℕ) → p < n → names_in p cs ≡ 1) → length cs ≡ n
+as_many n cs all each = all_below n cs all ∙ full_below n cs each

@@ -1,5 +1,5 @@
 -- The end of a phase.
-use Rattle.std.specs.Prelude.{◌≡◌, ℕ, ◌<◌, ◌≤◌, ◌==◌, Bool, true, false, not, List, [], ◌∷◌, length, map, slice_index_or, if◌then◌else◌}
+use Rattle.std.specs.Prelude.{◌≡◌, ℕ, ◌<◌, ◌≤◌, ◌==◌, Bool, true, false, not, List, [], ◌∷◌, ◌++◌, length, map, slice_index_or, if◌then◌else◌}
 use Rattle.std.specs.Vec.{vec_capacity}
 use Rattle.std.specs.declared.vec.Vec.{Vec}
 use Rattle.std.specs.declared.alloc.Global.{Global}
@@ -36,6 +36,10 @@ steps_made ts p = count_in p (counts_of ts)
 -- what a turn hands in whose piece has steps left
 abbrev pub unended_of : PostContent → List Unended
 unended_of t = if t.steps == steps_to_do t then [] else record { piece = t.number; steps = t.steps } ∷ []
+
+-- the numbers of the pieces that are in one of two lists: of those that have ended, and of those that have steps left
+abbrev pub numbers_in : List DoneContent → List Unended → List ℕ
+numbers_in ds us = map (λ d. d.number) ds ++ map (λ u. u.piece) us
 
 -- each piece has a turn among these
 abbrev pub AreAll : SheetContent → List PostContent → Type 0

@@ -29,6 +29,8 @@ pub record Holds (o : Opening) (words : List ℕ) (views : List View) : Type 0 w
   pub words_are : words ≡ words_in o (counted views)
   -- no piece is with two seats
   pub once : (p : ℕ) → named views p ≤ 1
+  -- each piece of the phase is with exactly one seat
+  pub each : (p : ℕ) → p < length o.pieces → named views p ≡ 1
   -- all seats are of this phase
   pub same : (k : ℕ) (v : View) → get_elem? views k ≡ some v → v.live ≡ true → v.opening ≡ o
   -- what a seat noted is still so: counts only grow

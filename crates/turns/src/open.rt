@@ -62,12 +62,13 @@ pub struct NotAll {
 }
 
 impl Open {
-    ghost use Rattle.std.specs.Prelude.{◌≡◌, ◌⊎◌, length, IfOk, IfErr, OnOk, OnErr};
+    ghost use Rattle.std.specs.Prelude.{◌≡◌, ◌⊎◌, ℕ, ◌+◌, ◌<◌, true, false, length, IfOk, IfErr, OnOk, OnErr};
     ghost use Rattle.std.specs.List.{All, flat_map};
     ghost use Rattle.pieces.specs.Applied.{applied};
+    ghost use Rattle.pieces.specs.Distinct.{is_none_of, are_distinct};
     ghost use Rattle.pieces.specs.Phases.{CanBeWorked};
     ghost use Rattle.turns.specs.Turns.{new_turns, done_of};
-    ghost use Rattle.turns.specs.Closing.{unended_of, steps_made, AreAll, AreAllWatchers, OneIsWanting, OneWatcherIsWanting};
+    ghost use Rattle.turns.specs.Closing.{unended_of, steps_made, numbers_in, AreAll, AreAllWatchers, OneIsWanting, OneWatcherIsWanting};
     ghost use Rattle.turns.specs.Watching.{new_watchers};
 
     /// Shares the words that the pieces of a phase name, and gives one turn for each piece, in their order.
@@ -124,6 +125,7 @@ impl Open {
 
     /// Ends the sharing. The words are those at opening with exactly the steps that the turns made, in whatever order they made
     /// them: also in the middle of their pieces. Each turn hands in what its piece found out, or how many steps were done.
+    /// Each piece of the phase is in one of these two lists, once, and nothing else is.
     ///
     /// They are turns and watchers of this phase. With all of them it takes no memory.
     ///
@@ -138,6 +140,9 @@ impl Open {
         ensures words { IfOk result (λ r. r.0.items ≡ applied self.opening.words self.opening.pieces (steps_made turns.items)) }
         ensures dones { IfOk result (λ r. r.1.items ≡ flat_map done_of turns.items) }
         ensures unended { IfOk result (λ r. r.2.items ≡ flat_map unended_of turns.items) }
+        ensures once { IfOk result (λ r. are_distinct (numbers_in r.1.items r.2.items) ≡ true) }
+        ensures each { IfOk result (λ r. (p : ℕ) → p < length self.opening.pieces → is_none_of (numbers_in r.1.items r.2.items) p ≡ false) }
+        ensures how_many { IfOk result (λ r. length r.1.items + length r.2.items ≡ length self.opening.pieces) }
         ensures all { OnOk result (AreAll self turns.items) }
         ensures all_watchers { OnOk result (AreAllWatchers self watchers.items) }
         ensures wanting { OnErr result (OneIsWanting self turns.items ⊎ OneWatcherIsWanting self watchers.items) }

@@ -6,7 +6,7 @@ ghost use Rattle.fpage.specs.Fpage.{IsSpaceBits, IsFpageOf};
 ghost use Rattle.space.specs.Directory.{pages_of};
 ghost use Rattle.mapdb.specs.Held.{index_in, limits_of, IsWithin};
 
-use crate::assertions::assert_equal;
+use crate::assertions::{assert_equal, assert_holds};
 use crew::Workers;
 use fpage::{Access, Control, Fpage, Item, Rights, with_status};
 use mapdb::{Database, DbError, Limits, SendReply};
@@ -171,9 +171,10 @@ fn page_word(rt: &impl Abort, page: u32, rights: Rights) -> u32 {
     page * 4096 + 0xc0 + rights.number()
 }
 
-/// Looks at a database that ran out of memory: it is halted, and says so to every call.
+/// Looks at a database that was refused memory or a thread: it is halted, and says so to every call.
 fn halted(rt: &impl Abort, database: &Database, error: DbError) -> DbError {
-    assert_equal(rt, error, DbError::NoMemory, "an error");
+    let refused = error == DbError::NoMemory || error == DbError::NoWorker;
+    assert_holds(rt, refused, "an error");
     assert!(rt; database.is_halted());
     let root = page(rt, database, (0, 5));
     let answers = (database.entry(root), database.origin(root));

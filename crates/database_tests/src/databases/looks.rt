@@ -91,7 +91,7 @@ impl Observe for Spectator {
 }
 
 impl Gate for Spectator {
-    fn begin(&self, _worker: usize, _piece: usize) {
+    fn begin(&self, _worker: usize, _workers: usize, _turn: &Turn, _shared: &Open) {
         for _ in 0..TRIES {
             if self.before.load(Ordering::SeqCst) >= BEFORE {
                 return;
@@ -100,7 +100,7 @@ impl Gate for Spectator {
         }
     }
 
-    fn end(&self, _worker: usize, _turn: &Turn, _shared: &Open) {}
+    fn end(&self, _worker: usize, _workers: usize, _turn: &Turn, _shared: &Open) {}
 }
 
 /// An observer of the pages of space 1 that are held.

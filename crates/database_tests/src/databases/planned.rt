@@ -63,6 +63,10 @@ impl<'a, T: Abort> Workers for Looking<'a, T> {
 
     ghost starts_none = { λ _. ⊤ };
 
+    ghost length_of = { λ _. 2 };
+
+    ghost least_of = { λ _. 0 };
+
     fn piece_length(&self) -> usize {
         2
     }

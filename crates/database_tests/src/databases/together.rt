@@ -58,7 +58,7 @@ impl Meeting {
 }
 
 impl Gate for Meeting {
-    fn begin(&self, worker: usize, _piece: usize) {
+    fn begin(&self, worker: usize, _workers: usize, _turn: &Turn, _shared: &Open) {
         if worker < 64 {
             self.workers
                 .fetch_or(1u64 << (worker as u32), Ordering::SeqCst);
@@ -69,7 +69,7 @@ impl Gate for Meeting {
         }
     }
 
-    fn end(&self, _worker: usize, turn: &Turn, _shared: &Open) {
+    fn end(&self, _worker: usize, _workers: usize, turn: &Turn, _shared: &Open) {
         self.ended.fetch_add(1, Ordering::SeqCst);
         if turn.steps() == 1 && turn.piece() < 64 {
             let bit = 1u64 << (turn.piece() as u32);
@@ -88,6 +88,10 @@ impl<'a, R: Threads + Wait> Workers for Held<'a, R> {
     ghost use Rattle.std.specs.Prelude.{◌≤◌};
 
     ghost starts_none = { λ held. held.crew.workers ≤ 1 };
+
+    ghost length_of = { λ held. held.crew.piece_length };
+
+    ghost least_of = { λ held. held.crew.least };
 
     fn piece_length(&self) -> usize {
         self.crew.piece_length()

@@ -76,7 +76,7 @@ impl Observe for Monitor {
 }
 
 impl Gate for Monitor {
-    fn begin(&self, _worker: usize, _piece: usize) {
+    fn begin(&self, _worker: usize, _workers: usize, _turn: &Turn, _shared: &Open) {
         for _ in 0..TRIES {
             if self.before.load(Ordering::SeqCst) == 1 {
                 return;
@@ -85,7 +85,7 @@ impl Gate for Monitor {
         }
     }
 
-    fn end(&self, _worker: usize, _turn: &Turn, _shared: &Open) {}
+    fn end(&self, _worker: usize, _workers: usize, _turn: &Turn, _shared: &Open) {}
 }
 
 /// Unmaps a word while an observer looks, and looks at the word that comes back.

@@ -1,15 +1,25 @@
-use Rattle.std.proofs.Common.{⊎_elim, length, ◌∙◌, ap, sym, subst}
+use Rattle.std.proofs.Common.{rules, ⊎_elim, ◌≡◌, ◌<◌, length, ◌∙◌, ap, sym, subst}
+use Rattle.std.specs.Prelude.{IsErrOf, min}
 use Rattle.std.specs.List.{All, range_with_len}
 use Rattle.pieces.specs.Phases.{CanBeWorked}
 use Rattle.turns.specs.Closing.{numbers_of}
 use Rattle.crew.specs.Hands.{IsFresh, weigh}
 use Rattle.crew.specs.Worked.{IsWorked}
-use Rattle.crew.proofs.Wholes.{numbers_new, new_fresh, all_there, all_worked, none_wanting, no_watchers}
+use Rattle.crew.specs.declared.error.CrewError.TheVariants.{NoWorker}
+use Rattle.crew.proofs.Wholes.{many_new, numbers_new, new_fresh, all_there, all_worked, none_wanting, no_watchers}
 use Rattle.crew.proofs.shared.work_shared.Goals as goal
 
 pub work_turns-requires-clause-fresh : goal.work_turns-requires-clause-fresh
 work_turns-requires-clause-fresh g c =
     let s = c.in_ok-shared.shared in λ _ _. subst (All (IsFresh s)) (sym c.in_ok-shared.ensures.turns) (new_fresh s (length c.args.pieces.items))
+
+pub work_turns-requires-clause-some : goal.work_turns-requires-clause-some
+work_turns-requires-clause-some g c =
+    let s = c.in_ok-shared.shared in λ _ _. subst (λ n. 0 < n) (sym (ap length c.in_ok-shared.ensures.turns ∙ many_new s (length c.args.pieces.items))) c.requires.some
+
+pub work_turns-requires-clause-each : goal.work_turns-requires-clause-each
+work_turns-requires-clause-each g c =
+    let s = c.in_ok-shared.shared in λ _ _. ap length c.in_ok-shared.ensures.turns ∙ many_new s (length c.args.pieces.items) ∙ ap length (sym c.in_ok-shared.ensures.pieces)
 
 pub unreachable-requires : goal.unreachable-requires
 unreachable-requires g c =
@@ -27,3 +37,10 @@ returns-clause-worked g c =
     subst (λ v. IsWorked v ps c.in-Ok.words.items c.in-Ok.dones.items) words
     (subst (λ qs. IsWorked o.words qs c.in-Ok.words.items c.in-Ok.dones.items) pieces
     (subst (λ v. IsWorked o.words o.pieces v c.in-Ok.dones.items) (sym c.in-Ok.ensures.words) (subst (IsWorked o.words o.pieces _) (sym c.in-Ok.ensures.dones) all)))
+
+pub returns-in_err-turns-clause-no_worker : goal.returns-in_err-turns-clause-no_worker
+returns-in_err-turns-clause-no_worker g c =
+    λ is.
+    let no : IsErrOf c.work_turns.result NoWorker = search (rules, is) in
+    let many : length c.in_ok-shared.turns.items ≡ length c.args.pieces.items = ap length c.in_ok-shared.ensures.turns ∙ many_new c.in_ok-shared.shared (length c.args.pieces.items) in
+    subst (λ n. 1 < min c.args.crew.now.workers n) many (c.work_turns.ensures.no_worker no)

@@ -1,4 +1,4 @@
-use Rattle.std.proofs.Common.{◌≡◌, length, ◌∷◌, [], ◌++◌, ⊎_elim, arith, ◌∙◌, ap, sym, subst}
+use Rattle.std.proofs.Common.{◌≡◌, ◌<◌, length, ◌∷◌, [], ◌++◌, ⊎_elim, arith, ◌∙◌, ap, sym, subst}
 use Rattle.std.specs.List.{All, range_with_len}
 use Rattle.std.specs.Option.{option_to_list}
 use Rattle.std.proofs.lemmas.List.Elements.{All-cons}
@@ -7,12 +7,20 @@ use Rattle.pieces.specs.Phases.{CanBeWorked}
 use Rattle.turns.specs.Closing.{numbers_of, OneWatcherIsWanting}
 use Rattle.crew.specs.Hands.{IsFresh, weigh}
 use Rattle.crew.specs.Worked.{IsWorked}
-use Rattle.crew.proofs.Wholes.{numbers_new, new_fresh, all_there, all_worked, none_wanting, only_watcher, only_one}
+use Rattle.crew.proofs.Wholes.{many_new, numbers_new, new_fresh, all_there, all_worked, none_wanting, only_watcher, only_one}
 use Rattle.crew.proofs.watched.work_shared_watched.Goals as goal
 
 pub work_turns_watched-requires-clause-fresh : goal.work_turns_watched-requires-clause-fresh
 work_turns_watched-requires-clause-fresh g c =
     let s = c.in_ok-shared.shared in λ _ _. subst (All (IsFresh s)) (sym c.in_ok-shared.ensures.turns) (new_fresh s (length c.args.pieces.items))
+
+pub work_turns_watched-requires-clause-some : goal.work_turns_watched-requires-clause-some
+work_turns_watched-requires-clause-some g c =
+    let s = c.in_ok-shared.shared in λ _ _. subst (λ n. 0 < n) (sym (ap length c.in_ok-shared.ensures.turns ∙ many_new s (length c.args.pieces.items))) c.requires.some
+
+pub work_turns_watched-requires-clause-each : goal.work_turns_watched-requires-clause-each
+work_turns_watched-requires-clause-each g c =
+    let s = c.in_ok-shared.shared in λ _ _. ap length c.in_ok-shared.ensures.turns ∙ many_new s (length c.args.pieces.items) ∙ ap length (sym c.in_ok-shared.ensures.pieces)
 
 pub close-requires-clause-watchers : goal.close-requires-clause-watchers
 close-requires-clause-watchers g c =

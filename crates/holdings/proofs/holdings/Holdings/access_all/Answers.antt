@@ -23,14 +23,14 @@ pub work_phase-requires-clause-can : goal.work_phase-requires-clause-can
 work_phase-requires-clause-can g c =
     let d = c.self.inside in
     let within = subst (λ (s : Contents). All (λ (t : Place × Access). IsWithin s.limits t.0) c.args.accesses.now) (sym c.self.view_is) c.requires.within in
-    accesses_can d.shards d.trees.items c.self.invariant c.args.accesses.now within c.piece_length.result c.piece_length.ensures c.in_ok-pieces.pieces.items
+    accesses_can d.shards d.trees.items c.self.invariant c.args.accesses.now within c.piece_length.result c.piece_length.ensures.some c.in_ok-pieces.pieces.items
     (are_pieces c.in_ok-list.list.items _ c.piece_length.result c.in_ok-pieces.pieces.items c.in_ok-list.ensures c.in_ok-pieces.ensures)
 
 pub invariant_of-result-2 : goal.invariant_of-result-2
 invariant_of-result-2 g c =
     let d = c.self.inside in
     let within = subst (λ (s : Contents). All (λ (t : Place × Access). IsWithin s.limits t.0) c.args.accesses.now) (sym c.self.view_is) c.requires.within in
-    accesses_sound d.shards d.trees.items c.self.invariant c.args.accesses.now within c.piece_length.result c.piece_length.ensures c.in_ok-pieces.pieces.items
+    accesses_sound d.shards d.trees.items c.self.invariant c.args.accesses.now within c.piece_length.result c.piece_length.ensures.some c.in_ok-pieces.pieces.items
     (are_pieces c.in_ok-list.list.items _ c.piece_length.result c.in_ok-pieces.pieces.items c.in_ok-list.ensures c.in_ok-pieces.ensures) c.work_phase.new.shards c.in_ok-found.found c.in_ok-found.ensures.worked
 
 pub returns-clause-accessed : goal.returns-clause-accessed
@@ -40,8 +40,8 @@ returns-clause-accessed g c =
     let are = are_pieces c.in_ok-list.list.items _ c.piece_length.result c.in_ok-pieces.pieces.items c.in_ok-list.ensures c.in_ok-pieces.ensures in
     subst (λ (old : Contents). AreAccessed old c.args.accesses.now (contents_of c.work_phase.new.shards d.trees.items, c.in_ok-answers-2.answers)) c.self.view_is
     (record {
-      left = accesses_left d.shards d.trees.items c.self.invariant c.args.accesses.now within c.piece_length.result c.piece_length.ensures c.in_ok-pieces.pieces.items are c.work_phase.new.shards c.in_ok-found.found c.in_ok-found.ensures.worked;
-      answers = c.in_ok-answers-2.ensures ∙ ap (with_faults (map (is_there c.work_phase.new.shards) c.args.accesses.now)) c.deref.ensures.value ∙ accesses_answered d.shards d.trees.items c.self.invariant c.args.accesses.now within c.piece_length.result c.piece_length.ensures c.in_ok-pieces.pieces.items are c.work_phase.new.shards c.in_ok-found.found c.in_ok-found.ensures.worked;
+      left = accesses_left d.shards d.trees.items c.self.invariant c.args.accesses.now within c.piece_length.result c.piece_length.ensures.some c.in_ok-pieces.pieces.items are c.work_phase.new.shards c.in_ok-found.found c.in_ok-found.ensures.worked;
+      answers = c.in_ok-answers-2.ensures ∙ ap (with_faults (map (is_there c.work_phase.new.shards) c.args.accesses.now)) c.deref.ensures.value ∙ accesses_answered d.shards d.trees.items c.self.invariant c.args.accesses.now within c.piece_length.result c.piece_length.ensures.some c.in_ok-pieces.pieces.items are c.work_phase.new.shards c.in_ok-found.found c.in_ok-found.ensures.worked;
     })
 
 pub returns-then-is_empty-clause-accessed : goal.returns-then-is_empty-clause-accessed
@@ -53,6 +53,6 @@ returns-then-is_empty-clause-accessed g c =
     let none = sym c.in_ok-pieces.pieces.ok.0 ∙ empty in
     subst (λ (old : Contents). AreAccessed old c.args.accesses.now (contents_of d.shards d.trees.items, c.in_ok-answers.answers)) c.self.view_is
     (record {
-      left = nothing_touched d.shards d.trees.items c.self.invariant c.args.accesses.now within c.piece_length.result c.piece_length.ensures c.in_ok-pieces.pieces.items are none;
-      answers = c.in_ok-answers.ensures ∙ all_faults d.shards d.trees.items c.self.invariant c.args.accesses.now within c.piece_length.result c.piece_length.ensures c.in_ok-pieces.pieces.items are none;
+      left = nothing_touched d.shards d.trees.items c.self.invariant c.args.accesses.now within c.piece_length.result c.piece_length.ensures.some c.in_ok-pieces.pieces.items are none;
+      answers = c.in_ok-answers.ensures ∙ all_faults d.shards d.trees.items c.self.invariant c.args.accesses.now within c.piece_length.result c.piece_length.ensures.some c.in_ok-pieces.pieces.items are none;
     })
