@@ -4,7 +4,7 @@
     bench/traps.py [--only NAME] [PROGRAM]
 
 PROGRAM is crates/l4map/out/l4map, which build.sh makes, if it is not given; the other is plain.rs. Both run with one
-worker, in turn, and must write the same bytes. Each trap has four sizes. First the mappings are made that it needs,
+worker, if the trap does not say otherwise, in turn, and must write the same bytes. Each trap has four sizes. First the mappings are made that it needs,
 then come its calls: a time is what the calls take beyond a run that only makes the mappings, for each record. One table
 in Markdown is printed. An exponent is that of the time of a record from the smallest size to the largest: 0 where a
 record takes as long, and 1 where it takes twice as long at twice the size. A trap ends where a run takes longer than
@@ -21,7 +21,7 @@ from typing import Callable, NamedTuple
 HERE = os.path.dirname(os.path.abspath(__file__))
 sys.path.insert(0, HERE)
 from bench import ALL_PAGES, PAGES, TOP, flush, send, unmap  # noqa: E402
-from performance import ONE_FRAME, Bench, head, one_frame, progress, row  # noqa: E402
+from performance import ONE_FRAME, ONE_WORKER, Bench, head, one_frame, progress, row  # noqa: E402
 
 RUNS = 3
 SHARE = 20  # calls that take less than one such part of a run are not told from the rest of it
@@ -164,17 +164,46 @@ def chain_grows(size):
     return [], calls[:size]
 
 
+def chains(size):
+    """Chains of 64 below the root."""
+    tree, records, at = Grown(), [], ROOT
+    for number in range(size):
+        record, at = tree.child(ROOT if number % 64 == 0 else at)
+        records.append(record)
+    return records
+
+
+def random_tree(size):
+    """Each mapping derives from any that there is. The audit at the end looks for the origin of each."""
+    tree, chance, places, calls = Grown(), random.Random(17), [ROOT], []
+    for _ in range(size):
+        record, place = tree.child(chance.choice(places))
+        calls.append(record)
+        places.append(place)
+    return [], calls
+
+
+def chains_grow(size):
+    return [], chains(size)
+
+
+def chains_go(size):
+    return chains(size), [unmap(0, 0xC7)]
+
+
 class Trap(NamedTuple):
-    """What is asked for by a size, the sizes, and how many mappings of the frame one of a size is."""
+    """What is asked for by a size, the sizes, how many mappings of the frame one of a size is, and arguments of l4map."""
 
     name: str
     trace: Callable
     sizes: list[int]
     scale: int = 1
+    arguments: list[str] = ONE_WORKER
 
 
 BLOCKED = [8_000, 16_000, 32_000, 64_000]
 WIDE = [58, 116, 232, 464]
+LONG = [125_000, 250_000, 500_000, 1_000_000]
 TRAPS = [
     Trap("fan behind a full block", fan_behind, BLOCKED),
     Trap("comb at the front of a block", comb, BLOCKED),
@@ -186,6 +215,10 @@ TRAPS = [
     Trap("pages of one frame granted at once", granted, WIDE, PAGES),
     Trap("partial prune of 600", partly_pruned, WIDE, PAGES),
     Trap("chain that is cut and grows", chain_grows, [25_000, 50_000, 100_000, 200_000]),
+    Trap("chains of 64", chains_grow, LONG),
+    Trap("each from any, and the audit", random_tree, LONG),
+    Trap("chains revoked by recursion", chains_go, BLOCKED, 1, ["--plain"]),
+    Trap("chains revoked in pieces of one", chains_go, LONG, 1, ["--workers", "64", "--piece", "1"]),
 ]
 
 
@@ -213,10 +246,10 @@ def measured(bench, words, made, calls):
     return Measured(micros, peak / 1024, whole / 1000)
 
 
-def check_same(bench, made, calls):
+def check_same(bench, ours, made, calls):
     """Both programs write the same bytes."""
     trace, written = bench.trace([*made, *calls], ONE_FRAME), []
-    for words, name in (bench.ours, "ours.txt"), (bench.plain, "plain.txt"):
+    for words, name in (ours, "ours.txt"), (bench.plain, "plain.txt"):
         bench.run(words, trace, name)
         with open(bench.path(name), "rb") as output:
             written.append(output.read())
@@ -242,13 +275,13 @@ def times(ours, plain):
 
 def report(bench, trap):
     """A line for each size; the exponents stand in the last."""
-    ours, plain = [], []
+    ours, plain, words = [], [], [*bench.ours[:1], *trap.arguments]
     for number, size in enumerate(trap.sizes):
         progress(f"{trap.name}, {size:,}")
         made, calls = trap.trace(size)
         if number == 0:
-            check_same(bench, made, calls)
-        ours.append(measured(bench, bench.ours, made, calls))
+            check_same(bench, words, made, calls)
+        ours.append(measured(bench, words, made, calls))
         plain.append(measured(bench, bench.plain, made, calls))
         is_last = size == trap.sizes[-1] or ours[-1].seconds > LIMIT
         exponents = (exponent(trap.sizes, ours), exponent(trap.sizes, plain)) if is_last else ("", "")

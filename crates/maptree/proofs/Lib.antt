@@ -2,7 +2,7 @@ pub mod Nearest
 pub mod Parts
 pub mod BlockChanges
 pub mod Starts
-pub mod Leasts
+pub mod MinDepths
 pub mod Standing
 pub mod InBlocks
 pub mod AtSeat

@@ -80,7 +80,7 @@ pub record AreStarts (bs : List (List Node)) (starts : Grouped) : Type 0 where
 
 -- a depth for each block, with room for so many
 pub record Bounds : Type 0 where
-  pub leasts : List ℕ
+  pub min_depths : List ℕ
   pub capacity : ℕ
 
 -- for each group of 64 a number that is no greater than theirs
@@ -90,6 +90,6 @@ pub record AreLow (groups numbers : List ℕ) : Type 0 where
   pub each : (k : ℕ) → k < length numbers → slice_index groups (k / 64) ≤ slice_index numbers k
 
 -- for each block a depth that none of its nodes goes below
-pub record AreLeasts (bs : List (List Node)) (leasts : List ℕ) : Type 0 where
-  pub count : length leasts ≡ length bs
-  pub each : (k : ℕ) → k < length bs → is_least (slice_index leasts k) (get_or bs k []) ≡ true
+pub record AreMinDepths (bs : List (List Node)) (min_depths : List ℕ) : Type 0 where
+  pub count : length min_depths ≡ length bs
+  pub each : (k : ℕ) → k < length bs → is_least (slice_index min_depths k) (get_or bs k []) ≡ true

@@ -1,16 +1,16 @@
 //! A list of nodes in blocks, so that a change of it touches the blocks that it changes.
 
 ghost use Rattle.std.specs.Prelude.{◌≡◌, ◌≤◌, ◌<◌, ◌+◌, ◌-◌, ◌^◌, ℕ, [], OnOk, get_or, length, map, vec_capacity};
-ghost use Rattle.maptree.specs.Blocks.{AreLeasts, AreStarts, block_size, nodes_in};
+ghost use Rattle.maptree.specs.Blocks.{AreMinDepths, AreStarts, block_size, nodes_in};
 ghost use Rattle.maptree.specs.PlaceMaps.{place_for};
 ghost use Rattle.maptree.specs.Renamings.{nodes_renamed};
 
 use crate::block::{BLOCK_SIZE, Block, behind_first, least_of, most_of};
-use crate::block_leasts::Leasts;
 use crate::block_starts::Starts;
 use crate::hints::Hints;
-use crate::notes::Notes;
+use crate::min_depths::MinDepths;
 use crate::place_map::PlaceMap;
+use crate::position_cache::PositionCache;
 use mapnode::{Node, Slice};
 use space::Place;
 use std::alloc::{AllocError, Global};
@@ -50,7 +50,7 @@ pub struct Blocks {
     /// For each block, how many nodes stand before it.
     starts: Starts,
     /// For each block, a depth that none of its nodes goes below.
-    leasts: Leasts,
+    min_depths: MinDepths,
     /// Blocks for nodes to come: at least as many as insertions were promised, each of which may split a block.
     spare: Vec<Block>,
     /// How many insertions will take no memory.
@@ -65,18 +65,18 @@ pub struct Blocks {
     /// rests on it.
     thinned: usize,
     hints: Hints,
-    notes: Notes,
+    position_cache: PositionCache,
 }
 
 impl Model for Blocks {
     ghost use Rattle.std.specs.Prelude.{◌≡◌, ◌<◌, ◌≤◌, ◌+◌, ◌^◌, true, length, drop, vec_capacity, vec_len};
-    ghost use Rattle.maptree.specs.Blocks.{AreLeasts, AreStarts, Blocked, is_least, is_most, nodes_in};
+    ghost use Rattle.maptree.specs.Blocks.{AreMinDepths, AreStarts, Blocked, is_least, is_most, nodes_in};
 
     ghost Value = { Blocked };
 
     ghost view = { λ b. record { blocks = b.blocks.items; room = b.room } };
 
-    ghost invariant = { λ b. (b.len ≡ length (nodes_in b.blocks.items)) × (0 < length b.blocks.items) × (b.room ≤ length b.spare.items) × (length b.blocks.items + b.room ≤ vec_capacity b.blocks) × (b.len + b.room < 2 ^ 64) × AreStarts b.blocks.items b.starts × (length b.blocks.items + b.room ≤ b.starts.capacity) × AreLeasts b.blocks.items b.leasts.leasts × (length b.blocks.items + b.room ≤ b.leasts.capacity) × (is_least b.behind (drop 1 (nodes_in b.blocks.items)) ≡ true) × (is_most b.deepest (nodes_in b.blocks.items) ≡ true) };
+    ghost invariant = { λ b. (b.len ≡ length (nodes_in b.blocks.items)) × (0 < length b.blocks.items) × (b.room ≤ length b.spare.items) × (length b.blocks.items + b.room ≤ vec_capacity b.blocks) × (b.len + b.room < 2 ^ 64) × AreStarts b.blocks.items b.starts × (length b.blocks.items + b.room ≤ b.starts.capacity) × AreMinDepths b.blocks.items b.min_depths.min_depths × (length b.blocks.items + b.room ≤ b.min_depths.capacity) × (is_least b.behind (drop 1 (nodes_in b.blocks.items)) ≡ true) × (is_most b.deepest (nodes_in b.blocks.items) ≡ true) };
 }
 
 impl Blocks {
@@ -122,7 +122,7 @@ impl Blocks {
         ensures seat { IsSeat self.now.blocks i result }
         ensures behind { 0 < i → 0 < result.offset }
     {
-        let (block, before) = self.starts.last_below(i, self.notes.block_at(i));
+        let (block, before) = self.starts.last_below(i, self.position_cache.block_at(i));
         Seat {
             block,
             offset: i - before,
@@ -223,9 +223,9 @@ impl Blocks {
         requires { block ≤ length self.now.blocks }
         ensures { result ≡ length (nodes_in (take block self.now.blocks)) + run_len depth (nodes_in (drop block self.now.blocks)) }
     {
-        let first = self.leasts.pass_above(block, depth);
+        let first = self.min_depths.pass_above(block, depth);
         for k in first..self.blocks.len() {
-            if self.leasts.get(k) as usize <= depth {
+            if self.min_depths.get(k) as usize <= depth {
                 let block = &self.blocks[k];
                 let deeper = block.deeper(0, depth);
                 if deeper < block.len() {
@@ -302,9 +302,9 @@ impl Blocks {
         ensures last { option_map (nodes_before self.now.blocks) result ≡ last_less depth (nodes_in (take block self.now.blocks)) }
         ensures inside { IfSome result (HasNode self.now.blocks) }
     {
-        let end = self.leasts.pass_back(block, depth);
+        let end = self.min_depths.pass_back(block, depth);
         for k in (0..end).rev() {
-            if (self.leasts.get(k) as usize) < depth {
+            if (self.min_depths.get(k) as usize) < depth {
                 let block = &self.blocks[k];
                 if let Some(offset) = block.last_above(block.len(), depth) {
                     return Some(Seat { block: k, offset });
@@ -340,7 +340,7 @@ impl Blocks {
         let block = &mut self.blocks[seat.block];
         block.insert(seat.offset, node);
         let (number, len) = (block.number(), block.len());
-        self.leasts.set(seat.block, block.least());
+        self.min_depths.set(seat.block, block.least());
         self.behind = if i == 0 {
             0
         } else {
@@ -350,7 +350,7 @@ impl Blocks {
         self.len += 1;
         self.starts.add(seat.block, 1);
         self.hints.put(node.place, number, seat.offset, len);
-        self.renew_notes(1);
+        self.renew_cache(1);
     }
 
     /// A seat behind so many nodes for one more. Behind all nodes of a full block that is the one before the nodes of
@@ -416,7 +416,7 @@ impl Blocks {
         prove!(inserted.is_ok());
         self.room -= 1;
         count(&mut self.starts, &self.blocks);
-        list_leasts(&mut self.leasts, &self.blocks);
+        list_min_depths(&mut self.min_depths, &self.blocks);
         hint_blocks(&mut self.hints, &self.blocks, block);
     }
 
@@ -435,9 +435,9 @@ impl Blocks {
         }
         self.blocks.reserve(n)?;
         self.starts.reserve(n)?;
-        self.leasts.reserve(n)?;
+        self.min_depths.reserve(n)?;
         self.hints.reserve(n)?;
-        self.notes.reserve(n)?;
+        self.position_cache.reserve(n)?;
         fill(&mut self.spare, n)?;
         self.room = n;
         Ok(())
@@ -481,15 +481,15 @@ impl Blocks {
         hint_blocks(&mut hints, &blocks, 0);
         let mut starts = Starts::with_capacity(alloc, blocks.len())?;
         count(&mut starts, &blocks);
-        let mut notes = Notes::none(alloc);
-        notes.reserve(nodes.len())?;
-        note_blocks(&mut notes, &blocks);
-        let mut leasts = Leasts::with_capacity(alloc, blocks.len())?;
-        list_leasts(&mut leasts, &blocks);
+        let mut cache = PositionCache::none(alloc);
+        cache.reserve(nodes.len())?;
+        cache_blocks(&mut cache, &blocks);
+        let mut min_depths = MinDepths::with_capacity(alloc, blocks.len())?;
+        list_min_depths(&mut min_depths, &blocks);
         Ok(Blocks {
             blocks,
             starts,
-            leasts,
+            min_depths,
             spare: Vec::new(alloc),
             room: 0,
             len: nodes.len(),
@@ -497,7 +497,7 @@ impl Blocks {
             deepest: most_of(nodes),
             thinned: 0,
             hints,
-            notes,
+            position_cache: cache,
         })
     }
 
@@ -575,7 +575,7 @@ impl Blocks {
             self.remove(range.start - gone, range.end - gone);
             gone += range.end - range.start;
         }
-        self.renew_notes(gone);
+        self.renew_cache(gone);
         // To close up is a pass over all blocks, so many blocks wait for it where there are many.
         if self.thinned > self.blocks.len() / THIN {
             self.close_up();
@@ -583,12 +583,12 @@ impl Blocks {
     }
 
     /// So many nodes came or went. Where that was much, it is noted anew which blocks have which positions.
-    fn renew_notes(&mut self, moved: usize)
+    fn renew_cache(&mut self, moved: usize)
         ensures { self.new ≡ self.old }
     {
-        self.notes.tell(moved);
-        if self.notes.are_old(self.len) {
-            note_blocks(&mut self.notes, &self.blocks);
+        self.position_cache.tell(moved);
+        if self.position_cache.are_old(self.len) {
+            cache_blocks(&mut self.position_cache, &self.blocks);
         }
     }
 
@@ -605,8 +605,8 @@ impl Blocks {
         free_empty(&mut self.hints, &self.blocks);
         self.blocks.retain(|block| !block.nodes().is_empty());
         count(&mut self.starts, &self.blocks);
-        note_blocks(&mut self.notes, &self.blocks);
-        list_leasts(&mut self.leasts, &self.blocks);
+        cache_blocks(&mut self.position_cache, &self.blocks);
+        list_min_depths(&mut self.min_depths, &self.blocks);
         hint_blocks(&mut self.hints, &self.blocks, 0);
     }
 
@@ -653,14 +653,14 @@ fn count(starts: &mut Starts, blocks: &[Block])
 }
 
 /// For each of some blocks a depth that none of its nodes goes below. This takes no memory.
-fn list_leasts(leasts: &mut Leasts, blocks: &[Block])
-    requires room { length blocks.now ≤ leasts.old.capacity }
-    ensures leasts { AreLeasts blocks.now leasts.new.leasts }
-    ensures capacity { leasts.old.capacity ≤ leasts.new.capacity }
+fn list_min_depths(min_depths: &mut MinDepths, blocks: &[Block])
+    requires room { length blocks.now ≤ min_depths.old.capacity }
+    ensures min_depths { AreMinDepths blocks.now min_depths.new.min_depths }
+    ensures capacity { min_depths.old.capacity ≤ min_depths.new.capacity }
 {
-    leasts.clear();
+    min_depths.clear();
     for block in blocks {
-        leasts.push(block.least());
+        min_depths.push(block.least());
     }
 }
 
@@ -802,12 +802,12 @@ fn hint_from(hints: &mut Hints, block: &Block, from: usize) {
 }
 
 /// Which blocks have which positions.
-fn note_blocks(notes: &mut Notes, blocks: &[Block]) {
-    notes.clear();
+fn cache_blocks(cache: &mut PositionCache, blocks: &[Block]) {
+    cache.clear();
     let mut end = 0_usize;
     for k in 0..blocks.len() {
         end = end.saturating_add(blocks[k].len());
-        notes.put(end, k);
+        cache.put(end, k);
     }
 }
 

@@ -2,6 +2,7 @@
 
 use space::Place;
 use std::alloc::{AllocError, Global};
+use std::collections::BTreeMap;
 use std::mem;
 
 /// In which block of a list each place may stand, and where in it: it need not be so. Who asks looks whether the place stands
@@ -9,12 +10,19 @@ use std::mem;
 ///
 /// Blocks are known by numbers, which stay when blocks before them come and go. A number is kept up to multiples of
 /// `NUMBERS`, so a place may stand in one of several blocks where there are very many.
+///
+/// Places may be chosen so that many have slots near one another. So no more than `STEPS` slots are passed, and what
+/// finds none among these stands in a map, where a search takes a logarithm of steps for all places alike.
 #[derive(Drop)]
 pub struct Hints {
     /// A power of two of slots, or none. A place has the first free one from its own on.
     slots: Vec<Slot>,
-    /// How many of the slots are taken.
+    /// How many of the slots have a place.
     taken: usize,
+    /// How many of the slots are not free.
+    used: usize,
+    /// By their keys, the places that found no free slot.
+    crowded: BTreeMap<u32, Slot>,
     /// For each number where its block stands.
     blocks: Vec<u32>,
     /// Numbers that no block has any more.
@@ -26,7 +34,7 @@ pub struct Hints {
 struct Slot {
     /// The key of a place.
     key: u32,
-    /// The number of a block, up to multiples of `NUMBERS`; or `NUMBERS`, if the slot is free.
+    /// The number of a block, up to multiples of `NUMBERS`; or `NUMBERS`, if the slot is free; or `LEFT`.
     number: u16,
     /// How many nodes of that block stood before it, when it was noted.
     before: u8,
@@ -35,10 +43,13 @@ struct Slot {
 }
 
 /// How many numbers of blocks a slot can tell from one another.
-const NUMBERS: u16 = u16::MAX;
+const NUMBERS: u16 = u16::MAX - 1;
+
+/// In place of a number: the slot has no place, and is not free, since places may stand behind it on their way.
+const LEFT: u16 = u16::MAX;
 
 /// How many slots are passed on the way to a place at most.
-const STEPS: usize = 256;
+const STEPS: usize = 64;
 
 const FREE: Slot = Slot {
     key: 0,
@@ -47,9 +58,17 @@ const FREE: Slot = Slot {
     from: 0,
 };
 
+/// A slot without a place that is not free.
+const GAP: Slot = Slot {
+    key: 0,
+    number: LEFT,
+    before: 0,
+    from: 0,
+};
+
 impl Slot {
     fn has(&self, key: u32) -> bool {
-        self.number != NUMBERS && self.key == key
+        self.number < NUMBERS && self.key == key
     }
 }
 
@@ -69,22 +88,26 @@ impl Hints {
         Hints {
             slots: Vec::new(alloc),
             taken: 0,
+            used: 0,
+            crowded: BTreeMap::new(alloc),
             blocks: Vec::new(alloc),
             free: Vec::new(alloc),
         }
     }
 
-    /// Memory for so many more places and blocks.
+    /// Memory for so many more places and blocks. Places that find no free slot take more as they come.
     pub fn reserve(&mut self, n: usize) -> Result<(), AllocError> {
-        let wanted = self.taken.saturating_add(n);
-        if self.slots.len() - self.slots.len() / 4 < wanted {
-            self.grow(wanted)?;
+        let used = self.used.saturating_add(n);
+        if self.slots.len() - self.slots.len() / 4 < used {
+            self.renew(n)?;
         }
         self.blocks.reserve(n)
     }
 
-    /// Slots for so many places, of which a quarter at least stay free.
-    fn grow(&mut self, wanted: usize) -> Result<(), AllocError> {
+    /// Other slots for all places and so many more, of which a third at least is free.
+    fn renew(&mut self, n: usize) -> Result<(), AllocError> {
+        let wanted = self.taken.saturating_add(self.crowded.len());
+        let wanted = wanted.saturating_add(n);
         let least = wanted.saturating_add(wanted / 2);
         let mut len: usize = 16;
         for _ in 0..usize::BITS {
@@ -95,11 +118,16 @@ impl Hints {
         let alloc = *self.slots.allocator();
         let new = vec![in alloc; FREE; len]?;
         let old = mem::replace(&mut self.slots, new);
+        let crowded = mem::replace(&mut self.crowded, BTreeMap::new(alloc));
         self.taken = 0;
+        self.used = 0;
         for slot in &old {
-            if slot.number != NUMBERS {
+            if slot.number < NUMBERS {
                 self.note(*slot);
             }
+        }
+        for slot in crowded.values() {
+            self.note(*slot);
         }
         Ok(())
     }
@@ -111,8 +139,7 @@ impl Hints {
 
     /// One of the places where the place may stand.
     pub fn get(&self, place: Place, turn: usize) -> Option<Hint> {
-        let at = self.slot_of(key_of(place))?;
-        let slot = self.slots.get(at)?;
+        let slot = self.noted(key_of(place))?;
         let number = turn.checked_mul(NUMBERS as usize)?;
         let number = number.checked_add(slot.number as usize)?;
         let block = *self.blocks.get(number)?;
@@ -123,7 +150,15 @@ impl Hints {
         })
     }
 
-    /// The place stands in the block with this number, at this position of so many. Where no slot is free there is no hint.
+    /// What was noted of the place with this key.
+    fn noted(&self, key: u32) -> Option<Slot> {
+        if let Some(at) = self.slot_of(key) {
+            return self.slots.get(at).copied();
+        }
+        self.crowded.get(&key).copied()
+    }
+
+    /// The place stands in the block with this number, at this position of so many. Without memory there is no hint.
     pub fn put(&mut self, place: Place, number: u32, offset: usize, len: usize) {
         self.note(Slot {
             key: key_of(place),
@@ -133,7 +168,7 @@ impl Hints {
         });
     }
 
-    /// Takes the slot of a place, or a free one for a place that has none.
+    /// Takes the slot of a place, or a free one for a place that has none, or puts it into the map.
     fn note(&mut self, slot: Slot) {
         let own = own_slot(slot.key);
         for step in 0..STEPS {
@@ -142,27 +177,40 @@ impl Hints {
                 return;
             };
             let free = there.number == NUMBERS;
-            if free || there.key == slot.key {
+            if free || there.has(slot.key) {
                 *there = slot;
                 self.taken = self.taken.saturating_add(usize::from(free));
+                self.used = self.used.saturating_add(usize::from(free));
                 return;
             }
         }
+        let _ = self.crowded.insert(slot.key, slot);
     }
 
     /// The place stands nowhere.
     pub fn remove(&mut self, place: Place) {
-        let Some(from) = self.slot_of(key_of(place)) else {
-            return;
-        };
+        let key = key_of(place);
+        if !self.crowded.is_empty() {
+            let _ = self.crowded.remove(&key);
+        }
+        if let Some(at) = self.slot_of(key) {
+            self.taken = self.taken.saturating_sub(1);
+            self.close_gap(at);
+        }
+    }
+
+    /// Moves what stands behind a slot into it, where that is still on its way, and so on; no further than `STEPS`.
+    fn close_gap(&mut self, from: usize) {
         let mut gap = from;
-        for step in 1..self.slots.len() {
+        for step in 1..STEPS {
             let at = self.slot_at(from, step);
             let Some(slot) = self.slots.get(at).copied() else {
                 break;
             };
             if slot.number == NUMBERS {
-                break;
+                self.put_slot(gap, FREE);
+                self.used = self.used.saturating_sub(1);
+                return;
             }
             // What is on the way from its own slot to this one may stand in the gap.
             let own = own_slot(slot.key);
@@ -173,8 +221,7 @@ impl Hints {
                 gap = at;
             }
         }
-        self.put_slot(gap, FREE);
-        self.taken = self.taken.saturating_sub(1);
+        self.put_slot(gap, GAP);
     }
 
     fn put_slot(&mut self, at: usize, slot: Slot) {

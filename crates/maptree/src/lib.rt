@@ -3,17 +3,17 @@
 
 mod backward;
 mod block;
-mod block_leasts;
 mod block_starts;
 mod blocks;
 mod cutting;
 mod hints;
 mod links;
+mod min_depths;
 mod node_list;
 mod nodes;
-mod notes;
 mod origins;
 mod place_map;
+mod position_cache;
 mod replacing;
 mod scans;
 mod searching;

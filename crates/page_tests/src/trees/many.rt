@@ -1,6 +1,7 @@
-//! Thousands of calls on one tree, drawn by a fixed rule, each beside the same on a plain list of its nodes.
+//! Thousands of calls on one tree, drawn by a fixed rule, each beside the same on a plain list of its nodes; and a
+//! hundred thousand in each of five orders.
 
-ghost use Rattle.std.specs.Prelude.{◌<◌, ◌≤◌, IfSome, length};
+ghost use Rattle.std.specs.Prelude.{◌≡◌, ◌<◌, ◌≤◌, IfOk, IfSome, length};
 ghost use Rattle.std.specs.List.{All};
 ghost use Rattle.maptree.specs.Origins.{AreRising, IsRun};
 
@@ -22,11 +23,23 @@ const CHANGES: u32 = 6_000;
 /// How many of each of several orders.
 const FEWER: u32 = 2_000;
 
-/// After how many of them all nodes are compared.
+/// How many of each order in a long run.
+const MANY: u32 = 100_000;
+
+/// A place that never comes has this number.
+const NEVER: u32 = 200_000;
+
+/// After how many of a few calls all nodes are compared.
 const BETWEEN: u32 = 100;
 
 /// Only a tree of so many nodes or more has nodes cut out.
 const LARGE: usize = 1_500;
+
+/// Only nodes with so few below them, themselves counted too, are taken out for good.
+const FEW: usize = 64;
+
+/// How many nodes a block has at least on the whole, also where nodes have gone.
+const LEAST: usize = 43;
 
 /// Numbers that look random, the same ones each time.
 #[derive(Clone, Copy)]
@@ -85,11 +98,25 @@ fn outer_runs(alloc: Global, list: &[Node], places: &[Place]) -> Result<Vec<Rang
     Ok(runs)
 }
 
+/// For each of so many positions whether it lies in one of some ranges, which rise.
+fn are_within(alloc: Global, len: usize, ranges: &[Range<usize>]) -> Result<Vec<bool>, Fail>
+    ensures { IfOk result (λ within. length within.items ≡ len) }
+{
+    let mut within = vec![in alloc; false; len]?;
+    for range in ranges {
+        for i in range.start..range.end.min(len) {
+            within[i] = true;
+        }
+    }
+    Ok(within)
+}
+
 /// The nodes that stand outside of some ranges.
 fn outside(alloc: Global, list: &[Node], ranges: &[Range<usize>]) -> Result<Vec<Node>, Fail> {
+    let within = are_within(alloc, list.len(), ranges)?;
     let mut left = Vec::new(alloc);
     for i in 0..list.len() {
-        if !ranges.iter().any(|range| range.contains(&i)) {
+        if !within[i] {
             left.push(list[i])?;
         }
     }
@@ -111,24 +138,46 @@ fn asks(rt: &impl Abort, tree: &Tree, list: &[Node], i: usize, j: usize)
     assert_equal(rt, tree.is_origin(a, b), i < j && j < end, i);
 }
 
-/// The place of a node's origin.
-fn origin_at(list: &[Node], i: usize) -> Option<Place>
-    requires { i < length list.now }
+/// For each node the place of its origin.
+fn origins_of(alloc: Global, list: &[Node]) -> Result<Vec<Option<Place>>, Fail>
+    ensures { IfOk result (λ origins. length origins.items ≡ length list.now) }
 {
-    match origin_of(list, i) {
-        Some(above) => Some(list[above].place),
-        None => None,
+    let mut origins = vec![in alloc; None; list.len()]?;
+    let mut path: Vec<Place> = Vec::new(alloc);
+    for i in 0..list.len() {
+        path.truncate(list[i].depth);
+        origins[i] = path.last().copied();
+        path.push(list[i].place)?;
     }
+    Ok(origins)
+}
+
+/// For each node where its run ends.
+fn ends_of(alloc: Global, list: &[Node]) -> Result<Vec<usize>, Fail> {
+    let mut ends = vec![in alloc; list.len(); list.len()]?;
+    let mut path: Vec<usize> = Vec::new(alloc);
+    for i in 0..list.len() {
+        for k in list[i].depth..path.len() {
+            if path[k] < ends.len() {
+                ends[path[k]] = i;
+            }
+        }
+        path.truncate(list[i].depth);
+        path.push(i)?;
+    }
+    Ok(ends)
 }
 
 /// The tree has the nodes of the list, with their origins and the ends of their runs, and no others.
 fn assert_all(rt: &impl Abort, alloc: Global, tree: &Tree, list: &[Node]) -> Result<(), Fail> {
     let links = tree.links(alloc)?;
     assert_eq!(rt; links.len(), list.len());
+    let (origins, ends) = (origins_of(alloc, list)?, ends_of(alloc, list)?);
     for i in 0..list.len() {
-        assert_equal(rt, links[i], (list[i].place, origin_at(list, i)), i);
+        assert_equal(rt, links[i], (list[i].place, origins[i]), i);
         assert_equal(rt, tree.node(i), list[i], i);
-        assert_equal(rt, tree.run_of(i), i..end_of(list, i), i);
+        let end = ends.get(i).copied().unwrap_or(0);
+        assert_equal(rt, tree.run_of(i), i..end, i);
     }
     Ok(())
 }
@@ -271,9 +320,10 @@ fn places_within(
     list: &[Node],
     ranges: &[Range<usize>],
 ) -> Result<Vec<Place>, Fail> {
+    let within = are_within(alloc, list.len(), ranges)?;
     let mut places = Vec::new(alloc);
     for i in 0..list.len() {
-        if ranges.iter().any(|range| range.contains(&i)) {
+        if within[i] {
             places.push(list[i].place)?;
         }
     }
@@ -296,6 +346,27 @@ fn thins(
     let gone = places_within(alloc, list, &out)?;
     cuts(rt, alloc, tree, list, &runs, 1 + chance.below(300), &gone)?;
     *list = outside(alloc, list, &out)?;
+    Ok(())
+}
+
+/// Takes a node but the root out for good with what derives from it, where that is not much.
+fn removes(
+    rt: &impl Abort,
+    alloc: Global,
+    tree: &mut Tree,
+    list: &mut Vec<Node>,
+    i: usize,
+) -> Result<(), Fail>
+    requires { i < length list.old.items }
+{
+    let run = i..end_of(list, i);
+    if i == 0 || FEW < run.len() {
+        return Ok(());
+    }
+    let runs = tree.outer_runs(alloc, &[list[i].place])?;
+    assert_equal(rt, runs.as_slice(), [run].as_slice(), "the run of a node");
+    tree.remove(&runs);
+    *list = outside(alloc, list, &runs)?;
     Ok(())
 }
 
@@ -322,57 +393,131 @@ fn below_which(order: Order, n: u32, nodes: usize, chance: &mut Chance) -> usize
     }
 }
 
-/// Makes one call that changes the tree.
+/// Which calls are made, and how often the answers are compared.
+#[derive(Clone, Copy)]
+struct Plan {
+    order: Order,
+    calls: u32,
+    /// One of so many calls cuts nodes out.
+    cuts: usize,
+    /// How many of so many take nodes out for good.
+    removals: usize,
+    /// After each so many calls two nodes are asked about.
+    asks: u32,
+    /// After each so many all nodes are compared.
+    whole: u32,
+}
+
+impl Plan {
+    /// A few calls, with all answers after each.
+    fn few(order: Order, calls: u32) -> Plan {
+        Plan {
+            order,
+            calls,
+            cuts: 50,
+            removals: 0,
+            asks: 1,
+            whole: BETWEEN,
+        }
+    }
+
+    /// Many calls, with answers now and then.
+    fn many(order: Order) -> Plan {
+        Plan {
+            order,
+            calls: MANY,
+            cuts: 10_000,
+            removals: 100,
+            asks: 200,
+            whole: u32::MAX,
+        }
+    }
+}
+
+/// A call that changes the tree.
+#[derive(Clone, Copy)]
+enum Change {
+    Cut,
+    /// Of the node at a position.
+    Rename(usize),
+    /// Of the node at a position with what derives from it.
+    Remove(usize),
+    /// Below that node.
+    Insert(usize),
+}
+
+/// The nth call of a plan, for a tree of so many nodes. The last tenth of the calls cuts nothing, so that many are left.
+fn nth_change(plan: &Plan, n: u32, nodes: usize, chance: &mut Chance) -> Change {
+    let at = below_which(plan.order, n, nodes, chance);
+    let any = chance.below(nodes);
+    let chosen = chance.below(plan.cuts);
+    let last = plan.calls.saturating_sub(plan.calls / 10);
+    if chosen == 0 && LARGE < nodes && n < last {
+        Change::Cut
+    } else if chosen <= plan.removals {
+        Change::Remove(any)
+    } else if chosen < plan.cuts / 5 {
+        Change::Rename(any)
+    } else {
+        Change::Insert(at)
+    }
+}
+
+/// Makes one call that changes the tree, with this place where it is one of a new node.
 fn changes(
     rt: &impl Abort,
     alloc: Global,
     tree: &mut Tree,
     list: &mut Vec<Node>,
+    change: Change,
     place: Place,
-    at: usize,
     chance: &mut Chance,
 ) -> Result<(), Fail> {
-    let any = chance.below(list.len());
-    assert!(rt; any < list.len() && at < list.len());
-    match chance.below(50) {
-        0 if LARGE < list.len() => thins(rt, alloc, tree, list, chance),
-        1..=9 => {
-            renames(rt, tree, list, any, place);
+    match change {
+        Change::Cut => thins(rt, alloc, tree, list, chance),
+        Change::Rename(i) => {
+            assert!(rt; i < list.len());
+            renames(rt, tree, list, i, place);
             Ok(())
         }
-        _ => inserts(rt, tree, list, at, place),
+        Change::Remove(i) => {
+            assert!(rt; i < list.len());
+            removes(rt, alloc, tree, list, i)
+        }
+        Change::Insert(i) => {
+            assert!(rt; i < list.len());
+            inserts(rt, tree, list, i, place)
+        }
     }
 }
 
-/// Makes the nth call that changes the tree, and asks of two nodes.
+/// Makes the nth call that changes the tree, and asks of two nodes where it is time for that.
 fn step(
     rt: &impl Abort,
     alloc: Global,
     tree: &mut Tree,
     list: &mut Vec<Node>,
-    order: Order,
+    plan: &Plan,
     n: u32,
     chance: &mut Chance,
 ) -> Result<(), Fail> {
-    let at = below_which(order, n, list.len(), chance);
-    changes(rt, alloc, tree, list, nth_place(n), at, chance)?;
-    let (i, j) = (chance.below(list.len()), chance.below(list.len()));
-    assert!(rt; i < list.len() && j < list.len());
-    asks(rt, tree, list, i, j);
-    assert_equal(
-        rt,
-        tree.find(nth_place(CHANGES)),
-        None,
-        "a place that never comes",
-    );
-    if n % BETWEEN == 0 {
+    let change = nth_change(plan, n, list.len(), chance);
+    changes(rt, alloc, tree, list, change, nth_place(n), chance)?;
+    if n % plan.asks.max(1) == 0 {
+        let (i, j) = (chance.below(list.len()), chance.below(list.len()));
+        assert!(rt; i < list.len() && j < list.len());
+        asks(rt, tree, list, i, j);
+        let never = tree.find(nth_place(NEVER));
+        assert_equal(rt, never, None, "a place that never comes");
+    }
+    if n % plan.whole.max(1) == 0 {
         assert_all(rt, alloc, tree, list)?;
     }
     Ok(())
 }
 
-/// Makes so many calls on a tree and on a list.
-fn compared(rt: &impl Abort, alloc: Global, order: Order, calls: u32) -> Result<usize, Fail> {
+/// Makes the calls of a plan on a tree and on a list.
+fn compared(rt: &impl Abort, alloc: Global, plan: &Plan) -> Result<(Tree, Vec<Node>), Fail> {
     let mut chance = Chance { state: 1 };
     let mut tree = Tree::root(alloc, nth_place(0));
     let mut list = Vec::new(alloc);
@@ -380,16 +525,16 @@ fn compared(rt: &impl Abort, alloc: Global, order: Order, calls: u32) -> Result<
         place: nth_place(0),
         depth: 0,
     })?;
-    for n in 1..calls {
-        step(rt, alloc, &mut tree, &mut list, order, n, &mut chance)?;
+    for n in 1..plan.calls {
+        step(rt, alloc, &mut tree, &mut list, plan, n, &mut chance)?;
     }
-    Ok(list.len())
+    Ok((tree, list))
 }
 
 #[test]
 fn is_like_a_plain_list_over_thousands_of_calls(rt: HostRuntime) -> Result<(), Fail> {
-    let nodes = compared(&rt, rt.alloc(), Order::Any, CHANGES)?;
-    assert_holds(&rt, LARGE < nodes, "too few nodes");
+    let (_, list) = compared(&rt, rt.alloc(), &Plan::few(Order::Any, CHANGES))?;
+    assert_holds(&rt, LARGE < list.len(), "too few nodes");
     Ok(())
 }
 
@@ -401,7 +546,42 @@ fn is_like_a_plain_list_where_nodes_come_at_the_ends(rt: HostRuntime) -> Result<
         Order::Walk,
         Order::BothEnds,
     ] {
-        compared(&rt, rt.alloc(), order, FEWER)?;
+        compared(&rt, rt.alloc(), &Plan::few(order, FEWER))?;
     }
     Ok(())
+}
+
+/// A hundred thousand calls in this order leave the nodes of the list, in few blocks.
+fn many_in_order(rt: &impl Abort, alloc: Global, order: Order) -> Result<(), Fail> {
+    let (tree, list) = compared(rt, alloc, &Plan::many(order))?;
+    assert_all(rt, alloc, &tree, &list)?;
+    assert_holds(rt, LARGE < list.len(), "too few nodes");
+    let blocks = tree.block_count().unwrap_or(usize::MAX);
+    assert_holds(rt, blocks < list.len() / LEAST + 4, "too many blocks");
+    Ok(())
+}
+
+#[test]
+fn is_like_a_plain_list_in_any_order(rt: HostRuntime) -> Result<(), Fail> {
+    many_in_order(&rt, rt.alloc(), Order::Any)
+}
+
+#[test]
+fn is_like_a_plain_list_from_the_front(rt: HostRuntime) -> Result<(), Fail> {
+    many_in_order(&rt, rt.alloc(), Order::Front)
+}
+
+#[test]
+fn is_like_a_plain_list_next_to_the_last(rt: HostRuntime) -> Result<(), Fail> {
+    many_in_order(&rt, rt.alloc(), Order::NextToLast)
+}
+
+#[test]
+fn is_like_a_plain_list_in_a_walk(rt: HostRuntime) -> Result<(), Fail> {
+    many_in_order(&rt, rt.alloc(), Order::Walk)
+}
+
+#[test]
+fn is_like_a_plain_list_at_both_ends(rt: HostRuntime) -> Result<(), Fail> {
+    many_in_order(&rt, rt.alloc(), Order::BothEnds)
 }

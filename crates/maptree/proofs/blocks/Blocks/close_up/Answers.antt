@@ -27,5 +27,5 @@ invariant_of-self c =
     let fewer : length c.retain.new.self.items ≤ length items = search (rules, arith) in
     let room : length items + c.self.inside.room ≤ vec_capacity c.retain.new.self = search (rules, arith) in
     let starts : length items + c.self.inside.room ≤ c.count.new.starts.capacity = search (rules, arith, inv.6) in
-    let leasts : length items + c.self.inside.room ≤ c.list_leasts.new.leasts.capacity = search (rules, arith, inv.8) in
-    (omega (arith, same, inv.0), some_block c.retain.new.self.items some, inv.2, omega (arith, fewer, room), inv.4, search rules, omega (arith, fewer, starts), search rules, omega (arith, fewer, leasts), ap (λ ns. is_least c.self.inside.behind (drop 1 ns)) nodes ∙ inv.9, ap (is_most c.self.inside.deepest) nodes ∙ inv.10)
+    let min_depths : length items + c.self.inside.room ≤ c.list_min_depths.new.min_depths.capacity = search (rules, arith, inv.8) in
+    (omega (arith, same, inv.0), some_block c.retain.new.self.items some, inv.2, omega (arith, fewer, room), inv.4, search rules, omega (arith, fewer, starts), search rules, omega (arith, fewer, min_depths), ap (λ ns. is_least c.self.inside.behind (drop 1 ns)) nodes ∙ inv.9, ap (is_most c.self.inside.deepest) nodes ∙ inv.10)

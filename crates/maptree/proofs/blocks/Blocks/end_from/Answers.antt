@@ -1,26 +1,26 @@
 -- A block is passed, or the run ends in it.
 use Rattle.std.proofs.Common.{◌≡◌, ◌≤◌, ◌<◌, ◌+◌, ◌-◌, length, take, drop, subst, ap, rules, arith, ◌∙◌}
-use Rattle.maptree.specs.Blocks.{nodes_in, AreLeasts}
+use Rattle.maptree.specs.Blocks.{nodes_in, AreMinDepths}
 use Rattle.maptree.specs.Nodes.{run_len}
 use Rattle.maptree.proofs.Positions.{run_len-le}
 use Rattle.maptree.proofs.InBlocks.{counts, run_block_on, run_block_ends, read_of}
 use Rattle.maptree.proofs.Starts.{start_read}
-use Rattle.maptree.proofs.Leasts.{deeper_block, deeper_blocks}
+use Rattle.maptree.proofs.MinDepths.{deeper_block, deeper_blocks}
 use Rattle.maptree.proofs.blocks.Blocks.end_from.Goals as goal
 use Rattle.maptree.proofs.blocks.Blocks.end_from.Goals.{then-get-depth+else-deeper-len, else-get-depth}
 
 pub loop-k-init : goal.loop-k-init
 loop-k-init c =
     let bs = c.args.self.now.blocks in
-    let ls = c.self.inside.leasts.leasts in
+    let ls = c.self.inside.min_depths.min_depths in
     let same : c.self.inside.blocks.items ≡ bs = ap (λ v. v.blocks) c.self.view_is in
-    let leasts = subst (λ l. AreLeasts l ls) same c.self.invariant.7 in
+    let min_depths = subst (λ l. AreMinDepths l ls) same c.self.invariant.7 in
     let to = c.pass_above-first.result in
     let from = c.pass_above-first.ensures.from in
     let end : c.args.block + (to - c.args.block) ≡ to = omega (arith, from) in
-    let within : to ≤ length bs = let count = leasts.count in let upto = c.pass_above-first.ensures.within in omega (arith, count, upto) in
+    let within : to ≤ length bs = let count = min_depths.count in let upto = c.pass_above-first.ensures.within in omega (arith, count, upto) in
     let above = c.pass_above-first.ensures.above in
-    deeper_blocks bs ls leasts c.args.depth c.args.block (to - c.args.block) (omega (arith, end, within)) (λ k low less. above k low (omega (arith, less, end)))
+    deeper_blocks bs ls min_depths c.args.depth c.args.block (to - c.args.block) (omega (arith, end, within)) (λ k low less. above k low (omega (arith, less, end)))
     ∙ ap (λ k. length (nodes_in (take k bs)) + run_len c.args.depth (nodes_in (drop k bs))) end
 
 pub overflow_add-result : goal.overflow_add-result
@@ -57,7 +57,7 @@ loop-k-preserved c =
     let count = ap length same in
     let within : k < length bs = search (rules, arith, count) in
     let so_far = c.loop-k.invariant in
-    let leasts = subst (λ l. AreLeasts l c.self.inside.leasts.leasts) same c.self.invariant.7 in
+    let min_depths = subst (λ l. AreMinDepths l c.self.inside.min_depths.min_depths) same c.self.invariant.7 in
     elim c.if-get-depth.branch [
       | then-get-depth+else-deeper-len w ↦
           let block = w.index-block.result.now in
@@ -70,6 +70,6 @@ loop-k-preserved c =
           omega (arith, on, next, so_far, all, most, run)
       | else-get-depth w ↦
           let deep = subst (λ n. c.args.depth < n) c.get.ensures w.if-get-depth.false in
-          let passed = deeper_block bs c.self.inside.leasts.leasts k leasts within c.args.depth deep in
+          let passed = deeper_block bs c.self.inside.min_depths.min_depths k min_depths within c.args.depth deep in
           so_far ∙ passed
     ]

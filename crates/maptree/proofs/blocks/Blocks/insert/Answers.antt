@@ -4,10 +4,10 @@ use Rattle.std.specs.Prelude.{insert}
 use Rattle.std.proofs.lemmas.List.{length-set}
 use Rattle.std.proofs.lemmas.List.Edits.{length-insert}
 use Rattle.maptree.specs.Blocks.{nodes_in, is_least, is_most}
-use Rattle.maptree.specs.Blocks.{AreLeasts, AreStarts}
+use Rattle.maptree.specs.Blocks.{AreMinDepths, AreStarts}
 use Rattle.maptree.proofs.InBlocks.{read_of, as_read}
 use Rattle.maptree.proofs.Starts.{starts_set, before_all}
-use Rattle.maptree.proofs.Leasts.{leasts_set}
+use Rattle.maptree.proofs.MinDepths.{min_depths_set}
 use Rattle.maptree.proofs.BlockChanges.{insert_node, count_set}
 use Rattle.maptree.proofs.Depths.{behind_insert, least_zero}
 use Rattle.maptree.proofs.Deepest.{most_insert, most_more}
@@ -25,7 +25,7 @@ returns-clause-nodes c =
     let read = as_read bs seat.block block is.within (read_of items bs seat.block block same c.index_mut-block.ensures.value) in
     let size = ap length read in
     let upto = is.upto in
-    ap (λ v. nodes_in v.blocks) c.renew_notes.ensures
+    ap (λ v. nodes_in v.blocks) c.renew_cache.ensures
     ∙ ap (λ b. nodes_in (set items seat.block b)) c.insert.ensures
     ∙ ap (λ l. nodes_in (set l seat.block (insert block seat.offset c.args.node))) same
     ∙ insert_node bs seat.block block seat.offset c.args.node is.within read (omega (arith, size, upto))
@@ -100,7 +100,7 @@ invariant_of-self c =
       omega (arith, c.seat_with_room-seat.ensures.fits, c.seat_with_room-seat.ensures.room, inv.0, ap (λ l. length (nodes_in l)) same, kept),
       same_starts,
       search (rules, arith, size, inv.6),
-      subst (AreLeasts (set items seat.block new)) (sym c.set.ensures.leasts) (leasts_set items seat.block new c.self.inside.leasts.leasts c.least.result within inv.7 c.least.ensures),
+      subst (AreMinDepths (set items seat.block new)) (sym c.set.ensures.min_depths) (min_depths_set items seat.block new c.self.inside.min_depths.min_depths c.least.result within inv.7 c.least.ensures),
       search (rules, arith, size, inv.8),
       ap (λ ns. is_least c.if-i-eq0.self (drop 1 ns)) nodes ∙ behind,
       ap (is_most most) nodes ∙ most_insert most c.args.i c.args.node (nodes_in bs) shallow (most_more c.self.inside.deepest most (nodes_in bs) greater (subst (λ l. is_most c.self.inside.deepest (nodes_in l) ≡ true) same c.self.invariant.10)),

@@ -2,25 +2,25 @@
 use Rattle.std.proofs.Common.{◌≡◌, ◌≤◌, ◌<◌, ◌+◌, ◌-◌, length, take, subst, ap, rules, arith, ◌∙◌, sym, Some, None}
 use Rattle.std.proofs.lemmas.List.{take_all}
 use Rattle.maptree.specs.Nodes.{last_less}
-use Rattle.maptree.specs.Blocks.{nodes_in, AreLeasts}
+use Rattle.maptree.specs.Blocks.{nodes_in, AreMinDepths}
 use Rattle.maptree.proofs.LastLess.{later}
 use Rattle.maptree.proofs.InBlocks.{as_read, read_of, last_within, one_back}
-use Rattle.maptree.proofs.Leasts.{block_not_above, blocks_not_above}
+use Rattle.maptree.proofs.MinDepths.{block_not_above, blocks_not_above}
 use Rattle.maptree.proofs.blocks.Blocks.last_before.Goals as goal
 
 pub loop-k-init : goal.loop-k-init
 loop-k-init c =
     let bs = c.args.self.now.blocks in
-    let ls = c.self.inside.leasts.leasts in
+    let ls = c.self.inside.min_depths.min_depths in
     let same : c.self.inside.blocks.items ≡ bs = ap (λ v. v.blocks) c.self.view_is in
-    let leasts = subst (λ l. AreLeasts l ls) same c.self.invariant.7 in
+    let min_depths = subst (λ l. AreMinDepths l ls) same c.self.invariant.7 in
     let from = c.pass_back-end.result in
     let upto = c.pass_back-end.ensures.within in
     let end : from + (c.args.block - from) ≡ c.args.block = omega (arith, upto) in
     let within = c.requires in
     let low = c.pass_back-end.ensures.not_below in
     ap (λ k. last_less c.args.depth (nodes_in (take k bs))) (sym end)
-    ∙ blocks_not_above bs ls leasts c.args.depth from (c.args.block - from) (omega (arith, end, within)) (λ k under less. low k under (omega (arith, less, end)))
+    ∙ blocks_not_above bs ls min_depths c.args.depth from (c.args.block - from) (omega (arith, end, within)) (λ k under less. low k under (omega (arith, less, end)))
 
 pub returns-in-Some-clause-inside : goal.returns-in-Some-clause-inside
 returns-in-Some-clause-inside c =
@@ -62,11 +62,11 @@ loop-k-preserved-in_default c =
 pub loop-k-preserved : goal.loop-k-preserved
 loop-k-preserved c =
     let bs = c.args.self.now.blocks in
-    let ls = c.self.inside.leasts.leasts in
+    let ls = c.self.inside.min_depths.min_depths in
     let k = c.loop-k.k - 1 in
     let same : c.self.inside.blocks.items ≡ bs = ap (λ v. v.blocks) c.self.view_is in
     let within : k < length bs = search (rules, arith) in
     let one : k + 1 ≡ c.loop-k.k = let some = c.loop-k-test.true in omega (arith, some) in
-    let leasts = subst (λ l. AreLeasts l ls) same c.self.invariant.7 in
+    let min_depths = subst (λ l. AreMinDepths l ls) same c.self.invariant.7 in
     let low = subst (λ n. c.args.depth ≤ n) c.get.ensures c.if-get-depth.false in
-    c.loop-k.invariant ∙ ap (λ n. last_less c.args.depth (nodes_in (take n bs))) (sym one) ∙ block_not_above bs ls k leasts within c.args.depth low
+    c.loop-k.invariant ∙ ap (λ n. last_less c.args.depth (nodes_in (take n bs))) (sym one) ∙ block_not_above bs ls k min_depths within c.args.depth low

@@ -8,7 +8,7 @@ use Rattle.std.specs.List.{slice_index}
 use Rattle.maptree.specs.Blocks.{AreStarts, is_least, is_most}
 use Rattle.maptree.proofs.Depths.{least_append, least_take, least_drop, behind_removed}
 use Rattle.maptree.proofs.Deepest.{most_removed}
-use Rattle.maptree.proofs.Leasts.{least_of_block, leasts_kept}
+use Rattle.maptree.proofs.MinDepths.{least_of_block, min_depths_kept}
 use Rattle.maptree.proofs.BlockChanges.{count_set, cut_nodes}
 use Rattle.maptree.proofs.blocks.Blocks.remove_in_block.Goals as goal
 
@@ -58,10 +58,10 @@ invariant_of-self c =
     let inv = c.self.invariant in
     let starts = c.self.inside.starts in
     let next = c.subtract.new.self in
-    let ls = c.self.inside.leasts.leasts in
+    let ls = c.self.inside.min_depths.min_depths in
     let a = slice_index ls c.args.block in
     let least = least_of_block items ls c.args.block block inv.7 within c.index_mut-removed.ensures.value in
-    let same_leasts = leasts_kept items c.args.block new ls within inv.7
+    let same_min_depths = min_depths_kept items c.args.block new ls within inv.7
     (ap (is_least a) c.remove.ensures ∙ least_append a (take c.args.from block) (drop c.args.to block) (least_take a c.args.from block least) (least_drop a c.args.to block least)) in
     let same_starts : AreStarts (set items c.args.block new) next = starts_set items c.args.block new starts next within inv.5 c.subtract.ensures.count c.subtract.ensures.upto
     (λ j behind less. let changed = c.subtract.ensures.behind j behind less in omega (arith, changed, read, fewer, front, back, in_block, rising, there)) in (
@@ -72,7 +72,7 @@ invariant_of-self c =
       omega (arith, inv.4),
       same_starts,
       search (rules, arith, size, inv.6),
-      same_leasts,
+      same_min_depths,
       search (rules, arith, size, inv.8),
       ap (λ b. is_least c.self.inside.behind (drop 1 (nodes_in (set items c.args.block b)))) (c.remove.ensures ∙ ap (λ b. take c.args.from b ++ drop c.args.to b) (as_read items c.args.block block within c.index_mut-removed.ensures.value))
           ∙ ap (λ ns. is_least c.self.inside.behind (drop 1 ns)) (cut_nodes items c.args.block c.args.from c.args.to within rising (omega (arith, there, in_block)))

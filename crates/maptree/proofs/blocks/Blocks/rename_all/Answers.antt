@@ -4,10 +4,10 @@ use Rattle.std.proofs.lemmas.List.{length-map, with_items_is}
 use Rattle.maptree.specs.PlaceMaps.{place_for}
 use Rattle.maptree.specs.Renamings.{nodes_renamed}
 use Rattle.maptree.specs.Blocks.{nodes_in, is_least, is_most}
-use Rattle.maptree.specs.Blocks.{AreLeasts, AreStarts}
+use Rattle.maptree.specs.Blocks.{AreMinDepths, AreStarts}
 use Rattle.maptree.proofs.BlockChanges.{renamed_in}
 use Rattle.maptree.proofs.Starts.{starts_same, renamed_before}
-use Rattle.maptree.proofs.Leasts.{leasts_renamed}
+use Rattle.maptree.proofs.MinDepths.{min_depths_renamed}
 use Rattle.maptree.proofs.Depths.{behind_renamed}
 use Rattle.maptree.proofs.Deepest.{most_renamed}
 use Rattle.maptree.proofs.blocks.Blocks.rename_all.Goals as goal
@@ -32,7 +32,7 @@ invariant_of-self c =
       inv.4,
       subst (λ l. AreStarts l c.self.inside.starts) (sym (now ∙ is)) starts,
       search (rules, arith, inv.6, count, size),
-      subst (λ l. AreLeasts l c.self.inside.leasts.leasts) (sym (now ∙ is)) (leasts_renamed (place_for c.args.new.now) items c.self.inside.leasts.leasts inv.7),
+      subst (λ l. AreMinDepths l c.self.inside.min_depths.min_depths) (sym (now ∙ is)) (min_depths_renamed (place_for c.args.new.now) items c.self.inside.min_depths.min_depths inv.7),
       search (rules, arith, inv.8, count, size),
       ap (λ ns. is_least c.self.inside.behind (drop 1 ns)) (ap nodes_in (now ∙ is) ∙ renamed_in (place_for c.args.new.now) items) ∙ behind_renamed (place_for c.args.new.now) c.self.inside.behind (nodes_in items) ∙ inv.9,
       ap (is_most c.self.inside.deepest) (ap nodes_in (now ∙ is) ∙ renamed_in (place_for c.args.new.now) items) ∙ most_renamed (place_for c.args.new.now) c.self.inside.deepest (nodes_in items) ∙ inv.10,

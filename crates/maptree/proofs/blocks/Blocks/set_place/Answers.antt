@@ -9,7 +9,7 @@ use Rattle.maptree.proofs.BlockChanges.{set_node, count_set}
 use Rattle.maptree.proofs.Starts.{starts_set}
 use Rattle.maptree.proofs.Depths.{least_set, behind_set}
 use Rattle.maptree.proofs.Deepest.{most_set}
-use Rattle.maptree.proofs.Leasts.{least_of_block, leasts_kept}
+use Rattle.maptree.proofs.MinDepths.{least_of_block, min_depths_kept}
 use Rattle.mapnode.proofs.Lists.{blank}
 use Rattle.maptree.proofs.blocks.Blocks.set_place.Goals as goal
 
@@ -49,7 +49,7 @@ invariant_of-self c =
     let size = length-set items seat.block new in
     let is = c.self.invariant in
     let same_starts = starts_set items seat.block new c.self.inside.starts c.self.inside.starts within is.5 refl (λ j less. refl) (λ j behind less. omega (arith, read, kept)) in
-    let ls = c.self.inside.leasts.leasts in
+    let ls = c.self.inside.min_depths.min_depths in
     let least = least_of_block items ls seat.block block is.7 within c.index_mut-block.ensures.value in
     let inside = c.seat_of-seat.ensures.inside in
     let there = ap length (as_read bs seat.block block in_bs (read_of items bs seat.block block same c.index_mut-block.ensures.value)) in
@@ -65,7 +65,7 @@ invariant_of-self c =
     let behind : is_least c.self.inside.behind (drop 1 (nodes_in (set items seat.block new))) ≡ true =
     ap (λ ns. is_least c.self.inside.behind (drop 1 ns)) nodes
     ∙ behind_set c.self.inside.behind c.args.i c.args.place blank (nodes_in bs) c.requires (subst (λ l. is_least c.self.inside.behind (drop 1 (nodes_in l)) ≡ true) same is.9) in
-    let same_leasts = leasts_kept items seat.block new ls within is.7
+    let same_min_depths = min_depths_kept items seat.block new ls within is.7
     (ap (is_least (slice_index ls seat.block)) (c.set_place.ensures blank) ∙ least_set (slice_index ls seat.block) seat.offset c.args.place blank block (omega (arith, there, inside)) least) in (
       omega (arith, is.0, counted, read, kept),
       omega (arith, is.1, size),
@@ -74,7 +74,7 @@ invariant_of-self c =
       is.4,
       same_starts,
       omega (arith, is.6, size),
-      same_leasts,
+      same_min_depths,
       omega (arith, is.8, size),
       behind,
       ap (is_most c.self.inside.deepest) nodes ∙ most_set c.self.inside.deepest c.args.i c.args.place blank (nodes_in bs) c.requires (subst (λ l. is_most c.self.inside.deepest (nodes_in l) ≡ true) same is.10),

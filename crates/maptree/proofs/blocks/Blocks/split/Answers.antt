@@ -50,5 +50,5 @@ invariant_of-self c =
     let spare : c.self.inside.room - 1 ≤ length c.pop.new.self.items = search (rules, arith) in
     let room : length items + c.self.inside.room ≤ vec_capacity new = search (rules, arith) in
     let starts : length items + c.self.inside.room ≤ c.count.new.starts.capacity = search (rules, arith, inv.6) in
-    let leasts : length items + c.self.inside.room ≤ c.list_leasts.new.leasts.capacity = search (rules, arith, inv.8) in
-    (omega (arith, inv.0, all), omega (arith, size), spare, omega (arith, size, room, some), omega (arith, inv.4), search rules, omega (arith, size, starts, some), search rules, omega (arith, size, leasts, some), ap (λ ns. is_least c.self.inside.behind (drop 1 ns)) (ap nodes_in is ∙ split_nodes items c.args.block c.args.at within) ∙ inv.9, ap (is_most c.self.inside.deepest) (ap nodes_in is ∙ split_nodes items c.args.block c.args.at within) ∙ inv.10)
+    let min_depths : length items + c.self.inside.room ≤ c.list_min_depths.new.min_depths.capacity = search (rules, arith, inv.8) in
+    (omega (arith, inv.0, all), omega (arith, size), spare, omega (arith, size, room, some), omega (arith, inv.4), search rules, omega (arith, size, starts, some), search rules, omega (arith, size, min_depths, some), ap (λ ns. is_least c.self.inside.behind (drop 1 ns)) (ap nodes_in is ∙ split_nodes items c.args.block c.args.at within) ∙ inv.9, ap (is_most c.self.inside.deepest) (ap nodes_in is ∙ split_nodes items c.args.block c.args.at within) ∙ inv.10)

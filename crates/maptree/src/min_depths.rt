@@ -11,41 +11,41 @@ const GROUP: usize = 64;
 /// For each block a depth that none of its nodes goes below, and the same for groups of blocks, so that a search by depths
 /// passes over whole groups.
 #[derive(Drop)]
-pub struct Leasts {
+pub struct MinDepths {
     /// For each block.
     blocks: Vec<u32>,
     /// For each group of 64 blocks, a number that is no greater than those of its blocks.
     groups: Vec<u32>,
 }
 
-impl Model for Leasts {
+impl Model for MinDepths {
     ghost use Rattle.std.specs.Prelude.{◌*◌, min, vec_capacity};
     ghost use Rattle.maptree.specs.Blocks.{AreLow, Bounds};
 
     ghost Value = { Bounds };
 
-    ghost view = { λ l. record { leasts = l.blocks.items; capacity = min (vec_capacity l.blocks) (64 * vec_capacity l.groups) } };
+    ghost view = { λ l. record { min_depths = l.blocks.items; capacity = min (vec_capacity l.blocks) (64 * vec_capacity l.groups) } };
 
     ghost invariant = { λ l. AreLow l.groups.items l.blocks.items };
 }
 
-impl Leasts {
+impl MinDepths {
     ghost use Rattle.std.specs.Prelude.{◌≡◌, ◌≤◌, ◌<◌, ◌+◌, ℕ, [], ◌∷◌, ◌++◌, length, set, slice_index, IfOk, OnOk};
 
     /// Of no blocks yet, with room for so many.
-    pub fn with_capacity(alloc: Global, blocks: usize) -> Result<Leasts, AllocError>
-        ensures none { IfOk result (λ l. l.leasts ≡ []) }
+    pub fn with_capacity(alloc: Global, blocks: usize) -> Result<MinDepths, AllocError>
+        ensures none { IfOk result (λ l. l.min_depths ≡ []) }
         ensures capacity { IfOk result (λ l. blocks ≤ l.capacity) }
     {
         let groups = Vec::with_capacity(alloc, blocks / GROUP + 1)?;
         let blocks = Vec::with_capacity(alloc, blocks)?;
-        Ok(Leasts { blocks, groups })
+        Ok(MinDepths { blocks, groups })
     }
 
     /// Memory for so many more blocks.
     pub fn reserve(&mut self, n: usize) -> Result<(), AllocError>
-        ensures leasts { self.new.leasts ≡ self.old.leasts }
-        ensures ok { OnOk result (length self.old.leasts + n ≤ self.new.capacity) }
+        ensures min_depths { self.new.min_depths ≡ self.old.min_depths }
+        ensures ok { OnOk result (length self.old.min_depths + n ≤ self.new.capacity) }
         ensures grows { self.old.capacity ≤ self.new.capacity }
     {
         self.blocks.reserve(n)?;
@@ -55,15 +55,15 @@ impl Leasts {
 
     /// The depth for a block.
     pub fn get(&self, block: usize) -> u32
-        requires { block < length self.now.leasts }
-        ensures { result ≡ slice_index self.now.leasts block }
+        requires { block < length self.now.min_depths }
+        ensures { result ≡ slice_index self.now.min_depths block }
     {
         self.blocks[block]
     }
 
     /// No blocks.
     pub fn clear(&mut self)
-        ensures none { self.new.leasts ≡ [] }
+        ensures none { self.new.min_depths ≡ [] }
         ensures capacity { self.old.capacity ≤ self.new.capacity }
     {
         self.blocks.clear();
@@ -72,8 +72,8 @@ impl Leasts {
 
     /// The depth for one block more.
     pub fn push(&mut self, least: u32)
-        requires { length self.old.leasts < self.old.capacity }
-        ensures leasts { self.new.leasts ≡ self.old.leasts ++ least ∷ [] }
+        requires { length self.old.min_depths < self.old.capacity }
+        ensures min_depths { self.new.min_depths ≡ self.old.min_depths ++ least ∷ [] }
         ensures capacity { self.old.capacity ≤ self.new.capacity }
     {
         let block = self.blocks.len();
@@ -89,8 +89,8 @@ impl Leasts {
 
     /// Another depth for a block.
     pub fn set(&mut self, block: usize, least: u32)
-        requires { block < length self.old.leasts }
-        ensures leasts { self.new.leasts ≡ set self.old.leasts block least }
+        requires { block < length self.old.min_depths }
+        ensures min_depths { self.new.min_depths ≡ set self.old.min_depths block least }
         ensures capacity { self.old.capacity ≤ self.new.capacity }
     {
         self.blocks[block] = least;
@@ -100,10 +100,10 @@ impl Leasts {
 
     /// Passes over blocks from one on whose depths are above this: where it stops. The next seven may be above it too.
     pub fn pass_above(&self, from: usize, bound: usize) -> usize
-        requires { from ≤ length self.now.leasts }
+        requires { from ≤ length self.now.min_depths }
         ensures from { from ≤ result }
-        ensures within { result ≤ length self.now.leasts }
-        ensures above { (k : ℕ) → from ≤ k → k < result → bound < slice_index self.now.leasts k }
+        ensures within { result ≤ length self.now.min_depths }
+        ensures above { (k : ℕ) → from ≤ k → k < result → bound < slice_index self.now.min_depths k }
     {
         let len = self.blocks.len();
         let mut at = from;
@@ -123,9 +123,9 @@ impl Leasts {
     /// Passes over blocks before one, the last one first, whose depths are not below this: where it stops. The seven before
     /// may not be below it either.
     pub fn pass_back(&self, end: usize, bound: usize) -> usize
-        requires { end ≤ length self.now.leasts }
+        requires { end ≤ length self.now.min_depths }
         ensures within { result ≤ end }
-        ensures not_below { (k : ℕ) → result ≤ k → k < end → bound ≤ slice_index self.now.leasts k }
+        ensures not_below { (k : ℕ) → result ≤ k → k < end → bound ≤ slice_index self.now.min_depths k }
     {
         let mut at = end;
         while at > 0 {

@@ -5,24 +5,24 @@ use std::alloc::{AllocError, Global};
 /// For how many positions, one after another, a block is noted.
 const STRIDE: usize = 32;
 
-/// Notes are old once one in so many nodes has come or gone, and `FEW` more.
+/// A cache is old once one in so many nodes has come or gone, and `FEW` more.
 const STEADY: usize = 1_024;
 
 const FEW: usize = 16;
 
-/// Which block of a list had each position when that was noted; by now it may be another. Who asks searches from that block on, so
-/// no clause speaks of notes: a wrong one, or none, costs time and changes no answer.
+/// Which block of a list had each position when that was noted; by now it may be another. Who asks searches from that block
+/// on, so no clause speaks of the cache: a wrong block, or none, costs time and changes no answer.
 #[derive(Drop)]
-pub struct Notes {
+pub struct PositionCache {
     /// For the first of each 32 positions its block.
     blocks: Vec<u32>,
     /// How many nodes have come or gone since.
     moved: usize,
 }
 
-impl Notes {
-    pub fn none(alloc: Global) -> Notes {
-        Notes {
+impl PositionCache {
+    pub fn none(alloc: Global) -> PositionCache {
+        PositionCache {
             blocks: Vec::new(alloc),
             moved: 0,
         }
