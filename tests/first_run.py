@@ -99,7 +99,8 @@ def check_traces(cases, room):
 
 def check_unreadable(cases, room):
     """A trace that the user may not read; root may read all, so root tries it as nobody."""
-    shutil.copy(os.path.join(TOP, "run.sh"), room)
+    for name in ("run.sh", "unproved.sh"):
+        shutil.copy(os.path.join(TOP, name), room)
     with open(os.path.join(room, "unreadable.csv"), "wb") as file:
         os.fchmod(file.fileno(), 0)
     how = {"user": NOBODY} if os.geteuid() == 0 else {}
@@ -136,7 +137,7 @@ def unbuilt_copy(room, name):
     """A copy of the repository without what was built."""
     copy = os.path.join(room, name)
     os.mkdir(copy)
-    for name in ("run.sh", "build.sh", "crates.txt", "HANDLES"):
+    for name in ("run.sh", "unproved.sh", "build.sh", "crates.txt", "HANDLES"):
         shutil.copy(os.path.join(TOP, name), copy)
     skipped = shutil.ignore_patterns("out", "must-fail")
     shutil.copytree(os.path.join(TOP, "crates"), os.path.join(copy, "crates"), ignore=skipped)

@@ -1262,14 +1262,49 @@ def check_large(cases, program):
 
 
 def check_script(cases, program):
-    """trace.sh runs the program, and tells where there is none."""
+    """trace.sh runs the program."""
     script = os.path.join(TOP, "trace.sh")
     for words in (["word", "50c6"], ["word", "x"], ["--help"], ["check", "examples/chain-and-its-revocation.csv"]):
         cases.compare(f"trace.sh {' '.join(words)}", run([program, *words], cwd=TOP), run([script, *words], cwd=TOP))
     with tempfile.TemporaryDirectory() as room:
-        lone = shutil.copy(script, room)
-        why = f"{lone}: l4trace is not built; {room}/build.sh proves and builds it\n"
-        cases.compare("trace.sh without the program", Ended(125, b"", why.encode()), run([lone, "word", "50c6"]))
+        check_unproved(cases, room)
+
+
+def check_unproved(cases, room):
+    """Where the program is not built, trace.sh runs it without proofs. In place of `rt` is a script that tells what it is
+    given."""
+    for name in ("trace.sh", "unproved.sh"):
+        shutil.copy(os.path.join(TOP, name), room)
+    for folder in ("crates/l4trace", "tools", "below"):
+        os.makedirs(os.path.join(room, folder))
+    path, lower = written(room, "a trace.csv", ["l4map,1,2,18,1"]), written(room, "below/b.csv", ["l4map,1,2,18,1"])
+    tool = os.path.join(room, "tools", "rt")
+    with open(tool, "w", encoding="ascii") as file:
+        file.write("#!/usr/bin/env bash\nprintf '%s\\n' \"$@\"; cat; echo told >&2; echo 'run=ended status=1 runners=1 proved=no' >&2\n")
+    os.chmod(tool, 0o755)
+    script = os.path.join(room, "trace.sh")
+    notice = f"the program is not built; running it without proofs, in one to three minutes ({room}/build.sh proves and builds it)"
+    told = f"{script}: {notice}\ntold\n".encode()
+    env = {**os.environ, "PATH": os.path.join(room, "tools") + os.pathsep + os.environ["PATH"]}
+    for words, given, folder in (
+        (["word", "50c6"], ["--", "word", "50c6"], "below"),
+        (["check", path], ["--", "check", path], "below"),
+        (["check", "b.csv"], ["--data", f"b.csv={lower}", "--", "check", "b.csv"], "below"),
+        (["check", "../a trace.csv"], ["--", "check", path], "below"),
+        (["check", "none.csv"], ["--", "check", "none.csv"], "below"),
+        (["compare", "b.csv", "-"], ["--data", f"b.csv={lower}", "--", "compare", "b.csv", "-"], "below"),
+    ):
+        lines = text_of(["try", *given]) + (b"answers" if "-" in words else b"")
+        got = run([script, *words], b"answers", env=env, cwd=os.path.join(room, folder))
+        cases.compare(f"trace.sh {' '.join(words)} without the program", Ended(1, lines, told), got)
+    written(room, "a=b.csv", ["l4map,1,2,18,1"])
+    wanted = Ended(125, b"", f"{script}: without proofs the name of a file has no '=': 'a=b.csv'\n".encode())
+    cases.compare("trace.sh of a name with a sign without the program", wanted, run([script, "check", "a=b.csv"], env=env, cwd=room))
+    os.remove(tool)
+    for name in ("bash", "dirname", "env", "readlink"):
+        os.symlink(shutil.which(name), os.path.join(room, "tools", name))
+    wanted = Ended(125, b"", f"{script}: the command rt is missing: install the Rattle kit and put its bin folder on the PATH\n".encode())
+    cases.compare("trace.sh without the kit", wanted, run([script, "word", "50c6"], env={"PATH": os.path.join(room, "tools")}))
 
 
 # Each document that shows commands of l4trace, and how many.
