@@ -697,25 +697,123 @@ def dot_of_nodes():
     return ended(0, *lines, "}")
 
 
-def check_picture(cases, name, got, title):
-    """The picture is XML, its title is the heading, and its texts are the frames and the mappings, each once, below its
-    origin."""
+SVG = "{http://www.w3.org/2000/svg}"
+LEGEND = ["same", "new", "changed", "taken"]
+# The frames and mappings of a picture: what was done to each, how deep it stands, and its text.
+PICTURES = [
+    (
+        TREES,
+        4,
+        [
+            ("frame", 0, "frame 0"),
+            ("same", 0, "0:0 rwx ---"),
+            ("same", 1, "1:0 rwx ---"),
+            ("same", 2, "3:0 rwx ---"),
+            ("same", 2, "3:4 r-x ---"),
+            ("same", 1, "2:0 rw- ---"),
+            ("frame", 0, "frame 1"),
+            ("same", 0, "0:1 rwx ---"),
+            ("new", 1, "2:5 rwx ---"),
+        ],
+    ),
+    # What was taken from below a page that is of another frame now has no branch.
+    (
+        TREES,
+        5,
+        [
+            ("frame", 0, "frame 0"),
+            ("same", 0, "0:0 rwx ---"),
+            ("same", 1, "2:0 rw- ---"),
+            ("taken", 0, "3:0 rwx ---"),
+            ("taken", 0, "3:4 r-x ---"),
+            ("frame", 0, "frame 1"),
+            ("same", 0, "0:1 rwx ---"),
+            ("changed", 1, "1:0 rwx ---"),
+            ("same", 1, "2:5 rwx ---"),
+        ],
+    ),
+    (
+        GONE,
+        5,
+        [
+            ("frame", 0, "frame 0"),
+            ("same", 0, "0:0 rwx ---"),
+            ("same", 1, "1:0 rwx ---"),
+            ("taken", 2, "2:0 rwx ---"),
+            ("taken", 2, "2:5 r-x ---"),
+            ("same", 1, "3:0 rwx ---"),
+            ("frame", 0, "frame 1"),
+            ("same", 0, "0:1 rwx ---"),
+            ("same", 1, "2:9 rwx ---"),
+            ("frame", 0, "frame 2"),
+            ("same", 0, "0:2 rwx ---"),
+        ],
+    ),
+]
+
+
+def picture_of(cases, name, got):
+    """The root of a picture, which is XML."""
     try:
-        root = ElementTree.fromstring(got.stdout)
+        return ElementTree.fromstring(got.stdout)
     except ElementTree.ParseError as error:
         cases.check(name, f"no XML: {error}")
-        return
-    space = "{http://www.w3.org/2000/svg}"
-    found = [(text.get("class"), text.text, int(text.get("x"))) for text in root.iter(space + "text")]
-    wanted = []
-    depths = {"": -1}
-    for place, frame, rights, origin in NODES:
-        depths[place] = depths[origin] + 1
-        if not origin:
-            wanted.append(("frame", f"frame {frame}", 8))
-        wanted.append(("page new" if place == "2:5" else "page same", f"{place} {rights} ---", 16 + 32 * depths[place]))
-    cases.check(name, "" if found == wanted and root.find(space + "title").text == title else f"{found}")
-    cases.check(name + ": branches", "" if len(list(root.iter(space + "path"))) == 5 else "not one for each origin")
+        return ElementTree.Element("none")
+
+
+def texts_of(root):
+    return [(text.get("class"), int(text.get("x")), text.text) for text in root.iter(SVG + "text")]
+
+
+def check_picture(cases, name, got, heading, rows):
+    """A picture has the heading, its first line as the title too, the legend, each frame and each mapping once, a box
+    round what is not the same, and a branch to each mapping below another."""
+    root = picture_of(cases, name, got)
+    texts = texts_of(root)
+    told = "".join(text for kind, _, text in texts if kind == "title")
+    title = root.find(SVG + "title")
+    good = title is not None and title.text == heading[0] and told == "".join(heading)
+    cases.check(f"{name}: heading", "" if good else f"{told}")
+    texts = [text for text in texts if text[0] != "title"]
+    legend, texts = texts[: len(LEGEND)], texts[len(LEGEND) :]
+    cases.check(f"{name}: legend", "" if [(kind, text) for kind, _, text in legend] == [(f"page {word}", word) for word in LEGEND] else f"{legend}")
+    wanted = [(kind, 8, text) if kind == "frame" else (f"page {kind}", 16 + 24 * depth, text) for kind, depth, text in rows]
+    cases.check(name, "" if texts == wanted else f"{texts}")
+    boxes = [box.get("class") for box in root.iter(SVG + "rect") if box.get("class")]
+    changed = [kind for kind, _, _ in rows if kind not in ("same", "frame")]
+    cases.check(f"{name}: boxes", "" if boxes == [*LEGEND[1:], *changed] else f"{boxes}")
+    branches = [branch.get("class") for branch in root.iter(SVG + "path")]
+    wanted = [kind for kind, depth, _ in rows if depth]
+    cases.check(f"{name}: branches", "" if branches == wanted else f"{branches}")
+
+
+def check_pictures(cases, program, room):
+    """Pictures of small traces, of a name that XML has to escape, of many mappings, and of a long chain."""
+    for name in ("trees.csv", "a<b>&c.csv"):
+        for records, number, rows in PICTURES:
+            path = written(room, name, records)
+            heading = ["after " + record_at(path, records, number)]
+            got = run([program, "show", path, "--at", str(number), "--svg"])
+            check_picture(cases, f"show {name} --at {number} --svg", got, heading, rows)
+    path = written(room, "trees.csv", TREES)
+    rows = [("frame", 0, "frame 0"), ("same", 0, "0:0 rwx ---"), ("frame", 0, "frame 1"), ("same", 0, "0:1 rwx ---")]
+    check_picture(cases, "show --svg at the start", run([program, "show", path, "--at", "0", "--svg"]), ["at the start"], rows)
+    got = run([program, "show", path, "--at", "4", "--svg", "--max", "2"])
+    texts = texts_of(picture_of(cases, "show --svg --max", got))[-4:]
+    wanted = [("frame", 8, "frame 0"), ("page same", 16, "0:0 rwx ---"), ("page same", 40, "1:0 rwx ---"), ("more", 8, ".. and 5 more")]
+    cases.check("show --svg --max", "" if texts == wanted else f"{texts}")
+    # A frame and 61 mappings, of which 60 stand beside one another: 62 lines, so 21 in each of three columns.
+    path = written(room, "wide.csv", ["l4map,1,3,18,1", *(f"send,0,1,10,{page:x}008,c7" for page in range(60))])
+    root = picture_of(cases, "show --svg of many mappings", run([program, "show", path, "--svg"]))
+    rows = [(x, text) for kind, x, text in texts_of(root)[-62:]]
+    wanted = [(8, "frame 0"), (16, "0:0 rwx ---")] + [(40 + 334 * ((2 + page) // 21), f"1:{page} rwx ---") for page in range(60)]
+    cases.check("show --svg of many mappings", "" if rows == wanted and root.get("width") == "1002" else f"{root.get('width')} {rows}")
+    # A chain of 511 below the root, folded from level 9 on: 513 lines in two columns.
+    path = written(room, "chain.csv", ["l4map,1,512,18,1", *(f"send,{n},{n + 1},10,8,c7" for n in range(511))])
+    root = picture_of(cases, "show --svg of a long chain", run([program, "show", path, "--svg"]))
+    texts = texts_of(root)
+    good = root.get("width") == "1004" and texts[-1] == ("page new", 502 + 16 + 192, "(level 511) 511:0 rwx ---")
+    cases.check("show --svg of a long chain", "" if good and len(list(root.iter(SVG + "path"))) == 8 else f"{root.get('width')} {texts[-1]}")
 
 
 def none_such(path, why):
@@ -730,11 +828,7 @@ def show_traces(cases, program):
             heading = "after " + record_at(path, TREES, number) if number else "at the start"
             cases.compare(f"show {arguments}", ended(0, heading, *lines), run([program, "show", path, *arguments.split()]))
         cases.compare("show --dot", dot_of_nodes(), run([program, "show", path, "--at", "4", "--dot"]))
-        check_picture(cases, "show --svg", run([program, "show", path, "--at", "4", "--svg"]), "after " + record_at(path, TREES, 4))
-        odd = written(room, "a<b>&c.csv", TREES)
-        check_picture(cases, "show --svg with a name", run([program, "show", odd, "--at", "4", "--svg"]), "after " + record_at(odd, TREES, 4))
-        got = run([program, "show", path, "--at", "4", "--svg", "--max", "2"]).stdout.decode()
-        cases.check("show --svg --max", "" if ">.. and 5 more<" in got and got.count('class="page') == 2 else got)
+        check_pictures(cases, program, room)
         for arguments, why in (
             ("--space 4", "space 4; spaces are 0 to 3"),
             ("--space 4294967295", "space 4294967295; spaces are 0 to 3"),

@@ -5,10 +5,10 @@ ghost use Rattle.drawings.specs.Show.{is_chosen};
 
 use crate::diff::push_diff;
 use crate::dot::push_dot;
-use crate::gone::{gone_count, push_gone};
+use crate::gone::{gone_count, push_gone, with_gone};
 use crate::lines::{Branches, Others, push_more, push_row};
 use crate::moment::Moment;
-use crate::svg::push_svg;
+use crate::svg::{Sides, push_svg};
 use crate::tree::{Row, tree_rows};
 use crate::view::{Form, View};
 use mapdb::Mapping;
@@ -59,7 +59,15 @@ pub fn push_drawing(
     let rows = tree_rows(alloc, &after)?;
     match view.form {
         Form::Dot => push_dot(text, &rows, &before, view.most),
-        Form::Svg => push_svg(alloc, text, heading, &rows, &before, view.most),
+        Form::Svg => {
+            let all = with_gone(alloc, &before, &after, &moment.after)?;
+            let rows = tree_rows(alloc, &all)?;
+            let sides = Sides {
+                before: &moment.before,
+                after: &moment.after,
+            };
+            push_svg(alloc, text, heading, &rows, &sides, view.most)
+        }
         Form::Diff => {
             let old = tree_rows(alloc, &before)?;
             write!(text, "{heading}\n")?;

@@ -5,7 +5,7 @@ ghost use Rattle.std.specs.Prelude.{◌≤◌, length};
 use crate::lines::push_more;
 use crate::mark::{mapping_at, push_mapping};
 use mapdb::Mapping;
-use std::alloc::AllocError;
+use std::alloc::{AllocError, Global};
 use std::fmt::Write;
 
 /// How many of some mappings are no longer held: after, by rising place, their places hold nothing.
@@ -16,6 +16,25 @@ pub fn gone_count(before: &[Mapping], after: &[Mapping]) -> usize
         .iter()
         .filter(|mapping| mapping_at(after, mapping.place).is_none())
         .count()
+}
+
+/// Some mappings with those of others that are no longer held, by rising place: after, by rising place, their places
+/// hold nothing.
+pub fn with_gone(
+    alloc: Global,
+    before: &[Mapping],
+    some: &[Mapping],
+    after: &[Mapping],
+) -> Result<Vec<Mapping>, AllocError> {
+    let mut all = Vec::with_capacity(alloc, some.len())?;
+    all.extend_from_slice(some)?;
+    for mapping in before {
+        if mapping_at(after, mapping.place).is_none() {
+            all.push(*mapping)?;
+        }
+    }
+    all.sort_by_key(|mapping| mapping.place)?;
+    Ok(all)
 }
 
 /// Appends those of some mappings that are no longer held, one a line: at most so many, and how many more there are.

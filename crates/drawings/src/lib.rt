@@ -5,6 +5,7 @@ mod diff;
 mod dot;
 mod drawing;
 mod gone;
+mod layout;
 mod lines;
 mod mark;
 mod moment;

@@ -55,6 +55,16 @@ pub fn index_of(mappings: &[Mapping], place: Place) -> Option<usize> {
     None
 }
 
+/// The index of the mapping from which one comes, among mappings by rising place, if it is of the same frame.
+fn origin_in(mappings: &[Mapping], mapping: &Mapping) -> Option<usize> {
+    let index = index_of(mappings, mapping.origin?)?;
+    if mappings.get(index)?.frame == mapping.frame {
+        Some(index)
+    } else {
+        None
+    }
+}
+
 /// No links of so many mappings.
 fn no_links(alloc: Global, count: usize) -> Result<Vec<Option<usize>>, AllocError> {
     let mut links = Vec::with_capacity(alloc, count)?;
@@ -77,7 +87,7 @@ fn link(links: &[Option<usize>], index: usize) -> Option<usize> {
 }
 
 impl Links {
-    /// The links of mappings by rising place. Mappings whose origin is none of them are roots.
+    /// The links of mappings by rising place. Mappings whose origin is none of them, or of another frame, are roots.
     fn new(alloc: Global, mappings: &[Mapping]) -> Result<Self, AllocError> {
         let count = mappings.len();
         let mut links = Links {
@@ -87,11 +97,7 @@ impl Links {
             root: None,
         };
         for (i, mapping) in mappings.iter().enumerate().rev() {
-            let origin = match mapping.origin {
-                Some(place) => index_of(mappings, place),
-                None => None,
-            };
-            links.add(i, origin);
+            links.add(i, origin_in(mappings, mapping));
         }
         Ok(links)
     }
