@@ -8,6 +8,7 @@ from support.program import Ended, difference, preloaded, run
 
 MOST = 100_000
 SECONDS = 30
+UNREFUSED = 8
 EXTENTS = [(False, "alone"), (True, "and all after it")]
 
 # How standard error may tell what was refused: an allocation may have been for the start of a thread, a thread for no
@@ -38,11 +39,14 @@ def run_refusing(words, given, library, what, at, and_rest):
 
 
 def runs_refusing(words, given, library, what, and_rest):
-    """Refuses the first, the second and so on; the last run is the one in which none was left to refuse."""
+    """Refuses the first, the second and so on, until none was left to refuse in some runs, one after another: of several
+    workers one run asks for more than another."""
+    unrefused = 0
     for at in range(1, MOST + 1):
         refused = run_refusing(words, given, library, what, at, and_rest)
         yield refused
-        if not refused.was_refused:
+        unrefused = 0 if refused.was_refused else unrefused + 1
+        if unrefused == UNREFUSED:
             return
 
 
