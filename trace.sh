@@ -1,5 +1,5 @@
 #!/usr/bin/env bash
-# Runs l4trace, which explains words, checks, shows and makes traces, and compares answers.
+# Runs l4trace, which explains words and traces, checks, shows and makes traces, and compares answers.
 #
 #   ./trace.sh COMMAND [ARGUMENT..]
 #

@@ -383,7 +383,8 @@ def check_script(cases, room):
     os.makedirs(os.path.join(copy, "crates", "capi"))
     for name in ("maptree", "fpage"):
         os.mkdir(os.path.join(copy, "crates", name))
-    shutil.copy(os.path.join(TOP, "library.sh"), copy)
+    for name in ("library.sh", "proving.sh"):
+        shutil.copy(os.path.join(TOP, name), copy)
     with open(os.path.join(copy, "crates.txt"), "w", encoding="ascii") as file:
         file.write("# crates\nfpage: thiserror\nmaptree may_wait=2: fpage\nmaptree_tests: maptree\nwords: fpage\n")
         file.write("capi staticlib: words std_alloc\nl4map: words maptree\n")

@@ -29,7 +29,7 @@ NOBODY = 65534
 PROGRAMS = ("l4map", "l4trace")
 
 # The crates that only library.sh builds.
-OF_LIBRARY = ("c_handle", "capi", "raw_box")
+OF_LIBRARY = ("c_handle", "capi")
 
 # What run.sh says where the program is not built, before anything else, and where the program cannot be run to its end.
 NOTICE = b"./run.sh: the program is not built; running it without proofs, in a minute or two (./build.sh proves and builds it)\n"
@@ -137,7 +137,7 @@ def unbuilt_copy(room, name):
     """A copy of the repository without what was built."""
     copy = os.path.join(room, name)
     os.mkdir(copy)
-    for name in ("run.sh", "unproved.sh", "build.sh", "crates.txt", "HANDLES"):
+    for name in ("run.sh", "unproved.sh", "build.sh", "proving.sh", "crates.txt", "HANDLES"):
         shutil.copy(os.path.join(TOP, name), copy)
     skipped = shutil.ignore_patterns("out", "must-fail")
     shutil.copytree(os.path.join(TOP, "crates"), os.path.join(copy, "crates"), ignore=skipped)

@@ -120,6 +120,7 @@ REFUSED = [
 
 HEADER = "l4map,1,3,18,16\n"
 A_SEND = "a send has a sender, a receiver, a window, and two words for each of 1 to 31 items"
+NO_COMMENTS = "a trace has no comments: grep -v '^#' takes such lines out"
 PADDING = "a spreadsheet fills its rows up so: leave out the commas at the end"
 
 # A record behind a header of three spaces of 18 bits: the column, the refusal and the cause, or nothing if it is taken.
@@ -153,6 +154,7 @@ RECORDS = [
     ("l4map,1,3,18,16", "1 BadRecord: the name is 'l4map', not send, access or unmap; a header stands only at the start"),
     ("map,0,1", "1 BadRecord: the name is 'map', not send, access or unmap"),
     ("clear,1", "1 BadRecord: the name is 'clear', not send, access or unmap; a trace with clear has a header of version 2: l4map,2,.."),
+    ("# Space 1, too", "1 BadRecord: the name is '# Space 1', not send, access or unmap; " + NO_COMMENTS),
     ("\ufeffsend,0,1,10,8,c7", "1 BadRecord: the name is '\\xef\\xbb\\xbfsend', not send, access or unmap; a byte order mark stands before it: leave it out"),
     ("send,0,1,a7,8,c7", "10 BadSize: the window is a7: s is 10; that of one page is 12"),
     ("send,0,1,10,8,10d7", "15 Misaligned: the send fpage of item 1 is 10d7: base 1000 is no multiple of the size, 8K; the next good base is 2000: 20d7"),
@@ -210,6 +212,7 @@ HEADERS = [
     (b"\xef\xbb\xbfL4MAP,1,3,18,16\n", "1:1: header: BadHeader: the first field is 'L4MAP', not l4map; names are in lower case"),
     (b"\xef\xbb\xbf\xef\xbb\xbfl4map,1,3,18,16\n", "1:1: header: BadHeader: the first field is '\\xef\\xbb\\xbfl4map', not l4map; a byte order mark stands before it: leave it out"),
     (b"l4map;1;3;18;16\n", "1:1: header: BadHeader: the first field is 'l4map;1;3;18;16', not l4map; fields are separated by commas, not by semicolons"),
+    (b"# three spaces\nl4map,1,3,18,16\n", f"1:1: header: BadHeader: the first field is '# three spaces', not l4map; {NO_COMMENTS}"),
     (b"l4map,1,3,18\n", "1:11: header: BadHeader: a header has 5 fields: l4map, version, spaces, bits, frames; here are 4"),
     (b"l4map,1,3,18,16,,\n", "1:17: header: BadHeader: the last 2 fields are empty; " + PADDING),
     (b"l4map,1,0x3,18,16\n", "1:9: header: BadHeader: the number of spaces is '0x3', not 1 to 7 decimal digits; leave out the 0x"),
@@ -304,11 +307,11 @@ def check_program(cases, program):
         lines = [lines[0], ".. and 2 more; --max tells more of them", "4 records, 3 refused"]
         cases.compare("check with --max 1", ended(1, *lines), run([program, "check", "--max", "1", path]))
         unreadable_files(cases, program, room, path)
-    for arguments, example in (("--help", "Exit status"), ("word --help", "9008,50c6"), ("check --help", "leave out the 0x"), ("compare --help", "first difference"), ("show --help", "2:4 r-x"), ("why --help", "took --x"), ("random --help", "every rule")):
+    for arguments, example in (("--help", "Exit status"), ("word --help", "9008,50c6"), ("check --help", "leave out the 0x"), ("compare --help", "first difference"), ("show --help", "2:4 r-x"), ("why --help", "took --x"), ("explain --help", "the status found is R--"), ("random --help", "every rule")):
         got = run([program, *arguments.split()])
         good = got.status == 0 and example in got.stdout.decode() and not got.stderr
         cases.check(arguments, "" if good else f"{got}")
-    for arguments in ("", "chek t", "check", "word 50c6 --size 4K", "word 50c6 --bits 17", "word 50c6 --bits 33", "word --rights rw", "word --control 0", "word --flush", "compare t", "show", "why t", "random", "show t --svg --dot", "show t --space 1 --diff", "show t --space 4294967296", "show t --frame -1", "compare t a --audit --part"):
+    for arguments in ("", "chek t", "check", "word 50c6 --size 4K", "word 50c6 --bits 17", "word 50c6 --bits 33", "word --rights rw", "word --control 0", "word --flush", "compare t", "show", "why t", "random", "show t --svg --dot", "show t --space 1 --diff", "show t --space 1 --svg", "show t --diff --svg --dot", "show t --space 4294967296", "show t --frame -1", "compare t a --audit --part", "compare t a --ignore rights", "explain", "explain t --at x", "show t --audit --svg", "show t --audit --frame 0"):
         got = run([program, *arguments.split()])
         good = got.status == 2 and not got.stdout and got.stderr
         cases.check(f"refused: {arguments}", "" if good else f"{got}")
@@ -399,9 +402,14 @@ def changed(number, line):
     return [*ANSWERS[: number - 1], *([line] if line else []), *ANSWERS[number:]]
 
 
-def differs(path, number, ours, theirs):
-    """What is told of a first difference."""
-    lines = [f"first difference: line {number}", f"  l4map:   {ours}", f"  answers: {theirs}"]
+# What is told of a line that ends in a carriage return, and of a comment.
+RETURNS = "  the form alone differs: a carriage return at its end (tr -d '\\r' takes these out)"
+COMMENT = "  a comment, which no answers have: grep -v '^#' takes such lines out"
+
+
+def differs(path, number, ours, theirs, *form):
+    """What is told of a first difference, and of the form of its lines."""
+    lines = [f"first difference: line {number}", f"  l4map:   {ours}", f"  answers: {theirs}", *form]
     if number in CHANGES:
         record, line, changes, trees = CHANGES[number]
         lines += [f"  record {number}, {path}:{line}: {record}", "  it changes these mappings:", *changes]
@@ -451,7 +459,7 @@ def compare_answers(cases, program):
         cases.compare("compare with a line too many", differs(path, 7, "(the end)", "more"), compared(text_of([*ANSWERS, "more"])))
         cases.compare("compare with nothing", differs(path, 1, ANSWERS[0], "(the end)"), compared(b""))
         got = compared(text_of(ANSWERS).replace(b"\n", b"\r\n"))
-        cases.compare("compare with carriage returns", differs(path, 1, ANSWERS[0], ANSWERS[0] + "\\x0d"), got)
+        cases.compare("compare with carriage returns", differs(path, 1, ANSWERS[0], ANSWERS[0] + "\\x0d", RETURNS), got)
         compare_audits(cases, path, compared)
         for name, lines in (
             ("the replies alone", ANSWERS[:3]),
@@ -537,6 +545,262 @@ def compare_unchanged(cases, program):
         cases.compare("compare with a root missing", ended(1, *lines), got)
 
 
+def sent(number, **counts):
+    """The reply to a send with these counts; the others are 0."""
+    names = ("absent", "norights", "origin", "lost", "extended", "linked")
+    return f"{number} send " + " ".join(f"{name}={counts.get(name, 0)}" for name in names)
+
+
+def replied(replies, number):
+    """The line of show and why that has the reply to a record; at the start there is none."""
+    return [f"reply: {replies[number - 1]}"] if number else []
+
+
+def told(number, line, ours, theirs, *more):
+    """What compare --all tells of a difference."""
+    return [f"difference {number}: line {line}", f"  l4map:   {ours}", f"  answers: {theirs}", *more]
+
+
+def in_all(count):
+    return f"{count} difference{'' if count == 1 else 's'} in all"
+
+
+NO_LINE = "(no such line)"
+UNTOLD = ".. and %d more; --max tells more of them"
+
+
+def compare_all(cases, program):
+    """--all tells every difference: lines that tell of the same are set beside each other."""
+    with tempfile.TemporaryDirectory() as room:
+        path = os.path.join(room, "trace.csv")
+        with open(path, "wb") as trace:
+            trace.write(TRACE)
+        record = {number: f"  record {number}, {path}:{line}: {text}" for number, (text, line, _, _) in CHANGES.items()}
+
+        def compared(lines, *arguments):
+            return run([program, "compare", path, "-", "--all", *arguments], text_of(lines) if isinstance(lines, list) else lines)
+
+        cases.compare("--all with the right answers", no_difference(6), compared(ANSWERS))
+        fault, other, page = "2 access fault", "1,3,0,rw-,---,0:0", "1,4,0,rw-,---,0:0"
+        second = told(1, 2, ANSWERS[1], fault, record[2])
+        fifth = told(2, 5, ANSWERS[4], other)
+        both = [ANSWERS[0], fault, *ANSWERS[2:4], other, ANSWERS[5]]
+        nothing = [told(n + 1, 1, line, NO_LINE, *([record[n + 1]] if n < 3 else [])) for n, line in enumerate(ANSWERS)]
+        for name, answers, arguments, lines in (
+            ("a reply and a mapping", both, [], [*second, *fifth, in_all(2)]),
+            ("a reply and a mapping --max 1", both, ["--max", "1"], [*second, UNTOLD % 1, in_all(2)]),
+            ("a reply and a mapping --max 0", both, ["--max", "0"], [UNTOLD % 2, in_all(2)]),
+            ("a reply and a mapping --audit", both, ["--audit"], [*told(1, 5, ANSWERS[4], other), in_all(1)]),
+            ("a reply and a mapping alone", both[1:5:3], ["--part"], [*second[:1], *told(1, 1, ANSWERS[1], fault, record[2])[1:], *told(2, 2, ANSWERS[4], other), in_all(2)]),
+            ("a reply missing", changed(2, None), [], [*told(1, 2, ANSWERS[1], NO_LINE, record[2]), in_all(1)]),
+            ("a mapping missing", changed(4, None), [], [*told(1, 4, ANSWERS[3], NO_LINE), in_all(1)]),
+            ("a mapping too many", [*ANSWERS[:5], page, ANSWERS[5]], [], [*told(1, 6, NO_LINE, page), in_all(1)]),
+            ("a line too many", [*ANSWERS, "more"], [], [*told(1, 7, NO_LINE, "more"), in_all(1)]),
+            ("comments", ["# a", *ANSWERS[:2], "# b, c", *ANSWERS[2:]], [], [*told(1, 1, NO_LINE, "# a", COMMENT), *told(2, 4, NO_LINE, "# b, c", COMMENT), in_all(2)]),
+            ("comments --part", ["# a", *ANSWERS[1:3]], ["--part"], [*told(1, 1, NO_LINE, "# a", COMMENT), in_all(1)]),
+            ("a reply twice", [*ANSWERS[:2], ANSWERS[0], *ANSWERS[2:]], [], [*told(1, 3, NO_LINE, ANSWERS[0]), in_all(1)]),
+            ("nothing", [], [], [*(line for lines in nothing for line in lines), in_all(6)]),
+            ("no line feed at the end", text_of(ANSWERS)[:-1], [], [*told(1, 6, ANSWERS[5], ANSWERS[5], "  the line feed is missing in one of them"), in_all(1)]),
+        ):
+            if name == "a reply and a mapping alone":
+                lines = [*told(1, 1, ANSWERS[1], fault, record[2]), *told(2, 2, ANSWERS[4], other), in_all(2)]
+            cases.compare(f"--all with {name}", ended(1, *lines), compared(answers, *arguments))
+        cases.compare("--all --audit with comments", no_difference(2), compared(["# a, b", *ANSWERS], "--audit"))
+
+
+OTHER_CASE = "letters in the other case"
+# A line in place of one of ANSWERS that differs from it in form alone, and what is told of that.
+FORMS = [
+    (2, "2 access ok\r", RETURNS),
+    (2, "2 access ok ", "  the form alone differs: blanks at its end"),
+    (2, "2 access ok\t \t", "  the form alone differs: blanks at its end"),
+    (2, "2 ACCESS OK", f"  the form alone differs: {OTHER_CASE}"),
+    (3, "3 unmap 000000C4", f"  the form alone differs: {OTHER_CASE}"),
+    (3, "3 unmap 000000C4\r", f"{RETURNS}, {OTHER_CASE}"),
+    (4, "0,0,0,RWX,---,- ", f"  the form alone differs: blanks at its end, {OTHER_CASE}"),
+    (2, "2 access  ok", None),
+    (3, "3 unmap 000000c6\r", None),
+    (1, "# " + ANSWERS[0], COMMENT),
+]
+
+
+def compare_forms(cases, program):
+    """What is told of lines that differ in their form alone."""
+    with tempfile.TemporaryDirectory() as room:
+        path = os.path.join(room, "trace.csv")
+        with open(path, "wb") as trace:
+            trace.write(TRACE)
+        for number, line, form in FORMS:
+            shown = line.replace("\r", "\\x0d").replace("\t", "\\x09")
+            wanted = differs(path, number, ANSWERS[number - 1], shown, *([form] if form else []))
+            got = run([program, "compare", path, "-"], text_of(changed(number, line)))
+            cases.compare(f"compare with the form of {line!r}", wanted, got)
+
+
+def ignore_status(cases, program):
+    """--ignore status: status counts as none, in replies and mappings, and all else counts."""
+    with tempfile.TemporaryDirectory() as room:
+        path = os.path.join(room, "trace.csv")
+        with open(path, "wb") as trace:
+            trace.write(TRACE)
+
+        def compared(lines, *arguments):
+            return run([program, "compare", path, "-", "--ignore", "status", *arguments], text_of(lines))
+
+        seen = [*ANSWERS[:2], "3 unmap 000000c7", "0,0,0,rwx,RWX,-", "1,3,0,r--,--X,0:0", ANSWERS[5]]
+        for arguments, count in (([], 6), (["--audit"], 2), (["--part"], 6), (["--all"], 6)):
+            cases.compare(f"--ignore status {arguments} with another status", no_difference(count), compared(seen, *arguments))
+        for name, line, ours, theirs, given in (
+            ("another base", 3, "3 unmap 000000c0", "3 unmap 000010c0", "3 unmap 000010c4"),
+            ("another bit", 3, "3 unmap 000000c0", "3 unmap 000000c8", "3 unmap 000000cc"),
+            ("other rights", 5, ANSWERS[4], "1,3,0,rw-,---,0:0", "1,3,0,rw-,R--,0:0"),
+            ("no origin", 5, ANSWERS[4], "1,3,0,r--,R--", "1,3,0,r--,R--"),
+        ):
+            wanted = ended(1, *told(1, line, ours, theirs, *([f"  record 3, {path}:5: unmap,0,0,c2"] if line == 3 else [])), in_all(1))
+            cases.compare(f"--ignore status with {name}", wanted, compared(changed(line, given), "--all"))
+        path = written(room, "cleared.csv", CLEARED)
+        answers = [*CLEARED_ANSWERS[:3], "4 clear 00000010", "0,0,0,rwx,---,-", *CLEARED_ANSWERS[5:]]
+        cases.compare("--ignore status of a clear", no_difference(7), compared(answers))
+        wanted = Ended(2, b"", b"error: 'rights' is not status\n")
+        cases.compare("--ignore rights", wanted, run([program, "compare", path, "-", "--ignore", "rights"]))
+
+
+# Four spaces, of version 2. Pages 0:0 and 0:1 go to 1:0 and 1:1; 1:0 goes to 2:5, and 1:1 is granted to 2:6. The access
+# leaves R-X at 2:5, which record 7 finds and hands up to 0:0, where record 8 finds it; that record takes all pages.
+EXPLAINED = [
+    "l4map,2,4,18,2",
+    "send,0,1,10,8,d7",
+    "send,1,2,10,5008,c5,600a,10c7",
+    "send,1,2,10,8,20c7",
+    "access,2,5abc,x",
+    "access,2,5abc,w",
+    "access,3,0,r",
+    "unmap,1,1,c2,50c0",
+    "unmap,0,40,17",
+    "clear,2",
+    "send,0,9,10,8,c7",
+    "bad",
+]
+EXPLAINED_REPLIES = [
+    sent(1, linked=2),
+    sent(2, linked=2),
+    sent(3, absent=1),
+    "4 access ok",
+    "5 access fault",
+    "6 access fault",
+    "7 unmap 000000c5 000050c0",
+    "8 unmap 00000015",
+    "9 clear 00000010",
+    "10 refused NoSuchSpace",
+    "11 refused BadRecord",
+]
+# What its header says, and each of its records and replies.
+FIRST_SENTENCE = "there are 4 spaces of 64 pages; space 0 holds page i as frame i for each i from 0 to 1, with all rights"
+SENTENCES = [
+    ("space 0 sends to space 1: it maps pages 0 to 1 to pages 0 to 1 with rwx", "2 pages now held by the receiver"),
+    ("space 1 sends to space 2: it maps page 0 to page 5 with r-x; it grants page 1 to page 6 with rwx", "2 pages now held by the receiver"),
+    ("space 1 sends to space 2: it maps page 2 to page 0 with rwx", "1 page not held by the sender"),
+    ("space 2 executes page 5", "the page is held with r-x"),
+    ("space 2 writes page 5", "the page is held with r-x only"),
+    ("space 3 reads page 0", "the page is not held"),
+    ("space 1 takes from all that derives from its pages: -w- of page 0; nothing of page 5", "the status found is R-X of page 0; --- of page 5"),
+    ("space 0 takes from its pages and from all that derives from them: rwx of pages 0 to 63", "the status found is R-X of pages 0 to 63"),
+    ("space 2 is deleted: it loses all pages, and so does all that derives from them", "the status found is ---"),
+    (None, "the receiver is 9; spaces are 0 to 3"),
+    (None, "the name is 'bad', not send, access, unmap or clear"),
+]
+# Its audits after records of these numbers.
+EXPLAINED_AUDITS = {
+    0: ["0,0,0,rwx,---,-", "0,1,1,rwx,---,-"],
+    2: ["0,0,0,rwx,---,-", "0,1,1,rwx,---,-", "1,0,0,rwx,---,0:0", "2,5,0,r-x,---,1:0", "2,6,1,rwx,---,0:1"],
+    5: ["0,0,0,rwx,---,-", "0,1,1,rwx,---,-", "1,0,0,rwx,---,0:0", "2,5,0,r-x,R-X,1:0", "2,6,1,rwx,---,0:1"],
+    7: ["0,0,0,rwx,R-X,-", "0,1,1,rwx,---,-", "1,0,0,rwx,---,0:0", "2,5,0,r-x,---,1:0", "2,6,1,rwx,---,0:1"],
+    8: [],
+}
+
+# A trace with each other outcome of a pair, one with pages that are lost, and what is said of their replies.
+OUTCOMES = [
+    (
+        ["l4map,1,3,18,1", "send,0,1,10,8,c4", "send,0,1,10,8,c6", "send,1,2,10,8,c1", "send,1,0,10,8,c7", "send,0,1,10,8,5"],
+        [
+            (sent(1, linked=1), "1 page now held by the receiver"),
+            (sent(2, extended=1), "1 page held by the receiver with more rights"),
+            (sent(3, norights=1), "1 page without a right to be sent"),
+            (sent(4, origin=1), "1 page derived from the receiver's page"),
+            (sent(5), "no page was sent"),
+        ],
+    ),
+    (
+        ["l4map,1,2,18,3", "send,0,1,10,1008,c7", "send,0,1,10,8,10c7", "send,0,1,10,2008,20c7", "send,1,0,10,8,e7"],
+        [
+            (sent(1, linked=1), "1 page now held by the receiver"),
+            (sent(2, linked=1), "1 page now held by the receiver"),
+            (sent(3, linked=1), "1 page now held by the receiver"),
+            (sent(4, absent=1, origin=1, lost=2), "1 page not held by the sender, 1 page derived from the receiver's page, 2 pages lost by the flush"),
+        ],
+    ),
+]
+
+
+def explain_traces(cases, program):
+    """Each record and each reply in a sentence; the replies are those of l4map."""
+    with tempfile.TemporaryDirectory() as room:
+        path = written(room, "explained.csv", EXPLAINED)
+        got = run([L4MAP], text_of(EXPLAINED)).stdout.decode().splitlines()
+        cases.check("explained.csv: replies", "" if got == [*EXPLAINED_REPLIES, "end 11 2"] else f"{got}")
+
+        def lines_at(number):
+            if number == 0:
+                return [f"header, {path}:1: {EXPLAINED[0]}", f"  {FIRST_SENTENCE}"]
+            asked, what = SENTENCES[number - 1]
+            return [record_at(path, EXPLAINED, number), *([f"  {asked}"] if asked else []), f"  {EXPLAINED_REPLIES[number - 1]}: {what}"]
+
+        whole = [lines_at(number) for number in range(12)]
+        cases.compare("explain", ended(0, *(line for lines in whole for line in lines)), run([program, "explain", path]))
+        for number, lines in enumerate(whole):
+            cases.compare(f"explain --at {number}", ended(0, *lines), run([program, "explain", path, "--at", str(number)]))
+        cases.compare("explain --max 1", ended(0, *whole[0], *whole[1], UNTOLD % 10), run([program, "explain", path, "--max", "1"]))
+        cases.compare("explain --at 12", none_such(path, "record 12; the trace has 11 records"), run([program, "explain", path, "--at", "12"]))
+        for records, replies in OUTCOMES:
+            path = written(room, "outcomes.csv", records)
+            got = run([program, "explain", path]).stdout.decode().splitlines()[4::3]
+            cases.check(f"explain {records[-1]}", "" if got == [f"  {reply}: {what}" for reply, what in replies] else f"{got}")
+        show_refused(cases, program, written(room, "explained.csv", EXPLAINED))
+
+
+def show_refused(cases, program, path):
+    """show and why tell why a record is refused."""
+    heading = record_at(path, EXPLAINED, 10)
+    why = f"reply: {EXPLAINED_REPLIES[9]}: {SENTENCES[9][1]}"
+    cases.compare("show of a refused record", ended(0, f"after {heading}", why), run([program, "show", path, "--at", "10"]))
+    lines = [f"0:0 holds nothing, after {record_at(path, EXPLAINED, 11)}", f"reply: {EXPLAINED_REPLIES[10]}: {SENTENCES[10][1]}"]
+    lines += [CHANGED, f"  {record_at(path, EXPLAINED, 8)}", "    took rwx; nothing is left"]
+    cases.compare("why after a refused record", ended(0, *lines), run([program, "why", path, "--page", "0:0"]))
+
+
+def audit_moments(cases, program):
+    """show --audit gives the audit after any record, and compare --at compares with it."""
+    with tempfile.TemporaryDirectory() as room:
+        path = written(room, "explained.csv", EXPLAINED)
+        for number, lines in EXPLAINED_AUDITS.items():
+            cases.compare(f"show --audit --at {number}", ended(0, *lines), run([program, "show", path, "--audit", "--at", str(number)]))
+            if lines:
+                got = run([program, "compare", path, "-", "--audit", "--at", str(number)], text_of(lines))
+                cases.compare(f"compare --audit --at {number}", no_difference(len(lines)), got)
+        cases.compare("show --audit", ended(0), run([program, "show", path, "--audit", "--max", "0"]))
+        why = "record 12; the trace has 11 records"
+        cases.compare("show --audit --at 12", none_such(path, why), run([program, "show", path, "--audit", "--at", "12"]))
+        cases.compare("compare --at 12", none_such(path, why), run([program, "compare", path, "-", "--at", "12"]))
+        answers = [*EXPLAINED_REPLIES[:2], *EXPLAINED_AUDITS[2], "end 2 0"]
+        cases.compare("compare --at 2", no_difference(8), run([program, "compare", path, "-", "--at", "2"], text_of(answers)))
+        before, after = EXPLAINED_AUDITS[5], EXPLAINED_AUDITS[7]
+        lines = [*told(1, 1, before[0], after[0]), *told(2, 4, before[3], after[3]), in_all(2)]
+        got = run([program, "compare", path, "-", "--audit", "--at", "5", "--all"], text_of(after))
+        cases.compare("compare --audit --at 5 with the audit after record 7", ended(1, *lines), got)
+        got = run([program, "compare", path, "-", "--audit", "--at", "5", "--ignore", "status"], text_of(after))
+        cases.compare("the same without status", no_difference(5), got)
+
+
 # Four spaces. Page 0:0 goes to 1:0 and 2:0, and from 1:0 to 3:0 and 3:4; 0:1 to 2:5; then 0:1 to 1:0, which takes all
 # back that 1:0 passed on.
 TREES = [
@@ -547,6 +811,7 @@ TREES = [
     "send,0,2,10,5008,10c7",
     "send,0,1,10,8,10c7",
 ]
+TREES_REPLIES = [sent(1, linked=1), sent(2, linked=1), sent(3, linked=2), sent(4, linked=1), sent(5, linked=1)]
 AFTER_4 = [
     "frame 0",
     "  0:0 rwx ---",
@@ -593,6 +858,7 @@ GONE = [
     "send,0,3,10,8,c7",
     "unmap,1,0,c7",
 ]
+GONE_REPLIES = [sent(1, linked=1), sent(2, linked=2), sent(3, linked=1), sent(4, linked=1), "5 unmap 000000c0"]
 GONE_TREES = [
     "frame 0",
     "  0:0 rwx ---",
@@ -704,6 +970,7 @@ PICTURES = [
     (
         TREES,
         4,
+        TREES_REPLIES,
         [
             ("frame", 0, "frame 0"),
             ("same", 0, "0:0 rwx ---"),
@@ -720,6 +987,7 @@ PICTURES = [
     (
         TREES,
         5,
+        TREES_REPLIES,
         [
             ("frame", 0, "frame 0"),
             ("same", 0, "0:0 rwx ---"),
@@ -735,6 +1003,7 @@ PICTURES = [
     (
         GONE,
         5,
+        GONE_REPLIES,
         [
             ("frame", 0, "frame 0"),
             ("same", 0, "0:0 rwx ---"),
@@ -787,12 +1056,100 @@ def check_picture(cases, name, got, heading, rows):
     cases.check(f"{name}: branches", "" if branches == wanted else f"{branches}")
 
 
+# Before and after side by side: each frame, and what was done to the rows of either side.
+PAIRS = [
+    (TREES, 4, [(1, [("same", 0, "0:1 rwx ---")], [("same", 0, "0:1 rwx ---"), ("new", 1, "2:5 rwx ---")])]),
+    (
+        TREES,
+        5,
+        [
+            (
+                0,
+                [
+                    ("same", 0, "0:0 rwx ---"),
+                    ("changed", 1, "1:0 rwx ---"),
+                    ("taken", 2, "3:0 rwx ---"),
+                    ("taken", 2, "3:4 r-x ---"),
+                    ("same", 1, "2:0 rw- ---"),
+                ],
+                [("same", 0, "0:0 rwx ---"), ("same", 1, "2:0 rw- ---")],
+            ),
+            (
+                1,
+                [("same", 0, "0:1 rwx ---"), ("same", 1, "2:5 rwx ---")],
+                [("same", 0, "0:1 rwx ---"), ("changed", 1, "1:0 rwx ---"), ("same", 1, "2:5 rwx ---")],
+            ),
+        ],
+    ),
+    (
+        GONE,
+        5,
+        [
+            (
+                0,
+                [
+                    ("same", 0, "0:0 rwx ---"),
+                    ("same", 1, "1:0 rwx ---"),
+                    ("taken", 2, "2:0 rwx ---"),
+                    ("taken", 2, "2:5 r-x ---"),
+                    ("same", 1, "3:0 rwx ---"),
+                ],
+                [("same", 0, "0:0 rwx ---"), ("same", 1, "1:0 rwx ---"), ("same", 1, "3:0 rwx ---")],
+            ),
+        ],
+    ),
+]
+
+
+def check_pair(cases, name, got, frames, rest=None):
+    """A picture of before and after has two columns, each frame at the same height in both, and a text for the rest."""
+    root = picture_of(cases, name, got)
+    texts = [(text.get("class"), int(text.get("x")), int(text.get("y")), text.text) for text in root.iter(SVG + "text")]
+    texts = [text for text in texts if text[0] != "title"][len(LEGEND) :]
+    top = texts[0][2] if texts else 0
+    sides = [side for _, *both in frames for side in both]
+    column = 310 + 24 * max([depth for side in sides for _, depth, _ in side], default=0)
+    wanted = [("frame", 8, 0, "before"), ("frame", column + 8, 0, "after")]
+    line = 1
+    for frame, *both in frames:
+        for left, rows in zip((0, column), both):
+            wanted.append(("frame", left + 8, 24 * line, f"frame {frame}"))
+            wanted += [(f"page {kind}", left + 16 + 24 * depth, 24 * (line + 1 + i), text) for i, (kind, depth, text) in enumerate(rows)]
+        line += 1 + max(len(rows) for rows in both)
+    if rest:
+        wanted.append(("more", 8, 24 * line, rest))
+    got = [(kind, x, y - top, text) for kind, x, y, text in texts]
+    cases.check(name, "" if got == wanted and root.get("width") == str(max(700, 2 * column)) else f"{root.get('width')} {got}")
+    boxes = [box.get("class") for box in root.iter(SVG + "rect") if box.get("class")]
+    changed = [kind for side in sides for kind, _, _ in side if kind != "same"]
+    cases.check(f"{name}: boxes", "" if boxes == [*LEGEND[1:], *changed] else f"{boxes}")
+    branches = [branch.get("class") for branch in root.iter(SVG + "path")]
+    cases.check(f"{name}: branches", "" if branches == [kind for side in sides for kind, depth, _ in side if depth] else f"{branches}")
+
+
+def check_pairs(cases, program, room):
+    """Pictures of before and after: of what changed, of a frame that did not, of nothing, and cut short."""
+    for records, number, frames in PAIRS:
+        path = written(room, "pairs.csv", records)
+        got = run([program, "show", path, "--at", str(number), "--diff", "--svg"])
+        check_pair(cases, f"show --at {number} --diff --svg", got, frames)
+    path = written(room, "trees.csv", TREES)
+
+    def shown(*arguments):
+        return run([program, "show", path, "--diff", "--svg", *arguments])
+
+    check_pair(cases, "show --at 0 --diff --svg", shown("--at", "0"), [], "no mapping changed")
+    frame, before, after = PAIRS[1][2][0]
+    check_pair(cases, "show --diff --svg --max", shown("--at", "5", "--max", "3"), [(frame, before[:3], after)], ".. and 5 more")
+    check_pair(cases, "show --diff --svg --frame", shown("--at", "4", "--frame", "0"), [(0, *2 * [[("same", depth, text) for _, depth, text in before]])])
+
+
 def check_pictures(cases, program, room):
     """Pictures of small traces, of a name that XML has to escape, of many mappings, and of a long chain."""
     for name in ("trees.csv", "a<b>&c.csv"):
-        for records, number, rows in PICTURES:
+        for records, number, replies, rows in PICTURES:
             path = written(room, name, records)
-            heading = ["after " + record_at(path, records, number)]
+            heading = ["after " + record_at(path, records, number), f"reply: {replies[number - 1]}"]
             got = run([program, "show", path, "--at", str(number), "--svg"])
             check_picture(cases, f"show {name} --at {number} --svg", got, heading, rows)
     path = written(room, "trees.csv", TREES)
@@ -826,9 +1183,11 @@ def show_traces(cases, program):
         path = written(room, "trees.csv", TREES)
         for arguments, number, lines in SHOWN:
             heading = "after " + record_at(path, TREES, number) if number else "at the start"
-            cases.compare(f"show {arguments}", ended(0, heading, *lines), run([program, "show", path, *arguments.split()]))
+            wanted = ended(0, heading, *replied(TREES_REPLIES, number), *lines)
+            cases.compare(f"show {arguments}", wanted, run([program, "show", path, *arguments.split()]))
         cases.compare("show --dot", dot_of_nodes(), run([program, "show", path, "--at", "4", "--dot"]))
         check_pictures(cases, program, room)
+        check_pairs(cases, program, room)
         for arguments, why in (
             ("--space 4", "space 4; spaces are 0 to 3"),
             ("--space 4294967295", "space 4294967295; spaces are 0 to 3"),
@@ -846,19 +1205,20 @@ def show_traces(cases, program):
                 cases.compare(f"{command} --at 2 of {count} records", none_such(short, why), run([program, *command.split(), short, "--at", "2"]))
         path = written(room, "gone.csv", GONE)
         for arguments, lines in CUT:
-            wanted = ended(0, "after " + record_at(path, GONE, 5), *lines)
+            wanted = ended(0, "after " + record_at(path, GONE, 5), *replied(GONE_REPLIES, 5), *lines)
             cases.compare(f"show {arguments} of pages that are gone", wanted, run([program, "show", path, *arguments.split()]))
         path = written(room, "three-frames.csv", ["l4map,1,4,18,3", *TREES[1:]])
         for arguments, lines in CUT_DIFFS:
-            wanted = ended(0, "after " + record_at(path, TREES, 5), *lines)
+            wanted = ended(0, "after " + record_at(path, TREES, 5), *replied(TREES_REPLIES, 5), *lines)
             cases.compare(f"show --diff {arguments} of three frames", wanted, run([program, "show", path, "--diff", *arguments.split()]))
         # An access that is seen, and an unmap that reads and clears what was seen.
         path = written(room, "seen.csv", TRACE.decode().replace("\n\n", "\n").splitlines())
         lines = ["frame 0", "  0:0 rwx ---", "* └─ 1:3 r-- ---, was rw- R--"]
-        cases.compare("show what was seen", ended(0, f"after record 3, {path}:4: unmap,0,0,c2", *lines), run([program, "show", path]))
+        wanted = ended(0, f"after record 3, {path}:4: unmap,0,0,c2", *replied(ANSWERS, 3), *lines)
+        cases.compare("show what was seen", wanted, run([program, "show", path]))
         chain = ["l4map,1,500,18,1", *(f"send,{n},{n + 1},10,8,c7" for n in range(40))]
         got = run([program, "show", written(room, "chain.csv", chain)]).stdout.decode().splitlines()
-        cases.check("show a long chain", "" if got[-1] == "+ (level 40) 40:0 rwx ---" and len(got) == 43 else f"{got[-3:]}")
+        cases.check("show a long chain", "" if got[-1] == "+ (level 40) 40:0 rwx ---" and len(got) == 44 else f"{got[-3:]}")
         bad = written(room, "bad.csv", ["", "l4map,1,1,18,1"])
         wanted = Ended(2, b"", f"{bad}:2:9: header: BadLimits: 1 spaces; there are 2 to 512\n".encode())
         cases.compare("show of bad limits", wanted, run([program, "show", bad]))
@@ -869,9 +1229,16 @@ UNCHANGED = "no record changed its frame, rights or origin"
 
 # A page comes, is narrowed, gains a right again, and goes; then it is granted.
 LIFE = ["l4map,1,4,18,2", "send,0,1,10,8,c5", "unmap,0,0,c1", "access,1,0,r", "send,0,1,10,8,c6", "unmap,1,40,c7", "send,0,1,10,a,c7"]
+LIFE_REPLIES = [sent(1, linked=1), "2 unmap 000000c0", "3 access ok", sent(4, extended=1), "5 unmap 000000c4", sent(6, linked=1)]
 
 # Page 0:0 goes to 1:0, from there to 2:5, and then 1:0 is granted to 3:7, which takes its place in the tree.
 GRANT = ["l4map,1,4,18,1", "send,0,1,10,8,c7", "send,1,2,10,5008,c5", "send,1,3,10,700a,c7"]
+GRANT_REPLIES = [sent(1, linked=1), sent(2, linked=1), sent(3, linked=1)]
+
+
+def cut(count, where):
+    """What is told where --max leaves out so many."""
+    return f".. and {count} more {where}; --max tells more of them"
 
 
 def why_pages(cases, program):
@@ -884,17 +1251,20 @@ def why_pages(cases, program):
         def asked(page, *arguments):
             return run([program, "why", path, "--page", page, *arguments])
 
+        reply = replied(TREES_REPLIES, 5)
         chain = ["it came from", f"  3:4 r-x --- from 1:0, since {at(3)}", f"  1:0 rwx --- from 0:0, since {at(1)}", "  0:0 rwx ---, a root, since the start"]
         come = [CHANGED, f"  {at(3)}", "    gave r-x of frame 0 from 1:0"]
-        cases.compare("why of a chain", ended(0, f"3:4 holds frame 0 with r-x, after {at(4)}", *chain, *come), asked("3:4", "--at", "4"))
+        cases.compare("why of a chain", ended(0, f"3:4 holds frame 0 with r-x, after {at(4)}", *replied(TREES_REPLIES, 4), *chain, *come), asked("3:4", "--at", "4"))
+        lines = [f"3:4 holds frame 0 with r-x, after {at(4)}", *replied(TREES_REPLIES, 4), *chain[:2], f"  {cut(2, 'above')}", *come]
+        cases.compare("why of a chain --max 1", ended(0, *lines), asked("3:4", "--at", "4", "--max", "1"))
         gone = [f"  {at(5)}", "    took r-x; nothing is left"]
-        cases.compare("why of a page that is gone", ended(0, f"3:4 holds nothing, after {at(5)}", *come, *gone), asked("3:4"))
+        cases.compare("why of a page that is gone", ended(0, f"3:4 holds nothing, after {at(5)}", *reply, *come, *gone), asked("3:4"))
         lines = ["it came from", f"  1:0 rwx --- from 0:1, since {at(5)}", "  0:1 rwx ---, a root, since the start"]
         lines += [CHANGED, f"  {at(1)}", "    gave rwx of frame 0 from 0:0", f"  {at(5)}", "    replaced what was held: gave rwx of frame 1 from 0:1"]
-        cases.compare("why of a page that was replaced", ended(0, f"1:0 holds frame 1 with rwx, after {at(5)}", *lines), asked("1:0"))
+        cases.compare("why of a page that was replaced", ended(0, f"1:0 holds frame 1 with rwx, after {at(5)}", *reply, *lines), asked("1:0"))
         lines = ["it came from", "  0:0 rwx ---, a root, since the start", UNCHANGED]
         cases.compare("why at the start", ended(0, "0:0 holds frame 0 with rwx, at the start", *lines), asked("0:0", "--at", "0"))
-        cases.compare("why of a page never held", ended(0, f"3:63 holds nothing, after {at(5)}", UNCHANGED), asked("3:63"))
+        cases.compare("why of a page never held", ended(0, f"3:63 holds nothing, after {at(5)}", *reply, UNCHANGED), asked("3:63"))
         for page, why in (("4:0", "space 4; spaces are 0 to 3"), ("0:64", "page 64; pages are 0 to 63"), ("4:64", "space 4; spaces are 0 to 3")):
             cases.compare(f"why {page}", none_such(path, why), asked(page))
         cases.compare("why --at 6", none_such(path, "record 6; the trace has 5 records"), asked("0:0", "--at", "6"))
@@ -914,18 +1284,25 @@ def why_pages(cases, program):
             (6, "gave rwx of frame 0, as a root"),
         ):
             changes += [f"  {then(number)}", f"    {what}"]
-        lines = [f"1:0 holds frame 0 with rwx, after {then(6)}", "it came from", f"  1:0 rwx ---, a root, since {then(6)}", *changes]
+        lines = [f"1:0 holds frame 0 with rwx, after {then(6)}", *replied(LIFE_REPLIES, 6)]
+        lines += ["it came from", f"  1:0 rwx ---, a root, since {then(6)}", *changes]
         cases.compare("why of a life", ended(0, *lines), run([program, "why", path, "--page", "1:0"]))
+        for most, above, told in ((2, [f"  1:0 rwx ---, a root, since {then(6)}"], changes[7:]), (0, [f"  {cut(1, 'above')}"], [])):
+            lines = [f"1:0 holds frame 0 with rwx, after {then(6)}", *replied(LIFE_REPLIES, 6), "it came from", *above]
+            lines += [CHANGED, f"  {cut(5 - most, 'before')}", *told]
+            got = run([program, "why", path, "--page", "1:0", "--max", str(most)])
+            cases.compare(f"why of a life --max {most}", ended(0, *lines), got)
         path = written(room, "grant.csv", GRANT)
         first, second, third = (record_at(path, GRANT, number) for number in (1, 2, 3))
         root = "  0:0 rwx ---, a root, since the start"
-        lines = [f"3:7 holds frame 0 with rwx, after {third}", "it came from", f"  3:7 rwx --- from 0:0, since {third}", root]
+        reply = replied(GRANT_REPLIES, 3)
+        lines = [f"3:7 holds frame 0 with rwx, after {third}", *reply, "it came from", f"  3:7 rwx --- from 0:0, since {third}", root]
         lines += [CHANGED, f"  {third}", "    gave rwx of frame 0 from 0:0"]
         cases.compare("why of a page that was granted", ended(0, *lines), run([program, "why", path, "--page", "3:7"]))
-        lines = [f"1:0 holds nothing, after {third}", CHANGED, f"  {first}", "    gave rwx of frame 0 from 0:0"]
+        lines = [f"1:0 holds nothing, after {third}", *reply, CHANGED, f"  {first}", "    gave rwx of frame 0 from 0:0"]
         lines += [f"  {third}", "    granted to 3:7; nothing is left"]
         cases.compare("why of a page that was granted away", ended(0, *lines), run([program, "why", path, "--page", "1:0"]))
-        lines = [f"2:5 holds frame 0 with r-x, after {third}", "it came from", f"  2:5 r-x --- from 3:7, since {third}"]
+        lines = [f"2:5 holds frame 0 with r-x, after {third}", *reply, "it came from", f"  2:5 r-x --- from 3:7, since {third}"]
         lines += [f"  3:7 rwx --- from 0:0, since {third}", root, CHANGED, f"  {second}", "    gave r-x of frame 0 from 1:0"]
         lines += [f"  {third}", "    its origin moved from 1:0 to 3:7"]
         cases.compare("why of a page below one that was granted", ended(0, *lines), run([program, "why", path, "--page", "2:5"]))
@@ -1061,8 +1438,9 @@ def cleared_pages(cases, program):
         trees = ["frame 0", "* 0:0 rwx R-X, was rwx ---", "frame 1", "  0:1 rwx ---", "no longer held", *CLEARED_PAGES]
         for arguments, lines in (("", trees), ("--diff", CLEARED_DIFF), ("--space 2", CLEARED_TABLE)):
             got = run([program, "show", path, *arguments.split()])
-            cases.compare(f"show {arguments} of a space that is deleted", ended(0, f"after {last}", *lines), got)
-        lines = [f"2:0 holds nothing, after {last}", CHANGED, f"  {second}"]
+            wanted = ended(0, f"after {last}", *replied(CLEARED_ANSWERS, 4), *lines)
+            cases.compare(f"show {arguments} of a space that is deleted", wanted, got)
+        lines = [f"2:0 holds nothing, after {last}", *replied(CLEARED_ANSWERS, 4), CHANGED, f"  {second}"]
         lines += ["    gave r-x of frame 0 from 1:0", f"  {last}", "    took r-x; nothing is left"]
         cases.compare("why of a page that a clear took", ended(0, *lines), run([program, "why", path, "--page", "2:0"]))
         got = run([program, "compare", path, "-"], text_of(CLEARED_ANSWERS))
@@ -1100,12 +1478,13 @@ def last_pages(cases, program):
         cases.compare("l4map of the last page", ended(0, *LARGE_ANSWERS), run(L4MAP, text_of(LARGE)))
         for arguments, lines in (("", LARGE_TREE), ("--diff", LARGE_DIFF), ("--space 1", LARGE_TABLE)):
             got = run([program, "show", path, *arguments.split()])
-            cases.compare(f"show {arguments} of the last page", ended(0, f"after {third}", *lines), got)
-        lines = [f"1:1048575 holds frame 0 with r--, after {third}", "it came from", f"  1:1048575 r-- --- from 0:0, since {first}"]
+            wanted = ended(0, f"after {third}", *replied(LARGE_ANSWERS, 3), *lines)
+            cases.compare(f"show {arguments} of the last page", wanted, got)
+        lines = [f"1:1048575 holds frame 0 with r--, after {third}", *replied(LARGE_ANSWERS, 3), "it came from", f"  1:1048575 r-- --- from 0:0, since {first}"]
         lines += ["  0:0 rwx ---, a root, since the start", CHANGED, f"  {first}", "    gave rw- of frame 0 from 0:0"]
         lines += [f"  {third}", "    took -w-: rw- became r--"]
         cases.compare("why of the last page", ended(0, *lines), run([program, "why", path, "--page", "1:1048575"]))
-        lines = [f"0:1048575 holds nothing, after {third}", UNCHANGED]
+        lines = [f"0:1048575 holds nothing, after {third}", *replied(LARGE_ANSWERS, 3), UNCHANGED]
         cases.compare("why of another last page", ended(0, *lines), run([program, "why", path, "--page", "0:1048575"]))
         for page, why in (
             ("1:1048576", "page 1048576; pages are 0 to 1048575"),
@@ -1151,11 +1530,11 @@ def check_colors(cases, program):
     """Lines are coloured on a terminal, or as they are asked to be; without the colours the text is the same."""
     with tempfile.TemporaryDirectory() as room:
         path, life = written(room, "trees.csv", TREES), written(room, "life.csv", LIFE)
-        heading = "after " + record_at(path, TREES, 5)
+        heading = ["after " + record_at(path, TREES, 5), *replied(TREES_REPLIES, 5)]
         tree = [*AFTER_5[:5], YELLOW + AFTER_5[5] + RESET, *AFTER_5[6:8], *(RED + line + RESET for line in AFTER_5[8:])]
-        shown = ended(0, heading, *tree)
+        shown = ended(0, *heading, *tree)
         cases.compare("show --color always", shown, run([program, "show", path, "--color", "always"]))
-        plain = ended(0, heading, *AFTER_5)
+        plain = ended(0, *heading, *AFTER_5)
         cases.compare("show --color never", plain, run([program, "show", path, "--color", "never"]))
         cases.compare("show to a file", plain, run([program, "show", path, "--color", "auto"]))
         got = on_terminal([program, "show", path])
@@ -1173,7 +1552,8 @@ def check_colors(cases, program):
             f"              | {GREEN}+ └─ 2:5 rwx ---{RESET}",
         ]
         got = run([program, "show", path, "--at", "4", "--diff", "--color", "always"])
-        cases.compare("show --diff --color always", ended(0, "after " + record_at(path, TREES, 4), *lines), got)
+        wanted = ended(0, "after " + record_at(path, TREES, 4), *replied(TREES_REPLIES, 4), *lines)
+        cases.compare("show --diff --color always", wanted, got)
         got = run([program, "show", path, "--diff", "--color", "always"]).stdout.decode()
         left = f"{RED}- │  ├─ 3:0 rwx ---{RESET} |"
         cases.check("show --diff --color always: the left column", "" if left in got.splitlines() else got)
@@ -1335,9 +1715,10 @@ def check_large(cases, program):
         def asked(*arguments, given=b""):
             return run([program, *arguments], given, MANY_SECONDS)
 
-        lines = ["space 511: 1 of 1048576 pages held", TABLE_HEAD, "+ 1048575  fffff000        0  rw-     ---     0:0"]
+        reply = replied([sent(1, linked=1)], 1)
+        lines = [*reply, "space 511: 1 of 1048576 pages held", TABLE_HEAD, "+ 1048575  fffff000        0  rw-     ---     0:0"]
         cases.compare("show of 512 large spaces", ended(0, f"after {first}", *lines), asked("show", path, "--space", "511"))
-        lines = [f"511:1048575 holds frame 0 with rw-, after {first}", "it came from", f"  511:1048575 rw- --- from 0:0, since {first}", root]
+        lines = [f"511:1048575 holds frame 0 with rw-, after {first}", *reply, "it came from", f"  511:1048575 rw- --- from 0:0, since {first}", root]
         lines += [CHANGED, f"  {first}", "    gave rw- of frame 0 from 0:0"]
         cases.compare("why of 512 large spaces", ended(0, *lines), asked("why", path, "--page", "511:1048575"))
         answers = [ANSWERS[0], "0,0,0,rwx,---,-", "511,1048575,0,rw-,---,0:0", "end 1 0"]
@@ -1345,13 +1726,15 @@ def check_large(cases, program):
         records = ["l4map,1,2,32,1048576", "access,0,ffffffff,w"]
         path = written(room, "frames.csv", records)
         first = record_at(path, records, 1)
-        lines = ["frame 1048575", "* 0:1048575 rwx RW-, was rwx ---"]
+        reply = replied(["1 access ok"], 1)
+        lines = [*reply, "frame 1048575", "* 0:1048575 rwx RW-, was rwx ---"]
         cases.compare("show of the last of all frames", ended(0, f"after {first}", *lines), asked("show", path, "--frame", "1048575"))
-        lines = ["frame 0", "  0:0 rwx ---", "frame 1", "  0:1 rwx ---", more(1048574, "mappings")]
+        lines = [*reply, "frame 0", "  0:0 rwx ---", "frame 1", "  0:1 rwx ---", more(1048574, "mappings")]
         cases.compare("show of all frames", ended(0, f"after {first}", *lines), asked("show", path, "--max", "2"))
-        lines = ["space 0: 1048576 of 1048576 pages held", TABLE_HEAD, "        0         0        0  rwx     ---     -", more(1048575, "mappings")]
+        lines = [*reply, "space 0: 1048576 of 1048576 pages held", TABLE_HEAD, "        0         0        0  rwx     ---     -", more(1048575, "mappings")]
         cases.compare("show of a space that is full", ended(0, f"after {first}", *lines), asked("show", path, "--space", "0", "--max", "1"))
-        lines = [f"0:1048575 holds frame 1048575 with rwx, after {first}", "it came from", "  0:1048575 rwx RW-, a root, since the start"]
+        lines = [f"0:1048575 holds frame 1048575 with rwx, after {first}", *reply]
+        lines += ["it came from", "  0:1048575 rwx RW-, a root, since the start"]
         cases.compare("why of the last of all frames", ended(0, *lines, UNCHANGED), asked("why", path, "--page", "0:1048575"))
 
 
@@ -1437,6 +1820,11 @@ def main():
     compare_answers(cases, program)
     compare_unchanged(cases, program)
     compare_nothing(cases, program)
+    compare_all(cases, program)
+    compare_forms(cases, program)
+    ignore_status(cases, program)
+    explain_traces(cases, program)
+    audit_moments(cases, program)
     show_traces(cases, program)
     why_pages(cases, program)
     what_changed(cases, program)

@@ -50,6 +50,8 @@ FIELD_TYPES = {"bool": "Bool", "u16": "ℕ", "u32": "ℕ", "Fpage": "Flexpage"}
 DECLARED = r"Rattle\.(fpage|space)\.specs\.declared\.(\w+)"
 # What the checker says of a row that does not compute to what it states.
 FALSE_ROW = re.compile(r"`shows_(\w+)`: (?:(?:as printed|computed as far as they go), the two types |expected type )")
+# The folders of the definitions of `model`.
+FOLDERS = ("Definitions", "Laws", "Rows")
 KEYS = ("wrong", "file", "use", "old", "new", "refused by")
 
 
@@ -65,7 +67,7 @@ class Wrong(NamedTuple):
 
     @property
     def module(self):
-        return os.path.basename(self.file).removesuffix(".antt")
+        return module_of(self.file)
 
 
 class Found(NamedTuple):
@@ -129,30 +131,34 @@ def read_lists():
 
 
 def table(entries):
-    """The table of docs/MODEL.md: for each file how many wrong definitions there are, and what refuses them."""
+    """The table of docs/MODEL.md: for each file how many wrong definitions there are."""
     rows = {}
     for entry in entries:
-        count, refused_by = rows.get(entry.module, (0, []))
-        more = [name for name in entry.refused_by if name not in refused_by]
-        rows[entry.module] = count + 1, refused_by + more
-    lines = ["| Definitions | Wrong ones | Refused by |", "|---|---|---|"]
-    for module, (count, refused_by) in rows.items():
-        lines.append(f"| {module} | {count} | {', '.join(f'`{name}`' for name in refused_by)} |")
+        rows[entry.module] = rows.get(entry.module, 0) + 1
+    lines = ["| Definitions | Wrong ones |", "|---|---|"] + [f"| {module} | {count} |" for module, count in rows.items()]
     return "\n".join(lines) + "\n"
 
 
 # ---- the copy of the definitions
 
 
-def spec_path(crate, module):
-    return os.path.join(TOP, "crates", crate, "specs", f"{module}.antt")
+def submodules(crate, name):
+    """The modules that a file of a crate's specs/ names."""
+    return re.findall(r"^pub mod (\w+)", read(os.path.join(TOP, "crates", crate, "specs", f"{name}.antt")), re.MULTILINE)
 
 
-def modules_of(crate):
-    return re.findall(r"^pub mod (\w+)", read(os.path.join(TOP, "crates", crate, "specs", "Lib.antt")), re.MULTILINE)
+def files_of(crate):
+    """The files of a crate's specs/, as crate/specs/file; those of `model` stand in folders."""
+    if crate == "model":
+        return [f"model/specs/{folder}/{module}.antt" for folder in FOLDERS for module in submodules(crate, folder)]
+    return [f"{crate}/specs/{module}.antt" for module in submodules(crate, "Lib")]
 
 
-FILES = [f"{crate}/specs/{module}.antt" for crate in ("fpage", "space", "model") for module in modules_of(crate)]
+def module_of(path):
+    return os.path.basename(path).removesuffix(".antt")
+
+
+FILES = [path for crate in ("fpage", "space", "model") for path in files_of(crate)]
 
 
 def is_row_module(module):
@@ -163,6 +169,7 @@ def one_crate(text):
     """A text of specs/ or proofs/ as it stands where all definitions are one crate, and Rust's types are modules of
     it."""
     text = re.sub(rf"{DECLARED}\.(\w+)(?:\.TheVariants)?", r"Rattle.model.specs.Declared\3", text)
+    text = re.sub(rf"Rattle\.model\.specs\.(?:{'|'.join(FOLDERS)})\.", "Rattle.model.specs.", text)
     return re.sub(r"Rattle\.(?:fpage|space)\.(specs|proofs)\.", r"Rattle.model.\1.", text)
 
 
@@ -203,8 +210,8 @@ class Definitions:
 
     def __init__(self):
         originals = {}
-        for crate, names in (("fpage", modules_of("fpage")), ("space", ["Place"]), ("model", modules_of("model"))):
-            originals.update((module, read(spec_path(crate, module))) for module in names)
+        for path in files_of("fpage") + ["space/specs/Place.antt"] + files_of("model"):
+            originals[module_of(path)] = read(os.path.join(TOP, "crates", path))
         self.texts = declared_modules(originals.values())
         self.texts.update((module, one_crate(text)) for module, text in originals.items())
         for law_module in [module for module in self.texts if module.endswith("Laws")]:
@@ -374,7 +381,7 @@ def law_crate(room):
     crate = os.path.join(room, "crates", "model")
     write(os.path.join(room, "crates.txt"), "model: csv\n")
     texts = {}
-    for name, module in [(name, os.path.basename(name).removesuffix(".antt")) for name in FILES]:
+    for name, module in [(name, module_of(name)) for name in FILES]:
         if not name.startswith("space/") or module == "Place":
             texts[module] = read(os.path.join(TOP, "crates", name))
     for module, text in {**declared_modules(texts.values()), **texts}.items():
@@ -382,7 +389,7 @@ def law_crate(room):
     lines = [f"pub mod {path.removesuffix('.antt')}\n" for path in sorted(os.listdir(os.path.join(crate, "specs")))]
     write(os.path.join(crate, "specs", "Lib.antt"), "".join(lines))
     copy_proofs(crate)
-    source = read(os.path.join(TOP, "crates", "model", "src", "laws.rt"))
+    source = one_crate(read(os.path.join(TOP, "crates", "model", "src", "laws.rt")))
     functions = sorted(set(laws().values()))
     write(os.path.join(crate, "src", "laws.rt"), source)
     root = f"//! Definitions and laws.\n#![tactic(auto)]\n\nmod laws;\n\npub use laws::{{{', '.join(functions)}}};\n"

@@ -15,7 +15,7 @@ use Rattle.fpage.specs.Rights.{no_rights}
 use Rattle.space.specs.declared.place.Place.{Place}
 use Rattle.space.specs.Place.{place_cmp, same_place}
 use Rattle.space.proofs.Places.{places_total, same_self, same_is}
-use Rattle.model.specs.Holdings.{Held, Holdings, at}
+use Rattle.model.specs.Definitions.Holdings.{Held, Holdings, at}
 use Rattle.mapdb.specs.Held.{Mapping, mapped_of}
 
 -- any mapping

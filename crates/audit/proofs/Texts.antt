@@ -6,8 +6,8 @@ use Rattle.std.specs.declared.alloc.AllocError.{AllocError}
 use Rattle.std.proofs.lemmas.Grind.{flat_map-append}
 use Rattle.std.proofs.lemmas.List.{drop_more}
 use Rattle.std.proofs.lemmas.List.Elements.{All-head, All-tail}
-use Rattle.model.specs.Text.{audit_line, audit_lines}
-use Rattle.model.specs.Holdings.{Holdings}
+use Rattle.model.specs.Definitions.Text.{audit_line, audit_lines}
+use Rattle.model.specs.Definitions.Holdings.{Holdings}
 use Rattle.audit.specs.Sections.{IsTextOf, bytes_in}
 
 abbrev Text : Type 0

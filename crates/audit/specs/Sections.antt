@@ -3,8 +3,8 @@ use Rattle.std.specs.Prelude.{◌≡◌, ℕ, List, [], Result, Ok, Err, IfOk, s
 use Rattle.std.specs.declared.string.String.{String}
 use Rattle.std.specs.declared.alloc.AllocError.{AllocError}
 use Rattle.std.specs.declared.alloc.Global.{Global}
-use Rattle.model.specs.Holdings.{Holdings}
-use Rattle.model.specs.Text.{audit_lines}
+use Rattle.model.specs.Definitions.Holdings.{Holdings}
+use Rattle.model.specs.Definitions.Text.{audit_lines}
 
 -- the text of some mappings, unless memory ran out
 abbrev pub IsTextOf : Holdings → Result (String Global) AllocError → Type 0

@@ -1,10 +1,12 @@
 //! The audit of a database, as lines and as text.
 
-ghost use Rattle.std.specs.Prelude.{◌≡◌, ◌↔◌, ◌⊎◌, true, map, IfOk, IfErr, IsErrOf};
-ghost use Rattle.model.specs.Lawful.{is_lawful};
-ghost use Rattle.model.specs.Text.{audit_lines};
-ghost use Rattle.mapdb.specs.Held.{mapped_of};
+ghost use Rattle.std.specs.Prelude.{◌≡◌, ◌<◌, ◌≤◌, ◌↔◌, ◌⊎◌, true, length, map, IfOk, IfErr, IsErrOf, ◌++◌, OnOk, flat_map, string_bytes, IsOk};
+ghost use Rattle.model.specs.Definitions.Lawful.{is_lawful};
+ghost use Rattle.model.specs.Definitions.Text.{audit_lines};
+ghost use Rattle.mapdb.specs.Held.{mapped_of, held_from};
 ghost use Rattle.audit.specs.declared.error.AuditError.TheVariants.{Halted, NoMemory};
+ghost use Rattle.std.specs.List.{AllZip, All};
+ghost use Rattle.audit.specs.Sections.{IsTextOf, bytes_in};
 
 use crate::checker::check;
 use crate::error::AuditError;
@@ -21,8 +23,11 @@ const LINE: usize = 32;
 /// How many lines are too few to pay for a thread.
 const FEW: usize = 4_096;
 
-/// How many spaces have their text made at once.
+/// How many spaces have their text made at once at most.
 const AT_ONCE: usize = 16;
+
+/// How many lines they have together at most: they are made beside the whole, and then put behind it.
+const BESIDE: usize = 65_536;
 
 /// Returns every mapping of a database, by rising place.
 ///
@@ -71,7 +76,7 @@ pub fn report(
     Ok(text)
 }
 
-/// Returns the text of every mapping, by rising place. That of so many spaces is made beside the whole, and then put behind it.
+/// Returns the text of every mapping, by rising place: that of some spaces after another, for which there is room.
 fn text_of(
     rt: &(impl Threads + Sync),
     alloc: Global,
@@ -80,18 +85,33 @@ fn text_of(
     ensures { IfOk result (λ text. text.items ≡ audit_lines mappings.now.holdings) }
 {
     let spaces = held_spaces(alloc, mappings)?;
-    let mut text = Vec::with_capacity(alloc, mappings.len().saturating_mul(LINE))?;
+    let mut text = String::with_capacity(alloc, mappings.len().saturating_mul(LINE))?;
     let mut left = spaces.as_slice();
     while !left.is_empty() {
-        let (some, others) = left.split_at(left.len().min(AT_ONCE));
+        let (some, others) = left.split_at(at_once(mappings, left));
         push_spaces(rt, alloc, &mut text, mappings, some)?;
         left = others;
     }
-    Ok(text)
+    Ok(text.into_bytes())
 }
 
-ghost use Rattle.std.specs.Prelude.{◌++◌, OnOk, flat_map};
-ghost use Rattle.mapdb.specs.Held.{held_from};
+/// How many of the first of these spaces have their text made at once. It is one at least, and that one is not made beside
+/// the whole.
+fn at_once(mappings: &Mappings<'_>, spaces: &[u16]) -> usize
+    requires { 0 < length spaces.now }
+    ensures some { 0 < result }
+    ensures within { result ≤ length spaces.now }
+{
+    let most = spaces.len().min(AT_ONCE);
+    let mut lines: usize = 0;
+    for k in 1..most {
+        lines = lines.saturating_add(mappings.len_of(spaces[k - 1]));
+        if lines > BESIDE {
+            return k;
+        }
+    }
+    most
+}
 
 /// The spaces that hold anything, by rising number.
 fn held_spaces(alloc: Global, mappings: &Mappings<'_>) -> Result<Vec<u16>, AllocError>
@@ -107,23 +127,23 @@ fn held_spaces(alloc: Global, mappings: &Mappings<'_>) -> Result<Vec<u16>, Alloc
     Ok(spaces)
 }
 
-/// Appends the text of the mappings of some spaces, made space by space side by side.
+/// Appends the text of the mappings of some spaces, made space by space side by side; that of one space in place.
 fn push_spaces(
     rt: &(impl Threads + Sync),
     alloc: Global,
-    text: &mut Vec<u8>,
+    text: &mut String,
     mappings: &Mappings<'_>,
     spaces: &[u16],
 ) -> Result<(), AllocError>
-    ensures { OnOk result (text.new.items ≡ text.old.items ++ audit_lines (flat_map (λ space. held_from mappings.now space 0) spaces.now)) }
+    ensures { OnOk result (string_bytes text.new ≡ string_bytes text.old ++ audit_lines (flat_map (λ space. held_from mappings.now space 0) spaces.now)) }
 {
+    if let [space] = spaces {
+        return push_space(text, mappings, *space);
+    }
     let texts = space_texts(rt, alloc, mappings, spaces)?;
     push_texts(text, &texts)?;
     Ok(())
 }
-
-ghost use Rattle.std.specs.List.{AllZip};
-ghost use Rattle.audit.specs.Sections.{IsTextOf};
 
 /// The text of the mappings of each space, side by side if there are enough to pay for threads.
 fn space_texts(
@@ -156,26 +176,30 @@ fn space_text(alloc: Global, mappings: &Mappings<'_>, space: u16) -> Result<Stri
 {
     let room = mappings.len_of(space).saturating_mul(LINE);
     let mut text = String::with_capacity(alloc, room)?;
-    let mut from = Place { space, page: 0 };
-    while let Some(line) = mappings.next_from(from) {
-        push_line(&mut text, &line)?;
-        from.page = line.place.page + 1;
-    }
+    push_space(&mut text, mappings, space)?;
     Ok(text)
 }
 
-ghost use Rattle.std.specs.Prelude.{IsOk};
-ghost use Rattle.std.specs.List.{All};
-ghost use Rattle.audit.specs.Sections.{bytes_in};
+/// Appends the text of the mappings of a space.
+fn push_space(text: &mut String, mappings: &Mappings<'_>, space: u16) -> Result<(), AllocError>
+    ensures { OnOk result (string_bytes text.new ≡ string_bytes text.old ++ audit_lines (held_from mappings.now space 0)) }
+{
+    let mut from = Place { space, page: 0 };
+    while let Some(line) = mappings.next_from(from) {
+        push_line(text, &line)?;
+        from.page = line.place.page + 1;
+    }
+    Ok(())
+}
 
 /// Appends texts one after another, if memory sufficed for each.
-fn push_texts(whole: &mut Vec<u8>, texts: &[Result<String, AllocError>]) -> Result<(), AllocError>
-    ensures whole { OnOk result (whole.new.items ≡ whole.old.items ++ flat_map bytes_in texts.now) }
+fn push_texts(whole: &mut String, texts: &[Result<String, AllocError>]) -> Result<(), AllocError>
+    ensures whole { OnOk result (string_bytes whole.new ≡ string_bytes whole.old ++ flat_map bytes_in texts.now) }
     ensures all { OnOk result (All IsOk texts.now) }
 {
     for text in texts {
         match text {
-            Ok(text) => whole.extend_from_slice(text.as_bytes())?,
+            Ok(text) => whole.push_str(text.as_str())?,
             Err(error) => return Err(*error),
         }
     }

@@ -1,8 +1,12 @@
 //! A check of audit lines.
 
-ghost use Rattle.std.specs.Prelude.{◌≡◌, map};
-ghost use Rattle.model.specs.Lawful.{is_lawful};
+ghost use Rattle.std.specs.Prelude.{◌≡◌, map, true, length, option_map};
+ghost use Rattle.model.specs.Definitions.Lawful.{is_lawful, is_lawful_at, has_lawful_origin, ends, is_only_root};
 ghost use Rattle.mapdb.specs.Held.{mapped_of};
+ghost use Rattle.std.specs.FinMap.Entries.{is_sorted};
+ghost use Rattle.space.specs.Place.{place_cmp};
+ghost use Rattle.std.specs.List.{list_all};
+ghost use Rattle.model.specs.Definitions.Holdings.{origin_at, at};
 
 use crate::line::Line;
 use space::Place;
@@ -17,9 +21,6 @@ pub fn check(lines: &[Line]) -> bool
     is_rising(lines) && are_lawful(lines)
 }
 
-ghost use Rattle.std.specs.FinMap.Entries.{is_sorted};
-ghost use Rattle.space.specs.Place.{place_cmp};
-
 /// Whether each place comes once, and they rise.
 fn is_rising(lines: &[Line]) -> bool
     ensures { result ≡ is_sorted place_cmp (map mapped_of lines.now) }
@@ -31,10 +32,6 @@ fn is_rising(lines: &[Line]) -> bool
     }
     true
 }
-
-ghost use Rattle.std.specs.Prelude.{true};
-ghost use Rattle.std.specs.List.{list_all};
-ghost use Rattle.model.specs.Lawful.{is_lawful_at};
 
 /// Whether each of these lines is lawful.
 fn are_lawful(lines: &[Line]) -> bool
@@ -60,8 +57,6 @@ fn is_lawful_line(lines: &[Line], line: &Line) -> bool
         && is_only_root(lines, line)
 }
 
-ghost use Rattle.model.specs.Lawful.{has_lawful_origin};
-
 /// Whether the origin of a line, where it has one, has a line with the same frame and at least the rights.
 fn has_lawful_origin(lines: &[Line], line: &Line) -> bool
     requires { is_sorted place_cmp (map mapped_of lines.now) ≡ true }
@@ -75,9 +70,6 @@ fn has_lawful_origin(lines: &[Line], line: &Line) -> bool
     };
     origin.frame == line.frame && line.rights.without(origin.rights).is_empty()
 }
-
-ghost use Rattle.std.specs.Prelude.{length};
-ghost use Rattle.model.specs.Lawful.{ends};
 
 /// Whether a chain of origins ends.
 fn ends(lines: &[Line], origin: Option<Place>) -> bool
@@ -94,8 +86,6 @@ fn ends(lines: &[Line], origin: Option<Place>) -> bool
     origin.is_none()
 }
 
-ghost use Rattle.model.specs.Holdings.{origin_at};
-
 /// The origin that the line of a place has.
 fn origin_at(lines: &[Line], place: Place) -> Option<Place>
     requires { is_sorted place_cmp (map mapped_of lines.now) ≡ true }
@@ -104,8 +94,6 @@ fn origin_at(lines: &[Line], place: Place) -> Option<Place>
     let line = line_at(lines, place)?;
     line.origin
 }
-
-ghost use Rattle.model.specs.Lawful.{is_only_root};
 
 /// Whether no other line without origin has the frame of this line, if it has no origin.
 fn is_only_root(lines: &[Line], line: &Line) -> bool
@@ -121,9 +109,6 @@ fn is_only_root(lines: &[Line], line: &Line) -> bool
     }
     true
 }
-
-ghost use Rattle.std.specs.Prelude.{option_map};
-ghost use Rattle.model.specs.Holdings.{at};
 
 /// The line of a place.
 fn line_at(lines: &[Line], place: Place) -> Option<Line>

@@ -3,7 +3,7 @@
 ghost use Rattle.std.specs.Prelude.{◌≡◌, ◌++◌, OnOk, codes, string_bytes};
 ghost use Rattle.std.specs.Fmt.{decimal};
 ghost use Rattle.space.specs.Place.{place_text};
-ghost use Rattle.model.specs.Text.{audit_line, origin_text, rights_text, status_text};
+ghost use Rattle.model.specs.Definitions.Text.{audit_line, origin_text, rights_text, status_text};
 ghost use Rattle.mapdb.specs.Held.{mapped_of};
 
 use fpage::Rights;

@@ -2,10 +2,10 @@
 use Rattle.std.proofs.Common.{◌≡◌, inl, inr, ℕ, Bool, true, false, not, ◌&&◌, Some, None, Result, Ok, Err, if◌then◌else◌, refl, sym, ap, ◌∙◌, subst}
 use Rattle.std.specs.Result.{IsErrAnd}
 use Rattle.fpage.specs.declared.error.FpageError.{FpageError}
-use Rattle.model.specs.Calls as calls
-use Rattle.model.specs.Calls.{Call, send, access, unmap, clear, Refusal, Reply, sent, accessed, unmapped, cleared, refused, Request}
-use Rattle.model.specs.Answers.{Answer, answer, call_answer, unless_refused}
-use Rattle.model.specs.Holdings.{Holdings}
+use Rattle.model.specs.Definitions.Calls as calls
+use Rattle.model.specs.Definitions.Calls.{Call, send, access, unmap, clear, Refusal, Reply, sent, accessed, unmapped, cleared, refused, Request}
+use Rattle.model.specs.Definitions.Answers.{Answer, answer, call_answer, unless_refused}
+use Rattle.model.specs.Definitions.Holdings.{Holdings}
 use Rattle.mapdb.specs.Calls.{refusal_of}
 use Rattle.mapdb.specs.State.{State, laid_out, left_with}
 use Rattle.c_handle.specs.Codes.{done, is_halted_code, refusal_code}

@@ -1,7 +1,7 @@
 -- What comes of a call, by the answer of the database.
 use Rattle.std.proofs.Common.{◌≡◌, inl, inr, Result, Ok, Err, refl, sym, subst, ◌∙◌}
 use Rattle.std.specs.Prelude.{IfOk, IfErr}
-use Rattle.model.specs.Calls.{Call}
+use Rattle.model.specs.Definitions.Calls.{Call}
 use Rattle.mapdb.specs.Answered.{IsAnswered, IsUnanswered}
 use Rattle.mapdb.specs.State.{State}
 use Rattle.mapdb.specs.declared.error.DbError.{DbError}

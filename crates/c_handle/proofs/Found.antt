@@ -5,8 +5,8 @@ use Rattle.std.proofs.lemmas.Bool.Decides.{leb_tells}
 use Rattle.std.specs.Option.{option_map}
 use Rattle.space.specs.declared.place.Place.{Place}
 use Rattle.space.specs.Directory.{pages_of}
-use Rattle.model.specs.Calls.{Limits}
-use Rattle.model.specs.Holdings.{Held, Holdings, keep, at}
+use Rattle.model.specs.Definitions.Calls.{Limits}
+use Rattle.model.specs.Definitions.Holdings.{Held, Holdings, keep, at}
 use Rattle.mapdb.specs.Held.{pages_from, spaces_from, listed, listing}
 use Rattle.c_handle.specs.Listed.{mapping_told, mappings_at, mappings_from, from_page, WritesBehind}
 use Rattle.c_handle.specs.declared.mappings.MappingReply.{MappingReply}

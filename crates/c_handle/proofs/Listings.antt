@@ -3,7 +3,7 @@ use Rattle.std.proofs.Common.{◌≡◌, ◌⊎◌, inl, inr, ℕ, zero, suc, �
 use Rattle.std.proofs.lemmas.Bool.{lt-ltb, le-ltb, le-leb, lt-leb, eq-eqb, ne_eqb}
 use Rattle.std.proofs.lemmas.List.Elements.{filter-append}
 use Rattle.space.specs.declared.place.Place.{Place}
-use Rattle.model.specs.Holdings.{Held, Holdings, PlaceSet, keep}
+use Rattle.model.specs.Definitions.Holdings.{Held, Holdings, PlaceSet, keep}
 use Rattle.mapdb.specs.Held.{pages_from, spaces_from, listed}
 use Rattle.c_handle.specs.Listed.{from_page}
 

@@ -5,8 +5,8 @@ use Rattle.std.proofs.lemmas.Bool.Decides.{nat_tests}
 use Rattle.fpage.specs.Fpage.{Flexpage, read_fpage}
 use Rattle.fpage.specs.declared.item.Item.{Item}
 use Rattle.fpage.specs.declared.error.FpageError.{FpageError}
-use Rattle.model.specs.Calls.{Limits, send, bad_record, refusal_of, Request}
-use Rattle.model.specs.Records.{SendFields, are_item_words, or_refused, read_items, send_request}
+use Rattle.model.specs.Definitions.Calls.{Limits, send, bad_record, refusal_of, Request}
+use Rattle.model.specs.Definitions.Records.{SendFields, are_item_words, or_refused, read_items, send_request}
 use Rattle.c_handle.specs.Asked.{send_asked}
 
 -- a number of words that is served

@@ -2,11 +2,11 @@
 use Rattle.std.proofs.Common.{◌≡◌, ℕ, true, false, not, ◌&&◌, List, Option, Some, None, Ok, refl, ap, ◌∙◌}
 use Rattle.fpage.specs.Fpage.{Flexpage}
 use Rattle.fpage.specs.declared.item.Item.{Item}
-use Rattle.model.specs.Calls as calls
-use Rattle.model.specs.Calls.{Call, Limits, send, Refusal, Request}
-use Rattle.model.specs.Answers.{Answer, answer, call_answer, call_refusal, send_answer, unless_refused}
-use Rattle.model.specs.Holdings.{Holdings}
-use Rattle.model.specs.Items.{Counts}
+use Rattle.model.specs.Definitions.Calls as calls
+use Rattle.model.specs.Definitions.Calls.{Call, Limits, send, Refusal, Request}
+use Rattle.model.specs.Definitions.Answers.{Answer, answer, call_answer, call_refusal, send_answer, unless_refused}
+use Rattle.model.specs.Definitions.Holdings.{Holdings}
+use Rattle.model.specs.Definitions.Items.{Counts}
 use Rattle.mapdb.specs.Held.{OnlyGrows}
 use Rattle.mapdb.specs.Calls.{reply_of}
 use Rattle.mapdb.specs.State.{State, laid_out}

@@ -2,8 +2,8 @@
 use Rattle.std.proofs.Common.{◌≡◌, ℕ, ◌≤◌, nat_le, ◌&&◌, true, arith}
 use Rattle.std.proofs.lemmas.Bool.Decides.{nat_tests}
 use Rattle.space.specs.Directory.{pages_of}
-use Rattle.model.specs.Calls.{Limits}
-use Rattle.model.specs.Records.{are_limits}
+use Rattle.model.specs.Definitions.Calls.{Limits}
+use Rattle.model.specs.Definitions.Records.{are_limits}
 
 pub record AreServed (l : Limits) : Type 0 where
   pub spaces : l.spaces ≤ 512

@@ -4,10 +4,10 @@ use Rattle.std.specs.List.{zip}
 use Rattle.fpage.specs.Control.{ControlWord, control_with, read_control}
 use Rattle.fpage.specs.Fpage.{Flexpage}
 use Rattle.fpage.specs.declared.error.FpageError.{FpageError}
-use Rattle.model.specs.Answers.{answer, call_answer, call_refusal, pages_in, unless_refused, unmap_answer}
-use Rattle.model.specs.Calls.{Limits, Refusal, unmap, unmapped}
-use Rattle.model.specs.Holdings.{Holdings}
-use Rattle.model.specs.Strip.{strip}
+use Rattle.model.specs.Definitions.Answers.{answer, call_answer, call_refusal, pages_in, unless_refused, unmap_answer}
+use Rattle.model.specs.Definitions.Calls.{Limits, Refusal, unmap, unmapped}
+use Rattle.model.specs.Definitions.Holdings.{Holdings}
+use Rattle.model.specs.Definitions.Strip.{strip}
 
 -- as many words come back as were named
 pub words_told_back : (space : ℕ) (f : Bool) (words : List ℕ) (fpages : List Flexpage) (h : Holdings) → length fpages ≡ length words → length (unmap_answer space f (zip words fpages) h).words ≡ length words

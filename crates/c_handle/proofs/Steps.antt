@@ -30,7 +30,7 @@ use Rattle.std.specs.declared.option.Option.{Option}
 use Rattle.std.specs.declared.option.Option.TheVariants.{None, Some}
 use Rattle.std.specs.Box.Ownership.{box_owns}
 use Rattle.mapdb.specs.contracts.database.Database as database
-use Rattle.raw_box.specs.contracts.RawBox as raw_box
+use Rattle.c_handle.specs.contracts.raw_box.RawBox as raw_box
 use Rattle.c_handle.specs.Owned.{owned_at}
 use Rattle.c_handle.specs.contracts.handle.Handle as handle
 

@@ -6,10 +6,10 @@ use Rattle.fpage.specs.Fpage.{Flexpage, IsFpageOf}
 use Rattle.fpage.specs.declared.item.Item.{Item}
 use Rattle.fpage.specs.Item.{pairs_of}
 use Rattle.space.specs.declared.place.Place.{Place}
-use Rattle.model.specs.Answers.{item_answer, send_answer}
-use Rattle.model.specs.Holdings.{Holdings}
-use Rattle.model.specs.Items.{Counts, add_counts, job_of, next_page, pairs_from}
-use Rattle.model.specs.SendLaws.{total}
+use Rattle.model.specs.Definitions.Answers.{item_answer, send_answer}
+use Rattle.model.specs.Definitions.Holdings.{Holdings}
+use Rattle.model.specs.Definitions.Items.{Counts, add_counts, job_of, next_page, pairs_from}
+use Rattle.model.specs.Laws.SendLaws.{total}
 use Rattle.model.proofs.Jobs.{total_counts}
 
 pairs_length : (n : ℕ) (source target : Place) → length (pairs_from n source target) ≡ n

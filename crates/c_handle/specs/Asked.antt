@@ -3,8 +3,8 @@ use Rattle.std.specs.Prelude.{ℕ, ◌==◌, List, Option, Some, None, if◌then
 use Rattle.std.specs.Option.{option_map}
 use Rattle.fpage.specs.declared.rights.Access.{Access}
 use Rattle.fpage.specs.declared.rights.Access.TheVariants.{Read, Write, Execute}
-use Rattle.model.specs.Calls.{Limits, Request}
-use Rattle.model.specs.Records.{are_item_words, send_request, unmap_request, access_request, clear_request}
+use Rattle.model.specs.Definitions.Calls.{Limits, Request}
+use Rattle.model.specs.Definitions.Records.{are_item_words, send_request, unmap_request, access_request, clear_request}
 
 -- a send; a bad record where the number of words is not served
 abbrev pub send_asked : ℕ → ℕ → ℕ → List ℕ → Limits → Request

@@ -1,7 +1,7 @@
 -- What comes of a call that may change what is held.
 use Rattle.std.specs.Prelude.{◌≡◌, ◌⊎◌, ℕ, Bool, true, false, not, ◌&&◌, IsTrue, Option, Some, None, if◌then◌else◌}
-use Rattle.model.specs.Calls.{Limits, Reply, refused, Request}
-use Rattle.model.specs.Answers.{Answer, answer}
+use Rattle.model.specs.Definitions.Calls.{Limits, Reply, refused, Request}
+use Rattle.model.specs.Definitions.Answers.{Answer, answer}
 use Rattle.mapdb.specs.State.{State, halted, left_with}
 use Rattle.c_handle.specs.Codes.{done, is_empty, is_halted_code, refusal_code}
 

@@ -1,7 +1,7 @@
 -- The codes that the functions answer: first the refusals in the order of a trace's, then those of a program.
 use Rattle.std.specs.Prelude.{ℕ}
-use Rattle.model.specs.Calls as calls
-use Rattle.model.specs.Calls.{Refusal}
+use Rattle.model.specs.Definitions.Calls as calls
+use Rattle.model.specs.Definitions.Calls.{Refusal}
 
 -- the call was done
 abbrev pub done : ℕ

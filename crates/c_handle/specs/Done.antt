@@ -1,6 +1,6 @@
 -- What comes of a call whose words were read.
 use Rattle.std.specs.Prelude.{◌≡◌, ◌⊎◌, false, true, Result, Ok, Err}
-use Rattle.model.specs.Calls.{Call}
+use Rattle.model.specs.Definitions.Calls.{Call}
 use Rattle.mapdb.specs.Answered.{IsAccepted, IsAnswered}
 use Rattle.mapdb.specs.Calls.{reply_of}
 use Rattle.mapdb.specs.State.{State, halted}

@@ -1,7 +1,7 @@
 -- The codes of the errors of calls.
 use Rattle.std.specs.Prelude.{◌≡◌, ℕ, Result, Ok, Err}
 use Rattle.fpage.specs.declared.error.FpageError.{FpageError}
-use Rattle.model.specs.Calls as calls
+use Rattle.model.specs.Definitions.Calls as calls
 use Rattle.mapdb.specs.Calls.{refusal_of}
 use Rattle.c_handle.specs.Codes.{done, is_halted_code, refusal_code}
 use Rattle.c_handle.specs.declared.error.CallError.{CallError}

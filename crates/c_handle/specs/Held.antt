@@ -1,5 +1,5 @@
 -- What a handle holds.
-use Rattle.raw_box.specs.declared.RawBox.{RawBox}
+use Rattle.c_handle.specs.declared.raw_box.RawBox.{RawBox}
 use Rattle.std.specs.declared.alloc.Global.{Global}
 use Rattle.mapdb.specs.State.{State}
 

@@ -2,7 +2,7 @@
 use Rattle.std.specs.Prelude.{◌≡◌, ℕ, Option, Some, None, if◌then◌else◌, nat_lt, nat_le, ◌==◌, ◌&&◌, ◌||◌, List, map, filter, length, take, drop, ◌++◌}
 use Rattle.fpage.specs.Rights.{number}
 use Rattle.space.specs.declared.place.Place.{Place}
-use Rattle.model.specs.Holdings.{Held, Holdings, PlaceSet}
+use Rattle.model.specs.Definitions.Holdings.{Held, Holdings, PlaceSet}
 use Rattle.mapdb.specs.Held.{listed}
 use Rattle.mapdb.specs.State.{State}
 use Rattle.c_handle.specs.Codes.{done, is_empty, is_halted_code}

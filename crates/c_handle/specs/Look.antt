@@ -3,7 +3,7 @@ use Rattle.std.specs.Prelude.{ℕ, nat_lt, not, ◌==◌, Option, Some, None, if
 use Rattle.fpage.specs.Rights.{number}
 use Rattle.space.specs.Directory.{pages_of}
 use Rattle.space.specs.declared.place.Place.{Place}
-use Rattle.model.specs.Holdings.{Held, at, origin_at}
+use Rattle.model.specs.Definitions.Holdings.{Held, at, origin_at}
 use Rattle.mapdb.specs.State.{State}
 use Rattle.c_handle.specs.Codes.{done, is_empty, is_halted_code, no_such_space, out_of_space}
 use Rattle.c_handle.specs.declared.look.EntryReply.{EntryReply}

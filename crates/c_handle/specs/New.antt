@@ -1,7 +1,7 @@
 -- What becomes of a handle in which a database is to be made.
 use Rattle.std.specs.Prelude.{◌≡◌, ◌⊎◌, ℕ, false, Option, Some, None}
-use Rattle.model.specs.Calls.{Limits}
-use Rattle.model.specs.Records.{are_limits}
+use Rattle.model.specs.Definitions.Calls.{Limits}
+use Rattle.model.specs.Definitions.Records.{are_limits}
 use Rattle.mapdb.specs.Held.{Layout}
 use Rattle.mapdb.specs.State.{State, laid_out, new_state}
 use Rattle.c_handle.specs.Codes.{done, bad_limits, no_memory, holds_one}

@@ -1,8 +1,8 @@
 -- What a reply writes to what is lent to a call; a refusal writes nothing.
 use Rattle.std.specs.Prelude.{ℕ, List, if◌then◌else◌}
 use Rattle.fpage.specs.Rights.{number}
-use Rattle.model.specs.Calls.{Reply, sent, accessed, unmapped, cleared}
-use Rattle.model.specs.Items.{Counts}
+use Rattle.model.specs.Definitions.Calls.{Reply, sent, accessed, unmapped, cleared}
+use Rattle.model.specs.Definitions.Items.{Counts}
 use Rattle.c_handle.specs.declared.send.SendReply.{SendReply}
 
 -- the six counts of a send

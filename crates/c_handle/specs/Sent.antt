@@ -1,6 +1,6 @@
 -- What comes of a send, which may make words.
 use Rattle.std.specs.Prelude.{◌≡◌, false, Option, Some, None}
-use Rattle.model.specs.Calls.{Limits, Request}
+use Rattle.model.specs.Definitions.Calls.{Limits, Request}
 use Rattle.mapdb.specs.Held.{Layout, OnlyGrows}
 use Rattle.mapdb.specs.State.{State, laid_out}
 use Rattle.c_handle.specs.Called.{After, IsCalled, is_accepted, unchanged}

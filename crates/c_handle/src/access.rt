@@ -7,6 +7,7 @@ ghost use Rattle.c_handle.specs.Errors.{result_code};
 ghost use Rattle.c_handle.specs.Replied.{made_told};
 
 use crate::answer::done;
+use crate::asked::AccessAsked;
 use crate::error::CallError;
 use crew::Alone;
 use fpage::Access;
@@ -26,37 +27,35 @@ fn kind_of(number: u32) -> Option<Access>
     }
 }
 
-/// Accesses the page of an address, in bytes, and writes to `made` 1 if the access was made, and 0 if it is a fault.
+/// Accesses the page of an address, and writes to `made` 1 if the access was made, and 0 if it is a fault.
 ///
 /// Refused, the first that fits: a halted database; `BadRecord`, for the kind; `NoSuchSpace`; `OutOfSpace`; and where memory
 /// is. Then `made` is as it was.
 pub fn access(
     alloc: Global,
     database: &mut Database,
-    space: u16,
-    address: u32,
-    kind: u32,
+    asked: AccessAsked,
     made: &mut u32,
 ) -> Result<(), CallError>
-    ensures { IsCalled made_told (access_asked space address kind database.old.limits) database.old made.old
+    ensures { IsCalled made_told (access_asked asked.space asked.address asked.kind database.old.limits) database.old made.old
         (record { code = result_code result; held = Some database.new; lent = made.new }) }
 {
     if database.is_halted() {
         return Err(CallError::Halted);
     }
-    let access = kind_of(kind).ok_or(CallError::Refused(Refusal::BadRecord))?;
+    let access = kind_of(asked.kind).ok_or(CallError::Refused(Refusal::BadRecord))?;
     let limits = database.limits();
-    if u32::from(space) >= limits.spaces {
+    if u32::from(asked.space) >= limits.spaces {
         return Err(CallError::Refused(Refusal::NoSuchSpace));
     }
-    if u64::from(address) >= 1 << limits.bits {
+    if u64::from(asked.address) >= 1 << limits.bits {
         return Err(CallError::Refused(Refusal::OutOfSpace));
     }
     let place = Place {
-        space,
-        page: address / 4096,
+        space: asked.space,
+        page: asked.address / 4096,
     };
-    let reply = done(database.answer_access(alloc, place, access, &Alone))?;
+    let reply = done(database.answer_access(alloc, (place, access), &Alone))?;
     if let Reply::Accessed(was_made) = reply {
         *made = u32::from(was_made);
     }

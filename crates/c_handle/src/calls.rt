@@ -5,16 +5,17 @@ ghost use Rattle.std.specs.Prelude.{◌≡◌, None, Some, option_map};
 ghost use Rattle.c_handle.specs.Boxed.{value_of};
 
 use crate::access::access;
+use crate::asked::{AccessAsked, SendAsked, UnmapAsked};
 use crate::clear::clear_space;
 use crate::code::{BAD_LIMITS, DONE, EMPTY, HOLDS_ONE, NO_MEMORY};
 use crate::error::result_code;
 use crate::handle::Handle;
 use crate::look::{EntryReply, OriginReply, entry, origin};
 use crate::mappings::{MappingReply, list};
+use crate::raw_box::RawBox;
 use crate::send::{SendReply, send};
 use crate::unmap::unmap;
 use mapdb::{Database, DbError};
-use raw_box::RawBox;
 use std::alloc::Global;
 use std::mem;
 
@@ -66,22 +67,14 @@ impl Handle {
     /// which outcome to `reply`.
     ///
     /// Refused: `EMPTY`, where the handle holds nothing; and what `send` refuses, in its order.
-    pub fn send(
-        &mut self,
-        alloc: Global,
-        from: u16,
-        to: u16,
-        window: u32,
-        words: &[u32],
-        reply: &mut SendReply,
-    ) -> u32
-        ensures { IsSentOf (send_asked from to window words.now) self.old.held reply.old
+    pub fn send(&mut self, alloc: Global, asked: &SendAsked<'_>, reply: &mut SendReply) -> u32
+        ensures { IsSentOf (send_asked asked.now.from asked.now.to asked.now.window asked.now.words.now) self.old.held reply.old
             (record { code = result; held = self.new.held; lent = reply.new }) }
     {
         let Some(mut whole) = take(self, alloc) else {
             return EMPTY;
         };
-        let sent = send(alloc, &mut whole, from, to, window, words, reply);
+        let sent = send(alloc, &mut whole, asked, reply);
         put(self, alloc, whole);
         result_code(sent)
     }
@@ -90,14 +83,14 @@ impl Handle {
     /// found in place of its rights.
     ///
     /// Refused: `EMPTY`, where the handle holds nothing; and what `unmap` refuses, in its order.
-    pub fn unmap(&mut self, alloc: Global, space: u16, control: u32, words: &mut [u32]) -> u32
-        ensures { IsCalledOf words_told (unmap_asked space control words.old) self.old.held words.old
+    pub fn unmap(&mut self, alloc: Global, asked: UnmapAsked, words: &mut [u32]) -> u32
+        ensures { IsCalledOf words_told (unmap_asked asked.space asked.control words.old) self.old.held words.old
             (record { code = result; held = self.new.held; lent = words.new }) }
     {
         let Some(mut whole) = take(self, alloc) else {
             return EMPTY;
         };
-        let unmapped = unmap(alloc, &mut whole, space, control, words);
+        let unmapped = unmap(alloc, &mut whole, asked, words);
         put(self, alloc, whole);
         result_code(unmapped)
     }
@@ -118,25 +111,17 @@ impl Handle {
         result_code(cleared)
     }
 
-    /// Accesses the page of an address, in bytes, by a kind of access: 4 reads, 2 writes and 1 executes. `made` is then 1, or 0 for
-    /// a fault.
+    /// Accesses the page of an address. `made` is then 1, or 0 for a fault.
     ///
     /// Refused: `EMPTY`, where the handle holds nothing; and what `access` refuses, in its order.
-    pub fn access(
-        &mut self,
-        alloc: Global,
-        space: u16,
-        address: u32,
-        kind: u32,
-        made: &mut u32,
-    ) -> u32
-        ensures { IsCalledOf made_told (access_asked space address kind) self.old.held made.old
+    pub fn access(&mut self, alloc: Global, asked: AccessAsked, made: &mut u32) -> u32
+        ensures { IsCalledOf made_told (access_asked asked.space asked.address asked.kind) self.old.held made.old
             (record { code = result; held = self.new.held; lent = made.new }) }
     {
         let Some(mut whole) = take(self, alloc) else {
             return EMPTY;
         };
-        let accessed = access(alloc, &mut whole, space, address, kind, made);
+        let accessed = access(alloc, &mut whole, asked, made);
         put(self, alloc, whole);
         result_code(accessed)
     }

@@ -1,5 +1,9 @@
 //! The codes that the functions answer, in the order of the header.
 
+ghost use Rattle.std.specs.Prelude.{◌≡◌};
+ghost use Rattle.mapdb.specs.Calls.{refusal_of};
+ghost use Rattle.c_handle.specs.Codes.{refusal_code};
+
 use mapdb::Refusal;
 
 /// The call was done.
@@ -32,10 +36,6 @@ pub const HALTED: u32 = 12;
 pub const EMPTY: u32 = 13;
 /// The handle holds a database already.
 pub const HOLDS_ONE: u32 = 14;
-
-ghost use Rattle.std.specs.Prelude.{◌≡◌};
-ghost use Rattle.mapdb.specs.Calls.{refusal_of};
-ghost use Rattle.c_handle.specs.Codes.{refusal_code};
 
 /// The code of a refusal.
 pub fn refusal_code(refusal: Refusal) -> u32

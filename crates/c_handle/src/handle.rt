@@ -2,9 +2,10 @@
 
 ghost use Rattle.std.specs.Prelude.{◌≡◌, Option, Some, None, option_map};
 ghost use Rattle.c_handle.specs.Held.{boxed_value};
+ghost use Rattle.mapdb.specs.State.{State};
 
+use crate::raw_box::RawBox;
 use mapdb::Database;
-use raw_box::RawBox;
 use std::alloc::Global;
 use std::marker::Model;
 use std::ptr::null_mut;
@@ -22,8 +23,6 @@ impl Model for Handle {
 
     ghost also_owns = { λ h. owned_at the_row h.at h.held };
 }
-
-ghost use Rattle.mapdb.specs.State.{State};
 
 impl Handle {
     /// A handle that holds nothing.

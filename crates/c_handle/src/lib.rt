@@ -3,6 +3,7 @@
 
 mod access;
 mod answer;
+mod asked;
 mod calls;
 mod clear;
 mod code;
@@ -10,9 +11,11 @@ mod error;
 mod handle;
 mod look;
 mod mappings;
+mod raw_box;
 mod send;
 mod unmap;
 
+pub use asked::{AccessAsked, SendAsked, UnmapAsked};
 pub use handle::Handle;
 pub use look::{EntryReply, OriginReply};
 pub use mappings::MappingReply;

@@ -4,6 +4,8 @@ ghost use Rattle.std.specs.Prelude.{◌≡◌, option_map};
 ghost use Rattle.mapdb.specs.Held.{entry_of};
 ghost use Rattle.c_handle.specs.Told.{entry_numbers};
 ghost use Rattle.c_handle.specs.Look.{place_code, entry_left, origin_left, origin_told};
+ghost use Rattle.fpage.specs.Fpage.{IsSpaceBits};
+ghost use Rattle.space.specs.Directory.{pages_of};
 
 use crate::code::{DONE, HALTED, NO_SUCH_SPACE, OUT_OF_SPACE};
 use mapdb::Database;
@@ -86,9 +88,6 @@ fn place_code(database: &Database, space: u16, page: u32) -> u32
     }
     DONE
 }
-
-ghost use Rattle.fpage.specs.Fpage.{IsSpaceBits};
-ghost use Rattle.space.specs.Directory.{pages_of};
 
 /// How many pages a space of `2^bits` bytes has.
 pub fn pages(bits: u32) -> u32

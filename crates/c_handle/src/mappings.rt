@@ -3,7 +3,7 @@
 ghost use Rattle.std.specs.Prelude.{◌≡◌, ◌<◌, ◌≤◌, ◌-◌, ◌^◌, false, [], ◌∷◌, length, MatchOption, Some};
 ghost use Rattle.std.specs.Option.{option_map};
 ghost use Rattle.space.specs.Directory.{pages_of};
-ghost use Rattle.model.specs.Holdings.{at};
+ghost use Rattle.model.specs.Definitions.Holdings.{at};
 ghost use Rattle.mapdb.specs.Held.{IsWithin, pages_from, AreAbsentFrom, IsNextHeldOf};
 ghost use Rattle.c_handle.specs.Listed.{mapping_told, mappings_at, mappings_from, IsWritten, WritesBehind, listed_of};
 

@@ -1,7 +1,7 @@
 //! Maps and grants.
 
 ghost use Rattle.std.specs.Prelude.{◌≡◌, ◌<◌, ◌^◌, Some};
-ghost use Rattle.model.specs.SendLaws.{total};
+ghost use Rattle.model.specs.Laws.SendLaws.{total};
 ghost use Rattle.mapdb.specs.Meaning.{counts_of};
 ghost use Rattle.c_handle.specs.Asked.{send_asked};
 ghost use Rattle.c_handle.specs.Errors.{result_code};
@@ -9,12 +9,13 @@ ghost use Rattle.c_handle.specs.Replied.{counts_in};
 ghost use Rattle.c_handle.specs.Sent.{IsSent};
 
 use crate::answer::done;
+use crate::asked::SendAsked;
 use crate::error::CallError;
 use crew::Alone;
+use fields::read_items;
 use fpage::{Fpage, Item, ItemKind};
 use mapdb::{Database, Refusal, Reply, Sending};
 use std::alloc::Global;
-use words::read_items;
 
 /// How many items a message has at most.
 const MOST_ITEMS: usize = 31;
@@ -61,23 +62,21 @@ fn counts(reply: mapdb::SendReply) -> SendReply
 pub fn send(
     alloc: Global,
     database: &mut Database,
-    from: u16,
-    to: u16,
-    window: u32,
-    words: &[u32],
+    asked: &SendAsked<'_>,
     reply: &mut SendReply,
 ) -> Result<(), CallError>
-    ensures { IsSent (send_asked from to window words.now database.old.limits) database.old reply.old
+    ensures { IsSent (send_asked asked.now.from asked.now.to asked.now.window asked.now.words.now database.old.limits) database.old reply.old
         (record { code = result_code result; held = Some database.new; lent = reply.new }) }
 {
     if database.is_halted() {
         return Err(CallError::Halted);
     }
+    let words = asked.words;
     if words.len() % 2 != 0 || words.len() < 2 || words.len() > 2 * MOST_ITEMS {
         return Err(CallError::Refused(Refusal::BadRecord));
     }
     let bits = database.limits().bits;
-    let window = Fpage::read(window, bits)?;
+    let window = Fpage::read(asked.window, bits)?;
     // What stands in the items before they are read has no meaning.
     let mut items = [Item {
         kind: ItemKind::Map,
@@ -87,8 +86,8 @@ pub fn send(
     read_items(words, bits, &mut items)?;
     let items = &items[..words.len() / 2];
     let send = Sending {
-        from,
-        to,
+        from: asked.from,
+        to: asked.to,
         window,
         items,
     };

@@ -7,12 +7,13 @@ ghost use Rattle.c_handle.specs.Errors.{result_code};
 ghost use Rattle.c_handle.specs.Replied.{words_told};
 
 use crate::answer::done;
+use crate::asked::UnmapAsked;
 use crate::error::CallError;
 use crew::Alone;
+use fields::read_fpages;
 use fpage::{Control, Fpage};
 use mapdb::{Database, Reply, Scratch, Unmap};
 use std::alloc::Global;
-use words::read_fpages;
 
 /// How many words an unmap has at most.
 const MOST_WORDS: usize = 64;
@@ -25,25 +26,24 @@ const MOST_WORDS: usize = 64;
 pub fn unmap(
     alloc: Global,
     database: &mut Database,
-    space: u16,
-    control: u32,
+    asked: UnmapAsked,
     words: &mut [u32],
 ) -> Result<(), CallError>
-    ensures { IsCalled words_told (unmap_asked space control words.old database.old.limits) database.old words.old
+    ensures { IsCalled words_told (unmap_asked asked.space asked.control words.old database.old.limits) database.old words.old
         (record { code = result_code result; held = Some database.new; lent = words.new }) }
 {
     if database.is_halted() {
         return Err(CallError::Halted);
     }
     let bits = database.limits().bits;
-    let control = Control::read(control, words.len())?;
+    let control = Control::read(asked.control, words.len())?;
     // The control word names as many words as there are, so there is a first.
     let first = Fpage::read(words[0], bits)?;
     let mut fpages = [first; MOST_WORDS];
     read_fpages(words, bits, &mut fpages)?;
     let fpages = &fpages[..words.len()];
     let unmap = Unmap {
-        space,
+        space: asked.space,
         control,
         fpages,
     };

@@ -9,7 +9,9 @@ ghost use Rattle.c_handle.specs.Replied.{words_told, made_told, status_told};
 ghost use Rattle.c_handle.specs.Sent.{IsSentOf};
 ghost use Rattle.c_handle.specs.Listed.{listed_of};
 
-use c_handle::{EntryReply, Handle, MappingReply, OriginReply, SendReply};
+use c_handle::{
+    AccessAsked, EntryReply, Handle, MappingReply, OriginReply, SendAsked, SendReply, UnmapAsked,
+};
 use std::alloc::Global;
 
 /// The version of the interface.
@@ -59,7 +61,13 @@ pub extern "C" fn l4map_send(
     ensures { IsSentOf (send_asked from to window words.now) db.old.held reply.old
         (record { code = result; held = db.new.held; lent = reply.new }) }
 {
-    db.send(alloc, from, to, window, words, reply)
+    let asked = SendAsked {
+        from,
+        to,
+        window,
+        words,
+    };
+    db.send(alloc, &asked, reply)
 }
 
 /// Takes rights from the pages that words name, and from all that derives from them.
@@ -74,7 +82,7 @@ pub extern "C" fn l4map_unmap(
     ensures { IsCalledOf words_told (unmap_asked space control words.old) db.old.held words.old
         (record { code = result; held = db.new.held; lent = words.new }) }
 {
-    db.unmap(alloc, space, control, words)
+    db.unmap(alloc, UnmapAsked { space, control }, words)
 }
 
 /// Takes all pages from a space, and all that derives from them.
@@ -99,7 +107,12 @@ pub extern "C" fn l4map_access(
     ensures { IsCalledOf made_told (access_asked space address kind) db.old.held made.old
         (record { code = result; held = db.new.held; lent = made.new }) }
 {
-    db.access(alloc, space, address, kind, made)
+    let asked = AccessAsked {
+        space,
+        address,
+        kind,
+    };
+    db.access(alloc, asked, made)
 }
 
 /// What a page holds.

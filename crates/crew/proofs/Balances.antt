@@ -8,9 +8,9 @@ use Rattle.crossbeam_deque.specs.Tasks.{Pushes, Takes, Finds, Forks, Merges}
 use Rattle.crossbeam_deque.proofs.Lists.{at_set, set_else}
 use Rattle.turns.specs.Closing.{numbers_of}
 use Rattle.turns.specs.Posts.{PostContent}
-use Rattle.turns.specs.Sheets.{SheetContent}
+use Rattle.turns.specs.SharedWords.{SharedContent}
 use Rattle.crew.specs.declared.hand.Hand.{Hand}
-use Rattle.crew.specs.Hands.{hand, weigh, total, IsFresh, Balanced, IsTaken, IsWithin, WasEmpty}
+use Rattle.crew.specs.Hands.{all_parts, hand, weigh, total, IsFresh, Balanced, IsTaken, IsWithin, WasEmpty}
 
 -- ---- weights
 
@@ -67,7 +67,7 @@ total_only f (u ∷ vs) (suc k) v at others =
 
 -- ---- views
 
--- a fact of each view and its place, when one changes
+-- a fact of each view and its position, when one changes
 all_set : (F : ℕ → Hand → Type 0) (vs : List Hand) (k : ℕ) (w : Hand) → F k w → ((j : ℕ) (u : Hand) → get_elem? vs j ≡ some u → F j u) → (j : ℕ) (u : Hand) → get_elem? (set vs k w) j ≡ some u → F j u
 all_set F vs k w mine others j u at =
     ⊎_elim (λ (x : (j ≡ k) × (w ≡ u)). subst (λ (y : ℕ × Hand). F y.0 y.1) (λ i. (sym x.0 i, x.1 i)) mine) (λ (x : (j ≢ k) × (get_elem? vs j ≡ some u)). others j u x.1) (at_set vs k j w u at)
@@ -87,7 +87,7 @@ all_snoc F (v ∷ vs) w mine others (suc j) u at = all_snoc (λ k. F (suc k)) vs
 
 -- ---- the rule
 
-pub begins : (s : SheetContent) → Balanced s [] (hand 1024 [] [] ∷ [])
+pub begins : (s : SharedContent) → Balanced s [] (hand all_parts [] [] ∷ [])
 begins s = record {
   fresh = λ k d less. absurd (omega (arith, less));
   weights = λ h. refl;
@@ -96,16 +96,16 @@ begins s = record {
   owner = λ k v at behind. later k v at behind;
 }
   where
-    first : (k : ℕ) (v : Hand) → get_elem? (hand 1024 [] [] ∷ []) k ≡ some v → v.parts ≡ 0 → v.taken ≡ []
-    first zero v at none = ap (λ (x : Hand). x.taken) (sym (some-injective (hand 1024 [] []) v at))
+    first : (k : ℕ) (v : Hand) → get_elem? (hand all_parts [] [] ∷ []) k ≡ some v → v.parts ≡ 0 → v.taken ≡ []
+    first zero v at none = ap (λ (x : Hand). x.taken) (sym (some-injective (hand all_parts [] []) v at))
     first (suc k) v at none = absurd (some-ne-none v (sym at))
 
-    later : (k : ℕ) (v : Hand) → get_elem? (hand 1024 [] [] ∷ []) k ≡ some v → 0 < k → v.put ≡ []
+    later : (k : ℕ) (v : Hand) → get_elem? (hand all_parts [] [] ∷ []) k ≡ some v → 0 < k → v.put ≡ []
     later zero v at behind = absurd (omega (arith, behind))
     later (suc k) v at behind = absurd (some-ne-none v (sym at))
 
 -- a turn is put
-pub puts : (s : SheetContent) (v : Hand) (x : PostContent) → 0 < v.parts → IsFresh s x → Pushes (Balanced s) 0 v (x ∷ []) (λ w. w ≡ hand v.parts (v.put ++ numbers_of (x ∷ [])) v.taken)
+pub puts : (s : SharedContent) (v : Hand) (x : PostContent) → 0 < v.parts → IsFresh s x → Pushes (Balanced s) 0 v (x ∷ []) (λ w. w ≡ hand v.parts (v.put ++ numbers_of (x ∷ [])) v.taken)
 puts s v x has fresh items views rule at =
     let w : Hand = hand v.parts (v.put ++ x.number ∷ []) v.taken in (
       w,
@@ -125,7 +125,7 @@ puts s v x has fresh items views rule at =
             goal;
         parts =
             let a : ℕ = total (λ u. u.parts) (set views 0 w) in let b : ℕ = v.parts in let c : ℕ = total (λ u. u.parts) views in
-            let e : a + b ≡ c + b = total_set (λ u. u.parts) views 0 v w at in let p : c ≡ 1024 = rule.parts in let goal : a ≡ 1024 = omega arith in goal;
+            let e : a + b ≡ c + b = total_set (λ u. u.parts) views 0 v w at in let p : c ≡ all_parts = rule.parts in let goal : a ≡ all_parts = omega arith in goal;
         idle = all_set (λ _ u. u.parts ≡ 0 → u.taken ≡ []) views 0 w (λ none. absurd (omega (arith, none, has))) rule.idle;
         owner = all_set (λ k u. 0 < k → u.put ≡ []) views 0 w (λ behind. absurd (omega (arith, behind))) rule.owner;
       },
@@ -138,17 +138,17 @@ puts s v x has fresh items views rule at =
 
 -- ---- lists of turns
 
-first_fresh : (s : SheetContent) (t : PostContent) (ts : List PostContent) → IsFresh s t → All (IsFresh s) ts → All (IsFresh s) (t ∷ ts)
+first_fresh : (s : SharedContent) (t : PostContent) (ts : List PostContent) → IsFresh s t → All (IsFresh s) ts → All (IsFresh s) (t ∷ ts)
 first_fresh s t ts is all zero d less = is
 first_fresh s t ts is all (suc k) d less = all k d (omega (arith, less))
 
-split_fresh : (s : SheetContent) (ts us : List PostContent) → All (IsFresh s) (ts ++ us) → All (IsFresh s) ts × All (IsFresh s) us
+split_fresh : (s : SharedContent) (ts us : List PostContent) → All (IsFresh s) (ts ++ us) → All (IsFresh s) ts × All (IsFresh s) us
 split_fresh s [] us all = ((λ k d less. absurd (omega (arith, less))), all)
 split_fresh s (t ∷ ts) us all =
     let behind = split_fresh s ts us (λ k d less. all (suc k) d (omega (arith, less))) in (first_fresh s t ts (all 0 t (omega arith)) behind.0, behind.1)
 
 -- turns are taken
-taken : (s : SheetContent) (port : ℕ) (v : Hand) (xs items : List PostContent) (views : List Hand) → 0 < v.parts → Balanced s (xs ++ items) views → get_elem? views port ≡ some v
+taken : (s : SharedContent) (port : ℕ) (v : Hand) (xs items : List PostContent) (views : List Hand) → 0 < v.parts → Balanced s (xs ++ items) views → get_elem? views port ≡ some v
     → Balanced s items (set views port (hand v.parts v.put (v.taken ++ numbers_of xs)))
 taken s port v xs items views has rule at =
     let w : Hand = hand v.parts v.put (v.taken ++ numbers_of xs) in
@@ -168,13 +168,13 @@ taken s port v xs items views has rule at =
           goal;
       parts =
           let a : ℕ = total (λ u. u.parts) (set views port w) in let b : ℕ = v.parts in let c : ℕ = total (λ u. u.parts) views in
-          let e : a + b ≡ c + b = total_set (λ u. u.parts) views port v w at in let p : c ≡ 1024 = rule.parts in let goal : a ≡ 1024 = omega arith in goal;
+          let e : a + b ≡ c + b = total_set (λ u. u.parts) views port v w at in let p : c ≡ all_parts = rule.parts in let goal : a ≡ all_parts = omega arith in goal;
       idle = all_set (λ _ u. u.parts ≡ 0 → u.taken ≡ []) views port w (λ none. absurd (omega (arith, none, has))) rule.idle;
       owner = all_set (λ k u. 0 < k → u.put ≡ []) views port w (λ behind. rule.owner port v at behind) rule.owner;
     }
 
 -- what was taken is no more than what the worker put
-within : (s : SheetContent) (v : Hand) (items : List PostContent) (views : List Hand) → Balanced s items views → get_elem? views 0 ≡ some v → length v.taken ≤ length v.put
+within : (s : SharedContent) (v : Hand) (items : List PostContent) (views : List Hand) → Balanced s items views → get_elem? views 0 ≡ some v → length v.taken ≤ length v.put
 within s v items views rule at =
     let a : ℕ = total (λ u. weigh (λ _. 1) u.put) views in let b : ℕ = weigh (λ _. 1) v.put in
     let e : a ≡ b = total_only (λ u. weigh (λ _. 1) u.put) views 0 v at (λ j u at' apart. ap (weigh (λ _. 1)) (rule.owner j u at' (positive j apart))) in
@@ -189,23 +189,23 @@ within s v items views rule at =
     positive (suc j) apart = omega arith
 
 -- its worker takes a turn
-pub takes : (s : SheetContent) (v : Hand) → 0 < v.parts → Takes (Balanced s) 0 v 1 (λ xs w. IsTaken s v xs w × IsWithin w)
+pub takes : (s : SharedContent) (v : Hand) → 0 < v.parts → Takes (Balanced s) 0 v 1 (λ xs w. IsTaken s v xs w × IsWithin w)
 takes s v has xs items views _ _ rule at =
     let w : Hand = hand v.parts v.put (v.taken ++ numbers_of xs) in
     let after = taken s 0 v xs items views has rule at in
     (w, after, ((refl, (split_fresh s xs items rule.fresh).0), within s w items (set views 0 w) after (changed views 0 v w at)))
 
 -- another worker does
-pub steals : (s : SheetContent) (port : ℕ) (v : Hand) → 0 < v.parts → Takes (Balanced s) port v 1 (IsTaken s v)
+pub steals : (s : SharedContent) (port : ℕ) (v : Hand) → 0 < v.parts → Takes (Balanced s) port v 1 (IsTaken s v)
 steals s port v has xs items views _ _ rule at =
     let w : Hand = hand v.parts v.put (v.taken ++ numbers_of xs) in (w, taken s port v xs items views has rule at, (refl, (split_fresh s xs items rule.fresh).0))
 
 -- its worker finds none
-pub finds : (s : SheetContent) (v : Hand) → Finds (Balanced s) 0 v (WasEmpty s v)
+pub finds : (s : SharedContent) (v : Hand) → Finds (Balanced s) 0 v (WasEmpty s v)
 finds s v views rule at = (views, rule, at)
 
 -- who has all parts then has taken all that was put
-pub all_taken : (s : SheetContent) (v : Hand) → WasEmpty s v → v.parts ≡ 1024 → (h : ℕ → ℕ) → weigh h v.put ≡ weigh h v.taken
+pub all_taken : (s : SharedContent) (v : Hand) → WasEmpty s v → v.parts ≡ all_parts → (h : ℕ → ℕ) → weigh h v.put ≡ weigh h v.taken
 all_taken s v seen all h =
     let views = seen.0 in let rule = seen.1 in let at = seen.2 in
     let a : ℕ = total (λ u. weigh h u.put) views in let b : ℕ = weigh h v.put in
@@ -225,12 +225,12 @@ all_taken s v seen all h =
         let w : Hand = hand 0 [] [] in
         let a : ℕ = total (λ x. x.parts) (set views 0 w) in let b : ℕ = v.parts in let c : ℕ = total (λ x. x.parts) views in
         let e : a + b ≡ c + 0 = total_set (λ x. x.parts) views 0 v w seen.2 in
-        let p : c ≡ 1024 = seen.1.parts in let q : b ≡ 1024 = all in
+        let p : c ≡ all_parts = seen.1.parts in let q : b ≡ all_parts = all in
         let f : u.parts ≤ a = total_at (λ x. x.parts) (set views 0 w) j u (set_else views 0 j w apart ∙ at') in
         omega arith
 
 -- a part is handed out
-pub hands_out : (s : SheetContent) (v : Hand) → 1 < v.parts → Forks (Balanced s) 0 v (hand (v.parts - 1) v.put v.taken) (hand 1 [] [])
+pub hands_out : (s : SharedContent) (v : Hand) → 1 < v.parts → Forks (Balanced s) 0 v (hand (v.parts - 1) v.put v.taken) (hand 1 [] [])
 hands_out s v has items views rule at =
     let l : Hand = hand (v.parts - 1) v.put v.taken in let r : Hand = hand 1 [] [] in let vs : List Hand = set views 0 l in
     record {
@@ -247,13 +247,13 @@ hands_out s v has items views rule at =
       parts =
           let a : ℕ = total (λ u. u.parts) (vs ++ r ∷ []) in let b : ℕ = total (λ u. u.parts) vs in let c : ℕ = total (λ u. u.parts) views in let d : ℕ = v.parts in
           let e : a ≡ b + 1 = total_snoc (λ u. u.parts) vs r in let f : b + d ≡ c + (d - 1) = total_set (λ u. u.parts) views 0 v l at in
-          let p : c ≡ 1024 = rule.parts in let q : 1 < d = has in let goal : a ≡ 1024 = omega arith in goal;
+          let p : c ≡ all_parts = rule.parts in let q : 1 < d = has in let goal : a ≡ all_parts = omega arith in goal;
       idle = all_snoc (λ _ u. u.parts ≡ 0 → u.taken ≡ []) vs r (λ none. refl) (all_set (λ _ u. u.parts ≡ 0 → u.taken ≡ []) views 0 l (λ none. absurd (omega (arith, none, has))) rule.idle);
       owner = all_snoc (λ k u. 0 < k → u.put ≡ []) vs r (λ behind. refl) (all_set (λ k u. 0 < k → u.put ≡ []) views 0 l (λ behind. absurd (omega (arith, behind))) rule.owner);
     }
 
 -- what another knew is taken back
-pub takes_back : (s : SheetContent) (v : Hand) (other : ℕ) (w : Hand) → 0 < v.parts → Merges (Balanced s) 0 v other w (hand (v.parts + w.parts) v.put (v.taken ++ w.taken)) (hand 0 [] [])
+pub takes_back : (s : SharedContent) (v : Hand) (other : ℕ) (w : Hand) → 0 < v.parts → Merges (Balanced s) 0 v other w (hand (v.parts + w.parts) v.put (v.taken ++ w.taken)) (hand 0 [] [])
 takes_back s v other w has items views rule at apart at' =
     let both : Hand = hand (v.parts + w.parts) v.put (v.taken ++ w.taken) in let spent : Hand = hand 0 [] [] in let vs : List Hand = set views 0 both in let us : List Hand = set vs other spent in
     let was : get_elem? views other ≡ some w = sym (set_else views 0 other both apart) ∙ at' in
@@ -274,7 +274,7 @@ takes_back s v other w has items views rule at apart at' =
       parts =
           let a : ℕ = total (λ u. u.parts) us in let b : ℕ = total (λ u. u.parts) vs in let c : ℕ = total (λ u. u.parts) views in let d : ℕ = v.parts in let e : ℕ = w.parts in
           let f : b + d ≡ c + (d + e) = total_set (λ u. u.parts) views 0 v both at in let g : a + e ≡ b + 0 = total_set (λ u. u.parts) vs other w spent at' in
-          let p : c ≡ 1024 = rule.parts in let goal : a ≡ 1024 = omega arith in goal;
+          let p : c ≡ all_parts = rule.parts in let goal : a ≡ all_parts = omega arith in goal;
       idle = all_set (λ _ u. u.parts ≡ 0 → u.taken ≡ []) vs other spent (λ none. refl) (all_set (λ _ u. u.parts ≡ 0 → u.taken ≡ []) views 0 both (λ none. absurd (omega (arith, none, has))) rule.idle);
       owner = all_set (λ k u. 0 < k → u.put ≡ []) vs other spent (λ behind. refl) (all_set (λ k u. 0 < k → u.put ≡ []) views 0 both (λ behind. absurd (omega (arith, behind))) rule.owner);
     }

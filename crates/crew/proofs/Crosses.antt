@@ -20,20 +20,20 @@ use Rattle.turns.specs.contracts.watcher.Watcher as watcher
 use Rattle.turns.specs.contracts.open.Open as shared
 use Rattle.turns.proofs.Crosses.{turn_send, watcher_send, open_sync}
 use Rattle.crew.specs.declared.hand.Which as Which
-use Rattle.crew.specs.declared.own.Crewed as Crewed
+use Rattle.crew.specs.declared.own_deque.Crewed as Crewed
 use Rattle.crew.specs.contracts.hand.Hand as hand
 use Rattle.crew.specs.contracts.hand.Fair as fair
 use Rattle.crew.specs.contracts.hand.FairProtocolTurnHand.TheImpl as rule
-use Rattle.crew.specs.contracts.own.Own as own
-use Rattle.crew.specs.contracts.own.Own.TheInside as own_inside
-use Rattle.crew.specs.contracts.own.Claim as claim
-use Rattle.crew.specs.contracts.own.Claim.TheInside as claim_inside
-use Rattle.crew.specs.contracts.lot.Lot as lot
-use Rattle.crew.specs.contracts.lot.Lot.TheInside as lot_inside
-use Rattle.crew.specs.contracts.lot.Emptied as emptied
-use Rattle.crew.specs.contracts.lot.Emptied.TheInside as emptied_inside
-use Rattle.crew.specs.contracts.bench.Bench as bench
-use Rattle.crew.specs.contracts.bench.Bench.TheInside as bench_inside
+use Rattle.crew.specs.contracts.own_deque.OwnDeque as own
+use Rattle.crew.specs.contracts.own_deque.OwnDeque.TheInside as own_inside
+use Rattle.crew.specs.contracts.own_deque.StealPass as pass
+use Rattle.crew.specs.contracts.own_deque.StealPass.TheInside as pass_inside
+use Rattle.crew.specs.contracts.worker.Worker as crew_worker
+use Rattle.crew.specs.contracts.worker.Worker.TheInside as crew_worker_inside
+use Rattle.crew.specs.contracts.worker.Emptied as emptied
+use Rattle.crew.specs.contracts.worker.Emptied.TheInside as emptied_inside
+use Rattle.crew.specs.contracts.shared_state.SharedState as state
+use Rattle.crew.specs.contracts.shared_state.SharedState.TheInside as state_inside
 
 module _ (T T' : RattleType) (g : Which.Ghosts T.Denot) (g' : Crewed.Ghosts T'.Denot) where
   own_inside_send : IsSend (own_inside.the_row T T' g g')
@@ -42,34 +42,34 @@ module _ (T T' : RattleType) (g : Which.Ghosts T.Denot) (g' : Crewed.Ghosts T'.D
   pub own_send : IsSend (own.the_row T T' g g')
   own_send = search (own_inside_send, view_send)
 
-  claim_inside_send : IsSend (claim_inside.the_row T T' g g')
-  claim_inside_send = declared_send (claim_inside.the_type T T' g g') (seat.the_send _ _ _ _ (option.the_send _ turn_send) send frees, (search sendable, (phantom.the_send (Tuple (T ∷ T' ∷ [])), tt)))
+  pass_inside_send : IsSend (pass_inside.the_row T T' g g')
+  pass_inside_send = declared_send (pass_inside.the_type T T' g g') (seat.the_send _ _ _ _ (option.the_send _ turn_send) send frees, (search sendable, (phantom.the_send (Tuple (T ∷ T' ∷ [])), tt)))
 
-  pub claim_send : IsSend (claim.the_row T T' g g')
-  claim_send = search (claim_inside_send, view_send)
+  pub pass_send : IsSend (pass.the_row T T' g g')
+  pass_send = search (pass_inside_send, view_send)
 
-  lot_inside_send : IsSend (lot_inside.the_row T T' g g')
-  lot_inside_send = declared_send (lot_inside.the_type T T' g g') (own_send, (search (claim_send, crosses), (search (turn_send, crosses), tt)))
+  worker_inside_send : IsSend (crew_worker_inside.the_row T T' g g')
+  worker_inside_send = declared_send (crew_worker_inside.the_type T T' g g') (own_send, (search (pass_send, crosses), (search (turn_send, crosses), tt)))
 
-  pub lot_send : IsSend (lot.the_row T T' g g')
-  lot_send = search (lot_inside_send, view_send)
+  pub worker_send : IsSend (crew_worker.the_row T T' g g')
+  worker_send = search (worker_inside_send, view_send)
 
   emptied_inside_send : IsSend (emptied_inside.the_row T T' g g')
-  emptied_inside_send = declared_send (emptied_inside.the_type T T' g g') (lot_send, tt)
+  emptied_inside_send = declared_send (emptied_inside.the_type T T' g g') (worker_send, tt)
 
   pub emptied_send : IsSend (emptied.the_row T T' g g')
   emptied_send = search (emptied_inside_send, view_send)
 
 module _ (a : NamedLft) (T T' T'' : RattleType) (g : Which.Ghosts T.Denot) (g' : Crewed.Ghosts T'.Denot) where
-  bench_inside_sync : IsSync T'' → IsSync (bench_inside.the_row a T T' T'' g g')
-  bench_inside_sync y = declared_sync (bench_inside.the_type a T T' T'' g g') (search (open_sync, sendable), (search (y, sendable), (search (stealer.the_sync, turn_send, send, sync, frees, crosses), (phantom.the_sync T', tt))))
+  state_inside_sync : IsSync T'' → IsSync (state_inside.the_row a T T' T'' g g')
+  state_inside_sync y = declared_sync (state_inside.the_type a T T' T'' g g') (search (open_sync, sendable), (search (y, sendable), (search (stealer.the_sync, turn_send, send, sync, frees, crosses), (phantom.the_sync T', tt))))
 
-  pub bench_sync : IsSync T'' → IsSync (bench.the_row a T T' T'' g g')
-  bench_sync y = search (bench_inside_sync y, view_sync)
+  pub state_sync : IsSync T'' → IsSync (state.the_row a T T' T'' g g')
+  state_sync y = search (state_inside_sync y, view_sync)
 
   -- what a worker's thread begins with
-  pub closure_send : IsSync T'' → (ν : Sym) (ℓ : Lifetime) (κ : Lft) → IsSend (TupleAt ν (lot.the_row T T' g g' ∷ ShrRef ℓ κ (bench.the_row a T T' T'' g g') ∷ []))
-  closure_send y ν ℓ κ = declared_send (type_at ν (lot.the_row T T' g g' ∷ ShrRef ℓ κ (bench.the_row a T T' T'' g g') ∷ [])) (search (lot_send T T' g g', sendable), (search (bench_sync y, sendable), tt))
+  pub closure_send : IsSync T'' → (ν : Sym) (ℓ : Lifetime) (κ : Lft) → IsSend (TupleAt ν (crew_worker.the_row T T' g g' ∷ ShrRef ℓ κ (state.the_row a T T' T'' g g') ∷ []))
+  closure_send y ν ℓ κ = declared_send (type_at ν (crew_worker.the_row T T' g g' ∷ ShrRef ℓ κ (state.the_row a T T' T'' g g') ∷ [])) (search (worker_send T T' g g', sendable), (search (state_sync y, sendable), tt))
 
 -- what an observer's thread begins with
 module _ (T : RattleType) where

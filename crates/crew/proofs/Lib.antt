@@ -1,6 +1,6 @@
 pub mod Balances
-pub mod Places
-pub mod Lots
+pub mod Numbered
+pub mod WorkerSums
 pub mod Yields
 pub mod Wholes
 pub mod Crosses

@@ -23,7 +23,7 @@ use Rattle.pieces.proofs.Packs.{packs_after_steps, pieces_suit}
 use Rattle.turns.specs.Closing.{numbers_of, counts_of, steps_made, AreAll, OneIsWanting, OneWatcherIsWanting}
 use Rattle.turns.specs.Watching.{WatcherContent}
 use Rattle.turns.specs.Posts.{PostContent}
-use Rattle.turns.specs.Sheets.{SheetContent}
+use Rattle.turns.specs.SharedWords.{SharedContent}
 use Rattle.turns.specs.Turns.{steps_to_do, new_turns, done_of}
 use Rattle.turns.specs.Views.{count_in}
 use Rattle.turns.specs.Works.{step_count}
@@ -34,16 +34,16 @@ use Rattle.crew.specs.Worked.{IsWorked}
 -- ---- new turns
 
 -- they have the numbers from 0 on
-pub numbers_new : (s : SheetContent) (n : ℕ) → numbers_of (new_turns s n) ≡ range_with_len 0 n
+pub numbers_new : (s : SharedContent) (n : ℕ) → numbers_of (new_turns s n) ≡ range_with_len 0 n
 numbers_new s n = by 0 n
   where
-    by : (a n : ℕ) → numbers_of (map (λ p. let t : PostContent = record { sheet = s; number = p; steps = 0 } in t) (range_with_len a n)) ≡ range_with_len a n
+    by : (a n : ℕ) → numbers_of (map (λ p. let t : PostContent = record { shared = s; number = p; steps = 0 } in t) (range_with_len a n)) ≡ range_with_len a n
     by a zero = refl
     by a (suc n) = ap (λ ns. a ∷ ns) (by (a + 1) n)
 
 -- and are so many
-pub many_new : (s : SheetContent) (n : ℕ) → length (new_turns s n) ≡ n
-many_new s n = length-map-range_with_len (λ p. record { sheet = s; number = p; steps = 0 }) 0 n
+pub many_new : (s : SharedContent) (n : ℕ) → length (new_turns s n) ≡ n
+many_new s n = length-map-range_with_len (λ p. record { shared = s; number = p; steps = 0 }) 0 n
 
 -- ---- turns that are dealt
 
@@ -191,21 +191,21 @@ all_below n (m ∷ ns) none (suc k) d less =
 -- ---- numbers that weigh what those of all pieces do
 
 -- each comes once
-pub once : (s : SheetContent) (ts : List PostContent) → ((h : ℕ → ℕ) → weigh h (numbers_of ts) ≡ weigh h (range_with_len 0 (length s.opening.pieces))) → (p : ℕ) → p < length s.opening.pieces
+pub once : (s : SharedContent) (ts : List PostContent) → ((h : ℕ → ℕ) → weigh h (numbers_of ts) ≡ weigh h (range_with_len 0 (length s.opening.pieces))) → (p : ℕ) → p < length s.opening.pieces
     → weigh (one_of p) (numbers_of ts) ≡ 1
 once s ts same p less = same (one_of p) ∙ in_range p 0 (length s.opening.pieces) (omega arith) (omega (arith, less))
 
 -- and no other number does
-pub no_other : (s : SheetContent) (ts : List PostContent) → ((h : ℕ → ℕ) → weigh h (numbers_of ts) ≡ weigh h (range_with_len 0 (length s.opening.pieces))) → (p : ℕ) → length s.opening.pieces ≤ p
+pub no_other : (s : SharedContent) (ts : List PostContent) → ((h : ℕ → ℕ) → weigh h (numbers_of ts) ≡ weigh h (range_with_len 0 (length s.opening.pieces))) → (p : ℕ) → length s.opening.pieces ≤ p
     → weigh (one_of p) (numbers_of ts) ≡ 0
 no_other s ts same p past = same (one_of p) ∙ behind_range p 0 (length s.opening.pieces) (omega (arith, past))
 
 -- each piece has a turn
-pub all_there : (s : SheetContent) (ts : List PostContent) → ((h : ℕ → ℕ) → weigh h (numbers_of ts) ≡ weigh h (range_with_len 0 (length s.opening.pieces))) → AreAll s ts
+pub all_there : (s : SharedContent) (ts : List PostContent) → ((h : ℕ → ℕ) → weigh h (numbers_of ts) ≡ weigh h (range_with_len 0 (length s.opening.pieces))) → AreAll s ts
 all_there s ts same p less = weighs_one p (numbers_of ts) (once s ts same p less)
 
 -- none has two
-pub none_twice : (s : SheetContent) (ts : List PostContent) → ((h : ℕ → ℕ) → weigh h (numbers_of ts) ≡ weigh h (range_with_len 0 (length s.opening.pieces))) → are_distinct (numbers_of ts) ≡ true
+pub none_twice : (s : SharedContent) (ts : List PostContent) → ((h : ℕ → ℕ) → weigh h (numbers_of ts) ≡ weigh h (range_with_len 0 (length s.opening.pieces))) → are_distinct (numbers_of ts) ≡ true
 none_twice s ts same =
     distinct_once (numbers_of ts) (λ p.
     let m : ℕ = weigh (one_of p) (numbers_of ts) in
@@ -213,19 +213,19 @@ none_twice s ts same =
     (λ (past : length s.opening.pieces ≤ p). let none : m ≡ 0 = no_other s ts same p past in let goal : m ≤ 1 = omega arith in goal) (cases_lt p (length s.opening.pieces)))
 
 -- and each turn has a piece
-pub none_strange : (s : SheetContent) (ts : List PostContent) → ((h : ℕ → ℕ) → weigh h (numbers_of ts) ≡ weigh h (range_with_len 0 (length s.opening.pieces))) → All (λ n. n < length s.opening.pieces) (numbers_of ts)
+pub none_strange : (s : SharedContent) (ts : List PostContent) → ((h : ℕ → ℕ) → weigh h (numbers_of ts) ≡ weigh h (range_with_len 0 (length s.opening.pieces))) → All (λ n. n < length s.opening.pieces) (numbers_of ts)
 none_strange s ts same = all_below (length s.opening.pieces) (numbers_of ts) (no_other s ts same)
 
 -- so none is without a turn
-pub none_wanting : (s : SheetContent) (ts : List PostContent) → AreAll s ts → OneIsWanting s ts → ⊥
+pub none_wanting : (s : SharedContent) (ts : List PostContent) → AreAll s ts → OneIsWanting s ts → ⊥
 none_wanting s ts all wanting = true≢false (sym wanting.2 ∙ all wanting.0 wanting.1)
 
 -- nor is a watcher wanting, where there is none
-pub no_watchers : (s : SheetContent) (ws : List WatcherContent) → s.opening.watchers ≡ 0 → OneWatcherIsWanting s ws → ⊥
+pub no_watchers : (s : SharedContent) (ws : List WatcherContent) → s.opening.watchers ≡ 0 → OneWatcherIsWanting s ws → ⊥
 no_watchers s ws none wanting = let m : ℕ = s.opening.watchers in let k : ℕ = wanting.0 in let less : k < m = wanting.1 in let m0 : m ≡ 0 = none in omega (arith, less, m0)
 
 -- nor where the only one is there
-pub only_watcher : (s : SheetContent) (w : WatcherContent) → s.opening.watchers ≡ 1 → w.number ≡ 0 → OneWatcherIsWanting s (w ∷ []) → ⊥
+pub only_watcher : (s : SharedContent) (w : WatcherContent) → s.opening.watchers ≡ 1 → w.number ≡ 0 → OneWatcherIsWanting s (w ∷ []) → ⊥
 only_watcher s w one first wanting =
     let m : ℕ = s.opening.watchers in let k : ℕ = wanting.0 in let less : k < m = wanting.1 in let m1 : m ≡ 1 = one in
     let k0 : k ≡ 0 = omega (arith, less, m1) in
@@ -253,12 +253,12 @@ steps_at w (q ∷ ps) zero = refl
 steps_at w (q ∷ ps) (suc p) = steps_at w ps p
 
 -- a turn that has ended made all steps of its piece
-ended_steps : (s : SheetContent) (t : PostContent) → IsEnded s t → t.steps ≡ get_or (step_counts s.opening.words s.opening.pieces) t.number 0
+ended_steps : (s : SharedContent) (t : PostContent) → IsEnded s t → t.steps ≡ get_or (step_counts s.opening.words s.opening.pieces) t.number 0
 ended_steps s t ended =
-    ended.1 ∙ ap (λ (x : SheetContent). option_map_or (step_count x.opening.words) (slice_get x.opening.pieces t.number) 0) ended.0 ∙ steps_at s.opening.words s.opening.pieces t.number
+    ended.1 ∙ ap (λ (x : SharedContent). option_map_or (step_count x.opening.words) (slice_get x.opening.pieces t.number) 0) ended.0 ∙ steps_at s.opening.words s.opening.pieces t.number
 
 -- so all steps of a piece that has such a turn were made
-all_made : (s : SheetContent) (ts : List PostContent) → All (IsEnded s) ts → (p : ℕ) → is_none_of (numbers_of ts) p ≡ false → get_or (step_counts s.opening.words s.opening.pieces) p 0 ≤ steps_made ts p
+all_made : (s : SharedContent) (ts : List PostContent) → All (IsEnded s) ts → (p : ℕ) → is_none_of (numbers_of ts) p ≡ false → get_or (step_counts s.opening.words s.opening.pieces) p 0 ≤ steps_made ts p
 all_made s [] ended p there = absurd (true≢false there)
 all_made s (t ∷ ts) ended p there = by (t.number == p) refl there (all_made s ts (λ k d less. ended (suc k) d (omega (arith, less))) p)
   where
@@ -275,7 +275,7 @@ all_made s (t ∷ ts) ended p there = by (t.number == p) refl there (all_made s 
 -- ---- results
 
 -- a result of a piece of the phase
-abbrev IsResult : SheetContent → DoneContent → Type 0
+abbrev IsResult : SharedContent → DoneContent → Type 0
 IsResult s d = (d.words ≡ s.opening.words) × (slice_get s.opening.pieces d.number ≡ Some d.of) × IsDone d
 
 -- the piece of a number
@@ -285,28 +285,28 @@ piece_there (p ∷ ps) zero less = (p, refl)
 piece_there (p ∷ ps) (suc n) less = piece_there ps n (omega (arith, less))
 
 -- what a turn hands in that has ended
-one_result : (s : SheetContent) (t : PostContent) → IsEnded s t → t.number < length s.opening.pieces
+one_result : (s : SharedContent) (t : PostContent) → IsEnded s t → t.number < length s.opening.pieces
     → (p : Piece) × (slice_get s.opening.pieces t.number ≡ Some p) × (done_of t ≡ record { number = t.number; found = value s.opening.words p; of = p; words = s.opening.words } ∷ [])
 one_result s t ended less =
     let there = piece_there s.opening.pieces t.number less in (
       there.0,
       there.1,
-      ap (λ b. if b then results t.sheet (slice_get t.sheet.opening.pieces t.number) else []) (eq-eqb t.steps (steps_to_do t) ended.1)
-          ∙ ap (λ (x : SheetContent). results x (slice_get x.opening.pieces t.number)) ended.0 ∙ ap (results s) there.1,
+      ap (λ b. if b then results t.shared (slice_get t.shared.opening.pieces t.number) else []) (eq-eqb t.steps (steps_to_do t) ended.1)
+          ∙ ap (λ (x : SharedContent). results x (slice_get x.opening.pieces t.number)) ended.0 ∙ ap (results s) there.1,
     )
   where
-    results : SheetContent → Option Piece → List DoneContent
+    results : SharedContent → Option Piece → List DoneContent
     results x o = option_to_list (option_map (λ p. record { number = t.number; found = value x.opening.words p; of = p; words = x.opening.words }) o)
 
 -- results have the numbers of their turns
-numbers_done : (s : SheetContent) (ts : List PostContent) → All (IsEnded s) ts → All (λ n. n < length s.opening.pieces) (numbers_of ts) → done_numbers (flat_map done_of ts) ≡ numbers_of ts
+numbers_done : (s : SharedContent) (ts : List PostContent) → All (IsEnded s) ts → All (λ n. n < length s.opening.pieces) (numbers_of ts) → done_numbers (flat_map done_of ts) ≡ numbers_of ts
 numbers_done s [] ended low = refl
 numbers_done s (t ∷ ts) ended low =
     let one = one_result s t (ended 0 t (omega arith)) (low 0 0 (omega arith)) in
     ap (λ ds. done_numbers (ds ++ flat_map done_of ts)) one.2 ∙ ap (λ ns. t.number ∷ ns) (numbers_done s ts (λ k d less. ended (suc k) d (omega (arith, less))) (λ k d less. low (suc k) d (omega (arith, less))))
 
 -- each is the result of a piece
-all_results : (s : SheetContent) (ts : List PostContent) → All (IsEnded s) ts → All (λ n. n < length s.opening.pieces) (numbers_of ts) → All (IsResult s) (flat_map done_of ts)
+all_results : (s : SharedContent) (ts : List PostContent) → All (IsEnded s) ts → All (λ n. n < length s.opening.pieces) (numbers_of ts) → All (IsResult s) (flat_map done_of ts)
 all_results s [] ended low = λ k d less. absurd (omega (arith, less))
 all_results s (t ∷ ts) ended low =
     let one = one_result s t (ended 0 t (omega arith)) (low 0 0 (omega arith)) in
@@ -327,7 +327,7 @@ none_missing n ds there =
     ap (is_none_of (done_numbers ds)) (get_or-range_with_len 0 n k d less' ∙ zero-add k) ∙ there k less')
 
 -- all pieces are worked, and their results are there
-pub all_worked : (s : SheetContent) (ts : List PostContent) → CanBeWorked s.opening.words s.opening.pieces → All (IsEnded s) ts
+pub all_worked : (s : SharedContent) (ts : List PostContent) → CanBeWorked s.opening.words s.opening.pieces → All (IsEnded s) ts
     → ((h : ℕ → ℕ) → weigh h (numbers_of ts) ≡ weigh h (range_with_len 0 (length s.opening.pieces)))
     → IsWorked s.opening.words s.opening.pieces (applied s.opening.words s.opening.pieces (steps_made ts)) (flat_map done_of ts)
 all_worked s ts can ended same =
@@ -355,10 +355,10 @@ all_worked s ts can ended same =
     }
 
 -- new turns have no step done
-pub new_fresh : (s : SheetContent) (n : ℕ) → All (IsFresh s) (new_turns s n)
+pub new_fresh : (s : SharedContent) (n : ℕ) → All (IsFresh s) (new_turns s n)
 new_fresh s n = by 0 n
   where
-    by : (a n : ℕ) → All (IsFresh s) (map (λ p. let t : PostContent = record { sheet = s; number = p; steps = 0 } in t) (range_with_len a n))
+    by : (a n : ℕ) → All (IsFresh s) (map (λ p. let t : PostContent = record { shared = s; number = p; steps = 0 } in t) (range_with_len a n))
     by a zero k d less = absurd (omega (arith, less))
     by a (suc n) zero d less = (refl, refl)
     by a (suc n) (suc k) d less = by (a + 1) n k d (omega (arith, less))

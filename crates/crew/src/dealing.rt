@@ -3,12 +3,12 @@
 ghost use Rattle.std.specs.Prelude.{◌≡◌, ◌+◌, ◌-◌, ◌<◌, ◌≤◌, [], map, length, IfOk, OnOk};
 ghost use Rattle.std.specs.List.{All, range_with_len};
 ghost use Rattle.turns.specs.Closing.{numbers_of};
-ghost use Rattle.crew.specs.Crews.{DealtContent, OwnContent, ArePlacedFrom, ArePlaced, claim_on, fewer, new_owns, AreRows, AreDealt};
-ghost use Rattle.crew.specs.Hands.{IsFresh};
+ghost use Rattle.crew.specs.Crews.{DealtContent, OwnDequeContent, AreNumberedFrom, AreNumbered, pass_on, fewer, new_owns, AreRows, AreDealt};
+ghost use Rattle.crew.specs.Hands.{all_parts, IsFresh};
 
 use crate::hand::Which;
-use crate::lot::Lot;
-use crate::own::{Claim, Crewed, Dealt, Own};
+use crate::own_deque::{Crewed, Dealt, OwnDeque, StealPass};
+use crate::worker::Worker;
 use std::alloc::{AllocError, Global};
 use turns::Turn;
 
@@ -19,7 +19,7 @@ pub fn deal<N: Which>(
     turns: Vec<Turn>,
 ) -> Result<Vec<Dealt<N>>, AllocError>
     requires some { 1 ≤ workers }
-    requires fresh { All (IsFresh N.sheet) turns.items }
+    requires fresh { All (IsFresh N.shared) turns.items }
     ensures { IfOk result (λ deques. AreDealt workers (numbers_of turns.items) deques.items) }
 {
     let mut deques = empty_deques(alloc, workers, turns.len() / workers + 1)?;
@@ -45,29 +45,29 @@ fn empty_deques<N: Which>(
     Ok(deques)
 }
 
-/// The deques with their places.
+/// The deques with the numbers of their workers.
 pub fn owns_of<N: Which, M: Crewed>(
     alloc: Global,
     deques: Vec<Dealt<N>>,
-) -> Result<Vec<Own<N, M>>, AllocError>
+) -> Result<Vec<OwnDeque<N, M>>, AllocError>
     requires { deques.items ≡ M.crew }
-    ensures { IfOk result (λ owns. owns.items ≡ new_owns 1024 0 M.crew) }
+    ensures { IfOk result (λ owns. owns.items ≡ new_owns all_parts 0 M.crew) }
 {
     let mut owns = Vec::with_capacity(alloc, deques.len())?;
     for dealt in deques {
-        owns.push(Own::new(dealt, owns.len()))?;
+        owns.push(OwnDeque::new(dealt, owns.len()))?;
     }
     Ok(owns)
 }
 
 /// A worker for each deque, with the right to steal from all of them.
-pub fn lots_of<N: Which, M: Crewed>(
+pub fn workers_of<N: Which, M: Crewed>(
     alloc: Global,
-    mut owns: Vec<Own<N, M>>,
-) -> Result<Vec<Lot<N, M>>, AllocError>
-    requires owns { owns.items ≡ new_owns 1024 0 M.crew }
-    requires few { length M.crew < 1024 }
-    ensures { IfOk result (λ lots. ArePlacedFrom 0 lots.items × (length lots.items ≡ length M.crew)) }
+    mut owns: Vec<OwnDeque<N, M>>,
+) -> Result<Vec<Worker<N, M>>, AllocError>
+    requires owns { owns.items ≡ new_owns all_parts 0 M.crew }
+    requires few { length M.crew < all_parts }
+    ensures { IfOk result (λ workers. AreNumberedFrom 0 workers.items × (length workers.items ≡ length M.crew)) }
 {
     let rows = rows_of(alloc, owns.as_mut_slice())?;
     with_rows(alloc, owns, rows)
@@ -76,11 +76,11 @@ pub fn lots_of<N: Which, M: Crewed>(
 /// For each worker the right to steal from each deque.
 fn rows_of<N: Which, M: Crewed>(
     alloc: Global,
-    owns: &mut [Own<N, M>],
-) -> Result<Vec<Vec<Claim<N, M>>>, AllocError>
-    requires owns { owns.old ≡ new_owns 1024 0 M.crew }
-    requires few { length M.crew < 1024 }
-    ensures owns { OnOk result (owns.new ≡ new_owns (1024 - length M.crew) 0 M.crew) }
+    owns: &mut [OwnDeque<N, M>],
+) -> Result<Vec<Vec<StealPass<N, M>>>, AllocError>
+    requires owns { owns.old ≡ new_owns all_parts 0 M.crew }
+    requires few { length M.crew < all_parts }
+    ensures owns { OnOk result (owns.new ≡ new_owns (all_parts - length M.crew) 0 M.crew) }
     ensures rows { IfOk result (λ rows. AreRows (length M.crew) (length M.crew) rows.items) }
 {
     let workers = owns.len();
@@ -94,34 +94,34 @@ fn rows_of<N: Which, M: Crewed>(
 /// The right to steal from each deque.
 fn row_of<N: Which, M: Crewed>(
     alloc: Global,
-    owns: &mut [Own<N, M>],
-) -> Result<Vec<Claim<N, M>>, AllocError>
+    owns: &mut [OwnDeque<N, M>],
+) -> Result<Vec<StealPass<N, M>>, AllocError>
     requires { All (λ o. 1 < o.hand.parts) owns.old }
     ensures owns { OnOk result (owns.new ≡ map fewer owns.old) }
-    ensures claims { IfOk result (λ claims. claims.items ≡ map claim_on owns.old) }
+    ensures passes { IfOk result (λ passes. passes.items ≡ map pass_on owns.old) }
 {
-    let mut claims = Vec::with_capacity(alloc, owns.len())?;
+    let mut passes = Vec::with_capacity(alloc, owns.len())?;
     for own in owns.iter_mut() {
-        claims.push(own.hand_out())?;
+        passes.push(own.hand_out())?;
     }
-    Ok(claims)
+    Ok(passes)
 }
 
-/// Each worker with a row of claims.
+/// Each worker with a row of passes.
 fn with_rows<N: Which, M: Crewed>(
     alloc: Global,
-    owns: Vec<Own<N, M>>,
-    mut rows: Vec<Vec<Claim<N, M>>>,
-) -> Result<Vec<Lot<N, M>>, AllocError>
-    requires owns { owns.items ≡ new_owns (1024 - length M.crew) 0 M.crew }
-    requires few { length M.crew < 1024 }
+    owns: Vec<OwnDeque<N, M>>,
+    mut rows: Vec<Vec<StealPass<N, M>>>,
+) -> Result<Vec<Worker<N, M>>, AllocError>
+    requires owns { owns.items ≡ new_owns (all_parts - length M.crew) 0 M.crew }
+    requires few { length M.crew < all_parts }
     requires rows { AreRows (length M.crew) (length M.crew) rows.items }
-    ensures { IfOk result (λ lots. ArePlacedFrom 0 lots.items × (length lots.items ≡ length M.crew)) }
+    ensures { IfOk result (λ workers. AreNumberedFrom 0 workers.items × (length workers.items ≡ length M.crew)) }
 {
-    let mut lots = Vec::with_capacity(alloc, owns.len())?;
+    let mut workers = Vec::with_capacity(alloc, owns.len())?;
     for own in owns {
-        let claims = rows.pop().unwrap();
-        lots.push(Lot::new(alloc, own, claims))?;
+        let passes = rows.pop().unwrap();
+        workers.push(Worker::new(alloc, own, passes))?;
     }
-    Ok(lots)
+    Ok(workers)
 }

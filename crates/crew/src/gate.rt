@@ -10,14 +10,14 @@ pub trait Gate: Sync {
     fn begin(&self, worker: usize, workers: usize, turn: &Turn, shared: &Open)
         requires below { worker < workers }
         requires few { workers ≤ length shared.now.opening.pieces }
-        requires of { turn.now.sheet ≡ shared.now }
+        requires of { turn.now.shared ≡ shared.now }
         requires fresh { turn.now.steps ≡ 0 };
 
     /// A worker, of so many, has ended a turn of this phase: no step of its piece is left.
     fn end(&self, worker: usize, workers: usize, turn: &Turn, shared: &Open)
         requires below { worker < workers }
         requires few { workers ≤ length shared.now.opening.pieces }
-        requires of { turn.now.sheet ≡ shared.now }
+        requires of { turn.now.shared ≡ shared.now }
         requires ended { turn.now.steps ≡ steps_to_do turn.now };
 }
 

@@ -8,21 +8,21 @@ use turns::Turn;
 
 /// Which phase it is. Each call of `work` picks it.
 pub trait Which {
-    ghost use Rattle.turns.specs.Sheets.{SheetContent};
+    ghost use Rattle.turns.specs.SharedWords.{SharedContent};
 
     /// What its turns share.
-    ghost sheet: { SheetContent };
+    ghost shared: { SharedContent };
 }
 
 impl Which for Brand {
-    ghost use Rattle.crew.specs.Hands.{no_sheet};
+    ghost use Rattle.crew.specs.Hands.{no_shared};
 
-    ghost sheet = { no_sheet };
+    ghost shared = { no_shared };
 }
 
 /// What one of those who use a deque knows of it. No value of it is ever made: it is for contracts alone.
 pub struct Hand {
-    /// Its parts, of 1024, of the right to know the whole.
+    /// Its parts, of `all_parts`, of the right to know the whole.
     pub parts: u64,
     /// The numbers of the turns that it put, in order.
     pub put: LinkedList<usize>,
@@ -37,11 +37,11 @@ pub struct Fair<N> {
 
 impl<N: Which> Protocol<Turn, Hand> for Fair<N> {
     ghost use Rattle.std.specs.Prelude.{[]};
-    ghost use Rattle.crew.specs.Hands.{hand, Balanced};
+    ghost use Rattle.crew.specs.Hands.{all_parts, hand, Balanced};
 
-    ghost holds = { Balanced N.sheet };
+    ghost holds = { Balanced N.shared };
 
-    ghost first = { hand 1024 [] [] };
+    ghost first = { hand all_parts [] [] };
 
     ghost guest = { hand 0 [] [] };
 }
@@ -52,7 +52,7 @@ pub struct Puts;
 impl Outcome<Turn, Hand> for Puts {
     ghost use Rattle.std.specs.Prelude.{◌≡◌, ◌++◌};
     ghost use Rattle.turns.specs.Closing.{numbers_of};
-    ghost use Rattle.crew.specs.Hands.{hand};
+    ghost use Rattle.crew.specs.Hands.{all_parts, hand};
 
     ghost then = { λ v xs w. w ≡ hand v.parts (v.put ++ numbers_of xs) v.taken };
 }
@@ -65,9 +65,9 @@ pub struct Takes<N> {
 impl<N: Which> Outcome<Turn, Hand> for Takes<N> {
     ghost use Rattle.crew.specs.Hands.{IsTaken, IsWithin, WasEmpty};
 
-    ghost then = { λ v xs w. IsTaken N.sheet v xs w × IsWithin w };
+    ghost then = { λ v xs w. IsTaken N.shared v xs w × IsWithin w };
 
-    ghost empty = { WasEmpty N.sheet };
+    ghost empty = { WasEmpty N.shared };
 }
 
 /// Another worker takes a turn.
@@ -78,7 +78,7 @@ pub struct Steals<N> {
 impl<N: Which> Outcome<Turn, Hand> for Steals<N> {
     ghost use Rattle.crew.specs.Hands.{IsTaken};
 
-    ghost then = { IsTaken N.sheet };
+    ghost then = { IsTaken N.shared };
 }
 
 /// A part of the right to know the whole is handed out.
@@ -86,7 +86,7 @@ pub struct HandsOut;
 
 impl Split<Hand> for HandsOut {
     ghost use Rattle.std.specs.Prelude.{◌-◌, []};
-    ghost use Rattle.crew.specs.Hands.{hand};
+    ghost use Rattle.crew.specs.Hands.{all_parts, hand};
 
     ghost left = { λ v. hand (v.parts - 1) v.put v.taken };
 
@@ -98,7 +98,7 @@ pub struct TakesBack;
 
 impl Join<Hand> for TakesBack {
     ghost use Rattle.std.specs.Prelude.{◌+◌, ◌++◌, []};
-    ghost use Rattle.crew.specs.Hands.{hand};
+    ghost use Rattle.crew.specs.Hands.{all_parts, hand};
 
     ghost both = { λ v w. hand (v.parts + w.parts) v.put (v.taken ++ w.taken) };
 

@@ -2,19 +2,19 @@
 #![tactic(auto)]
 
 mod alone;
-mod bench;
 mod crew;
 mod dealing;
 mod error;
 mod gate;
 mod hand;
-mod lot;
 mod observe;
-mod own;
+mod own_deque;
 mod settling;
 mod shared;
+mod shared_state;
 mod team;
 mod watched;
+mod worker;
 mod workers;
 
 pub use crew::{Crew, work, work_watched};

@@ -12,7 +12,7 @@ pub trait Observe: Sync {
     /// Looks with a watcher of this phase, beside the workers. The phase is closed only after it has returned. It
     /// leaves the same watcher there.
     fn observe(&self, watcher: &mut Watcher, shared: &Open)
-        requires of { watcher.old.sheet ≡ shared.now }
+        requires of { watcher.old.shared ≡ shared.now }
         requires told { Self.told self.now shared.now.opening.words shared.now.opening.pieces }
-        ensures same { (watcher.new.sheet ≡ watcher.old.sheet) × (watcher.new.number ≡ watcher.old.number) };
+        ensures same { (watcher.new.shared ≡ watcher.old.shared) × (watcher.new.number ≡ watcher.old.number) };
 }

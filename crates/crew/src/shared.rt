@@ -5,18 +5,18 @@ ghost use Rattle.std.specs.List.{All};
 ghost use Rattle.pieces.specs.Phases.{CanBeWorked};
 ghost use Rattle.turns.specs.Closing.{numbers_of};
 ghost use Rattle.crew.specs.Crews.{IsEnded, dealt};
-ghost use Rattle.crew.specs.Hands.{IsFresh, weigh};
+ghost use Rattle.crew.specs.Hands.{all_parts, IsFresh, weigh};
 ghost use Rattle.crew.specs.Worked.{IsWorked};
 ghost use Rattle.crew.specs.declared.error.CrewError.TheVariants.{NoWorker};
 
-use crate::bench::Bench;
 use crate::crew::Crew;
-use crate::dealing::{deal, lots_of, owns_of};
+use crate::dealing::{deal, owns_of, workers_of};
 use crate::error::CrewError;
 use crate::gate::Gate;
 use crate::hand::Which;
-use crate::own::{Crewed, Dealt};
+use crate::own_deque::{Crewed, Dealt};
 use crate::settling::settle;
+use crate::shared_state::SharedState;
 use crate::team::work_together;
 use pieces::{Done, Piece};
 use std::alloc::Global;
@@ -55,10 +55,10 @@ pub fn work_turns<N: Which + Send + Sync, R: Threads + Wait, G: Gate>(
     turns: Vec<Turn>,
 ) -> Result<Vec<Turn>, CrewError>
     requires some { 0 < length turns.items }
-    requires each { length turns.items ≡ length N.sheet.opening.pieces }
-    requires phase { shared.now ≡ N.sheet }
-    requires fresh { All (IsFresh N.sheet) turns.items }
-    ensures ended { IfOk result (λ ended. All (IsEnded N.sheet) ended.items) }
+    requires each { length turns.items ≡ length N.shared.opening.pieces }
+    requires phase { shared.now ≡ N.shared }
+    requires fresh { All (IsFresh N.shared) turns.items }
+    ensures ended { IfOk result (λ ended. All (IsEnded N.shared) ended.items) }
     ensures sums { IfOk result (λ ended. (h : ℕ → ℕ) → weigh h (numbers_of ended.items) ≡ weigh h (numbers_of turns.items)) }
     ensures no_worker { IsErrOf result NoWorker → 1 < min crew.now.workers (length turns.items) }
 {
@@ -75,19 +75,19 @@ fn work_deques<N: Which + Send + Sync, M: Crewed + Send + Sync, R: Threads + Wai
     deques: Vec<Dealt<N>>,
 ) -> Result<Vec<Turn>, CrewError>
     requires some { 1 ≤ length M.crew }
-    requires few { length M.crew < 1024 }
-    requires count { length M.crew ≡ min crew.now.workers (length N.sheet.opening.pieces) }
-    requires phase { shared.now ≡ N.sheet }
+    requires few { length M.crew < all_parts }
+    requires count { length M.crew ≡ min crew.now.workers (length N.shared.opening.pieces) }
+    requires phase { shared.now ≡ N.shared }
     requires deques { deques.items ≡ M.crew }
-    ensures ended { IfOk result (λ ended. All (IsEnded N.sheet) ended.items) }
+    ensures ended { IfOk result (λ ended. All (IsEnded N.shared) ended.items) }
     ensures sums { IfOk result (λ ended. (h : ℕ → ℕ) → weigh h (numbers_of ended.items) ≡ dealt h M.crew) }
     ensures no_worker { IsErrOf result NoWorker → 1 < length M.crew }
 {
     let owns = owns_of::<N, M>(alloc, deques)?;
-    let bench = Bench::new(alloc, shared, crew.gate, &owns)?;
-    let mut lots = lots_of(alloc, owns)?;
-    let first = lots.remove(0);
-    let lots = work_together(crew.rt, alloc, &bench, first, lots)?;
-    let turns = settle(alloc, &bench, lots)?;
+    let state = SharedState::new(alloc, shared, crew.gate, &owns)?;
+    let mut workers = workers_of(alloc, owns)?;
+    let first = workers.remove(0);
+    let workers = work_together(crew.rt, alloc, &state, first, workers)?;
+    let turns = settle(alloc, &state, workers)?;
     Ok(turns)
 }

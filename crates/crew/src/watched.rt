@@ -31,7 +31,7 @@ pub struct SameWatcher(Snapshot<Watcher>);
 impl Promise<Watcher> for SameWatcher {
     ghost use Rattle.std.specs.Prelude.{◌≡◌};
 
-    ghost kept_by = { λ p r. (r.sheet ≡ p.0.value.sheet) × (r.number ≡ p.0.value.number) };
+    ghost kept_by = { λ p r. (r.shared ≡ p.0.value.shared) × (r.number ≡ p.0.value.number) };
 }
 
 /// Works the pieces of a phase as `work_shared` does. Meanwhile an observer has a watcher, on a thread of its own,
@@ -74,21 +74,21 @@ fn work_turns_watched<N: Which + Send + Sync, R: Threads + Wait, G: Gate, O: Obs
     watcher: Watcher,
 ) -> Result<(Vec<Turn>, Watcher), CrewError>
     requires some { 0 < length turns.items }
-    requires each { length turns.items ≡ length N.sheet.opening.pieces }
-    requires phase { shared.now ≡ N.sheet }
-    requires fresh { All (IsFresh N.sheet) turns.items }
-    requires watcher { watcher.sheet ≡ shared.now }
+    requires each { length turns.items ≡ length N.shared.opening.pieces }
+    requires phase { shared.now ≡ N.shared }
+    requires fresh { All (IsFresh N.shared) turns.items }
+    requires watcher { watcher.shared ≡ shared.now }
     requires told { O.told observer.now shared.now.opening.words shared.now.opening.pieces }
-    ensures ended { IfOk result (λ r. All (IsEnded N.sheet) r.0.items) }
+    ensures ended { IfOk result (λ r. All (IsEnded N.shared) r.0.items) }
     ensures sums { IfOk result (λ r. (h : ℕ → ℕ) → weigh h (numbers_of r.0.items) ≡ weigh h (numbers_of turns.items)) }
-    ensures watcher { IfOk result (λ r. (r.1.sheet ≡ watcher.sheet) × (r.1.number ≡ watcher.number)) }
+    ensures watcher { IfOk result (λ r. (r.1.shared ≡ watcher.shared) × (r.1.number ≡ watcher.number)) }
 {
     thread::scope(
         thread::scope_env(),
         crew.rt,
         move |scope| -> Result<(Vec<Turn>, Watcher), CrewError>
-            requires { (0 < length turns.items) × (length turns.items ≡ length N.sheet.opening.pieces) × (shared.now ≡ N.sheet) × All (IsFresh N.sheet) turns.items × (watcher.sheet ≡ shared.now) × O.told observer.now shared.now.opening.words shared.now.opening.pieces }
-            ensures { IfOk result (λ r. All (IsEnded N.sheet) r.0.items × ((h : ℕ → ℕ) → weigh h (numbers_of r.0.items) ≡ weigh h (numbers_of turns.items)) × (r.1.sheet ≡ watcher.sheet) × (r.1.number ≡ watcher.number)) }
+            requires { (0 < length turns.items) × (length turns.items ≡ length N.shared.opening.pieces) × (shared.now ≡ N.shared) × All (IsFresh N.shared) turns.items × (watcher.shared ≡ shared.now) × O.told observer.now shared.now.opening.words shared.now.opening.pieces }
+            ensures { IfOk result (λ r. All (IsEnded N.shared) r.0.items × ((h : ℕ → ℕ) → weigh h (numbers_of r.0.items) ≡ weigh h (numbers_of turns.items)) × (r.1.shared ≡ watcher.shared) × (r.1.number ≡ watcher.number)) }
         { work_in::<N, R, G, O>(scope, crew, alloc, observer, shared, turns, watcher) },
     )
 }
@@ -104,14 +104,14 @@ fn work_in<'s, 'e, N: Which + Send + Sync, R: Threads + Wait, G: Gate, O: Observ
     watcher: Watcher,
 ) -> Result<(Vec<Turn>, Watcher), CrewError>
     requires some { 0 < length turns.items }
-    requires each { length turns.items ≡ length N.sheet.opening.pieces }
-    requires phase { shared.now ≡ N.sheet }
-    requires fresh { All (IsFresh N.sheet) turns.items }
-    requires watcher { watcher.sheet ≡ shared.now }
+    requires each { length turns.items ≡ length N.shared.opening.pieces }
+    requires phase { shared.now ≡ N.shared }
+    requires fresh { All (IsFresh N.shared) turns.items }
+    requires watcher { watcher.shared ≡ shared.now }
     requires told { O.told observer.now shared.now.opening.words shared.now.opening.pieces }
-    ensures ended { IfOk result (λ r. All (IsEnded N.sheet) r.0.items) }
+    ensures ended { IfOk result (λ r. All (IsEnded N.shared) r.0.items) }
     ensures sums { IfOk result (λ r. (h : ℕ → ℕ) → weigh h (numbers_of r.0.items) ≡ weigh h (numbers_of turns.items)) }
-    ensures watcher { IfOk result (λ r. (r.1.sheet ≡ watcher.sheet) × (r.1.number ≡ watcher.number)) }
+    ensures watcher { IfOk result (λ r. (r.1.shared ≡ watcher.shared) × (r.1.number ≡ watcher.number)) }
 {
     let handle = start(scope, observer, shared, watcher)?;
     let turns = work_turns::<N, R, G>(crew, alloc, shared, turns)?;
@@ -125,7 +125,7 @@ fn start<'s, 'e, O: Observe + 'e>(
     shared: &'e Open,
     watcher: Watcher,
 ) -> Result<PromisedHandle<Watcher, SameWatcher>, CrewError>
-    requires of { watcher.sheet ≡ shared.now }
+    requires of { watcher.shared ≡ shared.now }
     requires told { O.told observer.now shared.now.opening.words shared.now.opening.pieces }
     ensures watcher { IfOk result (λ h. h.promise.0.value ≡ watcher) }
     ensures refused { IfErr result (λ e. e ≡ NoWorker) }
@@ -134,7 +134,7 @@ fn start<'s, 'e, O: Observe + 'e>(
     match scope.spawn_with(
         promise,
         move || -> Watcher
-            requires { (watcher.sheet ≡ shared.now) × O.told observer.now shared.now.opening.words shared.now.opening.pieces }
+            requires { (watcher.shared ≡ shared.now) × O.told observer.now shared.now.opening.words shared.now.opening.pieces }
         { lend(observer, watcher, shared) },
     ) {
         Ok(handle) => Ok(handle),
@@ -144,9 +144,9 @@ fn start<'s, 'e, O: Observe + 'e>(
 
 /// Lends a watcher to an observer, and returns it when the observer has done.
 fn lend<O: Observe>(observer: &O, mut watcher: Watcher, shared: &Open) -> Watcher
-    requires of { watcher.sheet ≡ shared.now }
+    requires of { watcher.shared ≡ shared.now }
     requires told { O.told observer.now shared.now.opening.words shared.now.opening.pieces }
-    ensures same { (result.sheet ≡ watcher.sheet) × (result.number ≡ watcher.number) }
+    ensures same { (result.shared ≡ watcher.shared) × (result.number ≡ watcher.number) }
 {
     observer.observe(&mut watcher, shared);
     watcher

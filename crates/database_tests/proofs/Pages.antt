@@ -3,7 +3,7 @@ use Rattle.std.proofs.Common.{◌≡◌, ℕ, List, Option, None, Some, option_m
 use Rattle.fpage.specs.declared.rights.Rights.{Rights}
 use Rattle.space.specs.declared.place.Entry.{Entry}
 use Rattle.space.specs.declared.place.Place.{Place}
-use Rattle.model.specs.Holdings.{Held, Holdings, at}
+use Rattle.model.specs.Definitions.Holdings.{Held, Holdings, at}
 use Rattle.pieces.specs.Applied.{before}
 use Rattle.mapdb.specs.Held.{entry_of, Layout, index_in, SayWhatIsHeld}
 use Rattle.database_tests.specs.Monitors.{found_in}

@@ -3,7 +3,7 @@ use Rattle.std.specs.Prelude.{◌≡◌, ℕ, Bool, List, [], ◌∷◌, Option,
 use Rattle.fpage.specs.Fpage.{Flexpage}
 use Rattle.fpage.specs.declared.rights.Rights.{Rights}
 use Rattle.space.specs.declared.place.Place.{Place}
-use Rattle.model.specs.Holdings.{Holdings, at}
+use Rattle.model.specs.Definitions.Holdings.{Holdings, at}
 use Rattle.pieces.specs.declared.piece.Piece.{Piece}
 use Rattle.mapdb.specs.Held.{index_in, IsPhaseOf}
 use Rattle.mapdb.specs.State.{State, unmap_left}

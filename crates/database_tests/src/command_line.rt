@@ -1,7 +1,7 @@
 //! The command line, and what is told of errors.
 
 use crate::assertions::{assert_equal, assert_holds};
-use cli::{OptionsError, parse, status, tell};
+use l4map_cli::{OptionsError, parse, status, tell};
 use replay::{Options, RunError};
 use std::test::Fail;
 use trace::Std;

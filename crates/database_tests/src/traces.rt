@@ -1,7 +1,7 @@
 //! Traces read from memory, records that mean calls and refusals, and the text of replies.
 
 ghost use Rattle.std.specs.Prelude.{◌≡◌, false, true};
-ghost use Rattle.model.specs.Records.{are_limits};
+ghost use Rattle.model.specs.Definitions.Records.{are_limits};
 ghost use Rattle.mapdb.specs.Held.{limits_of};
 
 use crate::assertions::{assert_equal, assert_holds};

@@ -1,7 +1,7 @@
 -- Sums of counts.
 use Rattle.std.proofs.Common.{◌≡◌, ℕ, ◌+◌, arith}
-use Rattle.model.specs.Items.{Counts, no_counts, add_counts}
-use Rattle.model.specs.SendLaws.{total}
+use Rattle.model.specs.Definitions.Items.{Counts, no_counts, add_counts}
+use Rattle.model.specs.Laws.SendLaws.{total}
 
 pub add_assoc : (a b c : Counts) → add_counts (add_counts a b) c ≡ add_counts a (add_counts b c)
 add_assoc a b c = λ i. record {

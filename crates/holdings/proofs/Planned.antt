@@ -9,3 +9,5 @@ pub mod Outermost
 pub mod Trees
 pub mod StripPhase
 pub mod Observed
+pub mod PrunedTrees
+pub mod NoneKept

@@ -7,14 +7,14 @@ use Rattle.fpage.specs.declared.rights.Access.{Access}
 use Rattle.fpage.specs.declared.rights.Rights.{Rights}
 use Rattle.space.specs.declared.place.Place.{Place}
 use Rattle.space.specs.declared.place.Entry.{Entry}
-use Rattle.model.specs.Calls.{Limits}
-use Rattle.model.specs.Grant.{renamed}
-use Rattle.model.specs.Holdings.{Held, Holdings, PlaceSet, at}
-use Rattle.model.specs.Lawful.{is_lawful}
-use Rattle.model.specs.Records.{are_limits}
-use Rattle.model.specs.Replay.{start}
-use Rattle.model.specs.Strip.{strip, strip_word}
-use Rattle.model.specs.Touch.{can_touch, touch}
+use Rattle.model.specs.Definitions.Calls.{Limits}
+use Rattle.model.specs.Definitions.Grant.{renamed}
+use Rattle.model.specs.Definitions.Holdings.{Held, Holdings, PlaceSet, at}
+use Rattle.model.specs.Definitions.Lawful.{is_lawful}
+use Rattle.model.specs.Definitions.Records.{are_limits}
+use Rattle.model.specs.Definitions.Replay.{start}
+use Rattle.model.specs.Definitions.Strip.{strip, strip_word}
+use Rattle.model.specs.Definitions.Touch.{can_touch, touch}
 use Rattle.holdings.specs.Layout.{Layout, OnlyGrows, IsLayoutOf}
 use Rattle.holdings.specs.Places.{listing}
 use Rattle.holdings.specs.Sending.{counts_after_flush, map_transfers, moving_of}

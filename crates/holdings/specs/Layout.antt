@@ -4,7 +4,7 @@ use Rattle.std.specs.FinMap.Entries.{find}
 use Rattle.space.specs.Directory.{pages_of}
 use Rattle.space.specs.declared.place.Place.{Place}
 use Rattle.space.specs.Place.{place_cmp}
-use Rattle.model.specs.Holdings.{Held, Holdings, at}
+use Rattle.model.specs.Definitions.Holdings.{Held, Holdings, at}
 use Rattle.holdings.specs.Places.{spaces_from}
 
 -- a finite map: each place that has a word, by rising place, with the index of that word

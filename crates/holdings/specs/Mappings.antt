@@ -2,7 +2,7 @@
 use Rattle.std.specs.Prelude.{◌≡◌, ℕ, ◌-◌, ◌<◌, ◌≤◌, true, None}
 use Rattle.space.specs.Directory.{pages_of}
 use Rattle.space.specs.declared.place.Place.{Place}
-use Rattle.model.specs.Holdings.{Held, Holdings, at, is_held}
+use Rattle.model.specs.Definitions.Holdings.{Held, Holdings, at, is_held}
 use Rattle.holdings.specs.Contents.{Contents}
 use Rattle.holdings.specs.Places.{pages_from, listed}
 use Rattle.holdings.specs.declared.mapping.Mapping.{Mapping}

@@ -1,6 +1,6 @@
 -- What the types of the crate stand for in the definitions.
-use Rattle.model.specs.Calls.{Limits}
-use Rattle.model.specs.Items.{Counts, no_counts}
+use Rattle.model.specs.Definitions.Calls.{Limits}
+use Rattle.model.specs.Definitions.Items.{Counts, no_counts}
 use Rattle.holdings.specs.declared.limits.Limits.{Limits as TheLimits}
 use Rattle.holdings.specs.declared.transfer_counts.TransferCounts.{TransferCounts}
 

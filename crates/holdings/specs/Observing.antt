@@ -3,7 +3,7 @@ use Rattle.std.specs.Prelude.{◌≡◌, ℕ, ◌<◌, List, length, slice_index
 use Rattle.std.specs.Option.{option_map}
 use Rattle.space.specs.declared.place.Place.{Place}
 use Rattle.space.specs.Word as word
-use Rattle.model.specs.Holdings.{Holdings, at}
+use Rattle.model.specs.Definitions.Holdings.{Holdings, at}
 use Rattle.pieces.specs.Applied.{worked}
 use Rattle.pieces.specs.Phases.{CanBeWorked}
 use Rattle.pieces.specs.declared.piece.Piece.{Piece}

@@ -4,8 +4,8 @@ use Rattle.std.specs.Prelude.{ℕ, ◌+◌, ◌<◌, List, Option, zero, suc, []
 use Rattle.space.specs.Directory.{pages_of}
 use Rattle.space.specs.Place.{same_place}
 use Rattle.space.specs.declared.place.Place.{Place}
-use Rattle.model.specs.Calls.{Limits}
-use Rattle.model.specs.Holdings.{Held, Holdings, keep, PlaceSet}
+use Rattle.model.specs.Definitions.Calls.{Limits}
+use Rattle.model.specs.Definitions.Holdings.{Held, Holdings, keep, PlaceSet}
 
 -- a page of one of the spaces
 pub record IsWithin (limits : Limits) (p : Place) : Type 0 where

@@ -6,10 +6,10 @@ use Rattle.fpage.specs.declared.rights.Rights.{Rights}
 use Rattle.space.specs.Directory.{pages_of}
 use Rattle.space.specs.Place.{same_place}
 use Rattle.space.specs.declared.place.Place.{Place}
-use Rattle.model.specs.Calls.{Limits}
-use Rattle.model.specs.Holdings.{Held, Holdings, at, is_held}
-use Rattle.model.specs.Items.{counts_of, Counts, no_counts, Job, Pair, pairs_from, Fate, absent, norights, to_origin, extends, goes, add_counts}
-use Rattle.model.specs.Map.{map_pair}
+use Rattle.model.specs.Definitions.Calls.{Limits}
+use Rattle.model.specs.Definitions.Holdings.{Held, Holdings, at, is_held}
+use Rattle.model.specs.Definitions.Items.{counts_of, Counts, no_counts, Job, Pair, pairs_from, Fate, absent, norights, to_origin, extends, goes, add_counts}
+use Rattle.model.specs.Definitions.Map.{map_pair}
 use Rattle.holdings.specs.declared.item_pages.ItemPages.{ItemPages}
 use Rattle.holdings.specs.declared.outcome.Outcome.{Outcome}
 use Rattle.holdings.specs.declared.transfer.Transfer.{Transfer}

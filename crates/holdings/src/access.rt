@@ -1,5 +1,11 @@
 //! Accesses of pages, one phase for all of them.
 
+ghost use Rattle.std.specs.Prelude.{◌≡◌, false, filter, get_or, map, IfOk};
+ghost use Rattle.std.specs.List.{All};
+ghost use Rattle.space.specs.Shards.{IsPlace};
+ghost use Rattle.holdings.specs.Inner.Faults.{is_there, with_faults};
+ghost use Rattle.holdings.specs.Inner.Planning.{word_access};
+
 use crate::holdings::Holdings;
 use crate::phase::{is_small, work_phase};
 use crew::{CrewError, Workers};
@@ -61,12 +67,6 @@ impl Holdings {
         Ok((held, answers))
     }
 }
-
-ghost use Rattle.std.specs.Prelude.{◌≡◌, false, filter, get_or, map, IfOk};
-ghost use Rattle.std.specs.List.{All};
-ghost use Rattle.space.specs.Shards.{IsPlace};
-ghost use Rattle.holdings.specs.Inner.Faults.{is_there, with_faults};
-ghost use Rattle.holdings.specs.Inner.Planning.{word_access};
 
 /// Accesses by the words of their pages, of those pages whose shards are there.
 fn word_accesses(

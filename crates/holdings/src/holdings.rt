@@ -36,9 +36,9 @@ impl Model for Holdings {
 impl Holdings {
     ghost use Rattle.std.specs.Prelude.{◌≡◌, ◌<◌, true, IfOk, MatchOption, option_map};
     ghost use Rattle.space.specs.Directory.{pages_of};
-    ghost use Rattle.model.specs.Holdings.{at, origin_at};
-    ghost use Rattle.model.specs.Records.{are_limits};
-    ghost use Rattle.model.specs.Touch.{can_touch, touch};
+    ghost use Rattle.model.specs.Definitions.Holdings.{at, origin_at};
+    ghost use Rattle.model.specs.Definitions.Records.{are_limits};
+    ghost use Rattle.model.specs.Definitions.Touch.{can_touch, touch};
     ghost use Rattle.holdings.specs.Meaning.{limits_of};
     ghost use Rattle.holdings.specs.Layout.{index_in};
     ghost use Rattle.holdings.specs.Places.{IsWithin};

@@ -1,3 +1,6 @@
+ghost use Rattle.std.specs.Prelude.{◌≡◌, ◌+◌, ◌<◌, ◌^◌};
+ghost use Rattle.holdings.specs.Sending.{page_on};
+
 use fpage::{ItemKind, Rights};
 use space::Place;
 
@@ -28,9 +31,6 @@ impl ItemPages {
         (page_on(self.source, i), page_on(self.target, i))
     }
 }
-
-ghost use Rattle.std.specs.Prelude.{◌≡◌, ◌+◌, ◌<◌, ◌^◌};
-ghost use Rattle.holdings.specs.Sending.{page_on};
 
 /// The page so far behind a first page.
 fn page_on(first: Place, i: u32) -> Place

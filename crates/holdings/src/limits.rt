@@ -11,7 +11,7 @@ pub struct Limits {
 
 impl Limits {
     ghost use Rattle.std.specs.Prelude.{◌≡◌};
-    ghost use Rattle.model.specs.Records.{are_limits};
+    ghost use Rattle.model.specs.Definitions.Records.{are_limits};
     ghost use Rattle.holdings.specs.Meaning.{limits_of};
 
     /// Whether there are 2 to 512 spaces of 64 to 1,048,576 pages, and 1 frame to as many as a space has pages.

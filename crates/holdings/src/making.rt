@@ -1,8 +1,9 @@
 //! Words for pages that are about to hold something.
 
-ghost use Rattle.std.specs.Prelude.{OnOk, IsFalse};
+ghost use Rattle.std.specs.Prelude.{OnOk, IsFalse, IfSome, ◌≡◌, false};
 ghost use Rattle.std.specs.List.{All, list_any};
 ghost use Rattle.space.specs.Shards.{HasWord, IsMade, AreOnlyMade, IsPlace, are_beside, is_taken};
+ghost use Rattle.std.specs.Option.{option_map_or};
 
 use crate::shard::SHARD_PAGES;
 use crate::transfer::Transfer;
@@ -28,8 +29,6 @@ pub fn make_targets(shards: &mut Shards, transfers: &[Transfer]) -> Result<(), N
     Ok(())
 }
 
-ghost use Rattle.std.specs.Prelude.{IfSome};
-
 /// Makes the shard of a page, behind another whose shard is there, if there is another.
 fn make_behind(shards: &mut Shards, other: Option<Place>, place: Place) -> Result<(), NoMemory>
     requires place { IsPlace shards.old place }
@@ -45,9 +44,6 @@ fn make_behind(shards: &mut Shards, other: Option<Place>, place: Place) -> Resul
     }
     shards.make_one(place)
 }
-
-ghost use Rattle.std.specs.Prelude.{◌≡◌, false};
-ghost use Rattle.std.specs.Option.{option_map_or};
 
 /// Whether a page has its word in the shard of another, if there is another.
 fn is_beside(other: Option<Place>, place: Place) -> bool

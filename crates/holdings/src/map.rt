@@ -1,5 +1,11 @@
 //! The pages of a MapItem, after the flush: each is linked to its source, or extended.
 
+ghost use Rattle.std.specs.Prelude.{◌≡◌, IfOk, IsFalse};
+ghost use Rattle.std.specs.List.{All};
+ghost use Rattle.space.specs.Shards.{IsPlace, is_taken};
+ghost use Rattle.holdings.specs.Inner.Words.{IsThere};
+ghost use Rattle.holdings.specs.Inner.Planning.{stores_of};
+
 use crate::holdings::Holdings;
 use crate::link::link_all;
 use crate::making::make_targets;
@@ -53,12 +59,6 @@ impl Holdings {
         Ok((Holdings { shards, trees }, counts))
     }
 }
-
-ghost use Rattle.std.specs.Prelude.{◌≡◌, IfOk, IsFalse};
-ghost use Rattle.std.specs.List.{All};
-ghost use Rattle.space.specs.Shards.{IsPlace, is_taken};
-ghost use Rattle.holdings.specs.Inner.Words.{IsThere};
-ghost use Rattle.holdings.specs.Inner.Planning.{stores_of};
 
 /// The stores of the transfers whose source is held, by the words of their pages.
 fn stores(

@@ -1,5 +1,11 @@
 //! The pages of a MapItem, worked by the calling thread alone: one word after another, in place.
 
+ghost use Rattle.std.specs.Prelude.{◌≡◌, None, Some, IsFalse};
+ghost use Rattle.holdings.specs.Meaning.{counts_of};
+ghost use Rattle.space.specs.declared.place.Entry.{Entry};
+ghost use Rattle.space.specs.Shards.{HasWord, IsPlace, entry_at, is_taken};
+ghost use Rattle.holdings.specs.Inner.Links.{IsPageLost, IsPageMapped};
+
 use crate::holdings::Holdings;
 use crate::link::link_all;
 use crate::making::make_targets;
@@ -42,13 +48,6 @@ impl Holdings {
         Ok((Holdings { shards, trees }, worked))
     }
 }
-
-ghost use Rattle.std.specs.Prelude.{◌≡◌, None, Some};
-ghost use Rattle.holdings.specs.Meaning.{counts_of};
-ghost use Rattle.std.specs.Prelude.{IsFalse};
-ghost use Rattle.space.specs.declared.place.Entry.{Entry};
-ghost use Rattle.space.specs.Shards.{HasWord, IsPlace, entry_at, is_taken};
-ghost use Rattle.holdings.specs.Inner.Links.{IsPageLost, IsPageMapped};
 
 /// Works one page of a MapItem, whose new mapping stands in the tree already.
 fn map_page(shards: &mut Shards, transfer: Transfer, rights: Rights) -> TransferCounts

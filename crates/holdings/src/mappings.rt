@@ -37,7 +37,7 @@ impl<'a> Model for Mappings<'a> {
 
 impl<'a> Mappings<'a> {
     ghost use Rattle.std.specs.Prelude.{◌≡◌, ◌∷◌, ◌++◌, ◌+◌, ◌<◌, ◌^◌, [], IfOk, IfSome, OnOk, MatchOption, Some, map, option_map};
-    ghost use Rattle.model.specs.Holdings.{at};
+    ghost use Rattle.model.specs.Definitions.Holdings.{at};
     ghost use Rattle.holdings.specs.Meaning.{limits_of};
     ghost use Rattle.holdings.specs.Places.{IsWithin};
     ghost use Rattle.holdings.specs.Contents.{IsConsistent, entry_of};

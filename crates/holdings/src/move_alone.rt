@@ -1,5 +1,13 @@
 //! Pages that move to other places, moved by the calling thread alone: one word after another, in place.
 
+ghost use Rattle.std.specs.Prelude.{◌≡◌, None, Some, false, IsFalse};
+ghost use Rattle.holdings.specs.Meaning.{counts_of};
+ghost use Rattle.space.specs.declared.place.Entry.{Entry};
+ghost use Rattle.space.specs.Place.{same_place};
+ghost use Rattle.space.specs.Shards.{HasWord, IsPlace, entry_at, is_taken};
+ghost use Rattle.holdings.specs.Inner.Links.{IsPageLost};
+ghost use Rattle.holdings.specs.Inner.Renamings.{IsPageMoved};
+
 use crate::holdings::Holdings;
 use crate::making::make_targets;
 use crate::renaming::rename_all;
@@ -42,15 +50,6 @@ impl Holdings {
         Ok((Holdings { shards, trees }, worked))
     }
 }
-
-ghost use Rattle.std.specs.Prelude.{◌≡◌, None, Some};
-ghost use Rattle.holdings.specs.Meaning.{counts_of};
-ghost use Rattle.std.specs.Prelude.{false, IsFalse};
-ghost use Rattle.space.specs.declared.place.Entry.{Entry};
-ghost use Rattle.space.specs.Place.{same_place};
-ghost use Rattle.space.specs.Shards.{HasWord, IsPlace, entry_at, is_taken};
-ghost use Rattle.holdings.specs.Inner.Links.{IsPageLost};
-ghost use Rattle.holdings.specs.Inner.Renamings.{IsPageMoved};
 
 /// Moves what a page holds, without its status, to the target, which stands in its place in the tree already.
 fn move_page(shards: &mut Shards, source: Place, target: Place) -> TransferCounts

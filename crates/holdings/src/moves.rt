@@ -1,5 +1,11 @@
 //! Pages that move to other places, with all that derives from them.
 
+ghost use Rattle.std.specs.Prelude.{◌≡◌, IfOk, IsFalse};
+ghost use Rattle.std.specs.List.{All};
+ghost use Rattle.space.specs.Shards.{IsPlace, is_taken};
+ghost use Rattle.holdings.specs.Inner.Words.{IsThere};
+ghost use Rattle.holdings.specs.Inner.Planning.{word_pairs};
+
 use crate::holdings::Holdings;
 use crate::making::make_targets;
 use crate::phase::is_small;
@@ -52,12 +58,6 @@ impl Holdings {
         Ok((Holdings { shards, trees }, counts))
     }
 }
-
-ghost use Rattle.std.specs.Prelude.{◌≡◌, IfOk, IsFalse};
-ghost use Rattle.std.specs.List.{All};
-ghost use Rattle.space.specs.Shards.{IsPlace, is_taken};
-ghost use Rattle.holdings.specs.Inner.Words.{IsThere};
-ghost use Rattle.holdings.specs.Inner.Planning.{word_pairs};
 
 /// The transfers whose source is held, by the words of their pages.
 fn pairs(alloc: Global, shards: &Shards, transfers: &[Transfer]) -> Result<Vec<Pair>, AllocError>

@@ -1,5 +1,8 @@
 //! Those of some pages of a space that are held.
 
+ghost use Rattle.std.specs.Prelude.{◌≡◌, ◌-◌, ◌++◌, OnOk};
+ghost use Rattle.holdings.specs.Places.{pages_from};
+
 use crate::holdings::Holdings;
 use crate::shard::SHARD_PAGES;
 use space::Place;
@@ -9,7 +12,7 @@ use std::ops::Range;
 impl Holdings {
     ghost use Rattle.std.specs.Prelude.{◌≡◌, ◌-◌, ◌<◌, ◌≤◌, filter, IfOk};
     ghost use Rattle.space.specs.Directory.{pages_of};
-    ghost use Rattle.model.specs.Holdings.{is_held};
+    ghost use Rattle.model.specs.Definitions.Holdings.{is_held};
     ghost use Rattle.holdings.specs.Contents.{IsConsistent};
     ghost use Rattle.holdings.specs.Places.{pages_from};
 
@@ -41,9 +44,6 @@ impl Holdings {
         Ok(places)
     }
 }
-
-ghost use Rattle.std.specs.Prelude.{◌≡◌, ◌-◌, ◌++◌, OnOk};
-ghost use Rattle.holdings.specs.Places.{pages_from};
 
 /// Adds some pages of a space.
 fn add_pages(space: u16, pages: Range<u32>, places: &mut Vec<Place>) -> Result<(), AllocError>

@@ -1,5 +1,15 @@
 //! Pages that are stripped one after another, each with all that derives from it, on the words and trees themselves.
 
+ghost use Rattle.std.specs.Prelude.{◌≡◌, ◌<◌, ◌≤◌, true, length, IfOk, OnOk};
+ghost use Rattle.space.specs.declared.place.Place.{Place};
+ghost use Rattle.space.specs.Shards.{IsPlace, IsLaidOutAs};
+ghost use Rattle.maptree.specs.Origins.{place_at, IsRun};
+ghost use Rattle.model.specs.Definitions.Holdings.{only};
+ghost use Rattle.model.specs.Definitions.Strip.{strip, strip_word};
+ghost use Rattle.holdings.specs.Inner.Held.{is_listed, links_in, limits_in, holdings_in};
+ghost use Rattle.holdings.specs.Inner.Sound.{AreSound, AreLoose};
+ghost use Rattle.holdings.specs.Inner.Stripping.{IsLeft};
+
 use crate::holdings::Holdings;
 use crate::prune::{Left, prune_run};
 use crate::recursion::{take, visit};
@@ -63,16 +73,6 @@ impl Holdings {
         Ok((Holdings { shards, trees }, status))
     }
 }
-
-ghost use Rattle.std.specs.Prelude.{◌≡◌, ◌<◌, ◌≤◌, true, length, IfOk, OnOk};
-ghost use Rattle.space.specs.declared.place.Place.{Place};
-ghost use Rattle.space.specs.Shards.{IsPlace, IsLaidOutAs};
-ghost use Rattle.maptree.specs.Origins.{place_at, IsRun};
-ghost use Rattle.model.specs.Holdings.{only};
-ghost use Rattle.model.specs.Strip.{strip, strip_word};
-ghost use Rattle.holdings.specs.Inner.Held.{is_listed, links_in, limits_in, holdings_in};
-ghost use Rattle.holdings.specs.Inner.Sound.{AreSound, AreLoose};
-ghost use Rattle.holdings.specs.Inner.Stripping.{IsLeft};
 
 /// Strips a place, takes out of its tree what is gone then, and gives back the status that was gathered.
 fn strip_place(

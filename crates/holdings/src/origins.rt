@@ -1,6 +1,6 @@
 //! The origins of all pages that are held, found by their words.
 
-ghost use Rattle.std.specs.Prelude.{◌≡◌, ◌<◌, true, length, IfOk};
+ghost use Rattle.std.specs.Prelude.{◌≡◌, ◌<◌, true, length, IfOk, ◌+◌, OnOk};
 ghost use Rattle.std.specs.List.{All};
 ghost use Rattle.space.specs.Shards.{index_of};
 ghost use Rattle.holdings.specs.Inner.Words.{IsThere};
@@ -28,8 +28,6 @@ pub fn origins_by_word(
     }
     Ok(origins)
 }
-
-ghost use Rattle.std.specs.Prelude.{◌+◌, OnOk};
 
 /// Puts the origins of the places of the next frame to those of the frames before it.
 fn put_tree(

@@ -1,13 +1,15 @@
 //! What becomes of the pages of an item.
 
-ghost use Rattle.std.specs.Prelude.{◌≡◌, []};
-ghost use Rattle.model.specs.Items.{fate};
+ghost use Rattle.std.specs.Prelude.{◌≡◌, [], false, true, ◌&&◌};
+ghost use Rattle.model.specs.Definitions.Items.{fate, is_map};
 ghost use Rattle.holdings.specs.Places.{IsWithin};
 ghost use Rattle.holdings.specs.Inner.Held.{limits_in, holdings_in};
 ghost use Rattle.holdings.specs.Inner.Sound.{AreSound};
 ghost use Rattle.holdings.specs.Sending.{fate_of_outcome};
-ghost use Rattle.std.specs.Prelude.{false};
 ghost use Rattle.space.specs.Place.{same_place};
+ghost use Rattle.holdings.specs.Inner.Derivation.{stands_in};
+ghost use Rattle.holdings.specs.Inner.Outcomes.{IsOutcomeIn};
+ghost use Rattle.std.specs.Option.{option_map_or};
 
 use crate::holdings::Holdings;
 use crate::item_pages::ItemPages;
@@ -33,8 +35,8 @@ pub enum Outcome {
 
 impl Holdings {
     ghost use Rattle.std.specs.Prelude.{◌≡◌, ℕ, ◌/◌, ◌<◌, ◌≤◌, None};
-    ghost use Rattle.model.specs.Holdings.{at};
-    ghost use Rattle.model.specs.Items.{fate};
+    ghost use Rattle.model.specs.Definitions.Holdings.{at};
+    ghost use Rattle.model.specs.Definitions.Items.{fate};
     ghost use Rattle.holdings.specs.Contents.{IsConsistent};
     ghost use Rattle.holdings.specs.Places.{IsWithin};
     ghost use Rattle.holdings.specs.Sending.{fate_of_outcome, job_of_pages, page_on, AreItemPages};
@@ -105,10 +107,6 @@ fn outcome_of(
     outcome_in(&trees[sent.frame as usize], kind, source, target)
 }
 
-ghost use Rattle.std.specs.Prelude.{true};
-ghost use Rattle.holdings.specs.Inner.Derivation.{stands_in};
-ghost use Rattle.holdings.specs.Inner.Outcomes.{IsOutcomeIn};
-
 /// The outcome of a page whose target is held with the same frame, by where both stand in the tree of that frame.
 fn outcome_in(tree: &Tree, kind: ItemKind, source: Place, target: Place) -> Outcome
     requires source { stands_in tree.now.links source ≡ true }
@@ -125,10 +123,6 @@ fn outcome_in(tree: &Tree, kind: ItemKind, source: Place, target: Place) -> Outc
     }
     Outcome::Goes
 }
-
-ghost use Rattle.std.specs.Prelude.{◌&&◌};
-ghost use Rattle.std.specs.Option.{option_map_or};
-ghost use Rattle.model.specs.Items.{is_map};
 
 /// Whether an item maps a page to a mapping of this origin that derives from it.
 fn extends(kind: ItemKind, source: Place, origin: Option<Place>) -> bool

@@ -5,6 +5,7 @@ ghost use Rattle.std.specs.List.{All};
 ghost use Rattle.space.specs.Shards.{IsPlace, is_taken};
 ghost use Rattle.holdings.specs.Inner.Stripping.{AreHeldPages, places_in};
 ghost use Rattle.holdings.specs.Places.{any_of};
+ghost use Rattle.std.specs.List.Sorted.{IsNonDecreasingBy};
 
 use crate::group::OfFrame;
 use space::{Place, Shards};
@@ -46,8 +47,6 @@ pub fn held_pages(
     }
     Ok(pages)
 }
-
-ghost use Rattle.std.specs.List.Sorted.{IsNonDecreasingBy};
 
 /// The same, sorted by frame.
 pub fn sorted_pages(

@@ -1,20 +1,25 @@
 //! The strip of a set of pages, planned: the outermost runs of the pages, frame by frame, and the pieces of these runs.
 
-ghost use Rattle.std.specs.Prelude.{◌≡◌, ◌<◌, ◌≤◌, length, IfOk};
+ghost use Rattle.std.specs.Prelude.{◌≡◌, ◌<◌, ◌≤◌, length, IfOk, ◌++◌, OnOk, map, option_map, Some};
 ghost use Rattle.std.specs.List.{All};
 ghost use Rattle.holdings.specs.Places.{IsWithin, any_of};
 ghost use Rattle.holdings.specs.Inner.Held.{limits_in};
 ghost use Rattle.holdings.specs.Inner.Sound.{AreSound};
-ghost use Rattle.holdings.specs.Inner.StripPlans.{IsPlanned};
+ghost use Rattle.holdings.specs.Inner.StripPlans.{IsPlanned, AreOuterPlaces, HaveRuns, all_firsts, AreFrameRuns, ArePlannedStrips, AreAdded, HaveWords, IsRunAdded, pages_of};
+ghost use Rattle.maptree.specs.Origins.{AreRising};
+ghost use Rattle.holdings.specs.Inner.Stripping.{firsts};
+ghost use Rattle.std.specs.List.Sorted.{IsNonDecreasingBy};
+ghost use Rattle.space.specs.declared.place.Place.{Place};
+ghost use Rattle.space.specs.Shards.{index_of};
+ghost use Rattle.holdings.specs.Inner.Words.{IsThere};
 
 use crate::group::group_end;
 use crate::pages::{HeldPage, places_of, sorted_pages};
 use crate::runs::Runs;
 use fpage::Rights;
-use mapnode::Node;
 use maptree::{NodeOrigins, Tree};
-use pieces::{Piece, Strip, are_pieces};
-use space::{NoMemory, Place, Shards};
+use pieces::{Piece, Strip, learn_are_pieces};
+use space::{NoMemory, Node, Place, Shards};
 use std::alloc::{AllocError, Global};
 use std::ops::Range;
 
@@ -52,14 +57,9 @@ pub fn plan_strip(
     let pages = sorted_pages(alloc, shards, places)?;
     let frames = runs_by_frame(alloc, trees, &pages)?;
     let pieces = strips(alloc, shards, trees, &frames, revoked, flush, most)?;
-    are_pieces(&pieces);
+    learn_are_pieces(&pieces);
     Ok(StripPlan { frames, pieces })
 }
-
-ghost use Rattle.std.specs.Prelude.{◌++◌, OnOk};
-ghost use Rattle.maptree.specs.Origins.{AreRising};
-ghost use Rattle.holdings.specs.Inner.Stripping.{firsts};
-ghost use Rattle.holdings.specs.Inner.StripPlans.{AreOuterPlaces, HaveRuns, all_firsts};
 
 /// The first places of the outermost runs of some pages: all that derives from the pages derives from these, and none of
 /// these from another.
@@ -105,9 +105,6 @@ fn add_firsts(tree: &Tree, runs: &Runs, outer: &mut Vec<Place>) -> Result<(), Al
     Ok(())
 }
 
-ghost use Rattle.std.specs.List.Sorted.{IsNonDecreasingBy};
-ghost use Rattle.holdings.specs.Inner.StripPlans.{AreFrameRuns};
-
 /// The outermost runs of pages, which are sorted by frame, in the trees of their frames.
 ///
 /// Refused, where memory is: `NoMemory`.
@@ -134,8 +131,6 @@ fn runs_by_frame(
     }
     Ok(frames)
 }
-
-ghost use Rattle.holdings.specs.Inner.StripPlans.{ArePlannedStrips};
 
 /// The strips of all these runs, one run after another, in parts of at most so many nodes.
 ///
@@ -170,8 +165,6 @@ fn strips(
     Ok(pieces)
 }
 
-ghost use Rattle.holdings.specs.Inner.StripPlans.{AreAdded};
-
 /// Adds the strips of the runs of a frame to others.
 ///
 /// Refused, where memory is: `NoMemory`.
@@ -191,7 +184,7 @@ fn add_frame(
     ensures { OnOk result (AreAdded shards.now trees.now revoked flush frame.now.frame frame.now.runs pieces.old.items pieces.new.items) }
 {
     let tree = &trees[frame.frame as usize];
-    tree.places_are_distinct();
+    tree.learn_places_are_distinct();
     let origins = NodeOrigins::of(alloc, tree, frame.runs.len())?;
     pieces.reserve(frame.runs.len())?;
     for run in frame.runs.as_slice() {
@@ -202,8 +195,6 @@ fn add_frame(
     }
     Ok(())
 }
-
-ghost use Rattle.holdings.specs.Inner.StripPlans.{HaveWords, IsRunAdded, pages_of};
 
 /// Adds the strips of a run to others, in parts of at most so many nodes. Their status goes to the origin of the run, and its
 /// first page is spared where there is no flush.
@@ -239,11 +230,6 @@ fn add_run(
     }
     Ok(())
 }
-
-ghost use Rattle.std.specs.Prelude.{map, option_map, Some};
-ghost use Rattle.space.specs.declared.place.Place.{Place};
-ghost use Rattle.space.specs.Shards.{index_of};
-ghost use Rattle.holdings.specs.Inner.Words.{IsThere};
 
 /// The index of the word of an origin, if there is one.
 fn index_of_origin(shards: &Shards, origin: Option<Place>) -> Option<usize>

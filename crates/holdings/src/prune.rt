@@ -1,18 +1,18 @@
 //! A tree loses the places that hold nothing any more.
 
-ghost use Rattle.std.specs.Prelude.{◌≡◌, ◌≤◌, true, not, length, filter, IfOk, OnOk, IsFalse};
+ghost use Rattle.std.specs.Prelude.{◌≡◌, ◌≤◌, true, not, length, filter, IfOk, OnOk, IsFalse, [], ◌∷◌, IfSome};
 ghost use Rattle.std.specs.List.{All, list_all, slice_range};
 ghost use Rattle.space.specs.Shards.{IsPlace, is_taken};
 ghost use Rattle.maptree.specs.Origins.{IsRun, AreRising};
-ghost use Rattle.mapnode.specs.Slices.{nodes_of};
-ghost use Rattle.maptree.specs.Cuts.{outside, kept_of};
+ghost use Rattle.space.specs.Slices.{nodes_of};
+ghost use Rattle.maptree.specs.Cuts.{outside, kept_of, count_of};
 ghost use Rattle.holdings.specs.Inner.Held.{has_entry};
-ghost use Rattle.holdings.specs.Inner.Stripping.{pruned, OriginsHaveEntries};
+ghost use Rattle.holdings.specs.Inner.Stripping.{pruned, OriginsHaveEntries, IsLeft};
+ghost use Rattle.holdings.specs.Inner.StripPlans.{AllCanBePruned, ArePruned, AreKeptNodes, count_in_runs, count_in_frames, in_frames};
 
 use crate::planning::FrameRuns;
-use mapnode::{Node, Slice};
 use maptree::Tree;
-use space::{NoMemory, Shards};
+use space::{NoMemory, Node, Shards, Slice};
 use std::alloc::{AllocError, Global};
 use std::ops::Range;
 
@@ -46,9 +46,6 @@ pub fn prune(
     let kept = held_parts(alloc, shards, &parts)?;
     tree.splice(kept)
 }
-
-ghost use Rattle.std.specs.Prelude.{[], ◌∷◌};
-ghost use Rattle.holdings.specs.Inner.Stripping.{IsLeft};
 
 /// What is known to be left of the places of a run.
 #[derive(Clone, Copy)]
@@ -132,8 +129,6 @@ pub fn prune_run(
     prune(alloc, shards, tree, &[run])
 }
 
-ghost use Rattle.holdings.specs.Inner.StripPlans.{AllCanBePruned, ArePruned};
-
 /// Takes the places without an entry out of the trees of these frames. They lie in the runs of these.
 ///
 /// Refused, where memory is: `NoMemory`.
@@ -158,10 +153,10 @@ pub fn prune_all(
     Ok(())
 }
 
-ghost use Rattle.holdings.specs.Inner.StripPlans.{AreKeptNodes};
-
-/// The same, where these of the nodes of the runs were kept, in parts. Where all were kept, the trees stay as they are, and no
-/// entry is read.
+/// The same, where these of the nodes of the runs were kept, in parts. Where all were kept, the trees stay as they are, and
+/// where none was, the runs go; then no entry is read.
+///
+/// Refused, where memory is: `NoMemory`.
 pub fn prune_gone(
     alloc: Global,
     shards: &Shards,
@@ -177,11 +172,24 @@ pub fn prune_gone(
     if are_all_kept(frames, kept) {
         return Ok(());
     }
+    if is_none_kept(kept) {
+        remove_all(shards, trees, frames);
+        return Ok(());
+    }
     prune_all(alloc, shards, trees, frames)
 }
 
-ghost use Rattle.maptree.specs.Cuts.{count_of};
-ghost use Rattle.holdings.specs.Inner.StripPlans.{count_in_runs, count_in_frames};
+/// Takes these runs out of the trees of their frames, where none of their places has an entry. This takes no memory.
+fn remove_all(shards: &Shards, trees: &mut [Tree], frames: &[FrameRuns])
+    requires can { AllCanBePruned shards.now trees.old frames.now }
+    requires gone { list_all (λ p. not (has_entry shards.now p)) (in_frames trees.old frames.now) ≡ true }
+    ensures { ArePruned shards.now frames.now trees.old trees.new }
+{
+    let _ = shards;
+    for frame in frames {
+        trees[frame.frame as usize].remove(frame.runs.as_slice());
+    }
+}
 
 /// Whether as many nodes were kept as these runs have.
 fn are_all_kept(frames: &[FrameRuns], kept: &[Slice]) -> bool
@@ -194,7 +202,12 @@ fn are_all_kept(frames: &[FrameRuns], kept: &[Slice]) -> bool
     }
 }
 
-ghost use Rattle.std.specs.Prelude.{IfSome};
+/// Whether no node was kept.
+fn is_none_kept(kept: &[Slice]) -> bool
+    ensures { result ≡ true → count_of (nodes_of kept.now) ≡ 0 }
+{
+    count_in_slices(kept) == Some(0)
+}
 
 /// How many nodes some slices have, if the machine has such a number.
 fn count_in_slices(slices: &[Slice]) -> Option<usize>

@@ -1,11 +1,22 @@
 //! Unmap as a recursion, page by page.
 
+ghost use Rattle.std.specs.Prelude.{◌≡◌, ◌<◌, ◌≤◌, ◌||◌, not, [], ◌∷◌, ◌++◌, length, IfOk, OnOk, IfSome, IfNone, IsFalse};
+ghost use Rattle.std.specs.Option.{option_and_then};
+ghost use Rattle.space.specs.declared.place.Place.{Place};
+ghost use Rattle.space.specs.Place.{same_place};
+ghost use Rattle.space.specs.Shards.{IsPlace, IsSetAt, IsLaidOutAs, entry_at, is_taken};
+ghost use Rattle.maptree.specs.Origins.{place_at, IsRun};
+ghost use Rattle.model.specs.Definitions.Holdings.{only};
+ghost use Rattle.model.specs.Definitions.Strip.{strip, strip_word};
+ghost use Rattle.holdings.specs.Inner.Held.{has_entry, links_in, holdings_in};
+ghost use Rattle.space.specs.Entries.{narrowed, status_of};
+ghost use Rattle.holdings.specs.Inner.Sound.{AreLoose};
+
 use crate::holdings::Holdings;
 use crate::one_by_one::Order;
 use fpage::Rights;
-use mapnode::Node;
 use maptree::Tree;
-use space::{Narrowed, NoMemory, Place, Shards};
+use space::{Narrowed, NoMemory, Node, Place, Shards};
 use std::alloc::{AllocError, Global};
 use std::ops::Range;
 
@@ -32,18 +43,6 @@ impl Holdings {
         self.strip_one_by_one(alloc, places, revoked, flush, Order::Recursion)
     }
 }
-
-ghost use Rattle.std.specs.Prelude.{◌≡◌, ◌<◌, ◌≤◌, ◌||◌, not, [], ◌∷◌, ◌++◌, length, IfOk, OnOk, IfSome, IfNone, IsFalse};
-ghost use Rattle.std.specs.Option.{option_and_then};
-ghost use Rattle.space.specs.declared.place.Place.{Place};
-ghost use Rattle.space.specs.Place.{same_place};
-ghost use Rattle.space.specs.Shards.{IsPlace, IsSetAt, IsLaidOutAs, entry_at, is_taken};
-ghost use Rattle.maptree.specs.Origins.{place_at, IsRun};
-ghost use Rattle.model.specs.Holdings.{only};
-ghost use Rattle.model.specs.Strip.{strip, strip_word};
-ghost use Rattle.holdings.specs.Inner.Held.{has_entry, links_in, holdings_in};
-ghost use Rattle.space.specs.Entries.{narrowed, status_of};
-ghost use Rattle.holdings.specs.Inner.Sound.{AreLoose};
 
 /// Visits the first place of a run: first what derives from it directly, each in the same way, and then the place itself
 /// loses the rights, if it is to, and its status is taken. What the visit took is added to the status of the origin.

@@ -1,10 +1,11 @@
 //! Pages that move, in the trees: those of one frame in one pass.
 
-ghost use Rattle.std.specs.Prelude.{◌∷◌, [], None, OnOk, IsFalse};
+ghost use Rattle.std.specs.Prelude.{◌∷◌, [], None, OnOk, IsFalse, ◌≡◌, ◌≤◌, IfOk};
 ghost use Rattle.std.specs.List.{All};
 ghost use Rattle.space.specs.Shards.{IsPlace, is_taken};
-ghost use Rattle.holdings.specs.Inner.Links.{last_target, links_of};
+ghost use Rattle.holdings.specs.Inner.Links.{last_target, links_of, AreTargets};
 ghost use Rattle.holdings.specs.Inner.Renamings.{AreMovable, AreRenamed};
+ghost use Rattle.maptree.specs.PlaceMaps.{place_for};
 
 use crate::link::{Link, new_link, new_links};
 use crate::transfer::Transfer;
@@ -65,10 +66,6 @@ fn rename_links(alloc: Global, trees: &mut [Tree], mut links: Vec<Link>) -> Resu
     }
     Ok(())
 }
-
-ghost use Rattle.std.specs.Prelude.{◌≡◌, ◌≤◌, IfOk};
-ghost use Rattle.maptree.specs.PlaceMaps.{place_for};
-ghost use Rattle.holdings.specs.Inner.Links.{AreTargets};
 
 /// The targets, each for its source.
 fn targets_of(alloc: Global, space: u16, links: &[Link]) -> Result<PlaceMap, AllocError>

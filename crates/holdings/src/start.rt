@@ -3,7 +3,7 @@
 ghost use Rattle.std.specs.Prelude.{◌≡◌, ◌<◌, ℕ, true, [], ◌∷◌, length, IfOk, IsFalse, None};
 ghost use Rattle.space.specs.declared.place.Place.{Place};
 ghost use Rattle.space.specs.Shards.{spaces_of, bits_of, IsPlace, entry_at, is_taken};
-ghost use Rattle.model.specs.Records.{are_limits};
+ghost use Rattle.model.specs.Definitions.Records.{are_limits};
 ghost use Rattle.holdings.specs.Meaning.{limits_of};
 ghost use Rattle.holdings.specs.Inner.Held.{links_in};
 ghost use Rattle.holdings.specs.Inner.Start.{root_entry, root_place};

@@ -17,7 +17,7 @@ impl Holdings {
     ghost use Rattle.pieces.specs.Phases.{CanBeWorked};
     ghost use Rattle.crew.specs.Worked.{IsWorked};
     ghost use Rattle.crew.specs.declared.error.CrewError.TheVariants.{NoWorker};
-    ghost use Rattle.model.specs.Strip.{strip};
+    ghost use Rattle.model.specs.Definitions.Strip.{strip};
     ghost use Rattle.holdings.specs.Contents.{IsStripped};
     ghost use Rattle.holdings.specs.Inner.StripPlans.{StandFor};
     ghost use Rattle.holdings.specs.Observing.{IsPhaseOf};

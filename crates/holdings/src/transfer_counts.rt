@@ -1,8 +1,8 @@
 ghost use Rattle.std.specs.Prelude.{◌≡◌, ◌+◌, ◌^◌, ◌<◌, IsFalse};
 ghost use Rattle.std.specs.List.{All};
 ghost use Rattle.space.specs.Shards.{IsPlace, is_taken};
-ghost use Rattle.model.specs.Items.{no_counts, add_counts};
-ghost use Rattle.model.specs.SendLaws.{total};
+ghost use Rattle.model.specs.Definitions.Items.{no_counts, add_counts};
+ghost use Rattle.model.specs.Laws.SendLaws.{total};
 ghost use Rattle.holdings.specs.Inner.Planning.{count_in, counts_in};
 ghost use Rattle.holdings.specs.Meaning.{counts_of};
 

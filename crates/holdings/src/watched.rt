@@ -12,7 +12,7 @@ use std::thread::Threads;
 impl Holdings {
     ghost use Rattle.std.specs.Prelude.{ℕ, ◌<◌, List, length, IfOk};
     ghost use Rattle.std.specs.List.{All};
-    ghost use Rattle.model.specs.Strip.{strip};
+    ghost use Rattle.model.specs.Definitions.Strip.{strip};
     ghost use Rattle.pieces.specs.Phases.{CanBeWorked};
     ghost use Rattle.pieces.specs.declared.piece.Piece.{Piece};
     ghost use Rattle.crew.specs.Worked.{IsWorked};

@@ -4,9 +4,7 @@
 ghost use Rattle.std.specs.Prelude.{IfOk};
 ghost use Rattle.replay.specs.Options.{AreServed};
 
-mod progress;
-
-use cli::{OptionsError, parse, status, tell};
+use l4map_cli::{OptionsError, parse, status, tell};
 use progress::Progress;
 use replay::{Options, RunError, Watch, run};
 use std::alloc::{AllocError, Global};

@@ -1,10 +1,10 @@
 //! Why the program ends early, and what it says then.
 
-use checks::{CheckError, Subject, check_trace};
-use differences::CompareError;
-use moments::ShowError;
-use random_traces::RandomError;
-use replay::RunError;
+use l4trace_checks::{CheckError, Subject, check_trace};
+use l4trace_differences::CompareError;
+use l4trace_moments::ShowError;
+use l4trace_random_traces::RandomError;
+use replay::{NoWatch, RunError};
 use std::alloc::{AllocError, Global};
 use trace::Std;
 
@@ -68,7 +68,12 @@ pub fn show_error(
 }
 
 /// That a trace with so many records has none of this number.
-fn no_record(alloc: Global, name: &str, number: u64, records: u64) -> Result<ToolError, ToolError> {
+pub fn no_record(
+    alloc: Global,
+    name: &str,
+    number: u64,
+    records: u64,
+) -> Result<ToolError, ToolError> {
     let ending = if records == 1 { "" } else { "s" };
     let line = format!(in alloc;
         "l4trace: {name}: there is no record {number}; the trace has {records} record{ending}\n"
@@ -123,7 +128,7 @@ fn bad_header(alloc: Global, name: &str, bytes: &[u8]) -> Result<ToolError, Tool
         most: 0,
     };
     let mut writer = Std::new(Vec::new(alloc));
-    check_trace(alloc, &subject, &mut writer)?;
+    check_trace(alloc, &subject, &mut writer, &mut NoWatch)?;
     Ok(ToolError::BadHeader(writer.into_inner()))
 }
 

@@ -1,32 +1,38 @@
-//! l4trace: explains the words of a trace and makes them, checks traces, shows what they hold, and compares answers to them.
+//! l4trace: explains words and traces, makes both, checks traces, shows what they hold, and compares answers to them.
 #![tactic(auto)]
 
 ghost use Rattle.std.specs.Prelude.{IfOk};
 ghost use Rattle.fpage.specs.Fpage.{IsSpaceBits};
-ghost use Rattle.random_traces.specs.Random.{IsPlan};
-ghost use Rattle.command_lines.specs.Task.{IsServed};
+ghost use Rattle.l4trace_random_traces.specs.Random.{IsPlan};
+ghost use Rattle.l4trace_command_lines.specs.Task.{IsServed};
 
 mod error;
 mod input;
 mod paint;
 
-use checks::{Found, Subject, check_trace};
-use command_lines::{Task, TaskError, parse};
-use differences::{Compared, Comparison, Trees, compare};
-use drawings::{Form, Question, View};
-use error::{ToolError, compare_error, show_error, told};
+use error::{ToolError, compare_error, no_record, show_error, told};
 use input::read_trace;
-use moments::{ShowError, push_changed_trees, push_view, push_why};
+use l4trace_checks::{Found, Subject, check_trace};
+use l4trace_command_lines::{Task, TaskError, parse};
+use l4trace_differences::{Compared, Comparison, Trees, compare};
+use l4trace_drawings::{Form, Question, View};
+use l4trace_moments::{
+    Excerpt, ShowError, audit_after, push_changed_trees, push_explained, push_tree, push_view,
+    push_why,
+};
+use l4trace_random_traces::{Plan, write_random};
+use l4trace_texts::{CompareOptions, Front, explain_all, front_of};
 use paint::painted;
-use random_traces::{Plan, write_random};
+use progress::Progress;
+use replay::Watch;
 use std::alloc::{AllocError, Global};
 use std::env::Env;
-use std::io::{BufWriter, ErrorKind, IsTerminal};
+use std::io::{BufWriter, ErrorKind, IsTerminal, Write};
 use std::process::ExitCode;
 use std::rt::Files;
 use std::thread::Threads;
+use std::time::Clock;
 use std::{env, io};
-use texts::{Scope, explain_all};
 use trace::{Sink, Std};
 
 /// Reads the program's command line.
@@ -64,6 +70,7 @@ fn check_named(
     rt: &(impl AllocGlobal + Input + Print + Files),
     name: &str,
     most: u64,
+    watch: &mut impl Watch,
 ) -> Result<bool, ToolError> {
     let bytes = read_trace(rt, name)?;
     let Ok(output) = BufWriter::new(rt.alloc(), io::writer(rt)) else {
@@ -75,7 +82,7 @@ fn check_named(
         bytes: &bytes,
         most,
     };
-    let found = check_trace(rt.alloc(), &subject, &mut writer)?;
+    let found = check_trace(rt.alloc(), &subject, &mut writer, watch)?;
     writer.flush().map_err(|_| ToolError::WriteFailed)?;
     match found {
         Found::Records {
@@ -100,21 +107,24 @@ fn print_painted(
     writer.write_all(text).map_err(|_| ToolError::WriteFailed)
 }
 
-/// Appends the trees that tell more of the first difference, at most so many mappings of them.
-fn push_trees(
+/// Appends the trees that tell more of the first difference.
+fn push_trees<V: Watch>(
     alloc: Global,
     text: &mut Vec<u8>,
     comparison: &Comparison<'_>,
     found: Compared,
-    most: u64,
+    watch: &mut V,
 ) -> Result<(), ToolError> {
     let Compared::Differs(Some(trees)) = found else {
         return Ok(());
     };
     let Comparison { name, trace, .. } = *comparison;
+    let most = comparison.options.most;
     let mut drawn = String::new(alloc);
     let outcome = match trees {
-        Trees::ChangedBy(record) => push_changed_trees(alloc, &mut drawn, trace, record, most),
+        Trees::ChangedBy(record) => {
+            push_changed_trees(alloc, &mut drawn, trace, record, most, watch)
+        }
         Trees::OfFrame { frame, at } => {
             let view = View {
                 at,
@@ -123,7 +133,7 @@ fn push_trees(
                 form: Form::Text,
                 most,
             };
-            push_view(alloc, &mut drawn, name, trace, &view)
+            push_tree(alloc, &mut drawn, name, trace, &view, watch)
         }
     };
     match outcome {
@@ -135,85 +145,140 @@ fn push_trees(
 }
 
 /// What is told of a comparison, and what it found.
-fn comparison_text(
-    rt: &(impl AllocGlobal + Threads + Sync),
+fn comparison_text<T: AllocGlobal + Threads + Sync, V: Watch>(
+    rt: &T,
     comparison: &Comparison<'_>,
-    most: u64,
+    watch: &mut V,
 ) -> Result<(Vec<u8>, Compared), ToolError> {
     let alloc = rt.alloc();
     let Comparison { name, trace, .. } = *comparison;
     let mut writer = Std::new(Vec::new(alloc));
-    let found = match compare(rt, comparison, &mut writer) {
+    let found = match compare(rt, comparison, &mut writer, watch) {
         Ok(found) => found,
         Err(error) => return Err(compare_error(alloc, name, trace, error)?),
     };
     let mut text = writer.into_inner();
-    push_trees(alloc, &mut text, comparison, found, most)?;
+    push_trees(alloc, &mut text, comparison, found, watch)?;
     Ok((text, found))
 }
 
-/// Compares answers with those of l4map, and returns whether they differ.
-fn compare_named(
-    rt: &(impl AllocGlobal + Input + Print + Files + Threads + Sync),
+/// The front of a trace with so many records, or the whole if no number is given.
+fn asked_front<'a>(
+    alloc: Global,
+    name: &str,
+    bytes: &'a [u8],
+    at: Option<u64>,
+) -> Result<&'a [u8], ToolError> {
+    let Some(number) = at else {
+        return Ok(bytes);
+    };
+    let Ok(
+        Front {
+            bytes: front,
+            records,
+        },
+    ) = front_of(alloc, bytes, number)
+    else {
+        return Err(ToolError::NoMemory);
+    };
+    if records < number {
+        return Err(no_record(alloc, name, number, records)?);
+    }
+    Ok(front)
+}
+
+/// What is told of answers that are compared with those of l4map, and what the comparison found.
+fn compared<T: AllocGlobal + Input + Files + Threads + Sync, V: Watch>(
+    rt: &T,
     trace: &str,
     answers: &str,
-    scope: Scope,
-    most: u64,
-    colored: bool,
-) -> Result<bool, ToolError> {
+    at: Option<u64>,
+    options: CompareOptions,
+    watch: &mut V,
+) -> Result<(Vec<u8>, Compared), ToolError> {
     let bytes = read_trace(rt, trace)?;
     let told = read_trace(rt, answers)?;
     let comparison = Comparison {
         name: trace,
-        trace: &bytes,
+        trace: asked_front(rt.alloc(), trace, &bytes, at)?,
         answers: &told,
-        scope,
+        options,
     };
-    let (text, found) = comparison_text(rt, &comparison, most)?;
-    print_painted(rt, &text, colored)?;
-    Ok(found != Compared::Same)
+    comparison_text(rt, &comparison, watch)
 }
 
-/// Shows what a trace holds.
-fn show_named(
-    rt: &(impl AllocGlobal + Input + Print + Files),
+/// What a trace holds.
+fn shown<T: AllocGlobal + Input + Files, V: Watch>(
+    rt: &T,
     name: &str,
     view: &View,
-    colored: bool,
-) -> Result<(), ToolError> {
+    watch: &mut V,
+) -> Result<String, ToolError> {
     let bytes = read_trace(rt, name)?;
     let mut text = String::new(rt.alloc());
-    if let Err(error) = push_view(rt.alloc(), &mut text, name, &bytes, view) {
-        return Err(show_error(rt.alloc(), name, &bytes, error)?);
+    match push_view(rt.alloc(), &mut text, name, &bytes, view, watch) {
+        Ok(()) => Ok(text),
+        Err(error) => Err(show_error(rt.alloc(), name, &bytes, error)?),
     }
-    let is_text = matches!(view.form, Form::Text | Form::Diff);
-    print_painted(rt, text.as_bytes(), colored && is_text)
 }
 
-/// Tells where a page of a trace came from.
-fn why_named(
-    rt: &(impl AllocGlobal + Input + Print + Files),
+/// The audit after a record of a trace.
+fn audited<T: AllocGlobal + Input + Files + Threads + Sync, V: Watch>(
+    rt: &T,
     name: &str,
-    question: &Question,
-    colored: bool,
-) -> Result<(), ToolError> {
+    at: Option<u64>,
+    watch: &mut V,
+) -> Result<Vec<u8>, ToolError> {
+    let bytes = read_trace(rt, name)?;
+    match audit_after(rt, &bytes, at, watch) {
+        Ok(audit) => Ok(audit),
+        Err(error) => Err(show_error(rt.alloc(), name, &bytes, error)?),
+    }
+}
+
+/// An excerpt of a trace, in sentences.
+fn explained<T: AllocGlobal + Input + Files, V: Watch>(
+    rt: &T,
+    name: &str,
+    excerpt: &Excerpt,
+    watch: &mut V,
+) -> Result<String, ToolError> {
     let bytes = read_trace(rt, name)?;
     let mut text = String::new(rt.alloc());
-    if let Err(error) = push_why(rt.alloc(), &mut text, name, &bytes, question) {
-        return Err(show_error(rt.alloc(), name, &bytes, error)?);
+    match push_explained(rt.alloc(), &mut text, name, &bytes, excerpt, watch) {
+        Ok(()) => Ok(text),
+        Err(error) => Err(show_error(rt.alloc(), name, &bytes, error)?),
     }
-    print_painted(rt, text.as_bytes(), colored)
+}
+
+/// Where a page of a trace came from.
+fn answered<T: AllocGlobal + Input + Files, V: Watch>(
+    rt: &T,
+    name: &str,
+    question: &Question,
+    watch: &mut V,
+) -> Result<String, ToolError> {
+    let bytes = read_trace(rt, name)?;
+    let mut text = String::new(rt.alloc());
+    match push_why(rt.alloc(), &mut text, name, &bytes, question, watch) {
+        Ok(()) => Ok(text),
+        Err(error) => Err(show_error(rt.alloc(), name, &bytes, error)?),
+    }
 }
 
 /// Writes a trace made at random.
-fn write_planned(rt: &(impl AllocGlobal + Print), plan: &Plan) -> Result<(), ToolError>
+fn write_planned(
+    rt: &(impl AllocGlobal + Print),
+    plan: &Plan,
+    watch: &mut impl Watch,
+) -> Result<(), ToolError>
     requires { IsPlan plan.now }
 {
     let Ok(output) = BufWriter::new(rt.alloc(), io::writer(rt)) else {
         return Err(ToolError::NoMemory);
     };
     let mut writer = Std::new(output);
-    write_random(rt.alloc(), plan, &mut writer)?;
+    write_random(rt.alloc(), plan, &mut writer, watch)?;
     writer.flush().map_err(|_| ToolError::WriteFailed)
 }
 
@@ -231,10 +296,12 @@ fn print_explained(
 }
 
 /// Does a task, with standard output on a terminal that is coloured or elsewhere, and returns whether something was found.
-fn perform(
-    rt: &(impl AllocGlobal + Input + Print + Files + Threads + Sync),
+/// What is told of progress is taken away before the answer is written.
+fn perform<T: AllocGlobal + Input + Print + Files + Threads + Sync, C: Clock, E: Write + Drop>(
+    rt: &T,
     task: &Task,
     is_terminal: bool,
+    progress: &mut Progress<'_, C, E>,
 ) -> Result<bool, ToolError>
     requires { IsServed task.now }
 {
@@ -244,45 +311,84 @@ fn perform(
         Task::Compare {
             trace,
             answers,
-            scope,
-            most,
+            at,
+            options,
             color,
         } => {
             let (trace, answers) = (trace.as_str(), answers.as_str());
-            let colored = color.is_colored(is_terminal);
-            return compare_named(rt, trace, answers, *scope, *most, colored);
+            let (text, found) = compared(rt, trace, answers, *at, *options, progress)?;
+            progress.end();
+            print_painted(rt, &text, color.is_colored(is_terminal))?;
+            return Ok(found != Compared::Same);
         }
         Task::Show { trace, view, color } => {
-            show_named(rt, trace.as_str(), view, color.is_colored(is_terminal))?;
+            let text = shown(rt, trace.as_str(), view, progress)?;
+            progress.end();
+            let is_text = matches!(view.form, Form::Text | Form::Diff);
+            print_painted(
+                rt,
+                text.as_bytes(),
+                is_text && color.is_colored(is_terminal),
+            )?;
+        }
+        Task::Audit { trace, at } => {
+            let audit = audited(rt, trace.as_str(), *at, progress)?;
+            progress.end();
+            print_painted(rt, &audit, false)?;
+        }
+        Task::Sentences { trace, at, most } => {
+            let excerpt = Excerpt {
+                at: *at,
+                most: *most,
+            };
+            let text = explained(rt, trace.as_str(), &excerpt, progress)?;
+            progress.end();
+            print(rt, text.as_str())?;
         }
         Task::Why {
             trace,
             question,
             color,
-        } => why_named(rt, trace.as_str(), question, color.is_colored(is_terminal))?,
-        Task::Random(plan) => write_planned(rt, plan)?,
-        Task::Check { trace, most } => return check_named(rt, trace.as_str(), *most),
+        } => {
+            let text = answered(rt, trace.as_str(), question, progress)?;
+            progress.end();
+            print_painted(rt, text.as_bytes(), color.is_colored(is_terminal))?;
+        }
+        Task::Random(plan) => write_planned(rt, plan, progress)?,
+        Task::Check { trace, most } => return check_named(rt, trace.as_str(), *most, progress),
     }
     Ok(false)
 }
 
+/// Whether a command writes lines while it works, so that on one terminal progress would stand between them.
+fn writes_on_the_way(command: &Result<Task, TaskError>) -> bool {
+    matches!(command, Ok(Task::Check { .. } | Task::Random(_)))
+}
+
+/// Whether a terminal knows no escape sequences: `TERM` is `dumb`.
+fn is_dumb(rt: &(impl AllocGlobal + Env)) -> bool {
+    match env::var(rt, "TERM") {
+        Ok(name) => name.as_str() == "dumb",
+        Err(_) => false,
+    }
+}
+
 /// Whether a terminal is to be coloured: `NO_COLOR` is not set, or empty, and `TERM` is not `dumb`.
 fn takes_color(rt: &(impl AllocGlobal + Env)) -> bool {
-    if let Ok(text) = env::var(rt, "NO_COLOR") {
-        if !text.is_empty() {
-            return false;
-        }
-    }
-    match env::var(rt, "TERM") {
-        Ok(name) => name.as_str() != "dumb",
-        Err(_) => true,
+    match env::var(rt, "NO_COLOR") {
+        Ok(text) if !text.is_empty() => false,
+        _ => !is_dumb(rt),
     }
 }
 
 fn main(rt: HostRuntime) -> ExitCode {
     let is_terminal = rt.stdout().is_terminal() && takes_color(&rt);
-    let outcome = match read_command_line(&rt) {
-        Ok(task) => perform(&rt, &task, is_terminal),
+    let command = read_command_line(&rt);
+    let is_between = rt.stdout().is_terminal() && writes_on_the_way(&command);
+    let tells = rt.stderr().is_terminal() && !is_dumb(&rt) && !is_between;
+    let mut progress = Progress::new(&rt, rt.stderr(), tells, false);
+    let outcome = match command {
+        Ok(task) => perform(&rt, &task, is_terminal, &mut progress),
         Err(TaskError::NoMemory) => Err(ToolError::NoMemory),
         Err(TaskError::Help(text)) => print(&rt, text.as_str()).map(|_| false),
         Err(TaskError::Refused(text)) => {
@@ -291,6 +397,7 @@ fn main(rt: HostRuntime) -> ExitCode {
             return ExitCode::from(2);
         }
     };
+    progress.end();
     match outcome {
         Ok(found) => ExitCode::from(u8::from(found)),
         Err(error) => {

@@ -9,12 +9,12 @@ use Rattle.fpage.specs.declared.rights.Rights.{Rights}
 use Rattle.space.specs.declared.place.Place.{Place}
 use Rattle.space.specs.Place.{same_place}
 use Rattle.space.proofs.Places.{same_self, same_or_apart}
-use Rattle.model.specs.Holdings.{Held, Holdings, PlaceSet, at, is_held}
-use Rattle.model.specs.Derived.{is_under}
-use Rattle.model.specs.Items.{sources_of, add_counts, counts_of}
-use Rattle.model.specs.Strip.{is_narrowed, strip}
-use Rattle.model.specs.Grant.{renamed}
-use Rattle.model.specs.Lawful.{is_lawful}
+use Rattle.model.specs.Definitions.Holdings.{Held, Holdings, PlaceSet, at, is_held}
+use Rattle.model.specs.Definitions.Derived.{is_under}
+use Rattle.model.specs.Definitions.Items.{sources_of, add_counts, counts_of}
+use Rattle.model.specs.Definitions.Strip.{is_narrowed, strip}
+use Rattle.model.specs.Definitions.Grant.{renamed}
+use Rattle.model.specs.Definitions.Lawful.{is_lawful}
 use Rattle.model.proofs.LawfulParts.{IsLawful, lawful_parts}
 use Rattle.model.proofs.StripAt.{is_stripped}
 use Rattle.model.proofs.StripUnions.{strip_same}

@@ -3,9 +3,9 @@ use Rattle.std.proofs.Common.{◌≡◌, ℕ, ◌+◌, ◌*◌, ◌^◌, ◌<◌
 use Rattle.std.proofs.lemmas.List.{drop_more, drop_all}
 use Rattle.fpage.specs.Fpage.{Flexpage}
 use Rattle.fpage.specs.declared.item.Item.{Item}
-use Rattle.model.specs.Items.{Job, job_of, Counts, no_counts, add_counts}
-use Rattle.model.specs.Answers.{item_answer, send_answer}
-use Rattle.model.specs.SendLaws.{total}
+use Rattle.model.specs.Definitions.Items.{Job, job_of, Counts, no_counts, add_counts}
+use Rattle.model.specs.Definitions.Answers.{item_answer, send_answer}
+use Rattle.model.specs.Laws.SendLaws.{total}
 use Rattle.holdings.specs.Contents.{Contents, laid_out, left_with}
 use Rattle.holdings.specs.Layout.{OnlyGrows}
 use Rattle.holdings.proofs.CountSums.{add_assoc, add_none, none_add, total_sum}

@@ -7,10 +7,10 @@ use Rattle.std.proofs.lemmas.List.Elements.{All-filter}
 use Rattle.fpage.specs.Fpage.{Flexpage, IsFpageOf}
 use Rattle.fpage.specs.declared.rights.Rights.{Rights}
 use Rattle.space.specs.declared.place.Place.{Place}
-use Rattle.model.specs.Answers.{pages_in}
-use Rattle.model.specs.Calls.{Limits}
-use Rattle.model.specs.Holdings.{is_held}
-use Rattle.model.specs.Strip.{strip}
+use Rattle.model.specs.Definitions.Answers.{pages_in}
+use Rattle.model.specs.Definitions.Calls.{Limits}
+use Rattle.model.specs.Definitions.Holdings.{is_held}
+use Rattle.model.specs.Definitions.Strip.{strip}
 use Rattle.model.proofs.LawfulParts.{lawful_parts}
 use Rattle.model.proofs.StripUnions.{strip_same}
 use Rattle.holdings.specs.Contents.{Contents, IsConsistent, IsStripped}

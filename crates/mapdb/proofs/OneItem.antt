@@ -4,13 +4,13 @@ use Rattle.fpage.specs.Rights.{all_rights}
 use Rattle.fpage.specs.declared.item.ItemKind.TheVariants.{Grant}
 use Rattle.fpage.specs.declared.rights.Rights.{Rights}
 use Rattle.space.specs.declared.place.Place.{Place}
-use Rattle.model.specs.Calls.{Limits}
-use Rattle.model.specs.Holdings.{Holdings}
-use Rattle.model.specs.Lawful.{is_lawful}
-use Rattle.model.specs.Items.{Job, Counts, flush, going, add_counts}
-use Rattle.model.specs.Answers.{item_answer}
-use Rattle.model.specs.SendLaws.{total}
-use Rattle.model.specs.Strip.{strip}
+use Rattle.model.specs.Definitions.Calls.{Limits}
+use Rattle.model.specs.Definitions.Holdings.{Holdings}
+use Rattle.model.specs.Definitions.Lawful.{is_lawful}
+use Rattle.model.specs.Definitions.Items.{Job, Counts, flush, going, add_counts}
+use Rattle.model.specs.Definitions.Answers.{item_answer}
+use Rattle.model.specs.Laws.SendLaws.{total}
+use Rattle.model.specs.Definitions.Strip.{strip}
 use Rattle.model.proofs.LawfulParts.{IsLawful, lawful_parts, lawful_from}
 use Rattle.model.proofs.StripAt.{lawful_strip}
 use Rattle.holdings.specs.declared.item_pages.ItemPages.{ItemPages}

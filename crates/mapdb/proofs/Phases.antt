@@ -4,7 +4,7 @@ use Rattle.std.specs.List.{All}
 use Rattle.std.proofs.lemmas.Bool.{and_parts, or_cases}
 use Rattle.std.proofs.lemmas.Bool.Decides.{nat_tests}
 use Rattle.std.proofs.Math.Nat.{pow-le-pow_right}
-use Rattle.model.specs.Records.{are_limits}
+use Rattle.model.specs.Definitions.Records.{are_limits}
 use Rattle.std.proofs.lemmas.List.Elements.{All-nil, All-cons}
 use Rattle.fpage.specs.Rights.{is_empty, meet, all_rights, without}
 use Rattle.fpage.specs.declared.item.ItemKind.{ItemKind}
@@ -13,14 +13,14 @@ use Rattle.space.specs.declared.place.Place.{Place}
 use Rattle.space.specs.Place.{same_place}
 use Rattle.space.specs.Directory.{pages_of}
 use Rattle.space.proofs.Places.{same_is}
-use Rattle.model.specs.Holdings.{Held, Holdings, at, is_held}
-use Rattle.model.specs.Calls.{Limits}
-use Rattle.model.specs.Items.{Job, Pair, pairs_from, is_map, Fate, absent, norights, to_origin, extends, goes, fate_of, fate, is_going, going, sources_of, targets_of, flush, Counts, no_counts, add_counts, counts_of, counts_from, counts}
-use Rattle.model.specs.Map.{link, extend, map_pair, map_pairs}
-use Rattle.model.specs.Grant.{moving, renamed}
-use Rattle.model.specs.Strip.{strip}
-use Rattle.model.specs.Answers.{after_job}
-use Rattle.model.specs.SendLaws.{In, total}
+use Rattle.model.specs.Definitions.Holdings.{Held, Holdings, at, is_held}
+use Rattle.model.specs.Definitions.Calls.{Limits}
+use Rattle.model.specs.Definitions.Items.{Job, Pair, pairs_from, is_map, Fate, absent, norights, to_origin, extends, goes, fate_of, fate, is_going, going, sources_of, targets_of, flush, Counts, no_counts, add_counts, counts_of, counts_from, counts}
+use Rattle.model.specs.Definitions.Map.{link, extend, map_pair, map_pairs}
+use Rattle.model.specs.Definitions.Grant.{moving, renamed}
+use Rattle.model.specs.Definitions.Strip.{strip}
+use Rattle.model.specs.Definitions.Answers.{after_job}
+use Rattle.model.specs.Laws.SendLaws.{In, total}
 use Rattle.model.proofs.LawfulParts.{IsLawful}
 use Rattle.model.proofs.Jobs as jobs
 use Rattle.model.proofs.Jobs.{IsJob, in_pairs_from, paired_from, total_counts}

@@ -1,10 +1,10 @@
 -- The words of an unmap by the recursion and by strip are the same.
 use Rattle.std.proofs.Common.{◌≡◌, ℕ, Bool, List, [], ◌∷◌, refl, ap, ◌∙◌}
 use Rattle.fpage.specs.Fpage.{Flexpage}
-use Rattle.model.specs.Holdings.{Holdings}
-use Rattle.model.specs.Answers.{pages_in}
-use Rattle.model.specs.Strip.{strip, strip_word}
-use Rattle.model.specs.Recursion.{Visited}
+use Rattle.model.specs.Definitions.Holdings.{Holdings}
+use Rattle.model.specs.Definitions.Answers.{pages_in}
+use Rattle.model.specs.Definitions.Strip.{strip, strip_word}
+use Rattle.model.specs.Definitions.Recursion.{Visited}
 use Rattle.model.proofs.LawfulParts.{IsLawful}
 use Rattle.model.proofs.StripAt.{lawful_strip}
 use Rattle.model.proofs.Recursions.{recursion_is_strip}

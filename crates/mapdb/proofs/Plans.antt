@@ -2,9 +2,9 @@
 use Rattle.std.proofs.Common.{◌≡◌, ℕ, zero, suc, ◌+◌, ◌-◌, ◌<◌, ◌≤◌, List, [], ◌∷◌, ◌++◌, length, None, refl, sym, ap, ◌∙◌, subst, arith}
 use Rattle.std.proofs.lemmas.List.{append_assoc, append-nil}
 use Rattle.space.specs.declared.place.Place.{Place}
-use Rattle.model.specs.Holdings.{Holdings, at}
-use Rattle.model.specs.Items.{Job, Pair, next_page, pairs_from, Fate, absent, norights, to_origin, extends, goes, fate, fate_of, Counts, no_counts, add_counts}
-use Rattle.model.specs.SendLaws.{total}
+use Rattle.model.specs.Definitions.Holdings.{Holdings, at}
+use Rattle.model.specs.Definitions.Items.{Job, Pair, next_page, pairs_from, Fate, absent, norights, to_origin, extends, goes, fate, fate_of, Counts, no_counts, add_counts}
+use Rattle.model.specs.Laws.SendLaws.{total}
 use Rattle.holdings.specs.declared.transfer.Transfer.{Transfer}
 use Rattle.holdings.specs.Sending.{page_on}
 use Rattle.holdings.proofs.CountSums.{add_assoc, add_none, none_add, total_sum}

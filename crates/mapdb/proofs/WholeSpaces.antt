@@ -8,10 +8,10 @@ use Rattle.fpage.specs.Rights.{all_rights}
 use Rattle.fpage.specs.declared.rights.Rights.{Rights}
 use Rattle.space.specs.Directory.{pages_of}
 use Rattle.space.specs.declared.place.Place.{Place}
-use Rattle.model.specs.Answers.{pages_in, in_space}
-use Rattle.model.specs.Calls.{Limits}
-use Rattle.model.specs.Holdings.{Held, at, is_held}
-use Rattle.model.specs.Records.{are_limits}
+use Rattle.model.specs.Definitions.Answers.{pages_in, in_space}
+use Rattle.model.specs.Definitions.Calls.{Limits}
+use Rattle.model.specs.Definitions.Holdings.{Held, at, is_held}
+use Rattle.model.specs.Definitions.Records.{are_limits}
 use Rattle.holdings.specs.Contents.{Contents, IsConsistent, IsStripped}
 use Rattle.holdings.specs.Places.{listing}
 use Rattle.holdings.proofs.Contents.Listing.{listed_within}

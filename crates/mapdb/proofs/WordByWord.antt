@@ -5,9 +5,9 @@ use Rattle.std.specs.List.{zip}
 use Rattle.fpage.specs.Control.{with_status}
 use Rattle.fpage.specs.Fpage.{Flexpage}
 use Rattle.fpage.specs.declared.rights.Rights.{Rights}
-use Rattle.model.specs.Answers.{UnmapAnswer, pages_in, unmap_answer}
-use Rattle.model.specs.Holdings.{Holdings}
-use Rattle.model.specs.Strip.{strip, strip_word}
+use Rattle.model.specs.Definitions.Answers.{UnmapAnswer, pages_in, unmap_answer}
+use Rattle.model.specs.Definitions.Holdings.{Holdings}
+use Rattle.model.specs.Definitions.Strip.{strip, strip_word}
 use Rattle.holdings.specs.Contents.{Contents, IsStripped, left_with}
 use Rattle.mapdb.specs.State.{unmap_status, unmap_left}
 

@@ -4,9 +4,9 @@ use Rattle.std.specs.List.{zip}
 use Rattle.fpage.specs.Control.{with_status}
 use Rattle.fpage.specs.Fpage.{Flexpage}
 use Rattle.fpage.specs.declared.rights.Rights.{Rights}
-use Rattle.model.specs.Answers.{UnmapAnswer, unmap_answer, pages_in}
-use Rattle.model.specs.Holdings.{Holdings}
-use Rattle.model.specs.Strip.{strip, strip_word}
+use Rattle.model.specs.Definitions.Answers.{UnmapAnswer, unmap_answer, pages_in}
+use Rattle.model.specs.Definitions.Holdings.{Holdings}
+use Rattle.model.specs.Definitions.Strip.{strip, strip_word}
 use Rattle.mapdb.specs.Calls.{words_with}
 use Rattle.mapdb.specs.State.{unmap_status, unmap_left}
 

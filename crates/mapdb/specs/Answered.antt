@@ -1,7 +1,7 @@
 -- What comes of a call of a database.
 use Rattle.std.specs.Prelude.{◌≡◌, ⊤, true, false, None, Result, Ok, Err}
-use Rattle.model.specs.Answers.{answer, call_refusal}
-use Rattle.model.specs.Calls.{Call, send, access, unmap, clear}
+use Rattle.model.specs.Definitions.Answers.{answer, call_refusal}
+use Rattle.model.specs.Definitions.Calls.{Call, send, access, unmap, clear}
 use Rattle.holdings.specs.Layout.{Layout, OnlyGrows}
 use Rattle.mapdb.specs.Calls.{reply_of}
 use Rattle.mapdb.specs.State.{State, halted, laid_out, left_with}

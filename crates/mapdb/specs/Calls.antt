@@ -5,8 +5,8 @@ use Rattle.fpage.specs.Control.{with_status}
 use Rattle.fpage.specs.Fpage.{Flexpage, IsFpageOf}
 use Rattle.fpage.specs.declared.rights.Rights.{Rights}
 use Rattle.fpage.specs.declared.error.FpageError.{FpageError}
-use Rattle.model.specs.Calls as calls
-use Rattle.model.specs.Calls.{Limits, Call, send, access, unmap, clear, Refusal, bad_size, misaligned, out_of_space, not_an_item, bad_control, no_such_space, same_space, no_window, bad_record, Reply, sent, accessed, unmapped, cleared, refused}
+use Rattle.model.specs.Definitions.Calls as calls
+use Rattle.model.specs.Definitions.Calls.{Limits, Call, send, access, unmap, clear, Refusal, bad_size, misaligned, out_of_space, not_an_item, bad_control, no_such_space, same_space, no_window, bad_record, Reply, sent, accessed, unmapped, cleared, refused}
 use Rattle.holdings.specs.Places.{IsWithin}
 use Rattle.mapdb.specs.Meaning.{counts_of}
 use Rattle.mapdb.specs.declared.call.Call.{Call as TheCall}

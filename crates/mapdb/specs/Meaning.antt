@@ -1,5 +1,5 @@
 -- What the types of the database stand for in the definitions.
-use Rattle.model.specs.Items.{Counts}
+use Rattle.model.specs.Definitions.Items.{Counts}
 use Rattle.mapdb.specs.declared.reply.SendReply.{SendReply}
 
 -- the six counts that a reply has

@@ -8,11 +8,11 @@ use Rattle.fpage.specs.Rights.{all_rights, without}
 use Rattle.space.specs.declared.place.Place.{Place}
 use Rattle.space.specs.Directory.{pages_of}
 use Rattle.space.specs.Place.{same_place}
-use Rattle.model.specs.Grant.{renamed}
-use Rattle.model.specs.Holdings.{Holdings, PlaceSet}
-use Rattle.model.specs.Items.{Job, Pair, pairs_from, sources_of, Fate, absent, norights, to_origin, extends, goes, fate, Counts, no_counts, add_counts}
-use Rattle.model.specs.SendLaws.{total}
-use Rattle.model.specs.Strip.{strip}
+use Rattle.model.specs.Definitions.Grant.{renamed}
+use Rattle.model.specs.Definitions.Holdings.{Holdings, PlaceSet}
+use Rattle.model.specs.Definitions.Items.{Job, Pair, pairs_from, sources_of, Fate, absent, norights, to_origin, extends, goes, fate, Counts, no_counts, add_counts}
+use Rattle.model.specs.Laws.SendLaws.{total}
+use Rattle.model.specs.Definitions.Strip.{strip}
 use Rattle.holdings.specs.declared.item_pages.ItemPages.{ItemPages}
 use Rattle.holdings.specs.declared.transfer.Transfer.{Transfer}
 use Rattle.holdings.specs.declared.transfer_counts.TransferCounts.{TransferCounts}

@@ -2,12 +2,12 @@
 use Rattle.std.specs.Prelude.{◌≡◌, ◌⊎◌, ℕ, Bool, false, true, Result, Ok, Err, IfErr, Option, Some, None, option_map, if◌then◌else◌, List, [], ◌∷◌}
 use Rattle.fpage.specs.Fpage.{Flexpage}
 use Rattle.fpage.specs.declared.rights.Rights.{Rights}
-use Rattle.model.specs.Answers.{pages_in, call_refusal}
-use Rattle.model.specs.Calls.{Limits, Call, unmap, Refusal, same_space, no_window}
-use Rattle.model.specs.Holdings.{Holdings}
-use Rattle.model.specs.Recursion.{recur}
-use Rattle.model.specs.Replay.{start}
-use Rattle.model.specs.Strip.{strip, strip_word}
+use Rattle.model.specs.Definitions.Answers.{pages_in, call_refusal}
+use Rattle.model.specs.Definitions.Calls.{Limits, Call, unmap, Refusal, same_space, no_window}
+use Rattle.model.specs.Definitions.Holdings.{Holdings}
+use Rattle.model.specs.Definitions.Recursion.{recur}
+use Rattle.model.specs.Definitions.Replay.{start}
+use Rattle.model.specs.Definitions.Strip.{strip, strip_word}
 use Rattle.holdings.specs.Contents.{Contents}
 use Rattle.holdings.specs.Layout.{Layout}
 use Rattle.mapdb.specs.declared.error.DbError.{DbError}

@@ -1,8 +1,8 @@
 //! A call, answered.
 
 ghost use Rattle.std.specs.Prelude.{◌≡◌, false, IfOk, IfErr};
-ghost use Rattle.model.specs.Answers.{clear_answer};
-ghost use Rattle.model.specs.Calls.{clear};
+ghost use Rattle.model.specs.Definitions.Answers.{clear_answer};
+ghost use Rattle.model.specs.Definitions.Calls.{clear};
 ghost use Rattle.mapdb.specs.Answered.{refused_by};
 
 use crate::call::{Call, Refusal, Sending, Unmap};
@@ -19,12 +19,12 @@ use std::mem;
 #[derive(Drop)]
 pub struct Scratch {
     /// For the words of a reply.
-    words: Vec<u32>,
+    pub(crate) words: Vec<u32>,
 }
 
 impl Scratch {
     ghost use Rattle.std.specs.Prelude.{◌≡◌};
-    ghost use Rattle.model.specs.Calls.{unmapped};
+    ghost use Rattle.model.specs.Definitions.Calls.{unmapped};
     ghost use Rattle.mapdb.specs.Calls.{reply_of};
 
     /// No memory yet.
@@ -35,7 +35,7 @@ impl Scratch {
     }
 
     /// The reply that the words are.
-    fn reply(&mut self, alloc: Global) -> Reply
+    pub(crate) fn reply(&mut self, alloc: Global) -> Reply
         ensures { reply_of result ≡ unmapped self.old.words.items }
     {
         Reply::Unmapped(mem::replace(&mut self.words, Vec::new(alloc)))
@@ -51,10 +51,10 @@ impl Scratch {
 
 impl Database {
     ghost use Rattle.std.specs.Prelude.{◌≡◌, false, IfOk, IfErr, IsErrOf, OnOk};
-    ghost use Rattle.model.specs.Answers.{clear_answer};
+    ghost use Rattle.model.specs.Definitions.Answers.{clear_answer};
     ghost use Rattle.std.specs.List.{All};
     ghost use Rattle.fpage.specs.Fpage.{IsFpageOf};
-    ghost use Rattle.model.specs.Calls.{access as access_to, clear};
+    ghost use Rattle.model.specs.Definitions.Calls.{access as access_to, clear};
     ghost use Rattle.holdings.specs.Places.{IsWithin};
     ghost use Rattle.mapdb.specs.Answered.{IsAnswered, IsUnanswered, IsSendOrAccess};
     ghost use Rattle.mapdb.specs.Calls.{call_of, send_of, unmap_of, AreWordsWithin, IsWithinLimits};
@@ -93,7 +93,7 @@ impl Database {
                 };
                 self.answer_send(alloc, &send, workers)
             }
-            Call::Access { place, access } => self.answer_access(alloc, *place, *access, workers),
+            Call::Access { place, access } => self.answer_access(alloc, (*place, *access), workers),
             Call::Unmap {
                 space,
                 control,
@@ -169,40 +169,19 @@ impl Database {
     pub fn answer_access<W: Workers>(
         &mut self,
         alloc: Global,
-        place: Place,
-        access: Access,
+        access: (Place, Access),
         workers: &W,
     ) -> Result<Reply, DbError>
-        requires within { IsWithin self.old.limits place }
-        ensures ok { IfOk result (IsAnswered self.old (access_to place access) self.new) }
-        ensures err { IfErr result (IsUnanswered self.old (access_to place access) self.new) }
+        requires within { IsWithin self.old.limits access.0 }
+        ensures ok { IfOk result (IsAnswered self.old (access_to access.0 access.1) self.new) }
+        ensures err { IfErr result (IsUnanswered self.old (access_to access.0 access.1) self.new) }
         ensures needs_no_worker { W.starts_none workers.now → IsErrOf result NoWorker → ⊥ }
     {
         if self.is_halted() {
             return Err(DbError::Halted);
         }
-        let answers = self.access_all(alloc, &[(place, access)], workers)?;
+        let answers = self.access_all(alloc, &[access], workers)?;
         Ok(Reply::Accessed(answers[0]))
-    }
-
-    /// Answers an unmap, as `answer` does.
-    pub fn answer_words<W: Workers>(
-        &mut self,
-        alloc: Global,
-        unmap: &Unmap<'_>,
-        words: &[u32],
-        scratch: &mut Scratch,
-        workers: &W,
-    ) -> Result<Reply, DbError>
-        requires within { AreWordsWithin self.old.limits words.now unmap.now.fpages.now }
-        ensures ok { IfOk result (IsAnswered self.old (unmap_of unmap.now words.now) self.new) }
-        ensures err { IfErr result (IsUnanswered self.old (unmap_of unmap.now words.now) self.new) }
-        ensures needs_no_worker { W.starts_none workers.now → IsErrOf result NoWorker → ⊥ }
-    {
-        match self.answer_unmap(alloc, unmap, words, &mut scratch.words, workers) {
-            Ok(()) => Ok(scratch.reply(alloc)),
-            Err(error) => refused_by(error),
-        }
     }
 
     /// Answers an unmap, as `answer_plain` does.

@@ -51,6 +51,15 @@ pub struct Unmap<'a> {
     pub fpages: &'a [Fpage],
 }
 
+/// One word of an unmap.
+#[derive(Clone, Copy)]
+pub struct UnmapWord {
+    pub space: u16,
+    /// Whether the pages themselves lose the rights too.
+    pub flush: bool,
+    pub fpage: Fpage,
+}
+
 /// Why a call, or a record that would ask for one, is refused. It changes nothing.
 #[derive(Clone, Copy, Debug, PartialEq, Eq)]
 pub enum Refusal {

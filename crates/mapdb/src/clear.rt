@@ -3,10 +3,11 @@
 ghost use Rattle.std.specs.Prelude.{◌≡◌, ◌<◌, true, IfOk, IsErrOf};
 ghost use Rattle.fpage.specs.Fpage.{IsSpaceBits, pages_of_space};
 ghost use Rattle.fpage.specs.Rights.{all_rights};
-ghost use Rattle.model.specs.Answers.{in_space};
+ghost use Rattle.model.specs.Definitions.Answers.{in_space};
 ghost use Rattle.crew.specs.declared.error.CrewError.TheVariants.{NoWorker};
 ghost use Rattle.holdings.specs.Contents.{IsStripped};
 
+use crate::call::UnmapWord;
 use crate::unmap::{unmap_word, unmap_word_by_recursion};
 use crew::{CrewError, Workers};
 use fpage::{Fpage, Rights};
@@ -30,8 +31,12 @@ pub fn clear_space<W: Workers>(
     ensures stripped { IfOk result (IsStripped held (in_space space) all_rights true) }
     ensures needs_no_worker { W.starts_none workers.now → IsErrOf result NoWorker → ⊥ }
 {
-    let complete = complete_space(held.limits().bits);
-    unmap_word(alloc, held, space, true, &complete, workers)
+    let word = UnmapWord {
+        space,
+        flush: true,
+        fpage: complete_space(held.limits().bits),
+    };
+    unmap_word(alloc, held, &word, workers)
 }
 
 /// The same by recursion, on the calling thread.
@@ -45,8 +50,12 @@ pub fn clear_space_by_recursion(
     requires { space < held.limits.spaces }
     ensures { IfOk result (IsStripped held (in_space space) all_rights true) }
 {
-    let complete = complete_space(held.limits().bits);
-    unmap_word_by_recursion(alloc, held, space, true, &complete)
+    let word = UnmapWord {
+        space,
+        flush: true,
+        fpage: complete_space(held.limits().bits),
+    };
+    unmap_word_by_recursion(alloc, held, &word)
 }
 
 /// The fpage of all pages of a space of `2^bits` bytes, with all rights.

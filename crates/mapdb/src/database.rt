@@ -1,8 +1,9 @@
-use crate::call::{Sending, Unmap};
+use crate::answer::Scratch;
+use crate::call::{Refusal, Sending, Unmap};
 use crate::clear::{clear_space, clear_space_by_recursion};
 use crate::error::DbError;
 use crate::item::work_items;
-use crate::reply::SendReply;
+use crate::reply::{Reply, SendReply};
 use crate::unmap::{
     answer_unmap, put_status, unmap_words, unmap_words_by_recursion, unmap_words_watched,
 };
@@ -43,15 +44,16 @@ impl Database {
     ghost use Rattle.pieces.specs.declared.piece.Piece.{Piece};
     ghost use Rattle.holdings.specs.Observing.{IsPhaseOf};
     ghost use Rattle.std.specs.List.{All, zip};
-    ghost use Rattle.model.specs.Holdings.{at, origin_at};
-    ghost use Rattle.model.specs.Records.{are_limits};
-    ghost use Rattle.model.specs.Answers.{send_answer, in_space, unmap_answer, clear_answer};
+    ghost use Rattle.model.specs.Definitions.Holdings.{at, origin_at};
+    ghost use Rattle.model.specs.Definitions.Records.{are_limits};
+    ghost use Rattle.model.specs.Definitions.Answers.{send_answer, in_space, unmap_answer, clear_answer};
+    ghost use Rattle.mapdb.specs.Answered.{IsAnswered, IsUnanswered};
     ghost use Rattle.mapdb.specs.Calls.{AreWordsWithin, unmap_of};
-    ghost use Rattle.model.specs.Calls.{send, clear};
-    ghost use Rattle.model.specs.Recursion.{recur};
+    ghost use Rattle.model.specs.Definitions.Calls.{send, clear};
+    ghost use Rattle.model.specs.Definitions.Recursion.{recur};
     ghost use Rattle.fpage.specs.Fpage.{IsFpageOf};
     ghost use Rattle.fpage.specs.Rights.{all_rights};
-    ghost use Rattle.model.specs.Lawful.{is_lawful};
+    ghost use Rattle.model.specs.Definitions.Lawful.{is_lawful};
     ghost use Rattle.holdings.specs.Meaning.{limits_of};
     ghost use Rattle.holdings.specs.Layout.{IsLayoutOf, OnlyGrows, index_in};
     ghost use Rattle.holdings.specs.Places.{IsWithin, listing};
@@ -325,39 +327,33 @@ impl Database {
         Ok(status)
     }
 
-    /// The same as `unmap`; each word of the reply is the word with the status of its pages in place of its rights.
-    ///
-    /// Refused as `unmap` is. Then the reply has anything.
-    pub(crate) fn answer_unmap<W: Workers>(
+    /// Answers an unmap, as `answer` does.
+    pub fn answer_words<W: Workers>(
         &mut self,
         alloc: Global,
         unmap: &Unmap<'_>,
         words: &[u32],
-        reply: &mut Vec<u32>,
+        scratch: &mut Scratch,
         workers: &W,
-    ) -> Result<(), DbError>
+    ) -> Result<Reply, DbError>
         requires within { AreWordsWithin self.old.limits words.now unmap.now.fpages.now }
-        ensures refused { IsRefused (refusal self.old (unmap_of unmap.now words.now)) self.old self.new result }
-        ensures no_memory { IsErrOf result NoMemory → self.new ≡ halted self.old }
-        ensures no_worker { IsErrOf result NoWorker → self.new ≡ halted self.old }
+        ensures ok { IfOk result (IsAnswered self.old (unmap_of unmap.now words.now) self.new) }
+        ensures err { IfErr result (IsUnanswered self.old (unmap_of unmap.now words.now) self.new) }
         ensures needs_no_worker { W.starts_none workers.now → IsErrOf result NoWorker → ⊥ }
-        ensures told { OnOk result (record { words = reply.new.items; left = self.new.holdings }
-            ≡ unmap_answer unmap.now.space unmap.now.control.flush (zip words.now unmap.now.fpages.now) self.old.holdings) }
-        ensures left { OnOk result (self.new ≡ left_with self.old self.new.holdings) }
     {
         if self.held.is_none() {
             return Err(DbError::Halted);
         }
         if u32::from(unmap.space) >= self.limits().spaces {
-            return Err(DbError::NoSuchSpace);
+            return Ok(Reply::Refused(Refusal::NoSuchSpace));
         }
         let held = self.held.take().unwrap();
-        let held = answer_unmap(alloc, held, unmap, words, reply, workers)?;
+        let held = answer_unmap(alloc, held, unmap, words, &mut scratch.words, workers)?;
         self.held = Some(held);
-        Ok(())
+        Ok(scratch.reply(alloc))
     }
 
-    /// The same, as `unmap_plain` works it.
+    /// The same as `unmap_plain`; each word of the reply is the word with the status of its pages in place of its rights.
     ///
     /// Refused as `unmap_plain` is. Then the reply has anything.
     pub(crate) fn answer_unmap_plain(
@@ -391,38 +387,31 @@ impl Database {
     pub fn unmap_watched<R: Threads + Wait, G: Gate, O: Observe>(
         &mut self,
         alloc: Global,
-        space: u16,
-        control: Control,
-        fpages: &[Fpage],
+        unmap: &Unmap<'_>,
         crew: &Crew<'_, R, G>,
         observer: &O,
     ) -> Result<Vec<Rights>, DbError>
-        requires bits { All (IsFpageOf self.old.limits.bits) fpages.now }
-        requires told { (i : ℕ) (words : List ℕ) (pieces : List Piece) → i < length fpages.now
-            → IsPhaseOf self.old.layout (unmap_left space control.flush (take i fpages.now) self.old.holdings)
-            (unmap_left space control.flush (take (i + 1) fpages.now) self.old.holdings) words pieces
+        requires bits { All (IsFpageOf self.old.limits.bits) unmap.now.fpages.now }
+        requires told { (i : ℕ) (words : List ℕ) (pieces : List Piece) → i < length unmap.now.fpages.now
+            → IsPhaseOf self.old.layout (unmap_left unmap.now.space unmap.now.control.flush (take i unmap.now.fpages.now) self.old.holdings)
+            (unmap_left unmap.now.space unmap.now.control.flush (take (i + 1) unmap.now.fpages.now) self.old.holdings) words pieces
             → O.told observer.now words pieces }
-        ensures refused { IsRefused (unmap_refusal self.old space) self.old self.new result }
+        ensures refused { IsRefused (unmap_refusal self.old unmap.now.space) self.old self.new result }
         ensures no_memory { IsErrOf result NoMemory → self.new ≡ halted self.old }
         ensures no_worker { IsErrOf result NoWorker → self.new ≡ halted self.old }
         ensures status { IfOk result (λ status.
-            status.items ≡ unmap_status space control.flush fpages.now self.old.holdings) }
+            status.items ≡ unmap_status unmap.now.space unmap.now.control.flush unmap.now.fpages.now self.old.holdings) }
         ensures left { OnOk result (self.new ≡
-            left_with self.old (unmap_left space control.flush fpages.now self.old.holdings)) }
+            left_with self.old (unmap_left unmap.now.space unmap.now.control.flush unmap.now.fpages.now self.old.holdings)) }
     {
         if self.held.is_none() {
             return Err(DbError::Halted);
         }
-        if u32::from(space) >= self.limits().spaces {
+        if u32::from(unmap.space) >= self.limits().spaces {
             return Err(DbError::NoSuchSpace);
         }
         let held = self.held.take().unwrap();
-        let unmap = Unmap {
-            space,
-            control,
-            fpages,
-        };
-        let (held, status) = unmap_words_watched(alloc, held, &unmap, crew, observer)?;
+        let (held, status) = unmap_words_watched(alloc, held, unmap, crew, observer)?;
         self.held = Some(held);
         Ok(status)
     }

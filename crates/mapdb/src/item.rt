@@ -1,12 +1,19 @@
 //! The items of a send, one after another, each in phases.
 
-ghost use Rattle.std.specs.Prelude.{◌≡◌, ◌<◌, IfOk, IsErrOf};
+ghost use Rattle.std.specs.Prelude.{◌≡◌, ◌<◌, IfOk, IsErrOf, ◌^◌};
 ghost use Rattle.std.specs.List.{All};
 ghost use Rattle.fpage.specs.Fpage.{IsFpageOf};
-ghost use Rattle.model.specs.Answers.{item_answer, send_answer};
+ghost use Rattle.model.specs.Definitions.Answers.{item_answer, send_answer};
 ghost use Rattle.crew.specs.declared.error.CrewError.TheVariants.{NoWorker};
 ghost use Rattle.holdings.specs.Sending.{job_of_pages, AreItemPages};
-ghost use Rattle.mapdb.specs.Sending.{IsSent};
+ghost use Rattle.mapdb.specs.Sending.{IsSent, counts_before_flush, transfers_of, ends_of};
+ghost use Rattle.model.specs.Laws.SendLaws.{total};
+ghost use Rattle.mapdb.specs.Meaning.{counts_of};
+ghost use Rattle.fpage.specs.declared.item.ItemKind.TheVariants.{Grant};
+ghost use Rattle.space.specs.declared.place.Place.{Place};
+ghost use Rattle.holdings.specs.Contents.{IsConsistent};
+ghost use Rattle.holdings.specs.Places.{any_of};
+ghost use Rattle.mapdb.specs.declared.plan.End.TheVariants.{Source, Target};
 
 use crate::call::Sending;
 use crate::item_pages::item_pages;
@@ -40,7 +47,7 @@ pub fn work_items<W: Workers>(
     let mut held = held;
     let mut reply = SendReply::none();
     for item in send.items {
-        let pages = item_pages(send.from, send.to, &send.window, item);
+        let pages = item_pages(send, item);
         let (left, worked) = if pages.count == 1 {
             work_page(alloc, held, &pages, workers)?
         } else {
@@ -51,10 +58,6 @@ pub fn work_items<W: Workers>(
     }
     Ok((held, reply))
 }
-
-ghost use Rattle.std.specs.Prelude.{◌^◌};
-ghost use Rattle.model.specs.SendLaws.{total};
-ghost use Rattle.mapdb.specs.Meaning.{counts_of};
 
 /// Works one item: the outcome of each page from the start, and then the phases.
 ///
@@ -142,13 +145,6 @@ struct Phases<'a> {
     /// The sources of those that go, where the item is a grant.
     sources: &'a [Place],
 }
-
-ghost use Rattle.fpage.specs.declared.item.ItemKind.TheVariants.{Grant};
-ghost use Rattle.space.specs.declared.place.Place.{Place};
-ghost use Rattle.holdings.specs.Contents.{IsConsistent};
-ghost use Rattle.holdings.specs.Places.{any_of};
-ghost use Rattle.mapdb.specs.declared.plan.End.TheVariants.{Source, Target};
-ghost use Rattle.mapdb.specs.Sending.{counts_before_flush, transfers_of, ends_of};
 
 /// Works the phases of an item: the flush of the targets that are replaced; then those pages whose sources are still held (profile) are
 /// mapped, or lose what a grant withholds and move.

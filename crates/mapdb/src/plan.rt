@@ -1,12 +1,12 @@
 //! What is to be done for an item, as things stand at its start.
 
-ghost use Rattle.std.specs.Prelude.{◌≡◌, ◌∷◌, [], IfOk, MatchOption};
+ghost use Rattle.std.specs.Prelude.{◌≡◌, ◌∷◌, [], IfOk, MatchOption, ◌≤◌, OnOk};
 ghost use Rattle.holdings.specs.Contents.{IsConsistent};
 ghost use Rattle.holdings.specs.Sending.{AreItemPages, fate_of_outcome, job_of_pages};
 ghost use Rattle.holdings.specs.Places.{any_of};
 ghost use Rattle.space.specs.declared.place.Place.{Place};
 ghost use Rattle.mapdb.specs.Meaning.{counts_of};
-ghost use Rattle.mapdb.specs.Sending.{counts_before_flush, transfer_of, transfers_of, end_of, ends_of};
+ghost use Rattle.mapdb.specs.Sending.{counts_before_flush, transfer_of, transfers_of, end_of, ends_of, IsDecided};
 
 use crate::reply::SendReply;
 use holdings::{Holdings, ItemPages, Outcome, Transfer};
@@ -47,9 +47,6 @@ pub fn plan_item(alloc: Global, held: &Holdings, pages: &ItemPages) -> Result<Pl
     }
     Ok(plan)
 }
-
-ghost use Rattle.std.specs.Prelude.{◌≤◌, OnOk};
-ghost use Rattle.mapdb.specs.Sending.{IsDecided};
 
 /// Decides the outcomes of some pages of an item, when all before them are decided.
 fn plan_pages(

@@ -1,6 +1,6 @@
 ghost use Rattle.std.specs.Prelude.{◌≡◌, ◌+◌, ◌^◌, ◌<◌};
-ghost use Rattle.model.specs.Items.{no_counts, add_counts};
-ghost use Rattle.model.specs.SendLaws.{total};
+ghost use Rattle.model.specs.Definitions.Items.{no_counts, add_counts};
+ghost use Rattle.model.specs.Laws.SendLaws.{total};
 ghost use Rattle.holdings.specs.Meaning as phase;
 ghost use Rattle.holdings.specs.Sending.{fate_of_outcome};
 ghost use Rattle.mapdb.specs.Meaning.{counts_of};

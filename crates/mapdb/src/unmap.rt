@@ -1,17 +1,20 @@
 //! The words of an unmap, one after another.
 
-ghost use Rattle.std.specs.Prelude.{◌≡◌, ◌<◌, IfOk, OnOk, IsErrOf};
+ghost use Rattle.std.specs.Prelude.{◌≡◌, ◌<◌, IfOk, OnOk, IsErrOf, ℕ, ◌+◌, List, length, take};
 ghost use Rattle.std.specs.List.{All, zip};
 ghost use Rattle.fpage.specs.Fpage.{IsFpageOf};
-ghost use Rattle.model.specs.Answers.{pages_in, unmap_answer};
+ghost use Rattle.model.specs.Definitions.Answers.{pages_in, unmap_answer};
 ghost use Rattle.crew.specs.declared.error.CrewError.TheVariants.{NoWorker};
 ghost use Rattle.holdings.specs.Contents.{IsStripped, left_with};
 ghost use Rattle.mapdb.specs.Calls.{AreWordsWithin, words_with};
 ghost use Rattle.mapdb.specs.State.{unmap_status, unmap_left};
+ghost use Rattle.pieces.specs.declared.piece.Piece.{Piece};
+ghost use Rattle.model.specs.Definitions.Strip.{strip};
+ghost use Rattle.holdings.specs.Observing.{IsPhaseOf};
 
-use crate::call::Unmap;
+use crate::call::{Unmap, UnmapWord};
 use crew::{Crew, CrewError, Gate, Observe, Workers};
-use fpage::{Fpage, Rights, with_status};
+use fpage::{Rights, with_status};
 use holdings::Holdings;
 use space::{NoMemory, Place};
 use std::alloc::{AllocError, Global};
@@ -38,9 +41,14 @@ pub fn unmap_words<W: Workers>(
     let flush = unmap.control.is_flush();
     let mut status = Vec::with_capacity(alloc, unmap.fpages.len())?;
     for fpage in unmap.fpages {
-        let (left, word) = unmap_word(alloc, held, unmap.space, flush, fpage, workers)?;
+        let word = UnmapWord {
+            space: unmap.space,
+            flush,
+            fpage: *fpage,
+        };
+        let (left, told) = unmap_word(alloc, held, &word, workers)?;
         held = left;
-        status.push(word).map_err(AllocError::from)?;
+        status.push(told).map_err(AllocError::from)?;
     }
     Ok((held, status))
 }
@@ -69,8 +77,12 @@ pub fn answer_unmap<W: Workers>(
     reply.clear();
     reply.reserve(words.len())?;
     for i in 0..unmap.fpages.len() {
-        let fpage = &unmap.fpages[i];
-        let (left, status) = unmap_word(alloc, held, unmap.space, flush, fpage, workers)?;
+        let word = UnmapWord {
+            space: unmap.space,
+            flush,
+            fpage: unmap.fpages[i],
+        };
+        let (left, status) = unmap_word(alloc, held, &word, workers)?;
         held = left;
         reply
             .push(with_status(words[i], status))
@@ -110,9 +122,14 @@ pub fn unmap_words_by_recursion(
     let flush = unmap.control.is_flush();
     let mut status = Vec::with_capacity(alloc, unmap.fpages.len())?;
     for fpage in unmap.fpages {
-        let (left, word) = unmap_word_by_recursion(alloc, held, unmap.space, flush, fpage)?;
+        let word = UnmapWord {
+            space: unmap.space,
+            flush,
+            fpage: *fpage,
+        };
+        let (left, told) = unmap_word_by_recursion(alloc, held, &word)?;
         held = left;
-        status.push(word).map_err(AllocError::from)?;
+        status.push(told).map_err(AllocError::from)?;
     }
     Ok((held, status))
 }
@@ -123,27 +140,25 @@ pub fn unmap_words_by_recursion(
 pub fn unmap_word<W: Workers>(
     alloc: Global,
     held: Holdings,
-    space: u16,
-    flush: bool,
-    fpage: &Fpage,
+    word: &UnmapWord,
     workers: &W,
 ) -> Result<(Holdings, Rights), CrewError>
-    requires space { space < held.limits.spaces }
-    requires fpage { IsFpageOf held.limits.bits fpage.now }
-    ensures stripped { IfOk result (IsStripped held (pages_in space fpage.now) fpage.now.rights flush) }
+    requires space { word.now.space < held.limits.spaces }
+    requires fpage { IsFpageOf held.limits.bits word.now.fpage }
+    ensures stripped { IfOk result (IsStripped held (pages_in word.now.space word.now.fpage) word.now.fpage.rights word.now.flush) }
     ensures needs_no_worker { W.starts_none workers.now → IsErrOf result NoWorker → ⊥ }
 {
-    let pages = fpage.pages();
+    let pages = word.fpage.pages();
     if pages.end - pages.start == 1 {
         // A list of one page would cost more than the look at its word.
         let place = Place {
-            space,
+            space: word.space,
             page: pages.start,
         };
-        return held.strip(alloc, &[place], fpage.rights(), flush, workers);
+        return held.strip(alloc, &[place], word.fpage.rights(), word.flush, workers);
     }
-    let places = held.held_among(alloc, space, pages)?;
-    held.strip(alloc, &places, fpage.rights(), flush, workers)
+    let places = held.held_among(alloc, word.space, pages)?;
+    held.strip(alloc, &places, word.fpage.rights(), word.flush, workers)
 }
 
 /// Works one word of an unmap by recursion.
@@ -152,22 +167,15 @@ pub fn unmap_word<W: Workers>(
 pub fn unmap_word_by_recursion(
     alloc: Global,
     held: Holdings,
-    space: u16,
-    flush: bool,
-    fpage: &Fpage,
+    word: &UnmapWord,
 ) -> Result<(Holdings, Rights), NoMemory>
-    requires space { space < held.limits.spaces }
-    requires fpage { IsFpageOf held.limits.bits fpage.now }
-    ensures { IfOk result (IsStripped held (pages_in space fpage.now) fpage.now.rights flush) }
+    requires space { word.now.space < held.limits.spaces }
+    requires fpage { IsFpageOf held.limits.bits word.now.fpage }
+    ensures { IfOk result (IsStripped held (pages_in word.now.space word.now.fpage) word.now.fpage.rights word.now.flush) }
 {
-    let places = held.held_among(alloc, space, fpage.pages())?;
-    held.strip_by_recursion(alloc, &places, fpage.rights(), flush)
+    let places = held.held_among(alloc, word.space, word.fpage.pages())?;
+    held.strip_by_recursion(alloc, &places, word.fpage.rights(), word.flush)
 }
-
-ghost use Rattle.std.specs.Prelude.{ℕ, ◌+◌, List, length, take};
-ghost use Rattle.pieces.specs.declared.piece.Piece.{Piece};
-ghost use Rattle.model.specs.Strip.{strip};
-ghost use Rattle.holdings.specs.Observing.{IsPhaseOf};
 
 /// Works the words of an unmap as `unmap_words` does, while an observer looks at the entries: once for each word of
 /// which a page is held.
@@ -193,17 +201,14 @@ pub fn unmap_words_watched<R: Threads + Wait, G: Gate, O: Observe>(
     let flush = unmap.control.is_flush();
     let mut status = Vec::with_capacity(alloc, unmap.fpages.len())?;
     for fpage in unmap.fpages {
-        let (left, word) = unmap_word_watched(
-            alloc,
-            held,
-            unmap.space,
+        let word = UnmapWord {
+            space: unmap.space,
             flush,
-            fpage,
-            crew,
-            observer,
-        )?;
+            fpage: *fpage,
+        };
+        let (left, told) = unmap_word_watched(alloc, held, &word, crew, observer)?;
         held = left;
-        status.push(word).map_err(AllocError::from)?;
+        status.push(told).map_err(AllocError::from)?;
     }
     Ok((held, status))
 }
@@ -214,19 +219,24 @@ pub fn unmap_words_watched<R: Threads + Wait, G: Gate, O: Observe>(
 fn unmap_word_watched<R: Threads + Wait, G: Gate, O: Observe>(
     alloc: Global,
     held: Holdings,
-    space: u16,
-    flush: bool,
-    fpage: &Fpage,
+    word: &UnmapWord,
     crew: &Crew<'_, R, G>,
     observer: &O,
 ) -> Result<(Holdings, Rights), CrewError>
-    requires space { space < held.limits.spaces }
-    requires fpage { IsFpageOf held.limits.bits fpage.now }
+    requires space { word.now.space < held.limits.spaces }
+    requires fpage { IsFpageOf held.limits.bits word.now.fpage }
     requires told { (words : List ℕ) (pieces : List Piece)
-        → IsPhaseOf held.layout held.holdings (strip held.holdings (pages_in space fpage.now) fpage.now.rights flush) words pieces
+        → IsPhaseOf held.layout held.holdings (strip held.holdings (pages_in word.now.space word.now.fpage) word.now.fpage.rights word.now.flush) words pieces
         → O.told observer.now words pieces }
-    ensures { IfOk result (IsStripped held (pages_in space fpage.now) fpage.now.rights flush) }
+    ensures { IfOk result (IsStripped held (pages_in word.now.space word.now.fpage) word.now.fpage.rights word.now.flush) }
 {
-    let places = held.held_among(alloc, space, fpage.pages())?;
-    held.strip_watched(alloc, &places, fpage.rights(), flush, crew, observer)
+    let places = held.held_among(alloc, word.space, word.fpage.pages())?;
+    held.strip_watched(
+        alloc,
+        &places,
+        word.fpage.rights(),
+        word.flush,
+        crew,
+        observer,
+    )
 }

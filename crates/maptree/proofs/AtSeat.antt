@@ -1,7 +1,7 @@
 -- The node that is read at a seat stands at its position.
 use Rattle.std.proofs.Common.{◌≡◌, ℕ, ◌<◌, List, [], length, take, get_or, sym, ap, ◌∙◌}
 use Rattle.std.proofs.lemmas.List.{get_or_default}
-use Rattle.mapnode.specs.declared.node.Node.{Node}
+use Rattle.space.specs.declared.node.Node.{Node}
 use Rattle.maptree.specs.declared.blocks.Seat.{Seat}
 use Rattle.maptree.specs.Nodes.{last_less, origin_at}
 use Rattle.maptree.specs.Blocks.{nodes_in, IsSeat}

@@ -4,7 +4,7 @@ use Rattle.std.specs.Prelude.{insert}
 use Rattle.std.proofs.lemmas.List.{append_assoc, append-nil, length-append, take_at, length-take-le, length-drop, set_split, set-append_right, set-append_left, get_or_at, length-set, take-append-drop, drop-drop, drop_at, map-append, take-append-le, take_all, drop_all, drop-take}
 use Rattle.std.proofs.lemmas.List.Edits.{insert-append_left, insert-append_right, length-insert, take-paste}
 use Rattle.std.proofs.Math.Seq.{paste}
-use Rattle.mapnode.specs.declared.node.Node.{Node}
+use Rattle.space.specs.declared.node.Node.{Node}
 use Rattle.space.specs.declared.place.Place.{Place}
 use Rattle.maptree.specs.Renamings.{nodes_renamed}
 use Rattle.maptree.specs.Blocks.{nodes_in, IsSeat, split_block}

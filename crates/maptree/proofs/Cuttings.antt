@@ -7,13 +7,13 @@ use Rattle.std.specs.declared.ops.Range.{Range}
 use Rattle.std.proofs.Math.Seq.{paste}
 use Rattle.std.proofs.lemmas.List.Edits.{take-paste, drop-paste, length-paste}
 use Rattle.std.proofs.lemmas.List.{take-append-drop, drop_more, drop-append-le, take-append-le, length-drop, append_assoc, append-nil, map-append, drop-map, drop-drop, length-append, length-map, length-take-le, drop-take}
-use Rattle.mapnode.specs.declared.node.Node.{Node}
-use Rattle.mapnode.specs.declared.slice.Slice.{Slice}
+use Rattle.space.specs.declared.node.Node.{Node}
+use Rattle.space.specs.declared.slice.Slice.{Slice}
 use Rattle.maptree.specs.declared.cutting.Cutting.{Cutting}
 use Rattle.maptree.specs.Origins.{AreRising}
-use Rattle.mapnode.proofs.Lists.{first_piece, take_all, drop_all}
+use Rattle.space.proofs.Lists.{first_piece, take_all, drop_all}
 use Rattle.maptree.proofs.BlockChanges.{first_of}
-use Rattle.mapnode.specs.Slices.{pieces, nodes_of}
+use Rattle.space.specs.Slices.{pieces, nodes_of}
 use Rattle.maptree.specs.Cuts.{outside, pieces_of, joined, AreGaps, IsCutting}
 
 -- ---- parts of lists

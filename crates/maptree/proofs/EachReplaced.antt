@@ -5,7 +5,7 @@ use Rattle.std.proofs.lemmas.Bool.Decides.{nat_tests}
 use Rattle.space.specs.declared.place.Place.{Place}
 use Rattle.space.specs.Place.{same_place}
 use Rattle.space.proofs.Places.{same_self, same_or_apart}
-use Rattle.mapnode.specs.declared.node.Node.{Node}
+use Rattle.space.specs.declared.node.Node.{Node}
 use Rattle.maptree.specs.Nodes.{are_distinct, origins_of}
 use Rattle.maptree.specs.PlaceMaps.{Places, place_for, IsApart}
 use Rattle.maptree.specs.Renamings.{replaced_by, nodes_renamed, StayApart}

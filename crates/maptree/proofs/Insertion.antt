@@ -2,11 +2,11 @@
 use Rattle.std.proofs.Common.{◌≡◌, ℕ, zero, suc, ◌+◌, ◌-◌, ◌<◌, ◌≤◌, true, false, Bool, not, nat_le, List, [], ◌∷◌, length, drop, get_or, Some, None, refl, sym, ap, ◌∙◌, subst, arith}
 use Rattle.std.specs.Prelude.{insert, position}
 use Rattle.std.proofs.lemmas.Bool.{and_parts, leb-true, le-leb}
-use Rattle.std.proofs.lemmas.List.{length-drop}
+use Rattle.std.proofs.lemmas.List.{length-drop, get_or_default}
 use Rattle.space.specs.declared.place.Place.{Place}
 use Rattle.space.specs.Place.{same_place}
 use Rattle.space.proofs.Places.{apart_back}
-use Rattle.mapnode.specs.declared.node.Node.{Node}
+use Rattle.space.specs.declared.node.Node.{Node}
 use Rattle.maptree.specs.Origins.{place_at}
 use Rattle.maptree.specs.Nodes.{are_depths, is_new, are_distinct, is_forest, above, first, links, origins_of}
 use Rattle.maptree.proofs.Runs.{place_of, depth_of}
@@ -132,6 +132,15 @@ below_forest q ns i n forest new within is =
     let depth : n.depth ≡ depth_of ns i = ap (λ m. m.depth) is ∙ sym (depth_of_read ns i n within) in
     ap (λ k. is_forest (insert ns k (below_node q n.depth))) one ∙ ap (λ k. is_forest (insert ns (suc i) (below_node q k))) depth
     ∙ forest_of_below q ns i forest (new_from_position q ns new) within
+
+-- the same of the node that is read there
+pub read_says : (q : Place) (ns : List Node) (i : ℕ) (e : Node) → is_forest ns ≡ true → i < length ns → (d : Place)
+    → origins_of (insert ns (i + 1) (below_node q (get_or ns i e).depth)) ≡ insert (origins_of ns) (i + 1) (q, Some (place_at (origins_of ns) i d))
+read_says q ns i e forest within d = below_says q ns i (get_or ns i e) forest within (get_or_default ns i e (get_or ns i e) within) d
+
+pub read_forest : (q : Place) (ns : List Node) (i : ℕ) (e : Node) → is_forest ns ≡ true → position (λ o. same_place q o.0) (origins_of ns) ≡ None → i < length ns
+    → is_forest (insert ns (i + 1) (below_node q (get_or ns i e).depth)) ≡ true
+read_forest q ns i e forest new within = below_forest q ns i (get_or ns i e) forest new within (get_or_default ns i e (get_or ns i e) within)
 
 -- a node's depth is no more than its position
 pub depth_fits : (ns : List Node) (i : ℕ) (n : Node) → is_forest ns ≡ true → i < length ns → n ≡ get_or ns i n → n.depth ≤ i

@@ -11,7 +11,7 @@ use Rattle.std.proofs.lemmas.List.{take-append-drop, drop_more, length-drop, len
 use Rattle.space.specs.declared.place.Place.{Place}
 use Rattle.space.specs.Place.{place_cmp, same_place}
 use Rattle.space.proofs.Places.{same_self}
-use Rattle.mapnode.specs.declared.node.Node.{Node}
+use Rattle.space.specs.declared.node.Node.{Node}
 use Rattle.maptree.specs.Origins.{Origins, OriginsStand, are_once, origin_in}
 use Rattle.maptree.specs.Nodes.{is_new, are_distinct, are_depths, is_forest, above, first, links, origins_of}
 

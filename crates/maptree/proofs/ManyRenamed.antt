@@ -7,7 +7,7 @@ use Rattle.std.proofs.Math.ListN.{set}
 use Rattle.space.specs.declared.place.Place.{Place}
 use Rattle.space.specs.Place.{same_place}
 use Rattle.space.proofs.Places.{same_self}
-use Rattle.mapnode.specs.declared.node.Node.{Node}
+use Rattle.space.specs.declared.node.Node.{Node}
 use Rattle.maptree.specs.Nodes.{are_depths, are_distinct, is_forest, above, links, origins_of}
 use Rattle.maptree.specs.Renamings.{replaced_by, all_renamed, nodes_renamed, StayApart}
 use Rattle.maptree.proofs.Paths.{HasPlace}

@@ -13,7 +13,7 @@ use Rattle.std.proofs.lemmas.List.Sorted.{All-permutation, Contains-permutation}
 use Rattle.space.specs.declared.place.Place.{Place}
 use Rattle.space.specs.Place.{same_place}
 use Rattle.space.proofs.Places.{same_is, same_self}
-use Rattle.mapnode.specs.declared.node.Node.{Node}
+use Rattle.space.specs.declared.node.Node.{Node}
 use Rattle.maptree.specs.Nodes.{are_distinct, is_forest, origins_of, run_len}
 use Rattle.maptree.specs.Named.{ArePositions}
 use Rattle.maptree.specs.Origins.{AreOuterRuns}
@@ -21,7 +21,7 @@ use Rattle.maptree.proofs.Runs.{place_of}
 use Rattle.maptree.proofs.Positions.{one_position, place_of_read}
 use Rattle.maptree.proofs.Searches.{none_stands}
 use Rattle.maptree.proofs.Outermost.{AreSoFar, pass_to, one_more_run, all_runs}
-use Rattle.mapnode.proofs.Lists.{blank}
+use Rattle.space.proofs.Lists.{blank}
 
 abbrev Inside : List Node → ℕ → Type 0
 Inside ns k = k < length ns

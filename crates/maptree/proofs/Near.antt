@@ -2,11 +2,12 @@
 use Rattle.std.proofs.Common.{◌≡◌, refl, Bool, false, ℕ, ◌+◌, ◌-◌, ◌<◌, ◌≤◌, true, List, [], length, take, drop, get_or, subst, sym, ap, ◌∙◌, arith}
 use Rattle.std.proofs.lemmas.List.{get_or-take, get_or-drop, length-reverse}
 use Rattle.space.specs.declared.place.Place.{Place}
-use Rattle.mapnode.specs.declared.node.Node.{Node}
+use Rattle.space.specs.declared.node.Node.{Node}
 use Rattle.maptree.specs.Origins.{Origins, place_at, HasDepth}
 use Rattle.maptree.specs.Forms.{in_order}
 use Rattle.maptree.specs.Nodes.{is_forest, origins_of}
-use Rattle.mapnode.proofs.Lists.{read_any}
+use Rattle.space.proofs.Lists.{read_any}
+use Rattle.maptree.proofs.Insertion.{depth_fits}
 use Rattle.maptree.proofs.Positions.{node_place, node_depth, node_only, length-links}
 
 -- the node at a position of a tree
@@ -14,6 +15,7 @@ pub record IsNodeAt (os : Origins) (i : ℕ) (n : Node) : Type 0 where
   pub place : (d : Place) → n.place ≡ place_at os i d
   pub only : (j : ℕ) (d : Place) → j < length os → place_at os j d ≡ n.place → j ≡ i
   pub depth : HasDepth os n.place n.depth
+  pub upto : n.depth ≤ i
 
 -- some nodes of a list have the node of a position that is among them
 pub near_node : (ns near : List Node) (first i : ℕ) (d : Node) → near ≡ take (length near) (drop first ns) → first ≤ i → i - first < length near → i < length ns
@@ -33,6 +35,7 @@ read_is ns i n os is forest within same =
       place = node_place ns i n inner same;
       only = node_only ns i n forest inner same;
       depth = node_depth ns i n forest inner same;
+      upto = depth_fits ns i n forest inner same;
     })
 
 -- and one that is read among some of them

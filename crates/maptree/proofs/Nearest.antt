@@ -5,9 +5,9 @@ use Rattle.std.proofs.lemmas.List.{length-take, length-take-le, get_or_default}
 use Rattle.std.proofs.lemmas.Option.{same_Some}
 use Rattle.std.specs.List.{list_any}
 use Rattle.space.specs.declared.place.Place.{Place}
-use Rattle.mapnode.specs.declared.node.Node.{Node}
+use Rattle.space.specs.declared.node.Node.{Node}
 use Rattle.space.specs.Place.{same_place}
-use Rattle.mapnode.proofs.Lists.{blank}
+use Rattle.space.proofs.Lists.{blank}
 use Rattle.maptree.specs.Origins.{origin_in, place_at, IsOriginAt}
 use Rattle.maptree.specs.Nodes.{is_forest, origins_of, origin_at, last_less}
 use Rattle.maptree.proofs.Listed.{listed_at}

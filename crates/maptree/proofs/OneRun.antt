@@ -8,7 +8,7 @@ use Rattle.std.proofs.lemmas.List.Folds.{list_any_at}
 use Rattle.space.specs.declared.place.Place.{Place}
 use Rattle.space.specs.Place.{same_place}
 use Rattle.space.proofs.Places.{same_is, same_self}
-use Rattle.mapnode.specs.declared.node.Node.{Node}
+use Rattle.space.specs.declared.node.Node.{Node}
 use Rattle.maptree.specs.Origins.{Origins, place_at, IsRun, LeadsTo, LeadsToOne, BeginsAtOne, LiesInOne, AreOuterRuns}
 use Rattle.maptree.specs.Nodes.{is_forest, origins_of}
 use Rattle.maptree.proofs.Found.{at_read, found_at, none_from_position}

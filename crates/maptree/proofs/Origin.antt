@@ -3,7 +3,7 @@ use Rattle.std.proofs.Common.{◌≡◌, ℕ, zero, suc, ◌+◌, ◌-◌, ◌<�
 use Rattle.std.specs.Option.{option_and_then}
 use Rattle.std.proofs.lemmas.Bool.{and_parts, leb-true, lt-ltb}
 use Rattle.space.specs.declared.place.Place.{Place}
-use Rattle.mapnode.specs.declared.node.Node.{Node}
+use Rattle.space.specs.declared.node.Node.{Node}
 use Rattle.maptree.specs.Origins.{Origins, origin_in, after_origins, place_at, LeadsTo, HasDepth}
 use Rattle.maptree.specs.Nodes.{are_depths, are_distinct, is_forest, origins_of, run_len, last_less, one_on}
 use Rattle.maptree.proofs.Runs.{place_of, depth_of, run_at, forest_strict, forest_depth}

@@ -10,7 +10,7 @@ use Rattle.std.proofs.lemmas.List.Folds.{list_any_more}
 use Rattle.space.specs.declared.place.Place.{Place}
 use Rattle.space.specs.Place.{place_cmp, same_place}
 use Rattle.space.proofs.Places.{same_self, same_or_apart, apart_back}
-use Rattle.mapnode.specs.declared.node.Node.{Node}
+use Rattle.space.specs.declared.node.Node.{Node}
 use Rattle.maptree.specs.Origins.{Origins, origin_in, after_origins, place_at, LeadsTo, LeadsToOne, IsRun, BeginsAtOne, AreRising, LiesInOne, AreOuterRuns}
 use Rattle.maptree.specs.Nodes.{is_forest, above, first, links, origins_of, run_len}
 use Rattle.maptree.proofs.Paths.{In, HasPlace}

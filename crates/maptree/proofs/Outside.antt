@@ -9,11 +9,11 @@ use Rattle.std.proofs.lemmas.List.Elements.{filter-append, All-nil, All-cons}
 use Rattle.space.specs.declared.place.Place.{Place}
 use Rattle.space.specs.Place.{same_place}
 use Rattle.space.proofs.Places.{same_self, same_or_apart}
-use Rattle.mapnode.specs.declared.node.Node.{Node}
-use Rattle.mapnode.specs.declared.slice.Slice.{Slice}
+use Rattle.space.specs.declared.node.Node.{Node}
+use Rattle.space.specs.declared.slice.Slice.{Slice}
 use Rattle.maptree.specs.Origins.{Origins, origin_in, after_origins, place_at, LeadsTo, HasDepth, IsRun, AreRising}
 use Rattle.maptree.specs.Nodes.{are_depths, is_new, are_distinct, is_forest, above, links, origins_of}
-use Rattle.mapnode.specs.Slices.{pieces, nodes_of}
+use Rattle.space.specs.Slices.{pieces, nodes_of}
 use Rattle.maptree.specs.Cuts.{outside, pieces_of, places_of, joined, IsCutting, ArePartsOf, IsCut}
 use Rattle.maptree.proofs.Paths.{HasPlace, new_apart}
 use Rattle.maptree.proofs.Runs.{place_of, depth_of, forest_depth}

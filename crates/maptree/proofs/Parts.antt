@@ -4,13 +4,13 @@ use Rattle.std.specs.List.{slice_range}
 use Rattle.std.specs.declared.ops.Range.{Range}
 use Rattle.std.proofs.lemmas.List.{append_assoc, length-append, take_at, length-take-le, length-drop, drop-drop, drop_at, drop_more, get_or_default, length-map}
 use Rattle.std.proofs.lemmas.Bool.Decides.{nat_tests}
-use Rattle.mapnode.specs.declared.node.Node.{Node}
+use Rattle.space.specs.declared.node.Node.{Node}
 use Rattle.maptree.specs.Origins.{AreRising}
 use Rattle.std.specs.Prelude.{insert, remove, set}
 use Rattle.std.proofs.lemmas.List.Edits.{insert-append_right}
-use Rattle.mapnode.specs.Slices.{nodes_of}
+use Rattle.space.specs.Slices.{nodes_of}
 use Rattle.maptree.specs.Cuts.{outside, joined, AreGaps, count_of}
-use Rattle.mapnode.specs.declared.slice.Slice.{Slice}
+use Rattle.space.specs.declared.slice.Slice.{Slice}
 use Rattle.maptree.specs.Blocks.{nodes_in}
 use Rattle.maptree.proofs.BlockChanges.{take_on}
 use Rattle.maptree.proofs.Cuttings.{next_range, rising_within, split_at, gaps_within}

@@ -6,7 +6,7 @@ use Rattle.std.proofs.lemmas.Bool.{and_parts}
 use Rattle.space.specs.declared.place.Place.{Place}
 use Rattle.space.specs.Place.{place_cmp, same_place}
 use Rattle.space.proofs.Places.{same_self, apart_back}
-use Rattle.mapnode.specs.declared.node.Node.{Node}
+use Rattle.space.specs.declared.node.Node.{Node}
 use Rattle.maptree.specs.Origins.{Origins, origin_in, after_origins, LeadsTo}
 use Rattle.maptree.specs.Nodes.{is_new, are_distinct, above, first, links}
 

@@ -7,7 +7,7 @@ use Rattle.std.proofs.Math.ListN.{set}
 use Rattle.space.specs.declared.place.Place.{Place}
 use Rattle.space.specs.Place.{same_place}
 use Rattle.space.proofs.Places.{same_self, same_or_apart, apart_back}
-use Rattle.mapnode.specs.declared.node.Node.{Node}
+use Rattle.space.specs.declared.node.Node.{Node}
 use Rattle.maptree.specs.Origins.{swapped, renamed, place_at}
 use Rattle.maptree.specs.Nodes.{are_depths, is_new, are_distinct, is_forest, origins_of}
 use Rattle.maptree.proofs.Paths.{new_apart}

@@ -5,7 +5,7 @@ use Rattle.std.specs.List.{slice_range}
 use Rattle.std.proofs.lemmas.List.{reverse-append, length-reverse, get_or-reverse, length-set, length-drop, length-take-le, take-append-drop, drop_at, take_at, take_more, take_all, drop_all, drop-take, same_lists, get_or-set_same, get_or-set_other, map-append, append_assoc}
 use Rattle.space.specs.declared.place.Place.{Place}
 use Rattle.space.specs.Place.{same_place}
-use Rattle.mapnode.specs.declared.node.Node.{Node}
+use Rattle.space.specs.declared.node.Node.{Node}
 use Rattle.maptree.specs.Nodes.{run_len}
 use Rattle.maptree.proofs.Positions.{run_on, run_ends}
 use Rattle.maptree.proofs.Searches.{found_second}

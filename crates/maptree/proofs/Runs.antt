@@ -6,7 +6,7 @@ use Rattle.std.proofs.lemmas.Bool.Decides.{nat_tests}
 use Rattle.std.proofs.lemmas.List.{length-drop}
 use Rattle.space.specs.declared.place.Place.{Place}
 use Rattle.space.proofs.Places.{same_self}
-use Rattle.mapnode.specs.declared.node.Node.{Node}
+use Rattle.space.specs.declared.node.Node.{Node}
 use Rattle.std.specs.Option.{option_and_then}
 use Rattle.maptree.specs.Origins.{Origins, origin_in, after_origins, LeadsTo, HasDepth}
 use Rattle.maptree.specs.Nodes.{are_depths, is_new, are_distinct, is_forest, above, first, origins_of, run_len}

@@ -6,11 +6,11 @@ use Rattle.std.proofs.lemmas.Bool.{and_parts}
 use Rattle.std.proofs.lemmas.List.{drop-map}
 use Rattle.std.proofs.lemmas.List.Elements.{filter-append}
 use Rattle.space.specs.declared.place.Place.{Place}
-use Rattle.mapnode.specs.declared.node.Node.{Node}
-use Rattle.mapnode.specs.declared.slice.Slice.{Slice}
+use Rattle.space.specs.declared.node.Node.{Node}
+use Rattle.space.specs.declared.slice.Slice.{Slice}
 use Rattle.maptree.specs.Origins.{Origins, Shape, origin_in, after_origins, place_at, HasDepth}
 use Rattle.maptree.specs.Nodes.{is_forest, links, origins_of}
-use Rattle.mapnode.specs.Slices.{nodes_of}
+use Rattle.space.specs.Slices.{nodes_of}
 use Rattle.maptree.specs.Cuts.{kept_of, joined, AreKept}
 use Rattle.maptree.proofs.Runs.{place_of, depth_of, forest_depth}
 use Rattle.maptree.proofs.Positions.{length-links, place_at-links}

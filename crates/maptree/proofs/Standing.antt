@@ -5,13 +5,13 @@ use Rattle.std.proofs.lemmas.List.Quantifiers.{position-Some}
 use Rattle.space.specs.declared.place.Place.{Place}
 use Rattle.space.specs.Place.{same_place}
 use Rattle.space.proofs.Places.{same_is}
-use Rattle.mapnode.specs.declared.node.Node.{Node}
+use Rattle.space.specs.declared.node.Node.{Node}
 use Rattle.maptree.specs.Nodes.{are_distinct}
 use Rattle.maptree.specs.Blocks.{nodes_in}
 use Rattle.maptree.proofs.Positions.{one_position, place_of_read}
 use Rattle.maptree.proofs.Searches.{none_stands}
 use Rattle.maptree.proofs.InBlocks.{as_read, at_seat, counts}
-use Rattle.mapnode.proofs.Lists.{blank}
+use Rattle.space.proofs.Lists.{blank}
 
 pub stands_at : (ns : List Node) (p : Place) (i : ℕ) (d : Node) → are_distinct ns ≡ true → i < length ns → same_place p (get_or ns i d).place ≡ true → position (λ n. same_place p n.place) ns ≡ Some i
 stands_at ns p i d distinct within here = by (position (λ n. same_place p n.place) ns) refl

@@ -1,7 +1,7 @@
 -- A list of nodes in blocks.
 use Rattle.std.specs.Prelude.{◌≡◌, ℕ, ◌+◌, ◌*◌, ◌/◌, ◌^◌, ◌<◌, ◌≤◌, nat_le, ◌&&◌, Bool, true, List, [], ◌∷◌, length, take, drop, get_or, set, insert, slice_index, Some}
 use Rattle.std.specs.List.{flat_map}
-use Rattle.mapnode.specs.declared.node.Node.{Node}
+use Rattle.space.specs.declared.node.Node.{Node}
 use Rattle.maptree.specs.declared.blocks.Seat.{Seat}
 use Rattle.maptree.specs.Nodes.{is_forest, origin_at}
 

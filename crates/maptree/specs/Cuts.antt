@@ -3,9 +3,9 @@ use Rattle.std.specs.Prelude.{◌≡◌, ℕ, ◌+◌, ◌≤◌, true, Bool, Li
 use Rattle.std.specs.List.{All, list_all, slice_range}
 use Rattle.std.specs.declared.ops.Range.{Range}
 use Rattle.space.specs.declared.place.Place.{Place}
-use Rattle.mapnode.specs.declared.node.Node.{Node}
-use Rattle.mapnode.specs.declared.slice.Slice.{Slice}
-use Rattle.mapnode.specs.Slices.{pieces, nodes_of}
+use Rattle.space.specs.declared.node.Node.{Node}
+use Rattle.space.specs.declared.slice.Slice.{Slice}
+use Rattle.space.specs.Slices.{pieces, nodes_of}
 use Rattle.maptree.specs.Origins.{Origins, Shape, origin_in, HasDepth}
 use Rattle.maptree.specs.Nodes.{is_forest, origins_of}
 

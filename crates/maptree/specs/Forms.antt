@@ -1,7 +1,7 @@
 -- What a list of nodes has, in either form.
 use Rattle.std.specs.Prelude.{ℕ, ◌≤◌, Bool, List, reverse, if◌then◌else◌}
 use Rattle.smallvec.specs.SmallVec.{HasRoomFor}
-use Rattle.mapnode.specs.declared.node.Node.{Node}
+use Rattle.space.specs.declared.node.Node.{Node}
 use Rattle.maptree.specs.declared.node_list.Form.{Form}
 use Rattle.maptree.specs.declared.node_list.Form.TheVariants.{Few, Many}
 use Rattle.maptree.specs.Blocks.{nodes_in}

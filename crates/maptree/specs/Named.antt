@@ -3,7 +3,7 @@ use Rattle.std.specs.Prelude.{◌≡◌, ℕ, ◌<◌, true, List, length, get_o
 use Rattle.std.specs.List.{All, Contains, list_any}
 use Rattle.space.specs.declared.place.Place.{Place}
 use Rattle.space.specs.Place.{same_place}
-use Rattle.mapnode.specs.declared.node.Node.{Node}
+use Rattle.space.specs.declared.node.Node.{Node}
 
 -- the positions of all nodes whose places are named, and no others
 pub record ArePositions (ns : List Node) (places : List Place) (at : List ℕ) : Type 0 where

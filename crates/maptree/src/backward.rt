@@ -6,7 +6,7 @@
 ghost use Rattle.std.specs.Prelude.{◌≡◌, ◌+◌, ◌-◌, ◌<◌, ◌≤◌, true, length, take, drop, reverse, get_or, set, insert, position, IfOk};
 ghost use Rattle.std.specs.List.{slice_range};
 ghost use Rattle.space.specs.Place.{same_place};
-ghost use Rattle.mapnode.specs.declared.node.Node.{Node};
+ghost use Rattle.space.specs.declared.node.Node.{Node};
 ghost use Rattle.maptree.specs.Nodes.{are_distinct, run_len, last_less};
 ghost use Rattle.maptree.specs.Cuts.{outside};
 ghost use Rattle.maptree.specs.Origins.{AreRising};
@@ -16,9 +16,8 @@ ghost use Rattle.maptree.specs.Renamings.{nodes_renamed};
 use crate::place_map::PlaceMap;
 use crate::replacing::replace_places;
 use crate::shifts::{close_gaps, shift_in};
-use mapnode::Node;
 use smallvec::SmallVec;
-use space::Place;
+use space::{Node, Place};
 use std::alloc::{AllocError, Global};
 use std::ops::Range;
 

@@ -7,8 +7,7 @@ use crate::place_map::PlaceMap;
 use crate::replacing::replace_places;
 use crate::scans::{deeper, last_above, placed};
 use crate::shifts::shift_in;
-use mapnode::Node;
-use space::Place;
+use space::{Node, Place};
 use std::alloc::{AllocError, Global};
 use std::marker::Model;
 
@@ -29,7 +28,7 @@ pub struct Block {
 
 impl Model for Block {
     ghost use Rattle.std.specs.Prelude.{◌≡◌, ◌≤◌, true, List, length, drop, vec_capacity};
-    ghost use Rattle.mapnode.specs.declared.node.Node.{Node};
+    ghost use Rattle.space.specs.declared.node.Node.{Node};
     ghost use Rattle.maptree.specs.Blocks.{block_size, is_least};
 
     ghost Value = { List Node };
@@ -42,7 +41,7 @@ impl Model for Block {
 impl Block {
     ghost use Rattle.std.specs.Prelude.{◌≡◌, ◌+◌, ◌<◌, ◌≤◌, ℕ, true, [], ◌++◌, length, take, drop, get_or, set, insert, position, IfOk, IfSome};
     ghost use Rattle.space.specs.Place.{same_place};
-    ghost use Rattle.mapnode.specs.declared.node.Node.{Node};
+    ghost use Rattle.space.specs.declared.node.Node.{Node};
     ghost use Rattle.maptree.specs.Blocks.{block_size, is_least};
     ghost use Rattle.maptree.specs.Nodes.{run_len, last_less};
     ghost use Rattle.maptree.specs.PlaceMaps.{place_for};

@@ -2,11 +2,11 @@
 
 ghost use Rattle.std.specs.Prelude.{◌≡◌, ◌≤◌, IfOk, length, vec_capacity};
 ghost use Rattle.maptree.specs.Origins.{AreRising};
-ghost use Rattle.mapnode.specs.Slices.{nodes_of};
+ghost use Rattle.space.specs.Slices.{nodes_of};
 ghost use Rattle.maptree.specs.Cuts.{AreGaps, joined, outside};
 
 use crate::node_list::NodeList;
-use mapnode::{Node, Slice};
+use space::{Node, Slice};
 use std::alloc::{AllocError, Global};
 use std::ops::Range;
 
@@ -24,9 +24,9 @@ pub struct Cutting {
 impl Cutting {
     ghost use Rattle.std.specs.Prelude.{◌≡◌, ◌≤◌, ◌++◌, List, OnOk, IfOk, length};
     ghost use Rattle.std.specs.List.{slice_range};
-    ghost use Rattle.mapnode.specs.declared.node.Node.{Node};
+    ghost use Rattle.space.specs.declared.node.Node.{Node};
     ghost use Rattle.maptree.specs.Origins.{AreRising};
-    ghost use Rattle.mapnode.specs.Slices.{nodes_of, pieces};
+    ghost use Rattle.space.specs.Slices.{nodes_of, pieces};
     ghost use Rattle.maptree.specs.Cuts.{AreGaps, IsCutting, joined, outside, pieces_of};
 
     /// The nodes of some ranges of a list, in parts of at most so many.

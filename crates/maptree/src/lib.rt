@@ -12,6 +12,7 @@ mod min_depths;
 mod node_list;
 mod nodes;
 mod origins;
+mod pair;
 mod place_map;
 mod position_cache;
 mod replacing;

@@ -3,8 +3,7 @@
 ghost use Rattle.std.specs.Prelude.{◌≡◌, IfOk};
 ghost use Rattle.maptree.specs.Nodes.{origins_of};
 
-use mapnode::Node;
-use space::Place;
+use space::{Node, Place};
 use std::alloc::{AllocError, Global};
 
 /// Each node's place with its origin, in one pass.

@@ -2,18 +2,18 @@
 
 ghost use Rattle.std.specs.Prelude.{◌≡◌, ◌<◌, ◌≤◌, length, reverse, IfOk, IfSome};
 ghost use Rattle.maptree.specs.Blocks.{nodes_in};
-ghost use Rattle.mapnode.specs.Slices.{nodes_of};
+ghost use Rattle.space.specs.Slices.{nodes_of};
 ghost use Rattle.maptree.specs.Cuts.{count_of};
 
 use crate::backward::{self, INLINE, forward, node_at};
 use crate::blocks::Blocks;
 use crate::cutting::{Cutting, joined};
 use crate::links::linked;
+use crate::pair::Pair;
 use crate::place_map::PlaceMap;
 use crate::scans::outermost;
-use mapnode::{Node, Slice};
 use smallvec::SmallVec;
-use space::Place;
+use space::{Node, Place, Slice};
 use std::alloc::{AllocError, Global};
 use std::collections::BTreeSet;
 use std::marker::Model;
@@ -62,16 +62,17 @@ impl NodeList {
     ghost use Rattle.std.specs.Prelude.{◌≡◌, ◌+◌, ◌<◌, ◌≤◌, ◌^◌, true, [], ◌∷◌, length, take, drop, get_or, set, insert, position, IfOk, IfSome, OnOk, OnErr};
     ghost use Rattle.std.specs.List.{slice_range};
     ghost use Rattle.space.specs.Place.{same_place};
-    ghost use Rattle.mapnode.specs.declared.node.Node.{Node};
+    ghost use Rattle.space.specs.declared.node.Node.{Node};
     ghost use Rattle.std.specs.Prelude.{option_map};
     ghost use Rattle.space.specs.declared.place.Place.{Place};
     ghost use Rattle.maptree.specs.Nodes.{are_distinct, is_forest, origin_at, origins_of, run_len, last_less};
     ghost use Rattle.maptree.specs.Origins.{AreRising, AreOuterRuns};
-    ghost use Rattle.mapnode.specs.Slices.{nodes_of};
+    ghost use Rattle.space.specs.Slices.{nodes_of};
     ghost use Rattle.maptree.specs.Cuts.{AreGaps, IsCutting, joined, outside, pieces_of};
     ghost use Rattle.maptree.specs.PlaceMaps.{place_for};
     ghost use Rattle.maptree.specs.Renamings.{nodes_renamed};
     ghost use Rattle.maptree.specs.Forms.{in_order};
+    ghost use Rattle.maptree.specs.TreeForms.{nodes_of_pair};
 
     /// A list of one node. This takes no memory.
     pub fn one(alloc: Global, node: Node) -> NodeList
@@ -83,6 +84,20 @@ impl NodeList {
             form: Form::Few(nodes),
             room: 0,
             last: 0,
+        }
+    }
+
+    /// A list of a root and of the node below it. This takes no memory.
+    pub fn pair(alloc: Global, pair: &Pair) -> NodeList
+        ensures { result.nodes ≡ nodes_of_pair pair.now }
+    {
+        let mut nodes = SmallVec::new(alloc);
+        nodes.push_reserved(pair.node(1));
+        nodes.push_reserved(pair.node(0));
+        NodeList {
+            form: Form::Few(nodes),
+            room: 0,
+            last: 1,
         }
     }
 

@@ -1,13 +1,14 @@
 //! The nodes of a tree, read one after another.
 
-ghost use Rattle.std.specs.Prelude.{◌≡◌, ◌<◌, ℕ, length};
+ghost use Rattle.std.specs.Prelude.{◌≡◌, ◌<◌, ◌≤◌, ℕ, length, get_or};
 ghost use Rattle.space.specs.declared.place.Place.{Place};
 ghost use Rattle.maptree.specs.Nodes.{is_forest, origins_of};
 ghost use Rattle.maptree.specs.Origins.{place_at, HasDepth};
+ghost use Rattle.maptree.specs.Forms.{in_order};
 
 use crate::backward::node_at;
 use crate::tree_nodes::TreeNodes;
-use mapnode::Node;
+use space::Node;
 use std::marker::Model;
 
 /// Reads nodes of a tree. One that stands near the one that was read before is read without a search for it. A contract
@@ -59,6 +60,7 @@ impl<'a> Nodes<'a> {
         ensures place { (d : Place) → result.place ≡ place_at self.old i d }
         ensures only { (j : ℕ) (d : Place) → j < length self.old → place_at self.old j d ≡ result.place → j ≡ i }
         ensures depth { HasDepth self.old result.place result.depth }
+        ensures upto { result.depth ≤ i }
         ensures same { self.new ≡ self.old }
     {
         if self.first <= i && i - self.first < self.near.len() {
@@ -73,9 +75,6 @@ impl<'a> Nodes<'a> {
         nth(near, backward, i - first)
     }
 }
-
-ghost use Rattle.std.specs.Prelude.{get_or};
-ghost use Rattle.maptree.specs.Forms.{in_order};
 
 /// The node so far behind the first of some nodes, which may stand with the last one first.
 fn nth(nodes: &[Node], backward: bool, k: usize) -> Node

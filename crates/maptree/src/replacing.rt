@@ -5,7 +5,7 @@ ghost use Rattle.maptree.specs.PlaceMaps.{place_for};
 ghost use Rattle.maptree.specs.Renamings.{nodes_renamed};
 
 use crate::place_map::PlaceMap;
-use mapnode::Node;
+use space::Node;
 
 /// Each node whose place has one in the map gets that.
 pub fn replace_places(nodes: &mut [Node], new: &PlaceMap)

@@ -5,8 +5,7 @@ ghost use Rattle.space.specs.Place.{same_place};
 ghost use Rattle.maptree.specs.Nodes.{is_forest, origins_of, run_len, last_less};
 ghost use Rattle.maptree.specs.Origins.{AreOuterRuns};
 
-use mapnode::Node;
-use space::Place;
+use space::{Node, Place};
 use std::alloc::{AllocError, Global};
 use std::collections::BTreeSet;
 use std::ops::Range;

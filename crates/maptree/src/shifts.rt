@@ -4,7 +4,7 @@ ghost use Rattle.std.specs.Prelude.{◌≡◌, ◌≤◌, ◌<◌, ◌-◌, leng
 ghost use Rattle.maptree.specs.Origins.{AreRising};
 ghost use Rattle.maptree.specs.Cuts.{outside};
 
-use mapnode::Node;
+use space::Node;
 use std::ops::Range;
 
 /// Puts a node at a position and moves those from there on up by one; the last node falls off.

@@ -11,8 +11,7 @@ use crate::nodes::Nodes;
 use crate::place_map::PlaceMap;
 use crate::searching::runs_of;
 use crate::tree_nodes::TreeNodes;
-use mapnode::{Node, Slice};
-use space::{NoMemory, Place};
+use space::{NoMemory, Node, Place, Slice};
 use std::alloc::{AllocError, Global};
 use std::collections::BTreeSet;
 use std::marker::Model;
@@ -62,7 +61,7 @@ impl Tree {
     ghost use Rattle.maptree.specs.Origins.{are_once, OriginsStand, origin_in, place_at, renamed, LeadsTo, HasDepth, IsRun, AreRising, AreOuterRuns, IsOriginAt};
     ghost use Rattle.maptree.specs.PlaceMaps.{place_for};
     ghost use Rattle.maptree.specs.Renamings.{all_renamed, StayApart};
-    ghost use Rattle.mapnode.specs.Slices.{nodes_of};
+    ghost use Rattle.space.specs.Slices.{nodes_of};
     ghost use Rattle.maptree.specs.Cuts.{outside, ArePartsOf, IsCut, AreKept};
 
     /// A tree of one root. This takes no memory.
@@ -111,6 +110,7 @@ impl Tree {
         ensures place { (d : Place) → result.place ≡ place_at self.now.links i d }
         ensures only { (j : ℕ) (d : Place) → j < length self.now.links → place_at self.now.links j d ≡ result.place → j ≡ i }
         ensures depth { HasDepth self.now.links result.place result.depth }
+        ensures upto { result.depth ≤ i }
     {
         self.nodes.get(i)
     }
@@ -210,7 +210,7 @@ impl Tree {
     }
 
     /// No place stands twice in a tree, as its type says. The function does nothing: its contract is what it tells.
-    pub fn places_are_distinct(&self)
+    pub fn learn_places_are_distinct(&self)
         ensures { are_once self.now.links ≡ true }
     {
         let _ = &self.nodes;
@@ -319,8 +319,7 @@ impl Tree {
             self.new.links ≡ insert self.old.links (i + 1) (place, Some (place_at self.old.links i d)) }
         ensures room { self.new.room + 1 ≡ self.old.room }
     {
-        let depth = self.nodes.get(i).depth + 1;
-        self.nodes.insert(i + 1, Node { place, depth });
+        self.nodes.insert_below(i, place);
     }
 }
 

@@ -1,13 +1,18 @@
-//! The nodes of one tree: a root alone, which takes no memory of its own, or a list of nodes in a box.
+//! The nodes of one tree: a root, alone or with one node below it, which take no memory of their own, or a list of
+//! nodes in a box.
 
-ghost use Rattle.std.specs.Prelude.{◌≡◌};
+ghost use Rattle.std.specs.Prelude.{◌≡◌, true, []};
+ghost use Rattle.maptree.specs.Cuts.{outside};
+ghost use Rattle.maptree.specs.Nodes.{is_forest};
+ghost use Rattle.maptree.specs.Origins.{AreRising};
+ghost use Rattle.maptree.specs.TreeForms.{gaps_of_tree, nodes_of_pair, nodes_of_tree, room_of_tree};
 
 use crate::links::linked;
 use crate::node_list::NodeList;
+use crate::pair::Pair;
 use crate::place_map::PlaceMap;
 use crate::scans::outermost;
-use mapnode::{Node, Slice};
-use space::Place;
+use space::{Node, Place, Slice};
 use std::alloc::{AllocError, Global};
 use std::collections::BTreeSet;
 use std::marker::Model;
@@ -15,8 +20,9 @@ use std::ops::Range;
 
 /// The nodes of a tree.
 ///
-/// Most frames are never shared, so most trees are a root alone. Such a tree takes no memory but its own bytes. A tree
-/// gets a list when room for more nodes is reserved or when it is cut, and keeps it from then on.
+/// Most frames are never shared, or with one page, so most trees are a root alone or with one node below it. Such a
+/// tree takes no memory but its own bytes. A tree gets a list when room for more nodes is reserved or when it is cut,
+/// and keeps it from then on.
 #[derive(Drop)]
 pub struct TreeNodes {
     form: Form,
@@ -24,10 +30,12 @@ pub struct TreeNodes {
 
 #[derive(Drop)]
 enum Form {
-    /// No nodes.
-    Empty(Global),
-    /// A root alone.
-    Root(Global, Place),
+    /// No nodes, and whether one insertion was promised to take no memory.
+    Empty(Global, bool),
+    /// A root alone, and the same.
+    Root(Global, Place, bool),
+    /// A root and a node below it.
+    Pair(Global, Pair),
     /// Any nodes.
     Listed(Box<Listing>),
 }
@@ -53,12 +61,12 @@ impl TreeNodes {
     ghost use Rattle.std.specs.Prelude.{◌≡◌, ◌+◌, ◌<◌, ◌≤◌, ◌^◌, true, [], ◌∷◌, length, take, drop, get_or, set, insert, position, IfOk, IfSome, OnOk, OnErr};
     ghost use Rattle.std.specs.List.{slice_range};
     ghost use Rattle.space.specs.Place.{same_place};
-    ghost use Rattle.mapnode.specs.declared.node.Node.{Node};
+    ghost use Rattle.space.specs.declared.node.Node.{Node};
     ghost use Rattle.std.specs.Prelude.{option_map};
     ghost use Rattle.space.specs.declared.place.Place.{Place};
     ghost use Rattle.maptree.specs.Nodes.{are_distinct, is_forest, origin_at, origins_of, run_len};
     ghost use Rattle.maptree.specs.Origins.{AreRising, AreOuterRuns};
-    ghost use Rattle.mapnode.specs.Slices.{nodes_of};
+    ghost use Rattle.space.specs.Slices.{nodes_of};
     ghost use Rattle.maptree.specs.Cuts.{AreGaps, IsCutting, joined, outside, pieces_of};
     ghost use Rattle.maptree.specs.PlaceMaps.{place_for};
     ghost use Rattle.maptree.specs.Renamings.{nodes_renamed};
@@ -69,7 +77,7 @@ impl TreeNodes {
         ensures { result.nodes ≡ record { place = place; depth = 0 } ∷ [] }
     {
         TreeNodes {
-            form: Form::Root(alloc, place),
+            form: Form::Root(alloc, place, false),
         }
     }
 
@@ -80,8 +88,9 @@ impl TreeNodes {
     {
         match &self.form {
             Form::Listed(listing) => listing.nodes.len(),
-            Form::Root(_, _) => 1,
-            Form::Empty(_) => 0,
+            Form::Pair(_, _) => 2,
+            Form::Root(_, _, _) => 1,
+            Form::Empty(_, _) => 0,
         }
     }
 
@@ -110,8 +119,9 @@ impl TreeNodes {
     {
         match &self.form {
             Form::Listed(listing) => listing.nodes.get(i),
-            Form::Root(_, place) => root_node(*place),
-            Form::Empty(_) => unreachable!(),
+            Form::Pair(_, pair) => pair.node(i),
+            Form::Root(_, place, _) => root_node(*place),
+            Form::Empty(_, _) => unreachable!(),
         }
     }
 
@@ -138,7 +148,8 @@ impl TreeNodes {
     {
         match &self.form {
             Form::Listed(listing) => listing.nodes.find(place),
-            Form::Root(_, root) if place == *root => Some(0),
+            Form::Pair(_, pair) => pair.find(place),
+            Form::Root(_, root, _) if place == *root => Some(0),
             _ => None,
         }
     }
@@ -153,8 +164,9 @@ impl TreeNodes {
     {
         match &self.form {
             Form::Listed(listing) => listing.nodes.run_of(i),
-            Form::Root(_, place) => (root_node(*place), 0),
-            Form::Empty(_) => unreachable!(),
+            Form::Pair(_, pair) => pair.run_of(i),
+            Form::Root(_, place, _) => (root_node(*place), 0),
+            Form::Empty(_, _) => unreachable!(),
         }
     }
 
@@ -167,6 +179,7 @@ impl TreeNodes {
     {
         match &self.form {
             Form::Listed(listing) => listing.nodes.origin_of(i),
+            Form::Pair(_, pair) => pair.origin_of(i),
             _ => None,
         }
     }
@@ -180,6 +193,7 @@ impl TreeNodes {
     {
         match &self.form {
             Form::Listed(listing) => listing.nodes.place_of_origin(i),
+            Form::Pair(_, pair) => pair.place_of_origin(i),
             _ => None,
         }
     }
@@ -193,22 +207,27 @@ impl TreeNodes {
     {
         match &mut self.form {
             Form::Listed(listing) => listing.nodes.set_place(i, place),
-            Form::Root(_, root) => *root = place,
-            Form::Empty(_) => unreachable!(),
+            Form::Pair(_, pair) => *pair = pair.with_place(i, place),
+            Form::Root(_, root, _) => *root = place,
+            Form::Empty(_, _) => unreachable!(),
         }
     }
 
-    /// Puts a node at a position. This takes no memory.
-    pub fn insert(&mut self, i: usize, node: Node)
-        requires within { i ≤ length self.old.nodes }
+    /// Puts a node directly behind the one at a position, one deeper. This takes no memory.
+    pub fn insert_below(&mut self, i: usize, place: Place)
+        requires within { i < length self.old.nodes }
         requires room { 0 < self.old.room }
-        ensures nodes { self.new.nodes ≡ insert self.old.nodes i node }
+        requires forest { is_forest self.old.nodes ≡ true }
+        ensures nodes { (d : Node) → self.new.nodes ≡ insert self.old.nodes (i + 1) (record { place = place; depth = (get_or self.old.nodes i d).depth + 1 }) }
         ensures room { self.new.room + 1 ≡ self.old.room }
     {
         match &mut self.form {
-            Form::Listed(listing) => listing.nodes.insert(i, node),
-            // Where there is room, there is a list.
-            _ => unreachable!(),
+            Form::Listed(listing) => listing.insert_below(i, place),
+            Form::Root(alloc, root, _) => {
+                self.form = Form::Pair(*alloc, Pair::of(*root, place));
+            }
+            // Where there is room, there is a list or a root alone.
+            Form::Pair(_, _) | Form::Empty(_, _) => unreachable!(),
         }
     }
 
@@ -219,12 +238,13 @@ impl TreeNodes {
     {
         match &mut self.form {
             Form::Listed(listing) => listing.nodes.rename_all(new),
-            Form::Root(_, root) => {
+            Form::Pair(_, pair) => *pair = pair.renamed(new),
+            Form::Root(_, root, _) => {
                 if let Some(place) = new.get(*root) {
                     *root = place;
                 }
             }
-            Form::Empty(_) => {}
+            Form::Empty(_, _) => {}
         }
     }
 
@@ -236,8 +256,9 @@ impl TreeNodes {
     {
         match &self.form {
             Form::Listed(listing) => listing.nodes.copy(alloc, from, to),
-            Form::Root(_, place) => Vec::from_slice(alloc, &[root_node(*place)][from..to]),
-            Form::Empty(_) => Ok(Vec::new(alloc)),
+            Form::Pair(_, pair) => Vec::from_slice(alloc, &pair.nodes()[from..to]),
+            Form::Root(_, place, _) => Vec::from_slice(alloc, &[root_node(*place)][from..to]),
+            Form::Empty(_, _) => Ok(Vec::new(alloc)),
         }
     }
 
@@ -253,12 +274,21 @@ impl TreeNodes {
         }
         match &mut self.form {
             Form::Listed(listing) => listing.nodes.reserve(n),
-            Form::Root(alloc, place) => {
+            Form::Root(_, _, promised) if n == 1 => {
+                *promised = true;
+                Ok(())
+            }
+            Form::Root(alloc, place, _) => {
                 let alloc = *alloc;
                 let root = NodeList::one(alloc, root_node(*place));
                 self.reserve_in_list(alloc, root, n)
             }
-            Form::Empty(alloc) => {
+            Form::Pair(alloc, pair) => {
+                let alloc = *alloc;
+                let both = NodeList::pair(alloc, pair);
+                self.reserve_in_list(alloc, both, n)
+            }
+            Form::Empty(alloc, _) => {
                 let alloc = *alloc;
                 self.reserve_in_list(alloc, NodeList::none(alloc), n)
             }
@@ -273,7 +303,7 @@ impl TreeNodes {
         n: usize,
     ) -> Result<(), AllocError>
         requires nodes { nodes.nodes ≡ self.old.nodes }
-        requires room { self.old.room ≡ 0 }
+        requires room { self.old.room ≤ n }
         ensures nodes { self.new.nodes ≡ self.old.nodes }
         ensures ok { OnOk result (n ≤ self.new.room) }
         ensures grows { self.old.room ≤ self.new.room }
@@ -291,8 +321,9 @@ impl TreeNodes {
     {
         match &self.form {
             Form::Listed(listing) => listing.nodes.links(alloc),
-            Form::Root(_, place) => linked(alloc, &[root_node(*place)]),
-            Form::Empty(_) => Ok(Vec::new(alloc)),
+            Form::Pair(_, pair) => linked(alloc, &pair.nodes()),
+            Form::Root(_, place, _) => linked(alloc, &[root_node(*place)]),
+            Form::Empty(_, _) => Ok(Vec::new(alloc)),
         }
     }
 
@@ -307,8 +338,9 @@ impl TreeNodes {
     {
         match &self.form {
             Form::Listed(listing) => listing.nodes.outermost(alloc, named),
-            Form::Root(_, place) => outermost(&[root_node(*place)], alloc, named),
-            Form::Empty(_) => outermost(&[], alloc, named),
+            Form::Pair(_, pair) => outermost(&pair.nodes(), alloc, named),
+            Form::Root(_, place, _) => outermost(&[root_node(*place)], alloc, named),
+            Form::Empty(_, _) => outermost(&[], alloc, named),
         }
     }
 
@@ -329,24 +361,33 @@ impl TreeNodes {
     {
         match &mut self.form {
             Form::Listed(listing) => listing.cut(alloc, ranges, most),
-            Form::Root(_, place) => {
-                let root = NodeList::one(alloc, root_node(*place));
-                self.cut_in_list(alloc, root, ranges, most)
+            Form::Pair(_, pair) => {
+                let both = NodeList::pair(alloc, pair);
+                self.cut_in_list(alloc, both, 0, ranges, most)
             }
-            Form::Empty(_) => self.cut_in_list(alloc, NodeList::none(alloc), ranges, most),
+            Form::Root(_, place, promised) => {
+                let root = NodeList::one(alloc, root_node(*place));
+                let room = usize::from(*promised);
+                self.cut_in_list(alloc, root, room, ranges, most)
+            }
+            Form::Empty(_, promised) => {
+                let room = usize::from(*promised);
+                self.cut_in_list(alloc, NodeList::none(alloc), room, ranges, most)
+            }
         }
     }
 
-    /// The same for a tree that has these nodes and no list: afterwards it has one.
+    /// The same for a tree that has these nodes, this room and no list: afterwards it has one.
     fn cut_in_list(
         &mut self,
         alloc: Global,
-        nodes: NodeList,
+        mut nodes: NodeList,
+        room: usize,
         ranges: &[Range<usize>],
         most: usize,
     ) -> Result<Vec<Slice>, AllocError>
         requires nodes { nodes.nodes ≡ self.old.nodes }
-        requires room { self.old.room ≡ 0 }
+        requires room { self.old.room ≡ room }
         requires rising { AreRising 0 ranges.now (length self.old.nodes) }
         requires most { 1 ≤ most }
         ensures nodes { OnOk result (self.new.nodes ≡ outside 0 ranges.now self.old.nodes) }
@@ -355,27 +396,30 @@ impl TreeNodes {
         ensures room { OnOk result (self.old.room ≤ self.new.room) }
         ensures err { OnErr result (self.new ≡ self.old) }
     {
+        nodes.reserve(room)?;
         let mut listing = Listing::in_box(alloc, nodes)?;
         let parts = listing.cut(alloc, ranges, most)?;
         self.form = Form::Listed(listing);
         Ok(parts)
     }
 
-    /// Takes ranges out for good. This takes no memory.
+    /// Takes ranges out for good, which leave a forest. This takes no memory.
     pub fn remove_all(&mut self, ranges: &[Range<usize>])
-        requires { AreRising 0 ranges.now (length self.old.nodes) }
+        requires rising { AreRising 0 ranges.now (length self.old.nodes) }
+        requires forest { is_forest (outside 0 ranges.now self.old.nodes) ≡ true }
         ensures nodes { self.new.nodes ≡ outside 0 ranges.now self.old.nodes }
         ensures room { self.new.room ≡ self.old.room }
     {
         match &mut self.form {
             Form::Listed(listing) => listing.nodes.remove_all(ranges),
-            Form::Root(alloc, _) => {
+            Form::Pair(alloc, pair) => self.form = left_of_pair(*alloc, pair, ranges),
+            Form::Root(alloc, _, promised) => {
                 if !ranges.is_empty() {
-                    self.form = Form::Empty(*alloc);
+                    self.form = Form::Empty(*alloc, *promised);
                 }
             }
             // There is no range.
-            Form::Empty(_) => {}
+            Form::Empty(_, _) => {}
         }
     }
 
@@ -390,15 +434,17 @@ impl TreeNodes {
         match &mut self.form {
             Form::Listed(listing) => listing.put_back(parts),
             // A cut leaves a list: there is no gap.
-            Form::Root(_, _) | Form::Empty(_) => Ok(()),
+            Form::Pair(_, _) | Form::Root(_, _, _) | Form::Empty(_, _) => Ok(()),
         }
     }
 }
 
 impl Listing {
-    ghost use Rattle.std.specs.Prelude.{◌≡◌, ◌≤◌, [], length, IfOk, OnOk, OnErr};
+    ghost use Rattle.std.specs.Prelude.{◌≡◌, ◌+◌, ◌<◌, ◌≤◌, true, [], length, get_or, insert, IfOk, OnOk, OnErr};
+    ghost use Rattle.space.specs.declared.node.Node.{Node};
+    ghost use Rattle.maptree.specs.Nodes.{is_forest};
     ghost use Rattle.maptree.specs.Origins.{AreRising};
-    ghost use Rattle.mapnode.specs.Slices.{nodes_of};
+    ghost use Rattle.space.specs.Slices.{nodes_of};
     ghost use Rattle.maptree.specs.Cuts.{AreGaps, IsCutting, joined, outside, pieces_of};
 
     /// These nodes, of which none was cut out, in a box.
@@ -409,6 +455,19 @@ impl Listing {
         let gaps = Vec::new(alloc);
         let listing = Box::new(alloc, Listing { nodes, gaps })?;
         Ok(listing)
+    }
+
+    /// Puts a node directly behind the one at a position, one deeper. This takes no memory.
+    fn insert_below(&mut self, i: usize, place: Place)
+        requires within { i < length self.old.nodes.nodes }
+        requires room { 0 < self.old.nodes.room }
+        requires forest { is_forest self.old.nodes.nodes ≡ true }
+        ensures nodes { (d : Node) → self.new.nodes.nodes ≡ insert self.old.nodes.nodes (i + 1) (record { place = place; depth = (get_or self.old.nodes.nodes i d).depth + 1 }) }
+        ensures room { self.new.nodes.room + 1 ≡ self.old.nodes.room }
+        ensures gaps { self.new.gaps ≡ self.old.gaps }
+    {
+        let depth = self.nodes.get(i).depth + 1;
+        self.nodes.insert(i + 1, Node { place, depth });
     }
 
     /// Takes ranges out, in parts of at most so many nodes, and notes where they stood.
@@ -451,4 +510,21 @@ fn root_node(place: Place) -> Node
     ensures { result ≡ record { place = place; depth = 0 } }
 {
     Node { place, depth: 0 }
+}
+
+/// What is left of a root and the node below it, if these ranges go, which leave a forest.
+fn left_of_pair(alloc: Global, pair: &Pair, ranges: &[Range<usize>]) -> Form
+    requires rising { AreRising 0 ranges.now 2 }
+    requires forest { is_forest (outside 0 ranges.now (nodes_of_pair pair.now)) ≡ true }
+    ensures nodes { nodes_of_tree result ≡ outside 0 ranges.now (nodes_of_pair pair.now) }
+    ensures room { room_of_tree result ≡ 0 }
+    ensures gaps { gaps_of_tree result ≡ [] }
+{
+    if ranges.is_empty() {
+        Form::Pair(alloc, *pair)
+    } else if ranges[0].start == 0 {
+        Form::Empty(alloc, false)
+    } else {
+        Form::Root(alloc, pair.root(), false)
+    }
 }

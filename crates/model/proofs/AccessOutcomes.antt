@@ -9,10 +9,10 @@ use Rattle.fpage.specs.declared.rights.Access.{Access}
 use Rattle.fpage.specs.declared.rights.Access.TheVariants.{Read, Write, Execute}
 use Rattle.space.specs.declared.place.Place.{Place}
 use Rattle.space.specs.Place.{same_place}
-use Rattle.model.specs.Holdings.{Held, Holdings, at, each}
-use Rattle.model.specs.Touch.{can_touch, marked, touch}
-use Rattle.model.specs.Calls.{Limits, accessed}
-use Rattle.model.specs.TouchLaws.{Allows, LeavesMarks, MayAccess, IsAccessed, AccessSays}
+use Rattle.model.specs.Definitions.Holdings.{Held, Holdings, at, each}
+use Rattle.model.specs.Definitions.Touch.{can_touch, marked, touch}
+use Rattle.model.specs.Definitions.Calls.{Limits, accessed}
+use Rattle.model.specs.Laws.TouchLaws.{Allows, LeavesMarks, MayAccess, IsAccessed, AccessSays}
 use Rattle.space.proofs.Places.{same_self}
 use Rattle.model.proofs.Lookups.{changed, at_each}
 use Rattle.model.proofs.LawfulParts.{IsLawful, lawful_parts}

@@ -2,8 +2,8 @@
 use Rattle.std.proofs.Common.{◌≡◌, ℕ, zero, suc, ◌+◌, ◌-◌, ◌≤◌, true, false, Bool, length, [], ◌∷◌, Option, Some, None, refl, sym, ap, ◌∙◌, subst, arith, ◌⊎◌, inl, inr, if◌then◌else◌}
 use Rattle.std.specs.Option.{option_and_then}
 use Rattle.space.specs.declared.place.Place.{Place}
-use Rattle.model.specs.Holdings.{Held, Holdings, at, origin_at}
-use Rattle.model.specs.Lawful.{ends}
+use Rattle.model.specs.Definitions.Holdings.{Held, Holdings, at, origin_at}
+use Rattle.model.specs.Definitions.Lawful.{ends}
 use Rattle.model.proofs.Lookups.{held_cases}
 
 -- how many mappings pass a test

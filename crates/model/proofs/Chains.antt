@@ -1,13 +1,13 @@
 -- Chains of origins in lawful holdings: a place is under a set where its origin is below the set.
 use Rattle.std.proofs.Common.{◌≡◌, ℕ, zero, suc, true, false, Bool, ◌||◌, length, Option, Some, None, refl, sym, ap, ◌∙◌, subst, arith, ◌⊎◌, inl, inr}
 use Rattle.space.specs.declared.place.Place.{Place}
-use Rattle.model.specs.Holdings.{Held, Holdings, PlaceSet, at, origin_at}
-use Rattle.model.specs.Derived.{meets, is_under, is_below}
-use Rattle.model.specs.Lawful.{ends}
+use Rattle.model.specs.Definitions.Holdings.{Held, Holdings, PlaceSet, at, origin_at}
+use Rattle.model.specs.Definitions.Derived.{meets, is_under, is_below}
+use Rattle.model.specs.Definitions.Lawful.{ends}
 use Rattle.model.proofs.LawfulParts.{IsLawful}
 use Rattle.space.proofs.Places.{same_is, same_self}
 use Rattle.std.proofs.lemmas.Bool.{or_cases, or_right, false_from_ne_true}
-use Rattle.model.specs.Holdings.{only, is_held}
+use Rattle.model.specs.Definitions.Holdings.{only, is_held}
 use Rattle.std.specs.Option.{option_and_then}
 use Rattle.space.specs.Place.{same_place}
 

@@ -7,12 +7,12 @@ use Rattle.fpage.specs.Control.{with_status}
 use Rattle.fpage.specs.Fpage.{Flexpage, is_page_of}
 use Rattle.fpage.proofs.RightSets.{has-all}
 use Rattle.space.specs.declared.place.Place.{Place}
-use Rattle.model.specs.Holdings.{Held, Holdings, at, is_held}
-use Rattle.model.specs.Strip.{strip, strip_word}
-use Rattle.model.specs.Answers.{pages_in, in_space, clear_answer}
-use Rattle.model.specs.ClearLaws.{ClearSays, ClearIsUnmap, IsOfWholeSpace}
-use Rattle.model.specs.DerivationLaws.{after_origins, LeadsInto}
-use Rattle.model.specs.IsolationLaws.{Loses}
+use Rattle.model.specs.Definitions.Holdings.{Held, Holdings, at, is_held}
+use Rattle.model.specs.Definitions.Strip.{strip, strip_word}
+use Rattle.model.specs.Definitions.Answers.{pages_in, in_space, clear_answer}
+use Rattle.model.specs.Laws.ClearLaws.{ClearSays, ClearIsUnmap, IsOfWholeSpace}
+use Rattle.model.specs.Laws.DerivationLaws.{after_origins, LeadsInto}
+use Rattle.model.specs.Laws.IsolationLaws.{Loses}
 use Rattle.model.proofs.LawfulParts.{IsLawful, lawful_parts}
 use Rattle.model.proofs.Isolations.{isolates}
 use Rattle.model.proofs.Statuses.{word_has, word_from}

@@ -4,9 +4,9 @@ use Rattle.fpage.specs.Rights.{no_rights, join, has}
 use Rattle.fpage.specs.declared.rights.Rights.{Rights}
 use Rattle.fpage.specs.declared.rights.Access.{Access}
 use Rattle.space.specs.declared.place.Place.{Place}
-use Rattle.model.specs.Holdings.{Held, Holdings, PlaceSet, at, is_held, each}
-use Rattle.model.specs.Derived.{is_below}
-use Rattle.model.specs.Strip.{is_narrowed, strip_word}
+use Rattle.model.specs.Definitions.Holdings.{Held, Holdings, PlaceSet, at, is_held, each}
+use Rattle.model.specs.Definitions.Derived.{is_below}
+use Rattle.model.specs.Definitions.Strip.{is_narrowed, strip_word}
 use Rattle.fpage.proofs.RightSets.{has-none}
 use Rattle.model.proofs.Lookups.{each_kept}
 use Rattle.model.proofs.LawfulParts.{IsLawful}

@@ -3,10 +3,10 @@ use Rattle.std.proofs.Common.{◌≡◌, ℕ, zero, suc, ◌≤◌, true, false,
 use Rattle.std.specs.Option.{option_and_then, is_some}
 use Rattle.std.proofs.lemmas.Bool.{or_left}
 use Rattle.space.specs.declared.place.Place.{Place}
-use Rattle.model.specs.Holdings.{Held, Holdings, PlaceSet, only, at, is_held, origin_at}
-use Rattle.model.specs.Derived.{is_under, is_below}
-use Rattle.model.specs.Lawful.{ends}
-use Rattle.model.specs.DerivationLaws.{after_origins, LeadsInto, BelowIsAChain, UnderIsAChain, ChainsEnd, ChainsAreHeld, BelowBothSets, NoneFromItself, NestOrApart}
+use Rattle.model.specs.Definitions.Holdings.{Held, Holdings, PlaceSet, only, at, is_held, origin_at}
+use Rattle.model.specs.Definitions.Derived.{is_under, is_below}
+use Rattle.model.specs.Definitions.Lawful.{ends}
+use Rattle.model.specs.Laws.DerivationLaws.{after_origins, LeadsInto, BelowIsAChain, UnderIsAChain, ChainsEnd, ChainsAreHeld, BelowBothSets, NoneFromItself, NestOrApart}
 use Rattle.model.proofs.LawfulParts.{IsLawful, lawful_parts}
 use Rattle.model.proofs.Chains.{along, chain_ends, below_cases, under_cases, below_from, under_from, below-union, below_nest, origin_is_held, below_trans, under_self}
 use Rattle.model.proofs.ChainLengths.{ends_within_length}

@@ -3,9 +3,9 @@ use Rattle.std.proofs.Common.{◌≡◌, ℕ, zero, suc, true, false, ◌||◌, 
 use Rattle.std.specs.Option.{option_and_then, is_some}
 use Rattle.fpage.specs.Rights.{is_empty, is_within}
 use Rattle.space.specs.declared.place.Place.{Place}
-use Rattle.model.specs.Holdings.{Held, Holdings, PlaceSet, at, is_held, origin_at, each}
-use Rattle.model.specs.Derived.{is_under, is_below}
-use Rattle.model.specs.Lawful.{ends}
+use Rattle.model.specs.Definitions.Holdings.{Held, Holdings, PlaceSet, at, is_held, origin_at, each}
+use Rattle.model.specs.Definitions.Derived.{is_under, is_below}
+use Rattle.model.specs.Definitions.Lawful.{ends}
 use Rattle.model.proofs.Lookups.{changed, at_each, sorted_each}
 use Rattle.model.proofs.LawfulParts.{IsLawful, IsOrigin}
 use Rattle.model.proofs.Chains.{is_origin_below, under_below, along, origin_is_held}

@@ -9,13 +9,13 @@ use Rattle.fpage.specs.declared.item.ItemKind.{ItemKind}
 use Rattle.fpage.specs.declared.item.ItemKind.TheVariants.{Map, Grant}
 use Rattle.space.specs.declared.place.Place.{Place}
 use Rattle.space.specs.Place.{same_place}
-use Rattle.model.specs.Holdings.{Held, Holdings, only, at, is_held}
-use Rattle.model.specs.Derived.{is_under, is_below}
-use Rattle.model.specs.Items.{Job, Pair, job_of, Fate, absent, norights, to_origin, extends, goes, is_map, has_origin, fate, fate_of, going, flush, Counts, no_counts, add_counts, counts_of, counts_from, counts}
-use Rattle.model.specs.Calls.{send, Refusal, sent}
-use Rattle.model.specs.Answers.{call_refusal, unless_refused, call_answer, after_job, send_answer}
-use Rattle.model.specs.SendLaws.{IsReplaced, total}
-use Rattle.model.specs.FateLaws.{IsAbsent, SharesNoRight, DerivesFromTarget, WasMappedBefore, IsFirstFit, FateSays, CountsSay, SendsJoin, pairs_of_items, RepliesAddUp}
+use Rattle.model.specs.Definitions.Holdings.{Held, Holdings, only, at, is_held}
+use Rattle.model.specs.Definitions.Derived.{is_under, is_below}
+use Rattle.model.specs.Definitions.Items.{Job, Pair, job_of, Fate, absent, norights, to_origin, extends, goes, is_map, has_origin, fate, fate_of, going, flush, Counts, no_counts, add_counts, counts_of, counts_from, counts}
+use Rattle.model.specs.Definitions.Calls.{send, Refusal, sent}
+use Rattle.model.specs.Definitions.Answers.{call_refusal, unless_refused, call_answer, after_job, send_answer}
+use Rattle.model.specs.Laws.SendLaws.{IsReplaced, total}
+use Rattle.model.specs.Laws.FateLaws.{IsAbsent, SharesNoRight, DerivesFromTarget, WasMappedBefore, IsFirstFit, FateSays, CountsSay, SendsJoin, pairs_of_items, RepliesAddUp}
 use Rattle.space.proofs.Places.{same_is, same_self}
 use Rattle.fpage.proofs.RightSets.{has-meet, empty_has, empty_from}
 use Rattle.model.proofs.LawfulParts.{IsLawful, lawful_parts}

@@ -4,10 +4,10 @@ use Rattle.std.specs.Option.{option_map_or}
 use Rattle.fpage.specs.Rights.{is_empty, meet}
 use Rattle.space.specs.declared.place.Place.{Place}
 use Rattle.space.specs.Place.{same_place}
-use Rattle.model.specs.Holdings.{Held, Holdings, only, at, is_held, origin_at}
-use Rattle.model.specs.Derived.{is_under}
-use Rattle.model.specs.Items.{Job, Pair, Fate, absent, norights, to_origin, extends, goes, is_going, is_map, has_origin, fate_of, fate, going}
-use Rattle.model.specs.SendLaws.{In}
+use Rattle.model.specs.Definitions.Holdings.{Held, Holdings, only, at, is_held, origin_at}
+use Rattle.model.specs.Definitions.Derived.{is_under}
+use Rattle.model.specs.Definitions.Items.{Job, Pair, Fate, absent, norights, to_origin, extends, goes, is_going, is_map, has_origin, fate_of, fate, going}
+use Rattle.model.specs.Laws.SendLaws.{In}
 use Rattle.space.proofs.Places.{same_is}
 use Rattle.model.proofs.Jobs.{in_filter, in_filter_from}
 

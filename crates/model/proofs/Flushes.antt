@@ -6,11 +6,11 @@ use Rattle.std.proofs.lemmas.Bool.{and_from, or_left, false_from_ne_true}
 use Rattle.fpage.specs.Rights.{all_rights, join, without, is_empty}
 use Rattle.fpage.specs.declared.rights.Rights.{Rights}
 use Rattle.space.specs.declared.place.Place.{Place}
-use Rattle.model.specs.Holdings.{Held, Holdings, PlaceSet, at, is_held}
-use Rattle.model.specs.Derived.{is_under, is_below}
-use Rattle.model.specs.Strip.{is_narrowed, stripped, passed_to, strip}
-use Rattle.model.specs.Items.{Pair, targets_of, flush}
-use Rattle.model.specs.SendLaws.{In}
+use Rattle.model.specs.Definitions.Holdings.{Held, Holdings, PlaceSet, at, is_held}
+use Rattle.model.specs.Definitions.Derived.{is_under, is_below}
+use Rattle.model.specs.Definitions.Strip.{is_narrowed, stripped, passed_to, strip}
+use Rattle.model.specs.Definitions.Items.{Pair, targets_of, flush}
+use Rattle.model.specs.Laws.SendLaws.{In}
 use Rattle.model.proofs.Lookups.{changed, at_each}
 use Rattle.model.proofs.LawfulParts.{IsLawful}
 use Rattle.model.proofs.StripAt.{stripping, lawful_strip, was_stripped, is_stripped}

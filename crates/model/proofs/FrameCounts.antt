@@ -5,8 +5,8 @@ use Rattle.std.specs.Option.{is_some}
 use Rattle.std.proofs.lemmas.Bool.{and_parts}
 use Rattle.space.specs.declared.place.Place.{Place}
 use Rattle.space.specs.Place.{place_cmp}
-use Rattle.model.specs.Holdings.{Held, Holdings, at, is_held, each, keep}
-use Rattle.model.specs.SendLaws.{mappings_of, lost_of}
+use Rattle.model.specs.Definitions.Holdings.{Held, Holdings, at, is_held, each, keep}
+use Rattle.model.specs.Laws.SendLaws.{mappings_of, lost_of}
 use Rattle.model.proofs.Lookups.{Sorted, changed, at_each, later, first_held, sorted_each, each_twice}
 use Rattle.model.proofs.Renames.{one_mapping, first_mapping}
 

@@ -5,13 +5,13 @@ use Rattle.std.proofs.lemmas.Bool.{false_from_ne_true, or_left, or_parts, and_fr
 use Rattle.fpage.specs.Rights.{all_rights, no_rights, meet, without, is_empty}
 use Rattle.fpage.specs.declared.rights.Rights.{Rights}
 use Rattle.space.specs.declared.place.Place.{Place}
-use Rattle.model.specs.Holdings.{Held, Holdings, PlaceSet, only, at}
-use Rattle.model.specs.Derived.{is_under, is_below}
-use Rattle.model.specs.Strip.{is_narrowed, rights_left, stripped}
-use Rattle.model.specs.Items.{Job, Pair, job_of, goes, fate, fate_of, going, sources_of, targets_of}
-use Rattle.model.specs.Grant.{moved_to, granted}
-use Rattle.model.specs.DerivationLaws.{after_origins, LeadsInto}
-use Rattle.model.specs.SendLaws.{In, HasFate, IsReplaced, IsWorked, HoldsLike, OriginFollows, HoldsAfterGrant, IsGranted, GrantSays, lost_of, GrantMovesAll}
+use Rattle.model.specs.Definitions.Holdings.{Held, Holdings, PlaceSet, only, at}
+use Rattle.model.specs.Definitions.Derived.{is_under, is_below}
+use Rattle.model.specs.Definitions.Strip.{is_narrowed, rights_left, stripped}
+use Rattle.model.specs.Definitions.Items.{Job, Pair, job_of, goes, fate, fate_of, going, sources_of, targets_of}
+use Rattle.model.specs.Definitions.Grant.{moved_to, granted}
+use Rattle.model.specs.Laws.DerivationLaws.{after_origins, LeadsInto}
+use Rattle.model.specs.Laws.SendLaws.{In, HasFate, IsReplaced, IsWorked, HoldsLike, OriginFollows, HoldsAfterGrant, IsGranted, GrantSays, lost_of, GrantMovesAll}
 use Rattle.space.proofs.Places.{same_self}
 use Rattle.model.proofs.Lookups.{changed, at_each}
 use Rattle.model.proofs.LawfulParts.{IsLawful, lawful_parts}

@@ -5,12 +5,12 @@ use Rattle.std.proofs.lemmas.Bool.{or_right}
 use Rattle.fpage.specs.Rights.{all_rights, no_rights, meet, without, is_empty}
 use Rattle.fpage.specs.declared.rights.Rights.{Rights}
 use Rattle.space.specs.declared.place.Place.{Place}
-use Rattle.model.specs.Holdings.{Held, Holdings, at, is_held}
-use Rattle.model.specs.Derived.{is_under}
-use Rattle.model.specs.Strip.{is_narrowed, stripped, strip}
-use Rattle.model.specs.Items.{Job, Pair, goes, fate, going, sources_of}
-use Rattle.model.specs.Grant.{moved_to, moving, granted}
-use Rattle.model.specs.SendLaws.{In, mappings_of}
+use Rattle.model.specs.Definitions.Holdings.{Held, Holdings, at, is_held}
+use Rattle.model.specs.Definitions.Derived.{is_under}
+use Rattle.model.specs.Definitions.Strip.{is_narrowed, stripped, strip}
+use Rattle.model.specs.Definitions.Items.{Job, Pair, goes, fate, going, sources_of}
+use Rattle.model.specs.Definitions.Grant.{moved_to, moving, granted}
+use Rattle.model.specs.Laws.SendLaws.{In, mappings_of}
 use Rattle.model.proofs.LawfulParts.{IsLawful}
 use Rattle.model.proofs.StripAt.{lawful_strip, is_stripped}
 use Rattle.model.proofs.Jobs.{IsJob, in_filter, in_filter_from, in_sources, one_source, one_target, source_no_target}

@@ -3,8 +3,8 @@ use Rattle.std.proofs.Common.{◌≡◌, ℕ, zero, suc, true, false, length, Op
 use Rattle.std.specs.Option.{option_and_then}
 use Rattle.fpage.specs.Rights.{is_empty}
 use Rattle.space.specs.declared.place.Place.{Place}
-use Rattle.model.specs.Holdings.{Held, Holdings, at, origin_at}
-use Rattle.model.specs.Lawful.{ends}
+use Rattle.model.specs.Definitions.Holdings.{Held, Holdings, at, origin_at}
+use Rattle.model.specs.Definitions.Lawful.{ends}
 use Rattle.model.proofs.Lookups.{Sorted}
 use Rattle.model.proofs.LawfulParts.{IsLawful, IsOrigin}
 use Rattle.model.proofs.Chains.{chain_ends, held_with_origin}

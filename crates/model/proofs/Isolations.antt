@@ -6,10 +6,10 @@ use Rattle.fpage.specs.declared.rights.Rights.{Rights}
 use Rattle.fpage.specs.declared.rights.Access.{Access}
 use Rattle.space.specs.declared.place.Place.{Place}
 use Rattle.space.specs.Place.{same_place}
-use Rattle.model.specs.Holdings.{Held, Holdings, PlaceSet, only, at, origin_at}
-use Rattle.model.specs.Derived.{is_under, is_below}
-use Rattle.model.specs.Strip.{is_narrowed, rights_left, stripped, strip}
-use Rattle.model.specs.IsolationLaws.{Loses, Before, Isolates, StripIsolates, DerivedGoesToo}
+use Rattle.model.specs.Definitions.Holdings.{Held, Holdings, PlaceSet, only, at, origin_at}
+use Rattle.model.specs.Definitions.Derived.{is_under, is_below}
+use Rattle.model.specs.Definitions.Strip.{is_narrowed, rights_left, stripped, strip}
+use Rattle.model.specs.Laws.IsolationLaws.{Loses, Before, Isolates, StripIsolates, DerivedGoesToo}
 use Rattle.space.proofs.Places.{same_is}
 use Rattle.fpage.proofs.RightSets.{has-without, within_has, empty_has, empty_from}
 use Rattle.model.proofs.Lookups.{at_each, changed}

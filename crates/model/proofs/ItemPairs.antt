@@ -7,8 +7,8 @@ use Rattle.fpage.specs.declared.error.FpageError.{FpageError}
 use Rattle.fpage.specs.declared.error.FpageError.TheVariants.{NotAnItem}
 use Rattle.fpage.proofs.Pairings.{same_pairs}
 use Rattle.fpage.proofs.ReadFpages.{aligned_read}
-use Rattle.model.specs.Items.{Pair}
-use Rattle.model.specs.SendLaws.{PairsOfAnItem}
+use Rattle.model.specs.Definitions.Items.{Pair}
+use Rattle.model.specs.Laws.SendLaws.{PairsOfAnItem}
 use Rattle.model.proofs.Jobs.{job_pair_is, job_pair_in}
 
 -- the send fpage of an item was read

@@ -7,9 +7,9 @@ use Rattle.fpage.specs.declared.item.Item.{Item}
 use Rattle.fpage.specs.Item.{pairs_of, is_pair_of}
 use Rattle.space.specs.declared.place.Place.{Place}
 use Rattle.space.specs.Place.{same_place}
-use Rattle.model.specs.Holdings.{Holdings, is_held}
-use Rattle.model.specs.Items.{Job, Pair, next_page, pairs_from, job_of, Fate, absent, norights, to_origin, extends, goes, fate, going, flush, sources_of, targets_of, Counts, add_counts, counts_of, counts_from, counts}
-use Rattle.model.specs.SendLaws.{In, total}
+use Rattle.model.specs.Definitions.Holdings.{Holdings, is_held}
+use Rattle.model.specs.Definitions.Items.{Job, Pair, next_page, pairs_from, job_of, Fate, absent, norights, to_origin, extends, goes, fate, going, flush, sources_of, targets_of, Counts, add_counts, counts_of, counts_from, counts}
+use Rattle.model.specs.Laws.SendLaws.{In, total}
 use Rattle.space.proofs.Places.{same_is, same_self}
 
 -- ---- the pairs of a list

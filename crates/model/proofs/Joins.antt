@@ -12,16 +12,16 @@ use Rattle.fpage.specs.declared.item.ItemKind.{ItemKind}
 use Rattle.fpage.specs.declared.item.ItemKind.TheVariants as kind
 use Rattle.space.specs.declared.place.Place.{Place}
 use Rattle.space.specs.Place.{place_cmp}
-use Rattle.model.specs.Holdings.{Held, Holdings, is_held}
-use Rattle.model.specs.Derived.{is_below}
-use Rattle.model.specs.Touch.{can_touch, touch}
-use Rattle.model.specs.Strip.{strip}
-use Rattle.model.specs.Items.{flush}
-use Rattle.model.specs.Grant.{moved, renamed}
-use Rattle.model.specs.Calls.{Limits, Call, send, access, unmap, clear, Refusal, Request, accessed, refused}
-use Rattle.model.specs.Answers.{answer, call_answer, call_refusal, unless_refused, after_job}
-use Rattle.model.specs.Replay.{told_after}
-use Rattle.model.specs.ReplayLaws.{RefusedChangesNothing, FaultChangesNothing, NoPageNamed, NilpageSends, NothingAsked, ReplaysJoin}
+use Rattle.model.specs.Definitions.Holdings.{Held, Holdings, is_held}
+use Rattle.model.specs.Definitions.Derived.{is_below}
+use Rattle.model.specs.Definitions.Touch.{can_touch, touch}
+use Rattle.model.specs.Definitions.Strip.{strip}
+use Rattle.model.specs.Definitions.Items.{flush}
+use Rattle.model.specs.Definitions.Grant.{moved, renamed}
+use Rattle.model.specs.Definitions.Calls.{Limits, Call, send, access, unmap, clear, Refusal, Request, accessed, refused}
+use Rattle.model.specs.Definitions.Answers.{answer, call_answer, call_refusal, unless_refused, after_job}
+use Rattle.model.specs.Definitions.Replay.{told_after}
+use Rattle.model.specs.Laws.ReplayLaws.{RefusedChangesNothing, FaultChangesNothing, NoPageNamed, NilpageSends, NothingAsked, ReplaysJoin}
 use Rattle.model.proofs.Lookups.{Sorted}
 use Rattle.model.proofs.LawfulParts.{IsLawful, lawful_parts}
 use Rattle.model.proofs.Derivations.{below_leads, chains_are_held}

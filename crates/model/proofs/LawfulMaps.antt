@@ -3,12 +3,12 @@ use Rattle.std.proofs.Common.{◌≡◌, true, false, Option, Some, None, refl, 
 use Rattle.std.proofs.lemmas.Bool.{and_parts, false_from_ne_true}
 use Rattle.fpage.specs.Rights.{meet, is_empty, is_within}
 use Rattle.space.specs.declared.place.Place.{Place}
-use Rattle.model.specs.Holdings.{Held, Holdings, at, origin_at}
-use Rattle.model.specs.Derived.{is_below}
-use Rattle.model.specs.Items.{Job, Pair, Fate, absent, norights, to_origin, extends, goes, fate, going}
-use Rattle.model.specs.Map.{linked, extended, mapped}
+use Rattle.model.specs.Definitions.Holdings.{Held, Holdings, at, origin_at}
+use Rattle.model.specs.Definitions.Derived.{is_below}
+use Rattle.model.specs.Definitions.Items.{Job, Pair, Fate, absent, norights, to_origin, extends, goes, fate, going}
+use Rattle.model.specs.Definitions.Map.{linked, extended, mapped}
 use Rattle.fpage.proofs.RightSets.{within_self, within_trans, within_join, join_within, meet_within, larger_not_empty}
-use Rattle.model.specs.SendLaws.{In}
+use Rattle.model.specs.Laws.SendLaws.{In}
 use Rattle.model.proofs.LawfulParts.{IsLawful, IsOrigin}
 use Rattle.model.proofs.Chains.{below_cases, held_with_origin}
 use Rattle.model.proofs.Jobs.{IsJob, target_in, one_target}

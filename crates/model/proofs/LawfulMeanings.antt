@@ -5,10 +5,10 @@ use Rattle.fpage.specs.Rights.{is_empty}
 use Rattle.fpage.specs.declared.rights.Rights.{Rights}
 use Rattle.fpage.specs.declared.rights.Access.TheVariants.{Read, Write, Execute}
 use Rattle.space.specs.declared.place.Place.{Place}
-use Rattle.model.specs.Holdings.{Held, Holdings, at, is_held, origin_at}
-use Rattle.model.specs.Lawful.{ends, is_lawful}
-use Rattle.model.specs.DerivationLaws.{after_origins}
-use Rattle.model.specs.LawfulLaws.{HasSome, AreLawful, LawfulMeans}
+use Rattle.model.specs.Definitions.Holdings.{Held, Holdings, at, is_held, origin_at}
+use Rattle.model.specs.Definitions.Lawful.{ends, is_lawful}
+use Rattle.model.specs.Laws.DerivationLaws.{after_origins}
+use Rattle.model.specs.Laws.LawfulLaws.{HasSome, AreLawful, LawfulMeans}
 use Rattle.fpage.proofs.RightSets.{within_has, within_from, empty_has}
 use Rattle.model.proofs.LawfulParts.{IsOrigin, lawful_parts, lawful_from}
 use Rattle.model.proofs.ChainLengths.{ends_within_length}

@@ -7,8 +7,8 @@ use Rattle.std.proofs.lemmas.Bool.{and_parts, and_from, eqb-true, eq-eqb}
 use Rattle.fpage.specs.Rights.{is_empty, is_within}
 use Rattle.space.specs.declared.place.Place.{Place}
 use Rattle.space.specs.Place.{place_cmp, same_place}
-use Rattle.model.specs.Holdings.{Held, Holdings, at}
-use Rattle.model.specs.Lawful.{ends, is_origin_of, has_lawful_origin, is_only_root, is_lawful_at, is_lawful}
+use Rattle.model.specs.Definitions.Holdings.{Held, Holdings, at}
+use Rattle.model.specs.Definitions.Lawful.{ends, is_origin_of, has_lawful_origin, is_only_root, is_lawful_at, is_lawful}
 use Rattle.space.proofs.Places.{same_is, same_self}
 use Rattle.model.proofs.Lookups.{Sorted, all_at, all_from}
 

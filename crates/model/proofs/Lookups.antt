@@ -8,7 +8,7 @@ use Rattle.std.specs.List.{list_all}
 use Rattle.std.proofs.lemmas.Bool.{and_parts, and_from}
 use Rattle.space.specs.declared.place.Place.{Place}
 use Rattle.space.specs.Place.{place_cmp, same_place}
-use Rattle.model.specs.Holdings.{Held, Holdings, at, each, keep}
+use Rattle.model.specs.Definitions.Holdings.{Held, Holdings, at, each, keep}
 use Rattle.space.proofs.Places.{places_total, same_is, same_self, same_or_apart}
 
 -- each place once, by rising place

@@ -4,11 +4,11 @@ use Rattle.std.specs.Option.{is_some}
 use Rattle.std.proofs.lemmas.Bool.{false_from_ne_true, or_left}
 use Rattle.fpage.specs.Rights.{join, meet, all_rights}
 use Rattle.space.specs.declared.place.Place.{Place}
-use Rattle.model.specs.Holdings.{Held, Holdings, at, is_held}
-use Rattle.model.specs.Derived.{is_below}
-use Rattle.model.specs.Items.{Job, Pair, job_of, extends, goes, fate, going, targets_of}
-use Rattle.model.specs.Map.{extended, mapped}
-use Rattle.model.specs.SendLaws.{In, HasFate, IsReplaced, IsWorked, IsMapped, MapSays}
+use Rattle.model.specs.Definitions.Holdings.{Held, Holdings, at, is_held}
+use Rattle.model.specs.Definitions.Derived.{is_below}
+use Rattle.model.specs.Definitions.Items.{Job, Pair, job_of, extends, goes, fate, going, targets_of}
+use Rattle.model.specs.Definitions.Map.{extended, mapped}
+use Rattle.model.specs.Laws.SendLaws.{In, HasFate, IsReplaced, IsWorked, IsMapped, MapSays}
 use Rattle.model.proofs.LawfulParts.{IsLawful, lawful_parts}
 use Rattle.model.proofs.Chains.{below_same}
 use Rattle.model.proofs.Derivations.{below_leads, leads_below}

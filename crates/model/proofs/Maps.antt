@@ -2,10 +2,10 @@
 use Rattle.std.proofs.Common.{◌≡◌, ℕ, true, false, Bool, [], ◌∷◌, List, Option, Some, None, refl, sym, ap, ◌∙◌, subst, ◌⊎◌, inl, inr}
 use Rattle.space.specs.declared.place.Place.{Place}
 use Rattle.space.specs.Place.{same_place}
-use Rattle.model.specs.Holdings.{Held, Holdings, at}
-use Rattle.model.specs.Items.{Job, Pair, Fate, absent, norights, to_origin, extends, goes, fate, going, flush, targets_of}
-use Rattle.model.specs.Map.{linked, extended, link, extend, map_pair, map_pairs, mapped}
-use Rattle.model.specs.SendLaws.{In}
+use Rattle.model.specs.Definitions.Holdings.{Held, Holdings, at}
+use Rattle.model.specs.Definitions.Items.{Job, Pair, Fate, absent, norights, to_origin, extends, goes, fate, going, flush, targets_of}
+use Rattle.model.specs.Definitions.Map.{linked, extended, link, extend, map_pair, map_pairs, mapped}
+use Rattle.model.specs.Laws.SendLaws.{In}
 use Rattle.model.proofs.Lookups.{Sorted}
 use Rattle.model.proofs.Jobs.{ArePaired, IsJob, in_targets, target_in, source_no_target}
 use Rattle.model.proofs.Puts.{apart_places, put_here, put_elsewhere, sorted_put}

@@ -3,10 +3,10 @@ use Rattle.std.proofs.Common.{◌≡◌, ℕ, true, false, Bool, List, [], ◌�
 use Rattle.space.specs.declared.place.Place.{Place}
 use Rattle.space.specs.Place.{same_place}
 use Rattle.space.proofs.Places.{same_self}
-use Rattle.model.specs.Holdings.{Held, Holdings, at}
-use Rattle.model.specs.Items.{Pair, sources_of}
-use Rattle.model.specs.Grant.{moved_to}
-use Rattle.model.specs.SendLaws.{In}
+use Rattle.model.specs.Definitions.Holdings.{Held, Holdings, at}
+use Rattle.model.specs.Definitions.Items.{Pair, sources_of}
+use Rattle.model.specs.Definitions.Grant.{moved_to}
+use Rattle.model.specs.Laws.SendLaws.{In}
 use Rattle.model.proofs.Jobs.{ArePaired, one_target_of}
 use Rattle.model.proofs.Renames.{moved_cases, MovesApart}
 

@@ -4,9 +4,9 @@ use Rattle.std.proofs.lemmas.Bool.{or_parts, or_from, and_right}
 use Rattle.fpage.specs.Rights.{has, without, is_empty}
 use Rattle.fpage.specs.declared.rights.Rights.{Rights}
 use Rattle.space.specs.declared.place.Place.{Place}
-use Rattle.model.specs.Holdings.{Held, Holdings, PlaceSet, at, is_held, origin_at, each}
-use Rattle.model.specs.Derived.{is_under, is_below}
-use Rattle.model.specs.Strip.{is_narrowed, rights_left, stripped, left_of}
+use Rattle.model.specs.Definitions.Holdings.{Held, Holdings, PlaceSet, at, is_held, origin_at, each}
+use Rattle.model.specs.Definitions.Derived.{is_under, is_below}
+use Rattle.model.specs.Definitions.Strip.{is_narrowed, rights_left, stripped, left_of}
 use Rattle.model.proofs.Lookups.{changed, each_twice}
 use Rattle.fpage.proofs.RightSets.{has-without, same_rights}
 use Rattle.model.proofs.LawfulParts.{IsLawful}

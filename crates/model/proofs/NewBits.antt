@@ -10,19 +10,19 @@ use Rattle.fpage.specs.declared.item.ItemKind.{ItemKind}
 use Rattle.fpage.specs.declared.item.ItemKind.TheVariants as kind
 use Rattle.space.specs.declared.place.Place.{Place}
 use Rattle.space.specs.Place.{same_place}
-use Rattle.model.specs.Holdings.{Held, Holdings, PlaceSet, only, at, origin_at, each}
-use Rattle.model.specs.Derived.{is_below}
-use Rattle.model.specs.Touch.{can_touch, marked, touch}
-use Rattle.model.specs.Strip.{strip}
-use Rattle.model.specs.Items.{Job, Pair, job_of, going, sources_of}
-use Rattle.model.specs.Map.{mapped}
-use Rattle.model.specs.Grant.{moved_to, granted}
-use Rattle.model.specs.Calls.{Limits, Call, send, access, unmap, clear, Named, Refusal, Request}
-use Rattle.model.specs.Answers.{after_job, send_answer, pages_in, in_space, unmap_answer, call_answer, call_refusal, unless_refused, answer}
-use Rattle.model.specs.Replay.{replay}
-use Rattle.model.specs.StatusLaws.{HasBit}
-use Rattle.model.specs.SendLaws.{In}
-use Rattle.model.specs.KeptStatusLaws.{MarksBit, IsMarkedSince, BitsComeFromAccesses}
+use Rattle.model.specs.Definitions.Holdings.{Held, Holdings, PlaceSet, only, at, origin_at, each}
+use Rattle.model.specs.Definitions.Derived.{is_below}
+use Rattle.model.specs.Definitions.Touch.{can_touch, marked, touch}
+use Rattle.model.specs.Definitions.Strip.{strip}
+use Rattle.model.specs.Definitions.Items.{Job, Pair, job_of, going, sources_of}
+use Rattle.model.specs.Definitions.Map.{mapped}
+use Rattle.model.specs.Definitions.Grant.{moved_to, granted}
+use Rattle.model.specs.Definitions.Calls.{Limits, Call, send, access, unmap, clear, Named, Refusal, Request}
+use Rattle.model.specs.Definitions.Answers.{after_job, send_answer, pages_in, in_space, unmap_answer, call_answer, call_refusal, unless_refused, answer}
+use Rattle.model.specs.Definitions.Replay.{replay}
+use Rattle.model.specs.Laws.StatusLaws.{HasBit}
+use Rattle.model.specs.Laws.SendLaws.{In}
+use Rattle.model.specs.Laws.KeptStatusLaws.{MarksBit, IsMarkedSince, BitsComeFromAccesses}
 use Rattle.space.proofs.Places.{same_is}
 use Rattle.fpage.proofs.RightSets.{has-join, has-none}
 use Rattle.model.proofs.Lookups.{sorted_each}

@@ -4,9 +4,9 @@ use Rattle.std.proofs.Math.Bool.{or-false, and-false}
 use Rattle.fpage.specs.Rights.{no_rights, join}
 use Rattle.fpage.specs.declared.rights.Rights.{Rights}
 use Rattle.space.specs.declared.place.Place.{Place}
-use Rattle.model.specs.Holdings.{Held, Holdings, PlaceSet, origin_at, each}
-use Rattle.model.specs.Derived.{meets, is_below}
-use Rattle.model.specs.Strip.{strip, stripped, gain_from, left_of, is_narrowed}
+use Rattle.model.specs.Definitions.Holdings.{Held, Holdings, PlaceSet, origin_at, each}
+use Rattle.model.specs.Definitions.Derived.{meets, is_below}
+use Rattle.model.specs.Definitions.Strip.{strip, stripped, gain_from, left_of, is_narrowed}
 
 abbrev IsNone : PlaceSet → Type 0
 IsNone set = (p : Place) → set p ≡ false

@@ -4,7 +4,7 @@ use Rattle.std.specs.FinMap.Entries.{put, find-put, is_sorted-put}
 use Rattle.std.proofs.lemmas.Bool.{false_from_ne_true}
 use Rattle.space.specs.declared.place.Place.{Place}
 use Rattle.space.specs.Place.{place_cmp, same_place}
-use Rattle.model.specs.Holdings.{Held, Holdings, at}
+use Rattle.model.specs.Definitions.Holdings.{Held, Holdings, at}
 use Rattle.space.proofs.Places.{places_total, same_is, same_self}
 use Rattle.model.proofs.Lookups.{Sorted}
 

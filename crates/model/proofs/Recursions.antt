@@ -7,11 +7,11 @@ use Rattle.fpage.specs.declared.rights.Rights.{Rights}
 use Rattle.fpage.specs.declared.rights.Access.{Access}
 use Rattle.space.specs.declared.place.Place.{Place}
 use Rattle.space.specs.Place.{same_place}
-use Rattle.model.specs.Holdings.{Held, Holdings, PlaceSet, only, at, is_held, origin_at, each, places}
-use Rattle.model.specs.Derived.{is_below}
-use Rattle.model.specs.Strip.{strip_word, passed_to, strip}
-use Rattle.model.specs.Recursion.{Visited, joined, in_turn, visit, passed_up, visit_named, recur}
-use Rattle.model.specs.RecursionLaws.{unmapped, RecursionIsStrip, StripsJoin}
+use Rattle.model.specs.Definitions.Holdings.{Held, Holdings, PlaceSet, only, at, is_held, origin_at, each, places}
+use Rattle.model.specs.Definitions.Derived.{is_below}
+use Rattle.model.specs.Definitions.Strip.{strip_word, passed_to, strip}
+use Rattle.model.specs.Definitions.Recursion.{Visited, joined, in_turn, visit, passed_up, visit_named, recur}
+use Rattle.model.specs.Laws.RecursionLaws.{unmapped, RecursionIsStrip, StripsJoin}
 use Rattle.space.proofs.Places.{same_is, same_self}
 use Rattle.fpage.proofs.RightSets.{same_elements, nothing_from, join_nothing}
 use Rattle.model.proofs.Lookups.{changed, each_twice}

@@ -2,11 +2,11 @@
 use Rattle.std.proofs.Common.{◌≡◌, ℕ, ◌/◌, ◌^◌, ◌<◌, ◌==◌, ◌&&◌, not, nat_lt, Bool, true, false, Some, None, Ok, Err, refl, ap, arith, if◌then◌else◌}
 use Rattle.std.proofs.lemmas.Bool.{and_parts, and_from, eqb-true, eq-eqb, ltb-true, lt-ltb}
 use Rattle.fpage.specs.Fpage.{Flexpage}
-use Rattle.model.specs.Holdings.{Holdings}
-use Rattle.model.specs.Calls.{Limits, access, no_such_space, same_space, no_window, out_of_space, Reply, Request}
-use Rattle.model.specs.Answers.{SendAnswer, UnmapAnswer, ClearAnswer, send_answer, unmap_answer, clear_answer, sent_answer, unmapped_answer, cleared_answer, unless_refused}
-use Rattle.model.specs.Records.{AccessFields}
-use Rattle.model.specs.RefusalLaws.{AreSpaces, IsSendReply, SendRefusals, IsUnmapReply, UnmapRefusals, IsClearReply, ClearRefusals, HasAddress, IsAccessRequest, AccessRefusals}
+use Rattle.model.specs.Definitions.Holdings.{Holdings}
+use Rattle.model.specs.Definitions.Calls.{Limits, access, no_such_space, same_space, no_window, out_of_space, Reply, Request}
+use Rattle.model.specs.Definitions.Answers.{SendAnswer, UnmapAnswer, ClearAnswer, send_answer, unmap_answer, clear_answer, sent_answer, unmapped_answer, cleared_answer, unless_refused}
+use Rattle.model.specs.Definitions.Records.{AccessFields}
+use Rattle.model.specs.Laws.RefusalLaws.{AreSpaces, IsSendReply, SendRefusals, IsUnmapReply, UnmapRefusals, IsClearReply, ClearRefusals, HasAddress, IsAccessRequest, AccessRefusals}
 
 -- ---- send
 

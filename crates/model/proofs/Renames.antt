@@ -9,11 +9,11 @@ use Rattle.std.proofs.lemmas.Bool.{and_parts}
 use Rattle.fpage.specs.Rights.{is_empty, is_within}
 use Rattle.space.specs.declared.place.Place.{Place}
 use Rattle.space.specs.Place.{place_cmp, same_place}
-use Rattle.model.specs.Holdings.{Held, Holdings, at, origin_at}
-use Rattle.model.specs.Lawful.{ends}
-use Rattle.model.specs.Items.{Pair, sources_of}
-use Rattle.model.specs.Grant.{target_of, moved_to, moved, renamed}
-use Rattle.model.specs.SendLaws.{In, mappings_of}
+use Rattle.model.specs.Definitions.Holdings.{Held, Holdings, at, origin_at}
+use Rattle.model.specs.Definitions.Lawful.{ends}
+use Rattle.model.specs.Definitions.Items.{Pair, sources_of}
+use Rattle.model.specs.Definitions.Grant.{target_of, moved_to, moved, renamed}
+use Rattle.model.specs.Laws.SendLaws.{In, mappings_of}
 use Rattle.space.proofs.Places.{same_is, same_or_apart}
 use Rattle.model.proofs.Lookups.{Sorted, below_absent, later, first_held, held_cases}
 use Rattle.model.proofs.LawfulParts.{IsLawful, IsOrigin}

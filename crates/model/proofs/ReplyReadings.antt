@@ -8,12 +8,12 @@ use Rattle.std.proofs.lemmas.List.Sums.{length-filter}
 use Rattle.fpage.specs.Rights.{number, of_bits}
 use Rattle.fpage.specs.declared.rights.Rights.{Rights}
 use Rattle.space.specs.declared.place.Place.{Place}
-use Rattle.model.specs.Holdings.{Held, Holdings}
-use Rattle.model.specs.Items.{Counts}
-use Rattle.model.specs.Calls.{Refusal, bad_size, misaligned, out_of_space, not_an_item, bad_control, no_such_space, same_space, no_window, bad_record, Reply, sent, accessed, unmapped, cleared, refused}
-use Rattle.model.specs.Replay.{Told}
-use Rattle.model.specs.Text.{refusal_name, counts_text, hex_digits, clear_word, words_text, reply_text, reply_line, reply_lines, audit_line, audit_lines, is_refused, refused_count, end_line, text}
-use Rattle.model.specs.TextLaws.{HasDigits, MappingHasDigits, CountsHaveDigits, ReplyHasDigits, LineIsOfOneReply, TextIsOfOneResult, EndIsOfTwoNumbers, IsRefusal, RefusalsAreTold, EndCountsReplies}
+use Rattle.model.specs.Definitions.Holdings.{Held, Holdings}
+use Rattle.model.specs.Definitions.Items.{Counts}
+use Rattle.model.specs.Definitions.Calls.{Refusal, bad_size, misaligned, out_of_space, not_an_item, bad_control, no_such_space, same_space, no_window, bad_record, Reply, sent, accessed, unmapped, cleared, refused}
+use Rattle.model.specs.Definitions.Replay.{Told}
+use Rattle.model.specs.Definitions.Text.{refusal_name, counts_text, hex_digits, clear_word, words_text, reply_text, reply_line, reply_lines, audit_line, audit_lines, is_refused, refused_count, end_line, text}
+use Rattle.model.specs.Laws.TextLaws.{HasDigits, MappingHasDigits, CountsHaveDigits, ReplyHasDigits, LineIsOfOneReply, TextIsOfOneResult, EndIsOfTwoNumbers, IsRefusal, RefusalsAreTold, EndCountsReplies}
 use Rattle.model.proofs.KeptBits.{number_small, status_read}
 use Rattle.model.proofs.TextReadings.{decimal_then, no_decimal, hex_reads_back, line_onto, line_is, line_then}
 

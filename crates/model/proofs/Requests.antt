@@ -6,13 +6,13 @@ use Rattle.fpage.specs.Rights.{all_rights}
 use Rattle.fpage.specs.declared.item.Item.{Item}
 use Rattle.fpage.specs.declared.item.ItemKind.{ItemKind}
 use Rattle.fpage.specs.declared.item.ItemKind.TheVariants as kind
-use Rattle.model.specs.Holdings.{Holdings}
-use Rattle.model.specs.Strip.{strip}
-use Rattle.model.specs.Items.{Job, job_of}
-use Rattle.model.specs.Calls.{Limits, Call, send, access, unmap, clear, Named, Refusal, no_such_space, same_space, no_window, Request}
-use Rattle.model.specs.Answers.{answer, after_job, send_answer, pages_in, in_space, unmap_answer, call_answer, call_refusal, unless_refused}
-use Rattle.model.specs.Replay.{start, replay}
-use Rattle.model.specs.LawfulLaws.{MapKeepsLawful, GrantKeepsLawful, RequestKeepsLawful, ReplayIsLawful}
+use Rattle.model.specs.Definitions.Holdings.{Holdings}
+use Rattle.model.specs.Definitions.Strip.{strip}
+use Rattle.model.specs.Definitions.Items.{Job, job_of}
+use Rattle.model.specs.Definitions.Calls.{Limits, Call, send, access, unmap, clear, Named, Refusal, no_such_space, same_space, no_window, Request}
+use Rattle.model.specs.Definitions.Answers.{answer, after_job, send_answer, pages_in, in_space, unmap_answer, call_answer, call_refusal, unless_refused}
+use Rattle.model.specs.Definitions.Replay.{start, replay}
+use Rattle.model.specs.Laws.LawfulLaws.{MapKeepsLawful, GrantKeepsLawful, RequestKeepsLawful, ReplayIsLawful}
 use Rattle.model.proofs.LawfulParts.{IsLawful, lawful_parts, lawful_from}
 use Rattle.model.proofs.StripAt.{lawful_strip}
 use Rattle.model.proofs.Touches.{lawful_touch}

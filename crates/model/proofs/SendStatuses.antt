@@ -5,15 +5,15 @@ use Rattle.std.proofs.lemmas.Bool.{or_cases, or_left, or_right, or_parts, false_
 use Rattle.fpage.specs.Rights.{no_rights, all_rights, without, has}
 use Rattle.fpage.specs.declared.rights.Access.{Access}
 use Rattle.space.specs.declared.place.Place.{Place}
-use Rattle.model.specs.Holdings.{Held, Holdings, only, at}
-use Rattle.model.specs.Derived.{is_below}
-use Rattle.model.specs.Strip.{passed_to}
-use Rattle.model.specs.Items.{Job, Pair, Fate, absent, norights, to_origin, extends, goes, job_of, fate, going, sources_of, targets_of}
-use Rattle.model.specs.Map.{mapped}
-use Rattle.model.specs.Grant.{granted}
-use Rattle.model.specs.DerivationLaws.{LeadsInto}
-use Rattle.model.specs.StatusLaws.{PassesBit}
-use Rattle.model.specs.SendLaws.{In, IsReplaced, IsStatusAfterMap, MapPassesStatus, IsStatusAfterGrant, GrantPassesStatus}
+use Rattle.model.specs.Definitions.Holdings.{Held, Holdings, only, at}
+use Rattle.model.specs.Definitions.Derived.{is_below}
+use Rattle.model.specs.Definitions.Strip.{passed_to}
+use Rattle.model.specs.Definitions.Items.{Job, Pair, Fate, absent, norights, to_origin, extends, goes, job_of, fate, going, sources_of, targets_of}
+use Rattle.model.specs.Definitions.Map.{mapped}
+use Rattle.model.specs.Definitions.Grant.{granted}
+use Rattle.model.specs.Laws.DerivationLaws.{LeadsInto}
+use Rattle.model.specs.Laws.StatusLaws.{PassesBit}
+use Rattle.model.specs.Laws.SendLaws.{In, IsReplaced, IsStatusAfterMap, MapPassesStatus, IsStatusAfterGrant, GrantPassesStatus}
 use Rattle.fpage.proofs.RightSets.{has-join}
 use Rattle.model.proofs.LawfulParts.{IsLawful, lawful_parts}
 use Rattle.model.proofs.StripAt.{strip_below}

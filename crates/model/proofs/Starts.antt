@@ -7,11 +7,11 @@ use Rattle.std.proofs.lemmas.Bool.Decides.{nat_tests}
 use Rattle.fpage.specs.Rights.{all_rights, is_empty}
 use Rattle.space.specs.declared.place.Place.{Place}
 use Rattle.space.specs.Place.{place_cmp}
-use Rattle.model.specs.Holdings.{Held, at}
-use Rattle.model.specs.Lawful.{ends}
-use Rattle.model.specs.Replay.{root, roots_from, start}
-use Rattle.model.specs.LawfulLaws.{StartIsLawful}
-use Rattle.model.specs.ReplayLaws.{StartSays}
+use Rattle.model.specs.Definitions.Holdings.{Held, at}
+use Rattle.model.specs.Definitions.Lawful.{ends}
+use Rattle.model.specs.Definitions.Replay.{root, roots_from, start}
+use Rattle.model.specs.Laws.LawfulLaws.{StartIsLawful}
+use Rattle.model.specs.Laws.ReplayLaws.{StartSays}
 use Rattle.model.proofs.Lookups.{Sorted, later, first_held, held_cases}
 use Rattle.model.proofs.LawfulParts.{IsLawful, lawful_from}
 

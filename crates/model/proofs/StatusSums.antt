@@ -8,9 +8,9 @@ use Rattle.fpage.specs.declared.rights.Rights.{Rights}
 use Rattle.fpage.specs.declared.rights.Access.{Access}
 use Rattle.space.specs.declared.place.Place.{Place}
 use Rattle.space.specs.Place.{place_cmp, same_place}
-use Rattle.model.specs.Holdings.{Held, Holdings, PlaceSet, only, at, derives_from}
-use Rattle.model.specs.Derived.{is_below}
-use Rattle.model.specs.Strip.{status_over, strip_word, gain_from, passed_to}
+use Rattle.model.specs.Definitions.Holdings.{Held, Holdings, PlaceSet, only, at, derives_from}
+use Rattle.model.specs.Definitions.Derived.{is_below}
+use Rattle.model.specs.Definitions.Strip.{status_over, strip_word, gain_from, passed_to}
 use Rattle.space.proofs.Places.{same_is, same_self}
 use Rattle.fpage.proofs.RightSets.{has-join, has-none}
 use Rattle.model.proofs.Lookups.{Sorted, later, first_held, held_cases}

@@ -6,10 +6,10 @@ use Rattle.fpage.specs.declared.rights.Rights.{Rights}
 use Rattle.fpage.specs.declared.rights.Access.{Access}
 use Rattle.space.specs.declared.place.Place.{Place}
 use Rattle.space.specs.Place.{same_place}
-use Rattle.model.specs.Holdings.{Held, Holdings, PlaceSet, only, at, origin_at}
-use Rattle.model.specs.Derived.{is_under, is_below}
-use Rattle.model.specs.Strip.{rights_left, stripped, strip, strip_word, passed_to}
-use Rattle.model.specs.StatusLaws.{HasBit, PassesBit, WordIsTheUnion, StatusIsCleared, OutsideGains, Removal, after_removal, after_removals, IsAnswered, NoBitIsLost}
+use Rattle.model.specs.Definitions.Holdings.{Held, Holdings, PlaceSet, only, at, origin_at}
+use Rattle.model.specs.Definitions.Derived.{is_under, is_below}
+use Rattle.model.specs.Definitions.Strip.{rights_left, stripped, strip, strip_word, passed_to}
+use Rattle.model.specs.Laws.StatusLaws.{HasBit, PassesBit, WordIsTheUnion, StatusIsCleared, OutsideGains, Removal, after_removal, after_removals, IsAnswered, NoBitIsLost}
 use Rattle.space.proofs.Places.{same_is, same_self}
 use Rattle.fpage.proofs.RightSets.{has-join, has-none}
 use Rattle.model.proofs.LawfulParts.{IsLawful, lawful_parts}

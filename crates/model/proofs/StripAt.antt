@@ -4,9 +4,9 @@ use Rattle.std.proofs.lemmas.Bool.{and_parts, and_from, or_cases, or_left, or_ri
 use Rattle.fpage.specs.Rights.{has, without, is_empty, is_within}
 use Rattle.fpage.specs.declared.rights.Rights.{Rights}
 use Rattle.space.specs.declared.place.Place.{Place}
-use Rattle.model.specs.Holdings.{Held, Holdings, PlaceSet, at, is_held, origin_at}
-use Rattle.model.specs.Derived.{is_under, is_below}
-use Rattle.model.specs.Strip.{is_narrowed, rights_left, stripped, left_of, strip}
+use Rattle.model.specs.Definitions.Holdings.{Held, Holdings, PlaceSet, at, is_held, origin_at}
+use Rattle.model.specs.Definitions.Derived.{is_under, is_below}
+use Rattle.model.specs.Definitions.Strip.{is_narrowed, rights_left, stripped, left_of, strip}
 use Rattle.fpage.proofs.RightSets.{has-without, within_from, within_has, within_self, within_trans, larger_not_empty}
 use Rattle.model.proofs.LawfulParts.{IsLawful}
 use Rattle.model.proofs.Chains.{under_from}

@@ -5,9 +5,9 @@ use Rattle.fpage.specs.Rights.{no_rights, join, has}
 use Rattle.fpage.specs.declared.rights.Rights.{Rights}
 use Rattle.fpage.specs.declared.rights.Access.{Access}
 use Rattle.space.specs.declared.place.Place.{Place}
-use Rattle.model.specs.Holdings.{Held, Holdings, PlaceSet, only, at, is_held, origin_at}
-use Rattle.model.specs.Derived.{is_below}
-use Rattle.model.specs.Strip.{is_narrowed, left_of, stripped, strip_word, passed_to, strip}
+use Rattle.model.specs.Definitions.Holdings.{Held, Holdings, PlaceSet, only, at, is_held, origin_at}
+use Rattle.model.specs.Definitions.Derived.{is_below}
+use Rattle.model.specs.Definitions.Strip.{is_narrowed, left_of, stripped, strip_word, passed_to, strip}
 use Rattle.space.proofs.Places.{same_is, same_self}
 use Rattle.fpage.proofs.RightSets.{has-join, has-none, same_elements, nothing_from, join_nothing, join_assoc}
 use Rattle.model.proofs.Lookups.{same_each, each_kept}

@@ -9,9 +9,9 @@ use Rattle.std.proofs.lemmas.Str.{digit_value-digit_char}
 use Rattle.std.proofs.lemmas.Fmt.{decimal_is_IsNumeral_wide}
 use Rattle.fpage.specs.declared.rights.Rights.{Rights}
 use Rattle.space.specs.declared.place.Place.{Place}
-use Rattle.model.specs.Holdings.{Held}
-use Rattle.model.specs.Text.{hex_code, hex_digits, letter, audit_line, audit_lines}
-use Rattle.model.specs.TextLaws.{HasDigits, DecimalReadsBack, HexReadsBack, PlaceHasDigits, MappingHasDigits, LineIsOfOneMapping, AuditIsOfOneHoldings}
+use Rattle.model.specs.Definitions.Holdings.{Held}
+use Rattle.model.specs.Definitions.Text.{hex_code, hex_digits, letter, audit_line, audit_lines}
+use Rattle.model.specs.Laws.TextLaws.{HasDigits, DecimalReadsBack, HexReadsBack, PlaceHasDigits, MappingHasDigits, LineIsOfOneMapping, AuditIsOfOneHoldings}
 
 -- ---- numbers
 

@@ -4,11 +4,11 @@ use Rattle.fpage.specs.Rights.{has, is_within, is_empty}
 use Rattle.fpage.specs.declared.rights.Access.{Access}
 use Rattle.space.specs.declared.place.Place.{Place}
 use Rattle.space.specs.Place.{same_place}
-use Rattle.model.specs.Holdings.{Held, Holdings, only, at, each, origin_at}
-use Rattle.model.specs.Derived.{is_below}
-use Rattle.model.specs.Touch.{can_touch, marked, touch}
-use Rattle.model.specs.Strip.{strip}
-use Rattle.model.specs.LawfulLaws.{HoldsNoMore, DerivedHoldsNoMore, TouchKeepsLawful, StripKeepsLawful}
+use Rattle.model.specs.Definitions.Holdings.{Held, Holdings, only, at, each, origin_at}
+use Rattle.model.specs.Definitions.Derived.{is_below}
+use Rattle.model.specs.Definitions.Touch.{can_touch, marked, touch}
+use Rattle.model.specs.Definitions.Strip.{strip}
+use Rattle.model.specs.Laws.LawfulLaws.{HoldsNoMore, DerivedHoldsNoMore, TouchKeepsLawful, StripKeepsLawful}
 use Rattle.space.proofs.Places.{same_is}
 use Rattle.fpage.proofs.RightSets.{within_has}
 use Rattle.model.proofs.LawfulParts.{IsLawful, lawful_parts, lawful_from}

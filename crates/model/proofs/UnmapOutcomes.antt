@@ -4,9 +4,9 @@ use Rattle.std.proofs.lemmas.Bool.{and_parts, and_from, eqb-true, eq-eqb, leb-tr
 use Rattle.fpage.specs.Rights.{number, has}
 use Rattle.fpage.specs.Fpage.{is_page_of}
 use Rattle.fpage.specs.Control.{with_status}
-use Rattle.model.specs.Strip.{strip, strip_word}
-use Rattle.model.specs.Answers.{pages_in}
-use Rattle.model.specs.UnmapLaws.{IsPageIn, UnmapNamesItsOwn, UnmapSays, UnmapsJoin}
+use Rattle.model.specs.Definitions.Strip.{strip, strip_word}
+use Rattle.model.specs.Definitions.Answers.{pages_in}
+use Rattle.model.specs.Laws.UnmapLaws.{IsPageIn, UnmapNamesItsOwn, UnmapSays, UnmapsJoin}
 use Rattle.model.proofs.LawfulParts.{lawful_parts}
 use Rattle.model.proofs.Isolations.{isolates}
 use Rattle.model.proofs.Statuses.{word_has, word_from}

@@ -9,11 +9,11 @@ use Rattle.fpage.specs.declared.rights.Rights.{Rights}
 use Rattle.fpage.specs.declared.rights.Access.{Access}
 use Rattle.space.specs.declared.place.Place.{Place}
 use Rattle.space.specs.Place.{place_cmp, same_place}
-use Rattle.model.specs.Holdings.{Held, Holdings, PlaceSet, only, at, is_held, origin_at, derives_from, each, places}
-use Rattle.model.specs.Derived.{is_under, is_below}
-use Rattle.model.specs.Lawful.{ends}
-use Rattle.model.specs.Strip.{is_narrowed, rights_left, left_of, strip_word}
-use Rattle.model.specs.Recursion.{Visited, joined, in_turn, children, taken, visit}
+use Rattle.model.specs.Definitions.Holdings.{Held, Holdings, PlaceSet, only, at, is_held, origin_at, derives_from, each, places}
+use Rattle.model.specs.Definitions.Derived.{is_under, is_below}
+use Rattle.model.specs.Definitions.Lawful.{ends}
+use Rattle.model.specs.Definitions.Strip.{is_narrowed, rights_left, left_of, strip_word}
+use Rattle.model.specs.Definitions.Recursion.{Visited, joined, in_turn, children, taken, visit}
 use Rattle.space.proofs.Places.{same_is, same_self, same_or_apart, apart_back}
 use Rattle.fpage.proofs.RightSets.{has-join, has-none, same_elements}
 use Rattle.model.proofs.Lookups.{Sorted, below_absent, changed, at_each, each_twice}

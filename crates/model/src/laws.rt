@@ -1,19 +1,19 @@
 //! The laws of the definitions. Each function does nothing: its contract is a law, proved of all lawful holdings.
 
-ghost use Rattle.model.specs.DerivationLaws.{BelowIsAChain, UnderIsAChain, ChainsEnd, ChainsAreHeld, BelowBothSets, NoneFromItself, NestOrApart};
-ghost use Rattle.model.specs.TouchLaws.{AccessSays};
-ghost use Rattle.model.specs.IsolationLaws.{StripIsolates, DerivedGoesToo};
-ghost use Rattle.model.specs.StatusLaws.{WordIsTheUnion, StatusIsCleared, OutsideGains, NoBitIsLost};
-ghost use Rattle.model.specs.RecursionLaws.{RecursionIsStrip, StripsJoin};
-ghost use Rattle.model.specs.LawfulLaws.{LawfulMeans, DerivedHoldsNoMore, TouchKeepsLawful, StripKeepsLawful, MapKeepsLawful, GrantKeepsLawful, RequestKeepsLawful, StartIsLawful, ReplayIsLawful};
-ghost use Rattle.model.specs.SendLaws.{PairsOfAnItem, MapSays, GrantSays, MapPassesStatus, GrantPassesStatus, GrantMovesAll, CountsAddUp};
-ghost use Rattle.model.specs.TextLaws.{DecimalReadsBack, HexReadsBack, LineIsOfOneMapping, AuditIsOfOneHoldings, LineIsOfOneReply, EndIsOfTwoNumbers, RefusalsAreTold, EndCountsReplies, TextIsOfOneResult};
-ghost use Rattle.model.specs.FateLaws.{FateSays, CountsSay, SendsJoin, RepliesAddUp};
-ghost use Rattle.model.specs.UnmapLaws.{UnmapNamesItsOwn, UnmapSays, UnmapsJoin};
-ghost use Rattle.model.specs.ClearLaws.{ClearSays, ClearIsUnmap};
-ghost use Rattle.model.specs.RefusalLaws.{SendRefusals, UnmapRefusals, ClearRefusals, AccessRefusals};
-ghost use Rattle.model.specs.KeptStatusLaws.{CallKeepsBits, ReplayKeepsBits, BitsComeFromAccesses};
-ghost use Rattle.model.specs.ReplayLaws.{RefusedChangesNothing, FaultChangesNothing, NoPageNamed, NilpageSends, NothingAsked, StartSays, ReplaysJoin};
+ghost use Rattle.model.specs.Laws.DerivationLaws.{BelowIsAChain, UnderIsAChain, ChainsEnd, ChainsAreHeld, BelowBothSets, NoneFromItself, NestOrApart};
+ghost use Rattle.model.specs.Laws.TouchLaws.{AccessSays};
+ghost use Rattle.model.specs.Laws.IsolationLaws.{StripIsolates, DerivedGoesToo};
+ghost use Rattle.model.specs.Laws.StatusLaws.{WordIsTheUnion, StatusIsCleared, OutsideGains, NoBitIsLost};
+ghost use Rattle.model.specs.Laws.RecursionLaws.{RecursionIsStrip, StripsJoin};
+ghost use Rattle.model.specs.Laws.LawfulLaws.{LawfulMeans, DerivedHoldsNoMore, TouchKeepsLawful, StripKeepsLawful, MapKeepsLawful, GrantKeepsLawful, RequestKeepsLawful, StartIsLawful, ReplayIsLawful};
+ghost use Rattle.model.specs.Laws.SendLaws.{PairsOfAnItem, MapSays, GrantSays, MapPassesStatus, GrantPassesStatus, GrantMovesAll, CountsAddUp};
+ghost use Rattle.model.specs.Laws.TextLaws.{DecimalReadsBack, HexReadsBack, LineIsOfOneMapping, AuditIsOfOneHoldings, LineIsOfOneReply, EndIsOfTwoNumbers, RefusalsAreTold, EndCountsReplies, TextIsOfOneResult};
+ghost use Rattle.model.specs.Laws.FateLaws.{FateSays, CountsSay, SendsJoin, RepliesAddUp};
+ghost use Rattle.model.specs.Laws.UnmapLaws.{UnmapNamesItsOwn, UnmapSays, UnmapsJoin};
+ghost use Rattle.model.specs.Laws.ClearLaws.{ClearSays, ClearIsUnmap};
+ghost use Rattle.model.specs.Laws.RefusalLaws.{SendRefusals, UnmapRefusals, ClearRefusals, AccessRefusals};
+ghost use Rattle.model.specs.Laws.KeptStatusLaws.{CallKeepsBits, ReplayKeepsBits, BitsComeFromAccesses};
+ghost use Rattle.model.specs.Laws.ReplayLaws.{RefusedChangesNothing, FaultChangesNothing, NoPageNamed, NilpageSends, NothingAsked, StartSays, ReplaysJoin};
 
 /// What derived means.
 pub fn derivation()

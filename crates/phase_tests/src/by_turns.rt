@@ -6,9 +6,8 @@ ghost use Rattle.pieces.specs.Phases.{CanBeWorked};
 
 use crate::assertions::assert_equal;
 use fpage::{Access, Rights};
-use mapnode::{Node, Slice};
 use pieces::{Done, Link, Move, Pair, Piece, Store, Strip, Touch, WordAccess};
-use space::{NoMemory, Place};
+use space::{NoMemory, Node, Place, Slice};
 use std::alloc::{AllocError, Global};
 use std::process::Abort;
 use std::test::Fail;
@@ -138,8 +137,8 @@ pub(crate) fn one_piece(alloc: Global, piece: Piece) -> Result<Vec<Piece>, Alloc
 
 /// A turn after so many steps more.
 fn stepped(phase: &Open, mut turn: Turn, steps: usize) -> Turn
-    requires { turn.sheet ≡ phase.now }
-    ensures { result.sheet ≡ phase.now }
+    requires { turn.shared ≡ phase.now }
+    ensures { result.shared ≡ phase.now }
 {
     for _ in 0..steps {
         turn.step(phase);
@@ -155,8 +154,8 @@ fn step_each(
     first: usize,
     others: usize,
 ) -> Result<Vec<Turn>, AllocError>
-    requires { All (λ t. t.sheet ≡ phase.now) turns.items }
-    ensures { IfOk result (λ after. All (λ t. t.sheet ≡ phase.now) after.items) }
+    requires { All (λ t. t.shared ≡ phase.now) turns.items }
+    ensures { IfOk result (λ after. All (λ t. t.shared ≡ phase.now) after.items) }
 {
     let mut after = Vec::with_capacity(alloc, turns.len())?;
     let mut steps = first;
@@ -356,9 +355,9 @@ fn a_page_is_taken_and_then_put(rt: HostRuntime) -> Result<(), Fail> {
 
 /// Turns without the last one, and that one.
 pub(crate) fn without_last(phase: &Open, mut turns: Vec<Turn>) -> (Vec<Turn>, Option<Turn>)
-    requires { All (λ t. t.sheet ≡ phase.now) turns.items }
-    ensures others { All (λ t. t.sheet ≡ phase.now) result.0.items }
-    ensures last { IfSome result.1 (λ t. t.sheet ≡ phase.now) }
+    requires { All (λ t. t.shared ≡ phase.now) turns.items }
+    ensures others { All (λ t. t.shared ≡ phase.now) result.0.items }
+    ensures last { IfSome result.1 (λ t. t.shared ≡ phase.now) }
 {
     let _ = phase;
     let last = turns.pop();
@@ -371,9 +370,9 @@ pub(crate) fn with_last(
     mut turns: Vec<Turn>,
     last: Option<Turn>,
 ) -> Result<Vec<Turn>, AllocError>
-    requires others { All (λ t. t.sheet ≡ phase.now) turns.items }
-    requires last { IfSome last (λ t. t.sheet ≡ phase.now) }
-    ensures { IfOk result (λ after. All (λ t. t.sheet ≡ phase.now) after.items) }
+    requires others { All (λ t. t.shared ≡ phase.now) turns.items }
+    requires last { IfSome last (λ t. t.shared ≡ phase.now) }
+    ensures { IfOk result (λ after. All (λ t. t.shared ≡ phase.now) after.items) }
 {
     let _ = phase;
     if let Some(turn) = last {
@@ -389,8 +388,8 @@ fn closes_with_both(
     turns: Vec<Turn>,
     watchers: Vec<Watcher>,
 ) -> Result<(), AllocError>
-    requires turns { All (λ t. t.sheet ≡ phase) turns.items }
-    requires watchers { All (λ w. w.sheet ≡ phase) watchers.items }
+    requires turns { All (λ t. t.shared ≡ phase) turns.items }
+    requires watchers { All (λ w. w.shared ≡ phase) watchers.items }
 {
     let (turns, last) = without_last(&phase, turns);
     let Err(
@@ -435,7 +434,7 @@ fn a_phase_is_closed_once_all_turns_are_there(rt: HostRuntime) -> Result<(), Fai
 
 /// A turn of a move of one page tells that it ends with its second step, and makes no more.
 fn ends_with_its_second_step(rt: &impl Abort, phase: &Open, mut turn: Turn)
-    requires { turn.sheet ≡ phase.now }
+    requires { turn.shared ≡ phase.now }
 {
     assert_equal(rt, (turn.piece(), turn.steps()), (0, 0), "at first");
     for wanted in [Progress::More, Progress::Ended, Progress::Ended] {
@@ -460,10 +459,10 @@ pub(crate) fn last_two(
     phase: &Open,
     turns: Vec<Turn>,
 ) -> Result<(Vec<Turn>, (Turn, Turn)), NoMemory>
-    requires { All (λ t. t.sheet ≡ phase.now) turns.items }
-    ensures others { IfOk result (λ r. All (λ t. t.sheet ≡ phase.now) r.0.items) }
-    ensures first { IfOk result (λ r. r.1.0.sheet ≡ phase.now) }
-    ensures second { IfOk result (λ r. r.1.1.sheet ≡ phase.now) }
+    requires { All (λ t. t.shared ≡ phase.now) turns.items }
+    ensures others { IfOk result (λ r. All (λ t. t.shared ≡ phase.now) r.0.items) }
+    ensures first { IfOk result (λ r. r.1.0.shared ≡ phase.now) }
+    ensures second { IfOk result (λ r. r.1.1.shared ≡ phase.now) }
 {
     let (turns, second) = without_last(phase, turns);
     let (turns, first) = without_last(phase, turns);
@@ -480,8 +479,8 @@ pub(crate) fn closed_with(
     first: Turn,
     second: Turn,
 ) -> Result<(Vec<u64>, Vec<Done>, Vec<Unended>), NoMemory>
-    requires first { first.sheet ≡ phase }
-    requires second { second.sheet ≡ phase }
+    requires first { first.shared ≡ phase }
+    requires second { second.shared ≡ phase }
 {
     let turns = with_last(&phase, Vec::new(alloc), Some(second))?;
     let turns = with_last(&phase, turns, Some(first))?;

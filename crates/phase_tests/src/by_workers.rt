@@ -8,11 +8,10 @@ use crate::assertions::assert_equal;
 use crate::by_turns::one_piece;
 use crew::{Alone, Crew, CrewError, Gate, NoGate, Workers, work};
 use fpage::{Access, Rights};
-use mapnode::{Node, Slice};
 use pieces::{
     Done, Gathered, Pair, Piece, Store, Strip, WordAccess, gather, links, moves, touches,
 };
-use space::{NoMemory, Place};
+use space::{NoMemory, Node, Place, Slice};
 use std::alloc::{AllocError, Global};
 use std::process::Abort;
 use std::sync::Wait;

@@ -4,12 +4,11 @@ ghost use Rattle.std.specs.Prelude.{◌≡◌, ◌<◌, IfOk};
 
 use crate::assertions::assert_equal;
 use fpage::{Access, Rights};
-use mapnode::{Node, Slice};
 use pieces::{
     Done, GatherFault, Pair, Piece, Store, Strip, Touch, WordAccess, are_distinct, gather, links,
     moves, touches,
 };
-use space::{NoMemory, Place};
+use space::{NoMemory, Node, Place, Slice};
 use std::alloc::{AllocError, Global};
 use std::process::Abort;
 use std::snapshot::Snapshot;

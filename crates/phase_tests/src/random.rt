@@ -7,11 +7,10 @@ ghost use Rattle.pieces.specs.Phases.{CanBeWorked};
 use crate::assertions::assert_equal;
 use crate::by_turns::{last_two, with_last};
 use fpage::{Access, Rights};
-use mapnode::{Node, Slice};
 use pieces::{
     Done, Link, Move, Pair, Piece, Store, Strip, Touch, WordAccess, are_distinct, can_be_worked,
 };
-use space::{NoMemory, Place};
+use space::{NoMemory, Node, Place, Slice};
 use std::alloc::{AllocError, Global};
 use std::process::Abort;
 use std::test::Fail;
@@ -370,10 +369,10 @@ fn random_touch(numbers: &mut Numbers, at: &[usize; 16]) -> Part {
 
 /// Two turns after as many steps each as are named for it, in turn.
 fn step_two(phase: &Open, mut first: Turn, mut second: Turn, steps: (usize, usize)) -> (Turn, Turn)
-    requires first { first.sheet ≡ phase.now }
-    requires second { second.sheet ≡ phase.now }
-    ensures first { result.0.sheet ≡ phase.now }
-    ensures second { result.1.sheet ≡ phase.now }
+    requires first { first.shared ≡ phase.now }
+    requires second { second.shared ≡ phase.now }
+    ensures first { result.0.shared ≡ phase.now }
+    ensures second { result.1.shared ≡ phase.now }
 {
     for k in 0..STEPS {
         if k < steps.0 {
@@ -394,10 +393,10 @@ fn step_four<R: Threads + Sync>(
     right: (Turn, Turn),
     steps: [usize; 4],
 ) -> ((Turn, Turn), (Turn, Turn))
-    requires left { (left.0.sheet ≡ phase.now) × (left.1.sheet ≡ phase.now) }
-    requires right { (right.0.sheet ≡ phase.now) × (right.1.sheet ≡ phase.now) }
-    ensures left { (result.0.0.sheet ≡ phase.now) × (result.0.1.sheet ≡ phase.now) }
-    ensures right { (result.1.0.sheet ≡ phase.now) × (result.1.1.sheet ≡ phase.now) }
+    requires left { (left.0.shared ≡ phase.now) × (left.1.shared ≡ phase.now) }
+    requires right { (right.0.shared ≡ phase.now) × (right.1.shared ≡ phase.now) }
+    ensures left { (result.0.0.shared ≡ phase.now) × (result.0.1.shared ≡ phase.now) }
+    ensures right { (result.1.0.shared ≡ phase.now) × (result.1.1.shared ≡ phase.now) }
 {
     let (first, third) = left;
     let (second, fourth) = right;
@@ -405,12 +404,12 @@ fn step_four<R: Threads + Sync>(
     thread::join(
         rt,
         || -> (Turn, Turn)
-            requires { (first.sheet ≡ phase.now) × (third.sheet ≡ phase.now) }
-            ensures { (result.0.sheet ≡ phase.entry.now) × (result.1.sheet ≡ phase.entry.now) }
+            requires { (first.shared ≡ phase.now) × (third.shared ≡ phase.now) }
+            ensures { (result.0.shared ≡ phase.entry.now) × (result.1.shared ≡ phase.entry.now) }
         { step_two(phase, first, third, (one, three)) },
         || -> (Turn, Turn)
-            requires { (second.sheet ≡ phase.now) × (fourth.sheet ≡ phase.now) }
-            ensures { (result.0.sheet ≡ phase.entry.now) × (result.1.sheet ≡ phase.entry.now) }
+            requires { (second.shared ≡ phase.now) × (fourth.shared ≡ phase.now) }
+            ensures { (result.0.shared ≡ phase.entry.now) × (result.1.shared ≡ phase.entry.now) }
         { step_two(phase, second, fourth, (two, four)) },
     )
 }
@@ -422,10 +421,10 @@ fn with_both(
     first: Turn,
     second: Turn,
 ) -> Result<Vec<Turn>, AllocError>
-    requires others { All (λ t. t.sheet ≡ phase.now) turns.items }
-    requires first { first.sheet ≡ phase.now }
-    requires second { second.sheet ≡ phase.now }
-    ensures { IfOk result (λ after. All (λ t. t.sheet ≡ phase.now) after.items) }
+    requires others { All (λ t. t.shared ≡ phase.now) turns.items }
+    requires first { first.shared ≡ phase.now }
+    requires second { second.shared ≡ phase.now }
+    ensures { IfOk result (λ after. All (λ t. t.shared ≡ phase.now) after.items) }
 {
     let turns = with_last(phase, turns, Some(first))?;
     with_last(phase, turns, Some(second))
@@ -433,9 +432,9 @@ fn with_both(
 
 /// The turns of a phase of four pieces: the first and the third, and the second and the fourth.
 fn four_turns(phase: &Open, turns: Vec<Turn>) -> Result<((Turn, Turn), (Turn, Turn)), NoMemory>
-    requires { All (λ t. t.sheet ≡ phase.now) turns.items }
-    ensures left { IfOk result (λ r. (r.0.0.sheet ≡ phase.now) × (r.0.1.sheet ≡ phase.now)) }
-    ensures right { IfOk result (λ r. (r.1.0.sheet ≡ phase.now) × (r.1.1.sheet ≡ phase.now)) }
+    requires { All (λ t. t.shared ≡ phase.now) turns.items }
+    ensures left { IfOk result (λ r. (r.0.0.shared ≡ phase.now) × (r.0.1.shared ≡ phase.now)) }
+    ensures right { IfOk result (λ r. (r.1.0.shared ≡ phase.now) × (r.1.1.shared ≡ phase.now)) }
 {
     let (turns, (third, fourth)) = last_two(phase, turns)?;
     let (_, (first, second)) = last_two(phase, turns)?;
@@ -450,8 +449,8 @@ fn step_all<R: Threads + Sync>(
     turns: Vec<Turn>,
     steps: [usize; 4],
 ) -> Result<Vec<Turn>, NoMemory>
-    requires { All (λ t. t.sheet ≡ phase.now) turns.items }
-    ensures { IfOk result (λ after. All (λ t. t.sheet ≡ phase.now) after.items) }
+    requires { All (λ t. t.shared ≡ phase.now) turns.items }
+    ensures { IfOk result (λ after. All (λ t. t.shared ≡ phase.now) after.items) }
 {
     let (left, right) = four_turns(phase, turns)?;
     let (left, right) = step_four(rt, phase, left, right, steps);

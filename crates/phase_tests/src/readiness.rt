@@ -1,9 +1,8 @@
 //! Words and pieces that can be worked, and others that break one rule each.
 
 use fpage::{Access, Rights};
-use mapnode::{Node, Slice};
 use pieces::{Link, Move, Pair, Piece, Store, Strip, Touch, WordAccess, can_be_worked};
-use space::Place;
+use space::{Node, Place, Slice};
 use std::alloc::Global;
 use std::process::Abort;
 use std::test::Fail;

@@ -14,8 +14,8 @@ use turns::{Open, Turn};
 
 /// A turn after all its steps.
 fn ended(phase: &Open, mut turn: Turn) -> Turn
-    requires { turn.sheet ≡ phase.now }
-    ensures { result.sheet ≡ phase.now }
+    requires { turn.shared ≡ phase.now }
+    ensures { result.shared ≡ phase.now }
 {
     turn.step_to_end(phase);
     turn
@@ -23,20 +23,20 @@ fn ended(phase: &Open, mut turn: Turn) -> Turn
 
 /// Two turns after all their steps, which two threads made.
 fn both_ended<R: Threads + Sync>(rt: &R, phase: &Open, left: Turn, right: Turn) -> (Turn, Turn)
-    requires left { left.sheet ≡ phase.now }
-    requires right { right.sheet ≡ phase.now }
-    ensures left { result.0.sheet ≡ phase.now }
-    ensures right { result.1.sheet ≡ phase.now }
+    requires left { left.shared ≡ phase.now }
+    requires right { right.shared ≡ phase.now }
+    ensures left { result.0.shared ≡ phase.now }
+    ensures right { result.1.shared ≡ phase.now }
 {
     thread::join(
         rt,
         || -> Turn
-            requires { left.sheet ≡ phase.now }
-            ensures { result.sheet ≡ phase.entry.now }
+            requires { left.shared ≡ phase.now }
+            ensures { result.shared ≡ phase.entry.now }
         { ended(phase, left) },
         || -> Turn
-            requires { right.sheet ≡ phase.now }
-            ensures { result.sheet ≡ phase.entry.now }
+            requires { right.shared ≡ phase.now }
+            ensures { result.shared ≡ phase.entry.now }
         { ended(phase, right) },
     )
 }

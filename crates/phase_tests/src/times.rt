@@ -9,9 +9,8 @@ ghost use Rattle.pieces.specs.Phases.{CanBeWorked};
 use crate::assertions::assert_equal;
 use crew::{Crew, Gate, Observe, work, work_watched};
 use fpage::Rights;
-use mapnode::{Node, Slice};
 use pieces::{Piece, Strip, are_distinct, can_be_worked};
-use space::{NoMemory, Place};
+use space::{NoMemory, Node, Place, Slice};
 use std::alloc::{AllocError, Global};
 use std::process::Abort;
 use std::rt::Runtime;
@@ -268,8 +267,8 @@ impl Looks {
 
     /// Makes so many looks.
     fn look(&mut self, shared: &Open, watcher: &mut Watcher, count: u64)
-        requires { watcher.old.sheet ≡ shared.now }
-        ensures { (watcher.new.sheet ≡ watcher.old.sheet) × (watcher.new.number ≡ watcher.old.number) }
+        requires { watcher.old.shared ≡ shared.now }
+        ensures { (watcher.new.shared ≡ watcher.old.shared) × (watcher.new.number ≡ watcher.old.number) }
     {
         let words = shared.words();
         for _ in 0..count {

@@ -45,8 +45,8 @@ const W: Rights = Rights {
 
 /// The only watcher of a phase.
 fn only(rt: &impl Abort, phase: &Open, mut watchers: Vec<Watcher>) -> Watcher
-    requires { All (λ w. w.sheet ≡ phase.now) watchers.items }
-    ensures { result.sheet ≡ phase.now }
+    requires { All (λ w. w.shared ≡ phase.now) watchers.items }
+    ensures { result.shared ≡ phase.now }
 {
     let _ = phase;
     assert_equal(rt, watchers.len(), 1, "watchers");
@@ -58,9 +58,9 @@ fn only(rt: &impl Abort, phase: &Open, mut watchers: Vec<Watcher>) -> Watcher
 
 /// The receipt of a turn, after all its steps.
 fn receipt_at_its_end(rt: &impl Abort, phase: &Open, turn: &mut Turn) -> Receipt
-    requires { turn.old.sheet ≡ phase.now }
-    ensures turn { turn.new.sheet ≡ phase.now }
-    ensures receipt { result.sheet ≡ phase.now }
+    requires { turn.old.shared ≡ phase.now }
+    ensures turn { turn.new.shared ≡ phase.now }
+    ensures receipt { result.shared ≡ phase.now }
 {
     turn.step_to_end(phase);
     let Some(receipt) = turn.receipt(phase) else {
@@ -73,11 +73,11 @@ fn receipt_at_its_end(rt: &impl Abort, phase: &Open, turn: &mut Turn) -> Receipt
 /// A watcher sees two strips of words 1 and 2, of which the second takes a right: before any step, after the second
 /// has ended, and later. The word that gains status stays as it was, frame and rights.
 fn sees_the_second_strip(rt: &impl Abort, phase: &Open, second: &mut Turn, watcher: &mut Watcher)
-    requires second { second.old.sheet ≡ phase.now }
-    requires watcher { watcher.old.sheet ≡ phase.now }
+    requires second { second.old.shared ≡ phase.now }
+    requires watcher { watcher.old.shared ≡ phase.now }
     requires words { length phase.now.opening.words ≡ 3 }
-    ensures second { second.new.sheet ≡ phase.now }
-    ensures watcher { watcher.new.sheet ≡ phase.now }
+    ensures second { second.new.shared ≡ phase.now }
+    ensures watcher { watcher.new.shared ≡ phase.now }
 {
     assert_equal(rt, phase.words(), 3, "words");
     assert_equal(
@@ -107,8 +107,8 @@ fn gives_a_receipt_at_its_end(
     first: &mut Turn,
     watcher: &mut Watcher,
 )
-    requires first { first.old.sheet ≡ phase.now }
-    requires watcher { watcher.old.sheet ≡ phase.now }
+    requires first { first.old.shared ≡ phase.now }
+    requires watcher { watcher.old.shared ≡ phase.now }
     requires words { length phase.now.opening.words ≡ 3 }
 {
     for (steps, ended) in [(0, false), (1, false), (2, true)] {
@@ -160,9 +160,9 @@ fn sees(
     entries: [Option<(u32, Rights)>; 5],
     when: usize,
 )
-    requires watcher { watcher.old.sheet ≡ phase.now }
+    requires watcher { watcher.old.shared ≡ phase.now }
     requires words { length phase.now.opening.words ≡ 5 }
-    ensures watcher { watcher.new.sheet ≡ phase.now }
+    ensures watcher { watcher.new.shared ≡ phase.now }
 {
     for index in 0..5 {
         assert_equal(rt, watcher.look(phase, index), entries[index], when);
@@ -193,9 +193,9 @@ fn a_watcher_sees_each_word_of_a_phase(rt: HostRuntime) -> Result<(), Fail> {
 
 /// Watchers without the last one, and that one.
 fn without_last_watcher(phase: &Open, mut watchers: Vec<Watcher>) -> (Vec<Watcher>, Option<Watcher>)
-    requires { All (λ w. w.sheet ≡ phase.now) watchers.items }
-    ensures others { All (λ w. w.sheet ≡ phase.now) result.0.items }
-    ensures last { IfSome result.1 (λ w. w.sheet ≡ phase.now) }
+    requires { All (λ w. w.shared ≡ phase.now) watchers.items }
+    ensures others { All (λ w. w.shared ≡ phase.now) result.0.items }
+    ensures last { IfSome result.1 (λ w. w.shared ≡ phase.now) }
 {
     let _ = phase;
     let last = watchers.pop();
@@ -208,9 +208,9 @@ fn with_last_watcher(
     mut watchers: Vec<Watcher>,
     last: Watcher,
 ) -> Result<Vec<Watcher>, AllocError>
-    requires others { All (λ w. w.sheet ≡ phase.now) watchers.items }
-    requires last { last.sheet ≡ phase.now }
-    ensures { IfOk result (λ after. All (λ w. w.sheet ≡ phase.now) after.items) }
+    requires others { All (λ w. w.shared ≡ phase.now) watchers.items }
+    requires last { last.shared ≡ phase.now }
+    ensures { IfOk result (λ after. All (λ w. w.shared ≡ phase.now) after.items) }
 {
     let _ = phase;
     watchers.push(last)?;
@@ -223,9 +223,9 @@ fn with_second_ended(
     phase: &Open,
     turns: Vec<Turn>,
 ) -> Result<(Vec<Turn>, Receipt), NoMemory>
-    requires { All (λ t. t.sheet ≡ phase.now) turns.items }
-    ensures turns { IfOk result (λ r. All (λ t. t.sheet ≡ phase.now) r.0.items) }
-    ensures receipt { IfOk result (λ r. r.1.sheet ≡ phase.now) }
+    requires { All (λ t. t.shared ≡ phase.now) turns.items }
+    ensures turns { IfOk result (λ r. All (λ t. t.shared ≡ phase.now) r.0.items) }
+    ensures receipt { IfOk result (λ r. r.1.shared ≡ phase.now) }
 {
     let (turns, (first, mut second)) = last_two(phase, turns)?;
     let receipt = receipt_at_its_end(rt, phase, &mut second);
@@ -236,10 +236,10 @@ fn with_second_ended(
 
 /// A watcher that was left behind still looks, with the receipt of a turn that ended long ago.
 fn looks_with_an_old_receipt(rt: &impl Abort, phase: &Open, receipt: Receipt, watcher: &mut Watcher)
-    requires receipt { receipt.sheet ≡ phase.now }
-    requires watcher { watcher.old.sheet ≡ phase.now }
+    requires receipt { receipt.shared ≡ phase.now }
+    requires watcher { watcher.old.shared ≡ phase.now }
     requires words { length phase.now.opening.words ≡ 3 }
-    ensures watcher { watcher.new.sheet ≡ phase.now }
+    ensures watcher { watcher.new.shared ≡ phase.now }
 {
     let found = watcher.look_after(phase, receipt, 2);
     assert_equal(rt, found, Some((5, RX)), "word 2 by the receipt");
@@ -255,9 +255,9 @@ fn closes_with_both_watchers(
     watchers: Vec<Watcher>,
     receipt: Receipt,
 ) -> Result<(), AllocError>
-    requires turns { All (λ t. t.sheet ≡ phase) turns.items }
-    requires watchers { All (λ w. w.sheet ≡ phase) watchers.items }
-    requires receipt { receipt.sheet ≡ phase }
+    requires turns { All (λ t. t.shared ≡ phase) turns.items }
+    requires watchers { All (λ w. w.shared ≡ phase) watchers.items }
+    requires receipt { receipt.shared ≡ phase }
     requires words { length phase.opening.words ≡ 3 }
 {
     let (watchers, last) = without_last_watcher(&phase, watchers);
@@ -286,8 +286,8 @@ fn ends_after_the_second_strip(
     turns: Vec<Turn>,
     watchers: Vec<Watcher>,
 )
-    requires turns { All (λ t. t.sheet ≡ phase) turns.items }
-    requires watchers { All (λ w. w.sheet ≡ phase) watchers.items }
+    requires turns { All (λ t. t.shared ≡ phase) turns.items }
+    requires watchers { All (λ w. w.shared ≡ phase) watchers.items }
 {
     let Ok((end, dones, unended)) = phase.close(turns, watchers) else {
         panic!(rt; "all turns and watchers were there")
@@ -314,9 +314,9 @@ fn a_phase_is_closed_once_all_watchers_are_there(rt: HostRuntime) -> Result<(), 
 /// A watcher after many looks at word 2, and whether it found the word as before the second strip, then as after it,
 /// and nothing else.
 fn many_looks(phase: &Open, mut watcher: Watcher) -> (Watcher, bool)
-    requires watcher { watcher.sheet ≡ phase.now }
+    requires watcher { watcher.shared ≡ phase.now }
     requires words { length phase.now.opening.words ≡ 3 }
-    ensures { result.0.sheet ≡ phase.now }
+    ensures { result.0.shared ≡ phase.now }
 {
     let mut has_changed = false;
     let mut goes_on = true;
@@ -331,8 +331,8 @@ fn many_looks(phase: &Open, mut watcher: Watcher) -> (Watcher, bool)
 
 /// A turn after all its steps.
 fn ended(phase: &Open, mut turn: Turn) -> Turn
-    requires { turn.sheet ≡ phase.now }
-    ensures { result.sheet ≡ phase.now }
+    requires { turn.shared ≡ phase.now }
+    ensures { result.shared ≡ phase.now }
 {
     turn.step_to_end(phase);
     turn
@@ -345,19 +345,19 @@ fn looked_beside<R: Threads + Sync>(
     turn: Turn,
     watcher: Watcher,
 ) -> (Watcher, bool)
-    requires turn { turn.sheet ≡ phase.now }
-    requires watcher { watcher.sheet ≡ phase.now }
+    requires turn { turn.shared ≡ phase.now }
+    requires watcher { watcher.shared ≡ phase.now }
     requires words { length phase.now.opening.words ≡ 3 }
-    ensures { result.0.sheet ≡ phase.now }
+    ensures { result.0.shared ≡ phase.now }
 {
     let (_, looked) = thread::join(
         rt,
         || -> Turn
-            requires { turn.sheet ≡ phase.now }
+            requires { turn.shared ≡ phase.now }
         { ended(phase, turn) },
         || -> (Watcher, bool)
-            requires { (watcher.sheet ≡ phase.now) × (length phase.now.opening.words ≡ 3) }
-            ensures { result.0.sheet ≡ phase.entry.now }
+            requires { (watcher.shared ≡ phase.now) × (length phase.now.opening.words ≡ 3) }
+            ensures { result.0.shared ≡ phase.entry.now }
         { many_looks(phase, watcher) },
     );
     looked

@@ -1,7 +1,7 @@
 -- Lists cut into pieces, one after another.
 use Rattle.std.proofs.Common.{◌≡◌, ℕ, zero, suc, ◌<◌, ◌≤◌, min, List, [], ◌∷◌, ◌++◌, length, map, take, drop, refl, ap, ◌∙◌, sym, arith, append_assoc}
-use Rattle.mapnode.specs.Slices.{pieces}
-use Rattle.mapnode.proofs.Lists.{first_piece, take_all, drop_all}
+use Rattle.space.specs.Slices.{pieces}
+use Rattle.space.proofs.Lists.{first_piece, take_all, drop_all}
 
 module _ {A B : Type 0} where
   -- one more piece is cut off

@@ -6,7 +6,7 @@ use Rattle.std.proofs.lemmas.List.{append-nil, map-append, length-drop, take-app
 use Rattle.std.proofs.lemmas.List.Elements.{filter-append}
 use Rattle.fpage.specs.Rights.{join}
 use Rattle.fpage.proofs.RightSets.{join_assoc}
-use Rattle.mapnode.specs.Slices.{pieces}
+use Rattle.space.specs.Slices.{pieces}
 use Rattle.space.specs.Entries.{status_of}
 use Rattle.pieces.specs.Effects.{words_after}
 use Rattle.pieces.specs.Contents.{StripContent, IsStrip, puts_of, ends_of}

@@ -3,7 +3,7 @@ use Rattle.std.proofs.Common.{◌≡◌, ℕ, zero, suc, ◌+◌, ◌<◌, ◌�
 use Rattle.std.specs.List.{zip}
 use Rattle.std.proofs.lemmas.List.{take_more, take_more_set, drop-set-lt, drop-drop, append-nil, get_or-drop}
 use Rattle.fpage.specs.declared.rights.Rights.{Rights}
-use Rattle.mapnode.specs.declared.node.Node.{Node}
+use Rattle.space.specs.declared.node.Node.{Node}
 use Rattle.fpage.specs.Rights.{join}
 use Rattle.fpage.proofs.RightSets.{join_nothing}
 use Rattle.space.specs.Entries.{status_of}

@@ -4,7 +4,7 @@ use Rattle.std.specs.Prelude.{is_some}
 use Rattle.std.specs.List.{AllPass, list_any, list_all, flat_map}
 use Rattle.std.proofs.lemmas.List.{map-append}
 use Rattle.space.specs.Word.{is_pack}
-use Rattle.mapnode.specs.Slices.{pieces}
+use Rattle.space.specs.Slices.{pieces}
 use Rattle.pieces.specs.Distinct.{is_none_of, are_distinct}
 use Rattle.pieces.specs.Phases.{CanBeWorked, changes, folds, held, named, is_touch, are_alike}
 use Rattle.pieces.specs.Steps.{entry_in}

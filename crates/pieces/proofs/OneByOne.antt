@@ -9,7 +9,7 @@ use Rattle.std.proofs.lemmas.List.{map-append}
 use Rattle.fpage.specs.Rights.{has, join}
 use Rattle.fpage.specs.declared.rights.Access.{Access}
 use Rattle.fpage.specs.declared.rights.Rights.{Rights}
-use Rattle.mapnode.specs.declared.node.Node.{Node}
+use Rattle.space.specs.declared.node.Node.{Node}
 use Rattle.space.specs.declared.place.Entry.{Entry}
 use Rattle.space.specs.Entries.{status_of}
 use Rattle.space.specs.Word.{is_pack, entry_of}

@@ -8,8 +8,8 @@ use Rattle.std.proofs.lemmas.List.FromFn.{fill_by_all, length-map-range_with_len
 use Rattle.fpage.specs.Rights.{no_rights, join}
 use Rattle.fpage.specs.declared.rights.Rights.{Rights}
 use Rattle.fpage.proofs.RightSets.{join_assoc}
-use Rattle.mapnode.specs.Slices.{nodes_of}
-use Rattle.mapnode.specs.declared.slice.Slice.{Slice}
+use Rattle.space.specs.Slices.{nodes_of}
+use Rattle.space.specs.declared.slice.Slice.{Slice}
 use Rattle.pieces.specs.Distinct.{is_none_of, are_distinct}
 use Rattle.std.specs.List.{slice_get}
 use Rattle.std.proofs.lemmas.Option.{get_or_from_slice_get}

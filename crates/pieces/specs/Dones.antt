@@ -3,7 +3,7 @@ use Rattle.std.specs.Prelude.{◌≡◌, ℕ, Bool, List}
 use Rattle.fpage.specs.declared.rights.Rights.{Rights}
 use Rattle.std.specs.declared.vec.Vec.{Vec}
 use Rattle.std.specs.declared.alloc.Global.{Global}
-use Rattle.mapnode.specs.declared.slice.Slice.{Slice}
+use Rattle.space.specs.declared.slice.Slice.{Slice}
 use Rattle.pieces.specs.Values.{Value, value}
 use Rattle.pieces.specs.declared.piece.Piece.{Piece}
 

@@ -3,7 +3,7 @@ use Rattle.std.specs.Prelude.{ℕ, List, Option}
 use Rattle.std.specs.declared.vec.Vec.{Vec}
 use Rattle.std.specs.declared.alloc.Global.{Global}
 use Rattle.fpage.specs.declared.rights.Rights.{Rights}
-use Rattle.mapnode.specs.declared.slice.Slice.{Slice}
+use Rattle.space.specs.declared.slice.Slice.{Slice}
 use Rattle.pieces.specs.Contents.{StripContent}
 use Rattle.pieces.specs.Masks.{masks_of}
 use Rattle.pieces.specs.declared.masks.Form.{Form}

@@ -2,7 +2,7 @@
 use Rattle.std.specs.Prelude.{ℕ, List, map, filter}
 use Rattle.std.specs.List.{zip}
 use Rattle.fpage.specs.declared.rights.Rights.{Rights}
-use Rattle.mapnode.specs.declared.node.Node.{Node}
+use Rattle.space.specs.declared.node.Node.{Node}
 use Rattle.pieces.specs.Values.{remains}
 
 -- of nodes with these words and masks those that are left with a right

@@ -1,7 +1,7 @@
 -- What is so of all pieces that are worked.
 use Rattle.std.specs.Prelude.{◌≡◌, ℕ, ◌<◌, ◌≤◌, Bool, true, false, List, [], ◌∷◌, ◌++◌, length, map, Option, None, slice_index, slice_get, Some, bit_or}
 use Rattle.std.specs.List.{All, AllPass, flat_map, list_all, list_any}
-use Rattle.mapnode.specs.Slices.{pieces}
+use Rattle.space.specs.Slices.{pieces}
 use Rattle.pieces.specs.Effects.{Effect, writes, gained, word_after, words_after, writes_at, adds_at}
 use Rattle.pieces.specs.Contents.{StripContent, IsStrip, puts_of, ends_of}
 use Rattle.pieces.specs.Distinct.{is_none_of, are_distinct}

@@ -5,7 +5,7 @@ use Rattle.fpage.specs.Rights.{no_rights, all_rights}
 use Rattle.fpage.specs.declared.rights.Access.TheVariants.{Read, Write, Execute}
 use Rattle.fpage.specs.declared.rights.Rights.{Rights}
 use Rattle.space.specs.declared.place.Entry.{Entry}
-use Rattle.mapnode.specs.declared.node.Node.{Node}
+use Rattle.space.specs.declared.node.Node.{Node}
 use Rattle.pieces.specs.Effects.{keeps, adds, writes, words_after}
 use Rattle.pieces.specs.Steps.{narrow, fold, put, take, see, mark, steps}
 use Rattle.pieces.specs.Applied.{applied, step_counts, worked, before, after}

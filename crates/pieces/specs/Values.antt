@@ -3,7 +3,7 @@ use Rattle.std.specs.Prelude.{ℕ, Bool, List, [], map, filter, is_some}
 use Rattle.std.specs.List.{zip}
 use Rattle.fpage.specs.Rights.{no_rights}
 use Rattle.fpage.specs.declared.rights.Rights.{Rights}
-use Rattle.mapnode.specs.declared.node.Node.{Node}
+use Rattle.space.specs.declared.node.Node.{Node}
 use Rattle.pieces.specs.Contents.{StripContent}
 use Rattle.pieces.specs.Steps.{entry_in, narrowed_by, status_in, may_access}
 use Rattle.pieces.specs.declared.piece.Piece.{Piece}

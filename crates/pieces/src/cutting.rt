@@ -1,7 +1,7 @@
 //! Lists of stores, pairs and accesses cut into pieces.
 
 ghost use Rattle.std.specs.Prelude.{◌≡◌, ◌≤◌, true, length, map, IfOk};
-ghost use Rattle.mapnode.specs.Slices.{pieces};
+ghost use Rattle.space.specs.Slices.{pieces};
 ghost use Rattle.pieces.specs.Distinct.{are_distinct};
 ghost use Rattle.pieces.specs.Contents.{puts_of, ends_of};
 

@@ -1,6 +1,6 @@
 use crate::piece::Piece;
 use fpage::Rights;
-use mapnode::Slice;
+use space::Slice;
 use std::marker::Model;
 use std::snapshot::Snapshot;
 

@@ -2,14 +2,14 @@
 
 ghost use Rattle.std.specs.Prelude.{◌≡◌, ◌⊎◌, true, false, [], map, length, IfOk, IfErr, OnOk, is_none};
 ghost use Rattle.std.specs.List.{flat_map, list_any};
-ghost use Rattle.mapnode.specs.Slices.{nodes_of};
+ghost use Rattle.space.specs.Slices.{nodes_of};
 ghost use Rattle.pieces.specs.Distinct.{are_distinct};
 ghost use Rattle.pieces.specs.Gathering.{all_found, fault_in, has_stranger, numbers_of, union_of, IsGathered};
 ghost use Rattle.pieces.specs.Places.{places_from};
 
 use crate::done::Done;
 use fpage::Rights;
-use mapnode::Slice;
+use space::Slice;
 use std::alloc::{AllocError, Global};
 
 /// What the pieces of a phase found out, in the order of their numbers.

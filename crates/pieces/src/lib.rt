@@ -29,7 +29,7 @@ pub use link::{Link, Store};
 pub use masks::Masks;
 pub use moving::{Move, Pair};
 pub use nodes::move_node;
-pub use piece::{Piece, are_pieces};
+pub use piece::{Piece, learn_are_pieces};
 pub use readiness::can_be_worked;
 pub use strip::Strip;
 pub use touch::{Touch, WordAccess};

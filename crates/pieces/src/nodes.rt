@@ -1,9 +1,9 @@
 //! The nodes of a strip that are kept.
 
 ghost use Rattle.std.specs.Prelude.{◌≡◌, ◌<◌, get_or, length, set};
-ghost use Rattle.mapnode.specs.declared.node.Node.{Node};
+ghost use Rattle.space.specs.declared.node.Node.{Node};
 
-use mapnode::Node;
+use space::Node;
 
 /// Puts the node at a position at another too. Where they are the same it is left alone: most strips keep all their nodes, and
 /// then none is read or written.

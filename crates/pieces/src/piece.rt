@@ -43,7 +43,7 @@ impl Piece {
 }
 
 /// Each of these is a piece, as its type says. The function does nothing: its contract is what it tells.
-pub fn are_pieces(pieces: &[Piece])
+pub fn learn_are_pieces(pieces: &[Piece])
     ensures { All IsPiece pieces.now }
 {
     for piece in pieces {

@@ -1,6 +1,6 @@
 use crate::masks::Masks;
 use fpage::Rights;
-use mapnode::{Node, Slice};
+use space::{Node, Slice};
 use std::marker::Model;
 
 /// A part of a tree's list whose pages lose rights (L4 X.2, Unmap).

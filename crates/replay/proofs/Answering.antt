@@ -3,12 +3,12 @@ use Rattle.std.proofs.Common.{◌≡◌, ℕ, zero, suc, ◌+◌, ◌-◌, ◌<�
 use Rattle.std.proofs.lemmas.List.{length-append, length-map, take_all, take-append-le, map-append, drop-drop}
 use Rattle.fpage.specs.declared.rights.Access.{Access}
 use Rattle.space.specs.declared.place.Place.{Place}
-use Rattle.model.specs.Holdings.{Holdings}
-use Rattle.model.specs.Touch.{touch}
-use Rattle.model.specs.Calls.{Limits, Reply, accessed, Request, send, access, unmap, clear}
-use Rattle.model.specs.Answers.{answer}
-use Rattle.model.specs.Replay.{replay}
-use Rattle.model.specs.Records.{Fields, Version, request}
+use Rattle.model.specs.Definitions.Holdings.{Holdings}
+use Rattle.model.specs.Definitions.Touch.{touch}
+use Rattle.model.specs.Definitions.Calls.{Limits, Reply, accessed, Request, send, access, unmap, clear}
+use Rattle.model.specs.Definitions.Answers.{answer}
+use Rattle.model.specs.Definitions.Replay.{replay}
+use Rattle.model.specs.Definitions.Records.{Fields, Version, request}
 use Rattle.mapdb.specs.Held.{access_answers, touched_all}
 use Rattle.trace.specs.Unread.{Unread, past, first_request, access_in}
 use Rattle.replay.specs.Steps.{told_of, told_behind, asked, AreAsked}
@@ -124,3 +124,26 @@ some_left version limits (f ∷ rows) r is = omega arith
 -- one reply
 pub past_first : (n : ℕ) (u : Unread) → 0 < n → past (n - 1) (past 1 u) ≡ past n u
 past_first n u some = let sum : 1 + (n - 1) ≡ n = omega arith in past_past 1 (n - 1) u ∙ ap (λ k. past k u) sum
+
+-- the first record, and those behind it, were answered
+pub record AreAnswered (limits : Limits) (h : Holdings) (u now : Unread) (replies : List Reply) (last : Holdings) : Type 0 where
+  pub within : length replies ≤ length u.records
+  pub taken : now ≡ past (length replies) u
+  pub told : told_of u.version limits (take (length replies) u.records) h ≡ record { replies = replies; last = last }
+
+pub first_answered : (limits : Limits) (h : Holdings) (u next now : Unread) (r : Request) (replies : List Reply) (last : Holdings) → first_request u.version limits u.records ≡ Some r → next ≡ past 1 u
+    → AreTold next.version limits h r next now replies last → AreAnswered limits h u now replies last
+first_answered limits h u next now r replies last asks is a =
+    let n = length replies in
+    let left = some_left u.version limits u.records r asks in
+    let records : length next.records ≡ length (drop 1 u.records) = ap (λ (k : Unread). length k.records) is in
+    record {
+      within = omega (arith, a.within, left, records);
+      taken = a.taken ∙ ap (past (n - 1)) is ∙ past_first n u a.some;
+      told = first_told u.version limits u.records h r n asks a.some ∙ ap (λ (k : Unread). told_behind k.version limits r (take (n - 1) k.records) h) (sym is) ∙ a.told;
+    }
+
+pub one_answered : (limits : Limits) (h : Holdings) (u next : Unread) (r : Request) (reply : Reply) (last : Holdings) → first_request u.version limits u.records ≡ Some r → next ≡ past 1 u
+    → answer limits h r ≡ record { reply = reply; left = last } → AreAnswered limits h u next (reply ∷ []) last
+one_answered limits h u next r reply last asks is answered =
+    first_answered limits h u next next r (reply ∷ []) last asks is (record { some = omega arith; within = omega arith; taken = sym (past_none next); told = rw answered refl })

@@ -3,12 +3,12 @@ use Rattle.std.proofs.Common.{◌≡◌, ℕ, suc, ◌+◌, ◌<◌, ◌≤◌, 
 use mir.Val.{bool_byte}
 use Rattle.std.proofs.lemmas.List.{length-map, length-take-le, map_more}
 use Rattle.std.proofs.lemmas.List.Sums.{sum_by-append}
-use Rattle.model.specs.Holdings.{Holdings}
-use Rattle.model.specs.Calls.{Limits, Reply, accessed}
-use Rattle.model.specs.Answers.{answer}
-use Rattle.model.specs.Replay.{told_after}
-use Rattle.model.specs.Records.{Fields, Version, request}
-use Rattle.model.specs.Text.{reply_line, reply_lines, is_refused, refused_count}
+use Rattle.model.specs.Definitions.Holdings.{Holdings}
+use Rattle.model.specs.Definitions.Calls.{Limits, Reply, accessed}
+use Rattle.model.specs.Definitions.Answers.{answer}
+use Rattle.model.specs.Definitions.Replay.{told_after}
+use Rattle.model.specs.Definitions.Records.{Fields, Version, request}
+use Rattle.model.specs.Definitions.Text.{reply_line, reply_lines, is_refused, refused_count}
 use Rattle.replay.specs.Steps.{told_of}
 
 -- ---- lists

@@ -1,7 +1,7 @@
 -- From the trace that was read to the input that the reader had.
 use Rattle.std.proofs.Common.{◌≡◌, ℕ, zero, suc, Bool, true, false, ◌∙◌, List, map, Option, Some, None, Result, Ok, Err, IfOk, IfErr, IfSome, refl, subst}
-use Rattle.model.specs.Records.{Trace, trace_of, request, are_limits, bad_limits}
-use Rattle.model.specs.Replay.{start}
+use Rattle.model.specs.Definitions.Records.{Trace, trace_of, request, are_limits, bad_limits}
+use Rattle.model.specs.Definitions.Replay.{start}
 use Rattle.trace.specs.Unread.{Unread, IsOpened}
 use Rattle.replay.specs.declared.replay.Summary.{Summary}
 use Rattle.replay.specs.declared.error.RunError.{RunError}

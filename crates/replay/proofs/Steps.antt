@@ -4,11 +4,11 @@ use Rattle.std.proofs.lemmas.List.{length-append, length-take-le, take-append-dr
 use Rattle.std.specs.Prelude.{◌==◌}
 use Rattle.std.proofs.lemmas.Bool.{eqb-true}
 use Rattle.std.specs.Io.KnownBytes.{Appends}
-use Rattle.model.specs.Holdings.{Holdings}
-use Rattle.model.specs.Calls.{Limits, Reply}
-use Rattle.model.specs.Replay.{Told}
-use Rattle.model.specs.Records.{Fields, Version}
-use Rattle.model.specs.Text.{reply_lines, refused_count, audit_lines, end_line}
+use Rattle.model.specs.Definitions.Holdings.{Holdings}
+use Rattle.model.specs.Definitions.Calls.{Limits, Reply}
+use Rattle.model.specs.Definitions.Replay.{Told}
+use Rattle.model.specs.Definitions.Records.{Fields, Version}
+use Rattle.model.specs.Definitions.Text.{reply_lines, refused_count, audit_lines, end_line}
 use Rattle.crew.specs.declared.error.CrewError.{CrewError}
 use Rattle.crew.specs.declared.error.CrewError.TheVariants as crew
 use Rattle.replay.specs.declared.error.RunError.{RunError}

@@ -1,8 +1,8 @@
 -- Why the lines of replies are not all there.
 use Rattle.std.proofs.Common.{◌≡◌, ℕ, ◌+◌, ◌≤◌, Bool, List, ◌++◌, take, map, length, Option, sym, ◌∙◌, append-nil, add-zero, arith}
 use Rattle.std.proofs.lemmas.List.{length-map, take-map}
-use Rattle.model.specs.Calls.{Reply, accessed}
-use Rattle.model.specs.Text.{reply_lines}
+use Rattle.model.specs.Definitions.Calls.{Reply, accessed}
+use Rattle.model.specs.Definitions.Text.{reply_lines}
 use Rattle.crew.specs.declared.error.CrewError.{CrewError}
 use Rattle.crew.specs.declared.error.CrewError.TheVariants as crew
 use Rattle.replay.specs.declared.error.RunError.{RunError}

@@ -1,9 +1,9 @@
 -- What a run writes, and what it leaves where it ends early.
 use Rattle.std.specs.Prelude.{◌≡◌, ℕ, zero, suc, ◌≤◌, ◌<◌, ⊤, Bool, true, false, List, length, take, Option, Ok, Err}
 use Rattle.std.specs.Io.KnownBytes.{Appends, Keeps}
-use Rattle.model.specs.Replay.{Told}
-use Rattle.model.specs.Records.{Trace, bad_header, bad_limits, trace_of}
-use Rattle.model.specs.Text.{text, told, reply_lines, refused_count}
+use Rattle.model.specs.Definitions.Replay.{Told}
+use Rattle.model.specs.Definitions.Records.{Trace, bad_header, bad_limits, trace_of}
+use Rattle.model.specs.Definitions.Text.{text, told, reply_lines, refused_count}
 use Rattle.replay.specs.declared.replay.Summary.{Summary}
 use Rattle.replay.specs.declared.error.RunError.{RunError}
 use Rattle.replay.specs.declared.error.RunError.TheVariants.{BadHeader, BadLimits, NoMemory, NoWorker, Unreadable, WriteFailed}

@@ -5,12 +5,12 @@ use Rattle.crew.specs.declared.error.CrewError.{CrewError}
 use Rattle.crew.specs.declared.error.CrewError.TheVariants as crew
 use Rattle.fpage.specs.declared.rights.Access.{Access}
 use Rattle.space.specs.declared.place.Place.{Place}
-use Rattle.model.specs.Holdings.{Holdings}
-use Rattle.model.specs.Calls.{Limits, access, Request, Reply, accessed}
-use Rattle.model.specs.Answers.{answer}
-use Rattle.model.specs.Replay.{Told, replay, start}
-use Rattle.model.specs.Records.{Fields, Version, are_limits, request}
-use Rattle.model.specs.Text.{reply_lines}
+use Rattle.model.specs.Definitions.Holdings.{Holdings}
+use Rattle.model.specs.Definitions.Calls.{Limits, access, Request, Reply, accessed}
+use Rattle.model.specs.Definitions.Answers.{answer}
+use Rattle.model.specs.Definitions.Replay.{Told, replay, start}
+use Rattle.model.specs.Definitions.Records.{Fields, Version, are_limits, request}
+use Rattle.model.specs.Definitions.Text.{reply_lines}
 use Rattle.mapdb.specs.State.{State, laid_out, new_state}
 use Rattle.trace.specs.Meaning.{reply_of}
 use Rattle.trace.specs.Unread.{Unread}

@@ -2,20 +2,20 @@
 
 ghost use Rattle.std.specs.Prelude.{◌≡◌, ◌<◌, ◌≤◌, ◌+◌, ◌-◌, ◌∷◌, ◌++◌, [], true, false, Ok, Some, map, take, length, IfOk, IfSome, MatchOption, OnOk, IsErrOf};
 ghost use Rattle.std.specs.List.{All};
-ghost use Rattle.model.specs.Records.{Version, are_limits};
+ghost use Rattle.model.specs.Definitions.Records.{Version, are_limits};
 ghost use Rattle.crew.specs.declared.error.CrewError.TheVariants.{NoWorker};
 ghost use Rattle.mapdb.specs.declared.error.DbError.TheVariants.{NoWorker as DbNoWorker};
 ghost use Rattle.mapdb.specs.Held.{access_answers, touched_all, limits_of, IsWithin};
 ghost use Rattle.mapdb.specs.Answered.{IsAnswered};
 ghost use Rattle.mapdb.specs.State.{laid_out, left_with};
-ghost use Rattle.trace.specs.Meaning.{call_of, request_of, IsWithinLimits};
+ghost use Rattle.trace.specs.Meaning.{call_of, IsWithinLimits};
 ghost use Rattle.trace.specs.Unread.{past, first_request, access_in};
-ghost use Rattle.replay.specs.Steps.{AreAsked, replies_of, told_of, told_behind};
+ghost use Rattle.replay.specs.Steps.{AreAsked, replies_of, told_of};
 
 use crate::buffers::Buffers;
 use crew::{CrewError, Workers};
 use fpage::Access;
-use mapdb::{Database, DbError, Limits, Refusal, Reply, Scratch};
+use mapdb::{Database, DbError, Limits, Reply, Scratch};
 use space::{NoMemory, Place};
 use std::alloc::Global;
 use trace::{Call, TraceReader};
@@ -60,46 +60,17 @@ pub fn answer_first<W: Workers>(
 {
     let limits = database.limits();
     let asked = trace.next_call(&limits)?;
-    let replies = answer_call(alloc, database, &asked, trace, workers, plain, buffers)?;
-    if let Ok(call) = asked {
-        trace.reuse(call);
-    }
-    Ok(replies)
-}
-
-/// Answers a record that was taken, and if that is an access, the accesses behind it.
-fn answer_call<W: Workers>(
-    alloc: Global,
-    database: &mut Database,
-    asked: &Result<Call, Refusal>,
-    trace: &mut TraceReader<'_>,
-    workers: &W,
-    plain: bool,
-    buffers: &mut Buffers,
-) -> Result<Replies, CrewError>
-    requires running { database.old.is_halted ≡ false }
-    requires within { IfOk asked.now (IsWithinLimits database.old.limits) }
-    ensures some { IfOk result (λ replies. 0 < length (replies_of replies)) }
-    ensures within { IfOk result (λ replies. length (replies_of replies) ≤ length trace.old.records + 1) }
-    ensures taken { IfOk result (λ replies. trace.new ≡ past (length (replies_of replies) - 1) trace.old) }
-    ensures told { IfOk result (λ replies.
-        told_behind trace.old.version database.old.limits (request_of asked.now) (take (length (replies_of replies) - 1) trace.old.records) database.old.holdings
-        ≡ record { replies = replies_of replies; last = database.new.holdings }) }
-    ensures keeps { OnOk result (
-        database.new ≡ laid_out (left_with database.old database.new.holdings) database.new.layout) }
-    ensures needs_no_worker { W.starts_none workers.now → IsErrOf result NoWorker → ⊥ }
-{
     match asked {
-        Err(refusal) => Ok(Replies::One(Reply::Refused(*refusal))),
+        Err(refusal) => Ok(Replies::One(Reply::Refused(refusal))),
         Ok(Call::Access { place, access }) => {
-            let limits = database.limits();
             let accesses = &mut buffers.accesses;
-            read_accesses(&limits, (*place, *access), trace, accesses)?;
+            read_accesses(&limits, (place, access), trace, accesses)?;
             let answers = access_pages(alloc, database, workers, accesses)?;
             Ok(Replies::Accesses(answers))
         }
         Ok(call) => {
-            let reply = answer_one(alloc, database, call, workers, plain, &mut buffers.scratch)?;
+            let reply = answer_one(alloc, database, &call, workers, plain, &mut buffers.scratch)?;
+            trace.reuse(call);
             Ok(Replies::One(reply))
         }
     }

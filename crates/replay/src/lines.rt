@@ -2,7 +2,7 @@
 
 ghost use Rattle.std.specs.Prelude.{◌≡◌, ◌++◌, [], true, OnOk, OnErr};
 ghost use Rattle.std.specs.Io.KnownBytes.{Appends};
-ghost use Rattle.model.specs.Text.{reply_line};
+ghost use Rattle.model.specs.Definitions.Text.{reply_line};
 ghost use Rattle.trace.specs.Meaning.{reply_of};
 ghost use Rattle.replay.specs.Steps.{PassesOn};
 

@@ -2,8 +2,8 @@
 
 ghost use Rattle.std.specs.Prelude.{◌≡◌, ◌<◌, ◌≤◌, ◌+◌, ◌++◌, ◌⊎◌, false, true, map, length, IfOk, IfErr, IfSome, OnOk};
 ghost use Rattle.std.specs.Io.KnownBytes.{Appends};
-ghost use Rattle.model.specs.Calls.{accessed};
-ghost use Rattle.model.specs.Text.{reply_line, reply_lines, is_refused, refused_count, audit_lines, end_line};
+ghost use Rattle.model.specs.Definitions.Calls.{accessed};
+ghost use Rattle.model.specs.Definitions.Text.{reply_line, reply_lines, is_refused, refused_count, audit_lines, end_line};
 ghost use Rattle.crew.specs.declared.error.CrewError.TheVariants.{NoMemory};
 ghost use Rattle.mapdb.specs.Held.{limits_of};
 ghost use Rattle.trace.specs.Meaning.{reply_of};
@@ -155,14 +155,17 @@ pub fn run<T: AllocGlobal + Threads + Wait + Sync, R: Source, W: Sink, V: Watch>
     ensures streams { IfErr result (TellsStreams (R.failed reader.new) (W.failed writer.new)) }
     ensures needs_no_worker { (options.now.plain ≡ true) ⊎ (options.now.workers ≡ 1) → IfErr result (λ e. IsNoWorker e → ⊥) }
 {
+    let alloc = rt.alloc();
+    let bytes = read_input(alloc, reader)?;
+    let mut trace = TraceReader::new(alloc, &bytes)?;
     if options.plain || options.workers == 1 {
-        return run_by(rt, reader, writer, options.plain, &Alone, watch);
+        return replay_trace(rt, &mut trace, writer, options.plain, &Alone, watch);
     }
     let workers = options.workers as usize;
     let crew = Crew::new(rt, workers, options.piece_length as usize, &NoGate).alone_below(
         LEAST_SHARED,
     );
-    run_by(rt, reader, writer, false, &crew, watch)
+    replay_trace(rt, &mut trace, writer, false, &crew, watch)
 }
 
 /// The same, whoever works the calls; with `plain` unmaps and clears go by recursion on the calling thread.
@@ -190,8 +193,8 @@ pub fn run_by<T: AllocGlobal + Threads + Sync, R: Source, W: Sink, C: Workers, V
     ensures needs_no_worker { C.starts_none workers.now → IfErr result (λ e. IsNoWorker e → ⊥) }
 {
     let alloc = rt.alloc();
-    let bytes = read_input(alloc, reader)?;
-    let mut trace = TraceReader::new(alloc, &bytes)?;
+    let input = read_input(alloc, reader)?;
+    let mut trace = TraceReader::new(alloc, &input)?;
     replay_trace(rt, &mut trace, writer, plain, workers, watch)
 }
 

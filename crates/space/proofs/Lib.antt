@@ -5,3 +5,4 @@ pub mod Leaves
 pub mod Directories
 pub mod ShardWords
 pub mod Made
+pub mod Lists

@@ -7,3 +7,4 @@ pub mod Positions
 pub mod Entries
 pub mod Shards
 pub mod ShardLaws
+pub mod Slices

@@ -1,6 +1,6 @@
 //! Where the words of each shard stand.
 
-ghost use Rattle.std.specs.Prelude.{◌≡◌, ◌≤◌, ◌^◌, length, IsTrue, IfOk};
+ghost use Rattle.std.specs.Prelude.{◌≡◌, ◌≤◌, ◌^◌, length, IsTrue, IfOk, ℕ, ◌<◌, slice_index};
 ghost use Rattle.space.specs.Leaves.{nowhere, IsDirectory, AreInOrder, AreSpans};
 
 use std::alloc::{AllocError, Global};
@@ -216,8 +216,6 @@ impl Directory {
         from + first_there(&self.positions[first..first + (end - from)])
     }
 }
-
-ghost use Rattle.std.specs.Prelude.{ℕ, ◌<◌, slice_index};
 
 /// The first of some positions at which a shard is; how many they are where none is.
 fn first_there(positions: &[u32]) -> usize

@@ -1,7 +1,7 @@
 -- Two hexadecimal digits of each byte of a word are its eight digits.
 use Rattle.std.proofs.Common.{◌≡◌, ℕ, ◌/◌, ◌%◌, ◌<◌, List, [], ◌∷◌, ◌++◌, get_or, ap, ◌∙◌, arith, w32, append_assoc, Result, Ok, Err, OnOk}
 use Rattle.std.specs.Int.{to_be_bytes}
-use Rattle.model.specs.Text.{hex_digits, hex_code}
+use Rattle.model.specs.Definitions.Text.{hex_digits, hex_code}
 
 -- the two digits of a byte
 two_digits : (b high low : ℕ) → b / 16 % 16 ≡ high → b / 1 % 16 ≡ low → hex_digits 2 b ≡ hex_code high ∷ hex_code low ∷ []

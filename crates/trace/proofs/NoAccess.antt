@@ -5,8 +5,8 @@ use Rattle.fpage.specs.Fpage.{Flexpage, read_fpage}
 use Rattle.fpage.specs.Control.{read_control}
 use Rattle.fpage.specs.declared.error.FpageError.{FpageError}
 use Rattle.fpage.specs.declared.item.Item.{Item}
-use Rattle.model.specs.Calls.{Limits, Named, send, unmap, bad_record, Request}
-use Rattle.model.specs.Records.{Fields, Version, SendFields, UnmapFields, or_refused, read_items, read_words, send_fields, send_request, access_fields, access_request, unmap_fields, unmap_request, clear_fields, clear_request, has_clear, request}
+use Rattle.model.specs.Definitions.Calls.{Limits, Named, send, unmap, bad_record, Request}
+use Rattle.model.specs.Definitions.Records.{Fields, Version, SendFields, UnmapFields, or_refused, read_items, read_words, send_fields, send_request, access_fields, access_request, unmap_fields, unmap_request, clear_fields, clear_request, has_clear, request}
 use Rattle.trace.specs.Unread.{access_in}
 
 or_none : {A : Type 0} (r : Result A FpageError) (f : A → Request) → ((x : A) → access_in (Some (f x)) ≡ None) → access_in (Some (or_refused r f)) ≡ None

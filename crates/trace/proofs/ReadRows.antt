@@ -3,7 +3,7 @@ use Rattle.std.proofs.Common.{Bor, ◌≡◌, ◌∙◌, List, ℕ, ◌+◌, [],
 use Rattle.csv.specs.Reading.{Reached, ReadRecord, default_config, has_failed, reader_state, records_from, source_of, strip_bom, took_first}
 use Rattle.csv.specs.declared.reader.Reader.{Reader}
 use Rattle.csv.proofs.ReadFacts.{rows-end, rows-more}
-use Rattle.model.specs.Records.{Fields, records_of}
+use Rattle.model.specs.Definitions.Records.{Fields, records_of}
 use Rattle.trace.specs.Rows.{known, IsAtStart, IsReading, records_after, rows_left, with_row}
 use Rattle.trace.proofs.Counted.{first_record, no_record}
 

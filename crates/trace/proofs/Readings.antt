@@ -2,8 +2,8 @@
 use Rattle.std.proofs.Common.{◌≡◌, ℕ, List, [], ◌∷◌, ◌++◌, map, Option, Some, None, IfSome, refl, sym, ap, ◌∙◌, subst, append_assoc, append-nil}
 use Rattle.std.specs.Prelude.{MatchOption}
 use Rattle.std.proofs.lemmas.List.{map-append}
-use Rattle.model.specs.Calls.{Limits}
-use Rattle.model.specs.Records.{Fields, Version, header_fields, records_of}
+use Rattle.model.specs.Definitions.Calls.{Limits}
+use Rattle.model.specs.Definitions.Records.{Fields, Version, header_fields, records_of}
 use Rattle.trace.specs.Meaning.{TraceRecord}
 use Rattle.trace.specs.Trace.{of_version}
 use Rattle.trace.specs.Unread.{Unread, past, IsOpened}

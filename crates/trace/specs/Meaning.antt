@@ -1,8 +1,8 @@
 -- What records, calls, refusals and replies stand for in the definitions.
 use Rattle.std.specs.Prelude.{ℕ, List, map, Result, Ok, Err}
 use Rattle.std.specs.Borrow.{Bor}
-use Rattle.model.specs.Calls.{Request}
-use Rattle.model.specs.Records.{Fields, Version}
+use Rattle.model.specs.Definitions.Calls.{Request}
+use Rattle.model.specs.Definitions.Records.{Fields, Version}
 pub use Rattle.mapdb.specs.Calls.{call_of, refusal_of, reply_of, IsWithinLimits}
 use Rattle.mapdb.specs.declared.call.Call.{Call as TheCall}
 use Rattle.mapdb.specs.declared.call.Refusal.{Refusal as TheRefusal}

@@ -4,16 +4,16 @@ use Rattle.std.specs.Borrow.{Bor}
 use Rattle.fpage.specs.declared.error.FpageError.{FpageError}
 use Rattle.fpage.specs.declared.rights.Access.{Access}
 use Rattle.space.specs.declared.place.Place.{Place}
-use Rattle.model.specs.Calls as calls
-use Rattle.model.specs.Calls.{Request, access}
-use Rattle.model.specs.Records.{Fields, Header, AccessFields, SendFields, UnmapFields}
+use Rattle.model.specs.Definitions.Calls as calls
+use Rattle.model.specs.Definitions.Calls.{Request, access}
+use Rattle.model.specs.Definitions.Records.{Fields, Header, AccessFields, SendFields, UnmapFields}
 use Rattle.mapdb.specs.declared.call.Call.{Call}
 use Rattle.trace.specs.declared.call.CallError.{CallError}
 use Rattle.trace.specs.declared.call.CallError.TheVariants.{Refused, NoMemory}
 use Rattle.mapdb.specs.declared.call.Refusal.{Refusal}
 use Rattle.mapdb.specs.declared.call.Refusal.TheVariants.{BadRecord}
 use Rattle.mapdb.specs.Held.{limits_of}
-use Rattle.field.specs.Meaning.{version_of}
+use Rattle.fields.specs.Meaning.{version_of}
 use Rattle.trace.specs.declared.request.Header.{Header as TheHeader}
 use Rattle.trace.specs.declared.request.SendFields.{SendFields as TheSendFields}
 use Rattle.trace.specs.declared.request.AccessFields.{AccessFields as TheAccessFields}

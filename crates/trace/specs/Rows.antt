@@ -6,7 +6,7 @@ use Rattle.csv.specs.declared.parser.State.{State}
 use Rattle.csv.specs.declared.parser.State.TheVariants as st
 use Rattle.csv.specs.declared.reader.Reader.{Reader}
 use Rattle.csv.specs.declared.reader.Trim.TheVariants as trim
-use Rattle.model.specs.Records.{Fields}
+use Rattle.model.specs.Definitions.Records.{Fields}
 
 -- the bytes that are left, which are known
 abbrev pub known : Bor (List ℕ) → Option (List ℕ)

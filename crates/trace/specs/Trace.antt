@@ -1,6 +1,6 @@
 -- What a trace that was read stands for.
 use Rattle.std.specs.Prelude.{◌≡◌, ℕ, Bool, true, false, ⊤, List, [], ◌∷◌, map, Option, Some, None}
-use Rattle.model.specs.Records.{Fields, Version, Header, header_fields, records_of}
+use Rattle.model.specs.Definitions.Records.{Fields, Version, Header, header_fields, records_of}
 use Rattle.mapdb.specs.Held.{limits_of}
 use Rattle.trace.specs.Meaning.{TraceRecord}
 use Rattle.trace.specs.declared.read.Trace.{Trace}

@@ -2,8 +2,8 @@
 use Rattle.std.specs.Prelude.{◌≡◌, ℕ, ◌+◌, ⊤, List, [], ◌∷◌, drop, Option, Some, None, Ok, Err}
 use Rattle.fpage.specs.declared.rights.Access.{Access}
 use Rattle.space.specs.declared.place.Place.{Place}
-use Rattle.model.specs.Calls.{Limits, Request, send, access, unmap, clear}
-use Rattle.model.specs.Records.{Fields, Version, header_fields, records_of, request}
+use Rattle.model.specs.Definitions.Calls.{Limits, Request, send, access, unmap, clear}
+use Rattle.model.specs.Definitions.Records.{Fields, Version, header_fields, records_of, request}
 use Rattle.trace.specs.Trace.{LacksHeader}
 use Rattle.trace.specs.declared.read.TraceError.{TraceError}
 use Rattle.trace.specs.declared.read.TraceError.TheVariants.{Unreadable, BadHeader, NoMemory}

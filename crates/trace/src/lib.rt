@@ -9,7 +9,7 @@ mod reply;
 mod request;
 mod stream;
 
-pub use field::Version;
+pub use fields::Version;
 pub use mapdb::{Call, Refusal, Reply};
 pub use read::{Trace, TraceError, read_all};
 pub use reader::TraceReader;

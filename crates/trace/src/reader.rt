@@ -1,8 +1,8 @@
 //! A trace in memory, read record by record.
 
 ghost use Rattle.std.specs.Prelude.{◌≡◌, ◌==◌, ◌<◌, ◌∷◌, [], true, Some, length, IfOk, IfErr, OnOk, OnErr, IfSome, MatchOption};
-ghost use Rattle.model.specs.Records.{are_limits};
-ghost use Rattle.field.specs.Meaning.{version_of};
+ghost use Rattle.model.specs.Definitions.Records.{are_limits};
+ghost use Rattle.fields.specs.Meaning.{version_of};
 ghost use Rattle.mapdb.specs.Held.{limits_of, IsWithin};
 ghost use Rattle.trace.specs.Meaning.{request_of, IsWithinLimits};
 ghost use Rattle.trace.specs.Unread.{past, IsOpened, IsFaultIn, first_request, access_in};
@@ -12,7 +12,7 @@ use crate::read::TraceError;
 use crate::records::{Fields, Record, next_row, rows};
 use crate::request::{Buffers, Header, access_only, read_header, request};
 use csv::{ByteRecord, Reader};
-use field::Version;
+use fields::Version;
 use fpage::Access;
 use mapdb::{Call, Limits, Refusal};
 use space::{NoMemory, Place};
@@ -43,7 +43,7 @@ impl<'a> Model for TraceReader<'a> {
 
     ghost use Rattle.std.specs.Prelude.{◌≡◌, true};
     ghost use Rattle.csv.specs.Records.{fields_of};
-    ghost use Rattle.field.specs.Meaning.{version_of};
+    ghost use Rattle.fields.specs.Meaning.{version_of};
     ghost use Rattle.mapdb.specs.Held.{limits_of};
     ghost use Rattle.trace.specs.Rows.{IsReading, with_row};
 

@@ -2,12 +2,12 @@
 
 ghost use Rattle.std.specs.Prelude.{◌≡◌, true, IfOk};
 ghost use Rattle.csv.specs.Records.{fields_of};
-ghost use Rattle.field.specs.Meaning.{version_of};
+ghost use Rattle.fields.specs.Meaning.{version_of};
 ghost use Rattle.trace.specs.Meaning.{shown};
 ghost use Rattle.trace.specs.Rows.{IsAtStart, IsReading, rows_left, with_row};
 
 use csv::{ByteRecord, ByteRecordIter, Reader, ReaderBuilder};
-use field::Version;
+use fields::Version;
 use space::NoMemory;
 use std::alloc::Global;
 use std::marker::Model;
@@ -21,7 +21,7 @@ pub struct Record {
 
 impl Model for Record {
     ghost use Rattle.csv.specs.Records.{fields_of};
-    ghost use Rattle.field.specs.Meaning.{version_of};
+    ghost use Rattle.fields.specs.Meaning.{version_of};
     ghost use Rattle.trace.specs.Meaning.{TraceRecord};
 
     ghost Value = { TraceRecord };
@@ -70,7 +70,7 @@ pub struct Fields<'a> {
 impl<'a> Model for Fields<'a> {
     ghost use Rattle.std.specs.Prelude.{drop};
     ghost use Rattle.csv.specs.Records.{fields_of};
-    ghost use Rattle.model.specs.Records.{Fields};
+    ghost use Rattle.model.specs.Definitions.Records.{Fields};
 
     ghost Value = { Fields };
 

@@ -2,8 +2,8 @@
 
 ghost use Rattle.std.specs.Prelude.{◌≡◌, ◌<◌, ◌≤◌, ◌++◌, drop, length, IfOk, OnErr, OnOk, string_bytes};
 ghost use Rattle.std.specs.Fmt.{decimal};
-ghost use Rattle.model.specs.Calls.{accessed};
-ghost use Rattle.model.specs.Text.{reply_line, reply_text, refusal_name, counts_text, words_text, clear_word, hex_digits, hex_code};
+ghost use Rattle.model.specs.Definitions.Calls.{accessed};
+ghost use Rattle.model.specs.Definitions.Text.{reply_line, reply_text, refusal_name, counts_text, words_text, clear_word, hex_digits, hex_code};
 ghost use Rattle.mapdb.specs.Meaning.{counts_of};
 ghost use Rattle.trace.specs.Meaning.{reply_of, refusal_of};
 

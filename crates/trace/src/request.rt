@@ -4,9 +4,9 @@ ghost use Rattle.std.specs.Prelude.{◌≡◌, ◌%◌, length, true, Some, IfOk
 ghost use Rattle.std.specs.Option.{option_map};
 ghost use Rattle.std.specs.List.{All, zip};
 ghost use Rattle.fpage.specs.Fpage.{IsSpaceBits, IsFpageOf};
-ghost use Rattle.model.specs.Records.{header_fields, access_fields, access_request, word_fields, send_fields, read_items, send_request};
-ghost use Rattle.model.specs.Records.{unmap_fields, read_words, unmap_request, clear_fields, clear_request, request, are_limits};
-ghost use Rattle.field.specs.Meaning.{version_of};
+ghost use Rattle.model.specs.Definitions.Records.{header_fields, access_fields, access_request, word_fields, send_fields, read_items, send_request};
+ghost use Rattle.model.specs.Definitions.Records.{unmap_fields, read_words, unmap_request, clear_fields, clear_request, request, are_limits};
+ghost use Rattle.fields.specs.Meaning.{version_of};
 ghost use Rattle.mapdb.specs.Held.{limits_of, IsWithin};
 ghost use Rattle.trace.specs.Parts.{header_of, access_of, asked_of, send_of, unmap_of, ReadsFields, ReadsWords, Asks};
 ghost use Rattle.trace.specs.Meaning.{request_of, IsWithinLimits};
@@ -14,7 +14,7 @@ ghost use Rattle.trace.specs.Unread.{IsAccessIn};
 
 use crate::call::CallError;
 use crate::records::{Fields, Record};
-use field::Version;
+use fields::Version;
 use fpage::{Access, Control, Fpage, Item, ItemKind};
 use mapdb::{Call, Limits, Refusal};
 use space::{NoMemory, Place};
@@ -91,9 +91,9 @@ pub fn read_header(fields: &mut Fields<'_>) -> Option<Header>
         return None;
     }
     let version = Version::of_field(version)?;
-    let spaces = field::number(spaces, 10, 7)?;
-    let bits = field::number(bits, 10, 7)?;
-    let frames = field::number(frames, 10, 7)?;
+    let spaces = fields::number(spaces, 10, 7)?;
+    let bits = fields::number(bits, 10, 7)?;
+    let frames = fields::number(frames, 10, 7)?;
     if name != b"l4map".as_slice() {
         return None;
     }
@@ -123,9 +123,9 @@ fn access_words(fields: &mut Fields<'_>) -> Option<AccessFields>
         return None;
     }
     Some(AccessFields {
-        space: field::space(space)?,
-        address: field::word(address)?,
-        kind: field::kind(kind)?,
+        space: fields::space(space)?,
+        address: fields::word(address)?,
+        kind: fields::kind(kind)?,
     })
 }
 
@@ -171,7 +171,7 @@ fn read_words(fields: &mut Fields<'_>, words: &mut Vec<u32>) -> Result<(), CallE
 {
     words.clear();
     while let Some(field) = fields.take() {
-        let word = field::word(field).ok_or(Refusal::BadRecord)?;
+        let word = fields::word(field).ok_or(Refusal::BadRecord)?;
         words.push(word)?;
     }
     Ok(())
@@ -193,9 +193,9 @@ fn send_words(fields: &mut Fields<'_>, words: &mut Vec<u32>) -> Result<SendField
     let from = fields.take().ok_or(Refusal::BadRecord)?;
     let to = fields.take().ok_or(Refusal::BadRecord)?;
     let window = fields.take().ok_or(Refusal::BadRecord)?;
-    let from = field::space(from).ok_or(Refusal::BadRecord)?;
-    let to = field::space(to).ok_or(Refusal::BadRecord)?;
-    let window = field::word(window).ok_or(Refusal::BadRecord)?;
+    let from = fields::space(from).ok_or(Refusal::BadRecord)?;
+    let to = fields::space(to).ok_or(Refusal::BadRecord)?;
+    let window = fields::word(window).ok_or(Refusal::BadRecord)?;
     read_words(fields, words)?;
     if words.len() % 2 != 0 || words.len() < 2 || words.len() > 62 {
         return Err(CallError::Refused(Refusal::BadRecord));
@@ -216,7 +216,7 @@ fn read_items(words: &[u32], bits: u32, items: &mut Vec<Item>) -> Result<(), Cal
         sent: Fpage::read(NILPAGE, bits)?,
     };
     items.resize(words.len() / 2, none)?;
-    words::read_items(words, bits, items)?;
+    fields::read_items(words, bits, items)?;
     Ok(())
 }
 
@@ -251,8 +251,8 @@ fn unmap_words(fields: &mut Fields<'_>, words: &mut Vec<u32>) -> Result<UnmapFie
 {
     let space = fields.take().ok_or(Refusal::BadRecord)?;
     let control = fields.take().ok_or(Refusal::BadRecord)?;
-    let space = field::space(space).ok_or(Refusal::BadRecord)?;
-    let control = field::word(control).ok_or(Refusal::BadRecord)?;
+    let space = fields::space(space).ok_or(Refusal::BadRecord)?;
+    let control = fields::word(control).ok_or(Refusal::BadRecord)?;
     read_words(fields, words)?;
     Ok(UnmapFields { space, control })
 }
@@ -265,7 +265,7 @@ fn read_fpages(words: &[u32], bits: u32, fpages: &mut Vec<Fpage>) -> Result<(), 
     ensures within { OnOk result (All (IsFpageOf bits) fpages.new.items) }
 {
     fpages.resize(words.len(), Fpage::read(NILPAGE, bits)?)?;
-    words::read_fpages(words, bits, fpages)?;
+    fields::read_fpages(words, bits, fpages)?;
     Ok(())
 }
 
@@ -296,7 +296,7 @@ fn clear(fields: &mut Fields<'_>) -> Result<Call, CallError>
     if fields.take().is_some() {
         return Err(CallError::Refused(Refusal::BadRecord));
     }
-    let space = field::space(space).ok_or(Refusal::BadRecord)?;
+    let space = fields::space(space).ok_or(Refusal::BadRecord)?;
     Ok(Call::Clear { space })
 }
 

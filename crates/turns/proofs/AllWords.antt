@@ -10,7 +10,7 @@ use mathlib.Core.Option.{some}
 use Rattle.pieces.specs.Distinct.{is_none_of, are_distinct}
 use Rattle.pieces.specs.Phases.{CanBeWorked, IsPiece, changes}
 use Rattle.pieces.specs.declared.piece.Piece.{Piece}
-use Rattle.turns.specs.Sheets.{IsPhase, common, replaced}
+use Rattle.turns.specs.SharedWords.{IsPhase, common, replaced}
 use Rattle.turns.specs.Tables.{indexes_of, listed}
 use Rattle.turns.specs.declared.sharing.Indexes.{Indexes}
 use Rattle.turns.specs.declared.sharing.Indexes.TheVariants as indexes
@@ -65,7 +65,7 @@ all_are_within n k d less =
     subst (λ i. i < n) (sym (get_or-range_with_len 0 n k d low)) (omega (arith, low))
 
 -- a phase whose words are all shared
-pub all_phase : (w : List ℕ) (ps : List Piece) (m : ℕ) → All IsPiece ps → CanBeWorked w ps → IsPhase (record { words = w; pieces = ps; at = range_with_len 0 (length w); watchers = m })
+pub all_phase : (w : List ℕ) (ps : List Piece) (m : ℕ) → All IsPiece ps → CanBeWorked w ps → IsPhase (record { words = w; pieces = ps; indexes = range_with_len 0 (length w); watchers = m })
 all_phase w ps m each can =
     phase w ps (range_with_len 0 (length w)) m each can (range_distinct 0 (length w))
     (λ i there. among i (passes_there (λ j. nat_lt j (length w)) (flat_map changes ps) i (changes_within w ps can) there))

@@ -17,7 +17,7 @@ use Rattle.pieces.proofs.Packs.{AllSuit, packs_after_steps, same_page_after}
 use Rattle.pieces.proofs.Writers.{piece_writes}
 use Rattle.turns.specs.Writers.{writes_here, writers, all_writers}
 use Rattle.turns.specs.Rules.{steps_in, word_in}
-use Rattle.turns.specs.Sheets.{IsPhase}
+use Rattle.turns.specs.SharedWords.{IsPhase}
 use Rattle.turns.specs.Watching.{page_in, entry_with, entry_before, entry_after}
 use Rattle.turns.specs.declared.view.Opening.{Opening}
 use Rattle.turns.proofs.Insertions.{take_writers}

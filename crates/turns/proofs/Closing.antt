@@ -68,11 +68,11 @@ untouched_words o [] = refl
 untouched_words o (i ∷ at) =
     ap (λ x. x ∷ map (word_in o (λ p. 0)) at) (ap (word_after (get_or o.words i 0) i) (none_done_yet 0 (steps_in o)) ∙ or_zero_r (get_or o.words i 0)) ∙ ap (λ xs. get_or o.words i 0 ∷ xs) (untouched_words o at)
 
-pub opens : (o : Opening) → Ruled o (opening {S = Unit {0}} (map (λ i. get_or o.words i 0) o.at) [] (first_view o))
+pub opens : (o : Opening) → Ruled o (opening {S = Unit {0}} (map (λ i. get_or o.words i 0) o.indexes) [] (first_view o))
 opens o =
     let counts : (p : ℕ) → counted (first_view o ∷ []) p ≡ 0 = λ p. let a : ℕ = count_in p (none_done (length o.pieces)) in let a0 : a ≡ 0 = none_counted p 0 (length o.pieces) in omega arith in
     record {
-      words_are = sym (untouched_words o o.at) ∙ ap (words_in o) (λ i p. sym (counts p) i);
+      words_are = sym (untouched_words o o.indexes) ∙ ap (words_in o) (λ i p. sym (counts p) i);
       once = λ p. let a : ℕ = names_in p (none_done (length o.pieces)) in let a1 : a ≤ 1 = named_once p 0 (length o.pieces) in omega arith;
       each = λ p less. let a : ℕ = names_in p (none_done (length o.pieces)) in let a1 : a ≡ 1 = named_among p 0 (length o.pieces) (omega arith) (omega (arith, less)) in let z : a + 0 ≡ 1 = omega (arith, a1) in z;
       same = same;
@@ -92,7 +92,7 @@ opens o =
 -- counts that are the same for all pieces make the same words
 words_of_counts : (o : Opening) (counts more : ℕ → ℕ) → ((p : ℕ) → p < length o.pieces → more p ≡ counts p) → words_in o more ≡ words_in o counts
 words_of_counts o counts more same =
-    ap (λ es. map (λ i. word_after (get_or o.words i 0) i es) o.at)
+    ap (λ es. map (λ i. word_after (get_or o.words i 0) i es) o.indexes)
     (same_done 0 counts more (steps_in o) (λ p from less. same p (let n : ℕ = length (steps_in o) in let m : ℕ = length o.pieces in let e : n ≡ m = length-map o.pieces (effects o.words) in omega (arith, less, e))))
 
 -- a seat that has all pieces knows how many steps of each were done

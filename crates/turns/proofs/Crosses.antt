@@ -21,8 +21,8 @@ use Rattle.turns.specs.contracts.rule.Rule as rule
 use Rattle.turns.specs.contracts.rule.RuleTableRuleUnitViewFixed.TheImpl as rules_of
 use Rattle.turns.specs.contracts.open.Open as shared
 use Rattle.turns.specs.contracts.open.Open.TheInside as shared_inside
-use Rattle.turns.specs.contracts.sheet.Sheet as sheet
-use Rattle.turns.specs.contracts.sheet.Sheet.TheInside as sheet_inside
+use Rattle.turns.specs.contracts.shared_words.SharedWords as shared_words
+use Rattle.turns.specs.contracts.shared_words.SharedWords.TheInside as words_inside
 use Rattle.turns.specs.contracts.starts.Starts as starts
 use Rattle.turns.specs.contracts.post.Post as post
 use Rattle.turns.specs.contracts.work.Work as work
@@ -70,14 +70,14 @@ table_sync =
 starts_sync : IsSync starts.the_row
 starts_sync = search (sendable, crosses) depth 20
 
-sheet_inside_sync : IsSync sheet_inside.the_row
-sheet_inside_sync = declared_sync sheet_inside.the_type (table_sync, (search (sendable, crosses) depth 20, (search (sendable, crosses) depth 20, (search (sendable, crosses) depth 20, (search sendable, (starts_sync, tt))))))
+words_inside_sync : IsSync words_inside.the_row
+words_inside_sync = declared_sync words_inside.the_type (table_sync, (search (sendable, crosses) depth 20, (search (sendable, crosses) depth 20, (search (sendable, crosses) depth 20, (search sendable, (starts_sync, tt))))))
 
-pub sheet_sync : IsSync sheet.the_row
-sheet_sync = search (sheet_inside_sync, view_sync)
+pub words_sync : IsSync shared_words.the_row
+words_sync = search (words_inside_sync, view_sync)
 
 open_inside_sync : IsSync shared_inside.the_row
-open_inside_sync = declared_sync shared_inside.the_type (sheet_sync, (search (sendable, crosses) depth 20, (search (sendable, crosses) depth 20, (search (sendable, crosses) depth 20, (search (sendable, crosses) depth 20, (search (sendable, crosses) depth 20, tt))))))
+open_inside_sync = declared_sync shared_inside.the_type (words_sync, (search (sendable, crosses) depth 20, (search (sendable, crosses) depth 20, (search (sendable, crosses) depth 20, (search (sendable, crosses) depth 20, (search (sendable, crosses) depth 20, tt))))))
 
 pub open_sync : IsSync shared.the_row
 open_sync = search (open_inside_sync, view_sync)

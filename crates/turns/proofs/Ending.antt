@@ -19,7 +19,7 @@ use Rattle.pieces.specs.Distinct.{is_none_of}
 use Rattle.pieces.specs.Dones.{DoneContent}
 use Rattle.turns.specs.Closing.{numbers_of, counts_of, unended_of, AreAll}
 use Rattle.turns.specs.Posts.{PostContent}
-use Rattle.turns.specs.Sheets.{SheetContent, IsSeat}
+use Rattle.turns.specs.SharedWords.{SharedContent, IsSeat}
 use Rattle.turns.specs.Turns.{steps_to_do, done_of}
 use Rattle.turns.specs.Views.{names_in}
 use Rattle.turns.specs.declared.open.Unended.{Unended}
@@ -27,7 +27,7 @@ use Rattle.turns.specs.declared.view.View.{View}
 use Rattle.turns.proofs.Pigeons.{no_more}
 
 -- the turns so far are taken back
-pub record AreTaken (s : SheetContent) (ts : List PostContent) (table : TableId) (me : Me (Unit {0}) View) (dones : Vec DoneContent Global) (unended : Vec Unended Global) : Type 0 where
+pub record AreTaken (s : SharedContent) (ts : List PostContent) (table : TableId) (me : Me (Unit {0}) View) (dones : Vec DoneContent Global) (unended : Vec Unended Global) : Type 0 where
   pub seat : IsSeat s table me
   pub counts : me.0.counts ≡ counts_of ts
   pub below : All (λ c. c.0 < length s.opening.pieces) (counts_of ts)
@@ -102,10 +102,10 @@ is_done t o d at is = by (t.steps == steps_to_do t) _ (record { piece = t.number
     by true p u h = refl
     by false p u h = absurd (cc)
 
-pub not_done : (t : PostContent) (o : Option DoneContent) → o ≡ None → option_to_list o ≡ done_of t → t.number < length t.sheet.opening.pieces → unended_of t ≡ record { piece = t.number; steps = t.steps } ∷ []
+pub not_done : (t : PostContent) (o : Option DoneContent) → o ≡ None → option_to_list o ≡ done_of t → t.number < length t.shared.opening.pieces → unended_of t ≡ record { piece = t.number; steps = t.steps } ∷ []
 not_done t o at is less =
-    let p = get_or t.sheet.opening.pieces t.number none in
-    by (t.steps == steps_to_do t) _ (slice_get t.sheet.opening.pieces t.number) p (slice_get-get_or t.sheet.opening.pieces t.number none less) (record { piece = t.number; steps = t.steps }) (sym (ap option_to_list at) ∙ is)
+    let p = get_or t.shared.opening.pieces t.number none in
+    by (t.steps == steps_to_do t) _ (slice_get t.shared.opening.pieces t.number) p (slice_get-get_or t.shared.opening.pieces t.number none less) (record { piece = t.number; steps = t.steps }) (sym (ap option_to_list at) ∙ is)
   where
     none : Piece
     none = piece.Touch []
@@ -119,7 +119,7 @@ not_done t o at is less =
 
 -- ---- at the end
 
-pub named_all : (s : SheetContent) (ts : List PostContent) → AreAll s ts → (p : ℕ) → p < length s.opening.pieces → 0 < names_in p (counts_of ts)
+pub named_all : (s : SharedContent) (ts : List PostContent) → AreAll s ts → (p : ℕ) → p < length s.opening.pieces → 0 < names_in p (counts_of ts)
 named_all s ts all p less = named ts (all p less)
   where
     named : (us : List PostContent) → is_none_of (numbers_of us) p ≡ false → 0 < names_in p (counts_of us)

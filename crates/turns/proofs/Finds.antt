@@ -35,16 +35,16 @@ raise : (ℕ → ℕ) → ℕ → ℕ → ℕ
 raise counts n q = if q == n then suc (counts q) else counts q
 
 -- no step before has changed the word that a step writes
-pub alone : (p : PostContent) (i x word : ℕ) → IsOpening p.sheet.opening → next_of p ≡ Some (writes i x) → IsFound p i word → word ≡ get_or p.sheet.opening.words i 0
+pub alone : (p : PostContent) (i x word : ℕ) → IsOpening p.shared.opening → next_of p ≡ Some (writes i x) → IsFound p i word → word ≡ get_or p.shared.opening.words i 0
 unfolding raise
 alone p i x word is next found =
-    let o = p.sheet.opening in
+    let o = p.shared.opening in
     let first : IsFirst o ((p.number, p.steps) ∷ []) (writes i x) = first_step o ((p.number, p.steps) ∷ []) (writes i x) next in
     by first.first first.others first.are first.steps first.of first.step
   where
-    by : (c : ℕ × ℕ) (cs : List (ℕ × ℕ)) → ◌≡◌ {A = List (ℕ × ℕ)} ((p.number, p.steps) ∷ []) (c ∷ cs) → (es : List Effect) → slice_get (steps_in p.sheet.opening) c.0 ≡ Some es → slice_get es c.1 ≡ Some (writes i x) → word ≡ get_or p.sheet.opening.words i 0
+    by : (c : ℕ × ℕ) (cs : List (ℕ × ℕ)) → ◌≡◌ {A = List (ℕ × ℕ)} ((p.number, p.steps) ∷ []) (c ∷ cs) → (es : List Effect) → slice_get (steps_in p.shared.opening) c.0 ≡ Some es → slice_get es c.1 ≡ Some (writes i x) → word ≡ get_or p.shared.opening.words i 0
     by c cs are es of step =
-        let o = p.sheet.opening in
+        let o = p.shared.opening in
         let c_is : ◌≡◌ {A = ℕ × ℕ} (p.number, p.steps) c = cc in
         let n : ℕ = p.number in
         let counts : ℕ → ℕ = found.counts in

@@ -12,7 +12,7 @@ use Rattle.pieces.specs.declared.piece.Piece.{Piece}
 use Rattle.pieces.specs.declared.piece.Piece.TheVariants as piece
 use Rattle.turns.specs.Closing.{counts_of, unended_of, numbers_in, AreAll}
 use Rattle.turns.specs.Posts.{PostContent}
-use Rattle.turns.specs.Sheets.{SheetContent}
+use Rattle.turns.specs.SharedWords.{SharedContent}
 use Rattle.turns.specs.Turns.{steps_to_do, done_of}
 use Rattle.turns.specs.Views.{names_in}
 use Rattle.turns.specs.declared.open.Unended.{Unended}
@@ -62,9 +62,9 @@ record IsHandedIn (n : ℕ) (ds : List DoneContent) (us : List Unended) : Type 0
   named : (p : ℕ) → times p (map (λ d. d.number) ds) + times p (map (λ u. u.piece) us) ≡ (if n == p then 1 else 0)
   one : length ds + length us ≡ 1
 
-handed_in : (t : PostContent) → t.number < length t.sheet.opening.pieces → IsHandedIn t.number (done_of t) (unended_of t)
+handed_in : (t : PostContent) → t.number < length t.shared.opening.pieces → IsHandedIn t.number (done_of t) (unended_of t)
 handed_in t less =
-    by (t.steps == steps_to_do t) _ (slice_get t.sheet.opening.pieces t.number) _ (slice_get-get_or t.sheet.opening.pieces t.number (piece.Touch []) less) (λ p. refl) (record { piece = t.number; steps = t.steps }) refl
+    by (t.steps == steps_to_do t) _ (slice_get t.shared.opening.pieces t.number) _ (slice_get-get_or t.shared.opening.pieces t.number (piece.Touch []) less) (λ p. refl) (record { piece = t.number; steps = t.steps }) refl
   where
     by : (b : Bool) (f : Piece → DoneContent) (q : Option Piece) (p : Piece) → q ≡ Some p → ((p : Piece) → (f p).number ≡ t.number) → (u : Unended) → u.piece ≡ t.number
         → IsHandedIn t.number (if b then option_to_list (option_map f q) else []) (if b then [] else u ∷ [])
@@ -89,7 +89,7 @@ record AreHandedIn (ts : List PostContent) : Type 0 where
   named : (p : ℕ) → times p (map (λ d. d.number) (flat_map done_of ts)) + times p (map (λ u. u.piece) (flat_map unended_of ts)) ≡ names_in p (counts_of ts)
   many : length (flat_map done_of ts) + length (flat_map unended_of ts) ≡ length ts
 
-all_handed_in : (ts : List PostContent) → All (λ t. t.number < length t.sheet.opening.pieces) ts → AreHandedIn ts
+all_handed_in : (ts : List PostContent) → All (λ t. t.number < length t.shared.opening.pieces) ts → AreHandedIn ts
 all_handed_in [] below = record { named = λ p. refl; many = refl }
 all_handed_in (t ∷ ts) below =
     let first : IsHandedIn t.number (done_of t) (unended_of t) = handed_in t (below 0 t (omega arith)) in
@@ -126,9 +126,9 @@ all_handed_in (t ∷ ts) below =
     }
 
 -- a turn of a phase has a piece of it
-own_pieces : (s : SheetContent) (ts : List PostContent) → All (λ t. t.sheet ≡ s) ts → All (λ c. c.0 < length s.opening.pieces) (counts_of ts) → All (λ t. t.number < length t.sheet.opening.pieces) ts
+own_pieces : (s : SharedContent) (ts : List PostContent) → All (λ t. t.shared ≡ s) ts → All (λ c. c.0 < length s.opening.pieces) (counts_of ts) → All (λ t. t.number < length t.shared.opening.pieces) ts
 own_pieces s [] of below k d less = absurd (omega (arith, less))
-own_pieces s (t ∷ ts) of below zero d less = subst (λ (x : SheetContent). t.number < length x.opening.pieces) (sym (of 0 t (omega arith))) (below 0 (t.number, t.steps) (omega arith))
+own_pieces s (t ∷ ts) of below zero d less = subst (λ (x : SharedContent). t.number < length x.opening.pieces) (sym (of 0 t (omega arith))) (below 0 (t.number, t.steps) (omega arith))
 own_pieces s (t ∷ ts) of below (suc k) d less =
     own_pieces s ts (λ j e low. of (suc j) e (omega (arith, low))) (λ j e low. below (suc j) e (omega (arith, low))) k d (omega (arith, less))
 
@@ -138,7 +138,7 @@ pub record AreWhole (n : ℕ) (ds : List DoneContent) (us : List Unended) : Type
   pub each : (p : ℕ) → p < n → is_none_of (numbers_in ds us) p ≡ false
   pub many : length ds + length us ≡ n
 
-pub whole : (s : SheetContent) (ts : List PostContent) → All (λ t. t.sheet ≡ s) ts → All (λ c. c.0 < length s.opening.pieces) (counts_of ts) → ((p : ℕ) → names_in p (counts_of ts) ≤ 1) → AreAll s ts
+pub whole : (s : SharedContent) (ts : List PostContent) → All (λ t. t.shared ≡ s) ts → All (λ c. c.0 < length s.opening.pieces) (counts_of ts) → ((p : ℕ) → names_in p (counts_of ts) ≤ 1) → AreAll s ts
     → AreWhole (length s.opening.pieces) (flat_map done_of ts) (flat_map unended_of ts)
 whole s ts of below once all =
     let in_lists : AreHandedIn ts = all_handed_in ts (own_pieces s ts of below) in

@@ -11,7 +11,7 @@ use Rattle.pieces.specs.declared.moving.Pair.{Pair}
 use Rattle.pieces.specs.declared.piece.Piece.TheVariants as piece
 use Rattle.pieces.proofs.NamedWords.{stores_within, pairs_within}
 use Rattle.turns.specs.Rules.{next_step}
-use Rattle.turns.specs.Sheets.{IsPhase}
+use Rattle.turns.specs.SharedWords.{IsPhase}
 use Rattle.turns.specs.declared.view.Opening.{Opening}
 use Rattle.turns.proofs.StripSteps.{next_is, names}
 

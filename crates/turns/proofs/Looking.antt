@@ -144,7 +144,7 @@ comes o words vs w h none of so = record {
 abbrev looked : View → (ℕ → ℕ) → View
 looked v counts = record v { notes = v.notes ++ counts_of_all (length v.opening.pieces) counts }
 
-pub looks : (o : Opening) (slots id : ℕ) (v : View) (held : List (ℕ × Unit {0})) (j i : ℕ) → v.opening ≡ o → slice_get o.at j ≡ Some i
+pub looks : (o : Opening) (slots id : ℕ) (v : View) (held : List (ℕ × Unit {0})) (j i : ℕ) → v.opening ≡ o → slice_get o.indexes j ≡ Some i
     → Allows (Ruled o) slots id (v, held) j (λ n. n) (λ found after. (after.1 ≡ held) × IsLooked i v found after.0)
 looks o slots id v held j i of there s h homes at bound =
     let counts : ℕ → ℕ = counted s.views in
@@ -160,7 +160,7 @@ looks o slots id v held j i of there s h homes at bound =
         record {
           counts = counts;
           no_earlier = h.noted id v at;
-          found = ap (λ ws. get_or ws j 0) h.words_are ∙ map_here (word_in o counts) o.at j i there ∙ ap (λ p. word_in p counts i) (sym of);
+          found = ap (λ ws. get_or ws j 0) h.words_are ∙ map_here (word_in o counts) o.indexes j i there ∙ ap (λ p. word_in p counts i) (sym of);
           noted = λ p less more all. noted_all counts more n (notes_second v.notes (counts_of_all n counts) more all) p less;
           kept = λ more all. notes_first v.notes (counts_of_all n counts) more all;
           view = refl;

@@ -155,7 +155,7 @@ rest_raised o words vs k v h at live = record {
         let y' : x ≤ y = count_grows p v.counts in
         omega arith
 
-step_holds : (o : Opening) → IsOpening o → (words : List ℕ) (vs : List View) (k : ℕ) (v : View) (e : Effect) (j : ℕ) → v.opening ≡ o → IsNext v e → slice_get o.at j ≡ Some (index_of e) → Holds o words vs → get_elem? vs k ≡ some v
+step_holds : (o : Opening) → IsOpening o → (words : List ℕ) (vs : List View) (k : ℕ) (v : View) (e : Effect) (j : ℕ) → v.opening ≡ o → IsNext v e → slice_get o.indexes j ≡ Some (index_of e) → Holds o words vs → get_elem? vs k ≡ some v
     → Holds o (set words j (made e (get_or words j 0))) (set vs k (raised v))
 step_holds o is words vs k v e j of next there h at =
     let first : IsFirst o v.counts e = first_step o v.counts e (ap (λ p. next_step p v.counts) (sym of) ∙ next.step) in
@@ -173,17 +173,17 @@ step_holds o is words vs k v e j of next there h at =
     }
 
 -- what a step finds
-found_is : (o : Opening) (words : List ℕ) (vs : List View) (k : ℕ) (v : View) (e : Effect) (j : ℕ) → v.opening ≡ o → IsNext v e → slice_get o.at j ≡ Some (index_of e) → Holds o words vs → get_elem? vs k ≡ some v
+found_is : (o : Opening) (words : List ℕ) (vs : List View) (k : ℕ) (v : View) (e : Effect) (j : ℕ) → v.opening ≡ o → IsNext v e → slice_get o.indexes j ≡ Some (index_of e) → Holds o words vs → get_elem? vs k ≡ some v
     → IsMade (index_of e) v (get_or words j 0) (raised v)
 found_is o words vs k v e j of next there h at =
     record {
       view = refl;
       counts = counted vs;
       agree = λ p some. only_here p vs k v at (h.once p) some;
-      found = ap (λ ws. get_or ws j 0) h.words_are ∙ map_here (word_in o (counted vs)) o.at j (index_of e) there ∙ ap (λ p. word_in p (counted vs) (index_of e)) (sym of);
+      found = ap (λ ws. get_or ws j 0) h.words_are ∙ map_here (word_in o (counted vs)) o.indexes j (index_of e) there ∙ ap (λ p. word_in p (counted vs) (index_of e)) (sym of);
     }
 
-pub allows : (o : Opening) → IsOpening o → (slots id : ℕ) (v : View) (held : List (ℕ × Unit {0})) (e : Effect) (j : ℕ) → v.opening ≡ o → IsNext v e → slice_get o.at j ≡ Some (index_of e)
+pub allows : (o : Opening) → IsOpening o → (slots id : ℕ) (v : View) (held : List (ℕ × Unit {0})) (e : Effect) (j : ℕ) → v.opening ≡ o → IsNext v e → slice_get o.indexes j ≡ Some (index_of e)
     → Allows (Ruled o) slots id (v, held) j (made e) (λ found after. (after.1 ≡ held) × IsMade (index_of e) v found after.0)
 allows o is slots id v held e j of next there s h homes at bound =
     (raised v, table.keeps, tt, step_holds o is s.words s.views id v e j of next there h at, (refl, found_is o s.words s.views id v e j of next there h at))

@@ -20,7 +20,7 @@ use Rattle.pieces.proofs.NamedWords.{indexes_within}
 use Rattle.pieces.proofs.Writers.{all_apart}
 use Rattle.turns.specs.Writers.{writers, adders, all_writers, all_adders, AreApart}
 use Rattle.turns.specs.Rules.{index_of}
-use Rattle.turns.specs.Sheets.{IsPhase, common}
+use Rattle.turns.specs.SharedWords.{IsPhase, common}
 use Rattle.turns.proofs.Insertions.{writers_append, adders_append}
 use Rattle.turns.proofs.Raising.{IsFirst, first_step}
 
@@ -188,14 +188,14 @@ piece_there w zero (p ∷ ps) es at = (p, refl, cc)
 piece_there w (suc n) (p ∷ ps) es at = piece_there w n ps es at
 
 pub phase : (w : List ℕ) (ps : List Piece) (at : List ℕ) (m : ℕ) → All IsPiece ps → CanBeWorked w ps → are_distinct at ≡ true → ((i : ℕ) → is_none_of (flat_map changes ps) i ≡ false → is_none_of at i ≡ false)
-    → ((i : ℕ) → is_none_of (flat_map common ps) i ≡ false → is_none_of at i ≡ false) → IsPhase (record { words = w; pieces = ps; at = at; watchers = m })
+    → ((i : ℕ) → is_none_of (flat_map common ps) i ≡ false → is_none_of at i ≡ false) → IsPhase (record { words = w; pieces = ps; indexes = at; watchers = m })
 phase w ps at m each can once own others = record {
   opening = record {
     apart = apart w ps each can;
     distinct = once;
     covers =
         λ cs e next.
-        let first : IsFirst (record { words = w; pieces = ps; at = at; watchers = m }) cs e = first_step (record { words = w; pieces = ps; at = at; watchers = m }) cs e next in
+        let first : IsFirst (record { words = w; pieces = ps; indexes = at; watchers = m }) cs e = first_step (record { words = w; pieces = ps; indexes = at; watchers = m }) cs e next in
         let found = piece_there w first.first.0 ps first.steps first.of in
         by (index_of e) first.first.0 found.0 found.1 (about w found.0 first.first.1 e (ap (λ es. slice_get es first.first.1) found.2 ∙ first.step));
   };

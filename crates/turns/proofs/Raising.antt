@@ -67,7 +67,7 @@ first_step o (c ∷ cs) e h = by (slice_get (steps_in o) c.0) refl h
 
 -- the words after one step more: the one that the step is about is what it makes of it
 pub words_raised : (o : Opening) → IsOpening o → (counts more : ℕ → ℕ) (p j : ℕ) (es : List Effect) (e : Effect) → slice_get (steps_in o) p ≡ Some es → slice_get es (counts p) ≡ Some e
-    → more p ≡ suc (counts p) → ((q : ℕ) → q ≢ p → more q ≡ counts q) → slice_get o.at j ≡ Some (index_of e)
+    → more p ≡ suc (counts p) → ((q : ℕ) → q ≢ p → more q ≡ counts q) → slice_get o.indexes j ≡ Some (index_of e)
     → words_in o more ≡ set (words_in o counts) j (made e (get_or (words_in o counts) j 0))
 words_raised o is counts more p j es e at step one others position =
     let i : ℕ = index_of e in
@@ -85,4 +85,4 @@ words_raised o is counts more p j es e at step one others position =
     ap (word_after (get_or o.words i 0) i) t.3 ∙ this_word (get_or o.words i 0) e t.0 t.1 (omega (arith, fewer, one_writer)) alone ∙ ap (λ fs. made e (word_after (get_or o.words i 0) i fs)) (sym t.2) in
     let apart : (k : ℕ) → k ≢ i → word_in o more k ≡ word_in o counts k =
     λ k other. ap (word_after (get_or o.words k 0) k) t.3 ∙ other_word (get_or o.words k 0) k e t.0 t.1 other ∙ ap (word_after (get_or o.words k 0) k) (sym t.2) in
-    map_set (word_in o counts) (word_in o more) o.at j i is.distinct position apart ∙ ap (set (words_in o counts) j) (here ∙ ap (made e) (sym (map_here (word_in o counts) o.at j i position)))
+    map_set (word_in o counts) (word_in o more) o.indexes j i is.distinct position apart ∙ ap (set (words_in o counts) j) (here ∙ ap (made e) (sym (map_here (word_in o counts) o.indexes j i position)))

@@ -11,7 +11,7 @@ use Rattle.pieces.specs.Effects.{Effect, keeps, adds, writes, done, word_after, 
 use Rattle.pieces.proofs.AllSteps.{length_words, word_at}
 use Rattle.turns.specs.Writers.{writers, adders, all_writers, all_adders}
 use Rattle.turns.specs.Rules.{steps_in, word_in, words_in, IsOpening, index_of}
-use Rattle.turns.specs.Sheets.{replaced}
+use Rattle.turns.specs.SharedWords.{replaced}
 use Rattle.turns.specs.declared.view.Opening.{Opening}
 use Rattle.turns.proofs.Insertions.{untouched, done_writers, done_adders}
 
@@ -62,13 +62,13 @@ all_unwritten i (es ∷ ess) apart =
     (omega (arith, a0, b0), omega (arith, c0, d0))
 
 -- where no word is shared, no step writes and none adds
-pub not_shared : (o : Opening) → IsOpening o → (i : ℕ) → is_none_of o.at i ≡ true → (all_writers i (steps_in o) ≡ 0) × (all_adders i (steps_in o) ≡ 0)
+pub not_shared : (o : Opening) → IsOpening o → (i : ℕ) → is_none_of o.indexes i ≡ true → (all_writers i (steps_in o) ≡ 0) × (all_adders i (steps_in o) ≡ 0)
 not_shared o is i none =
     all_unwritten i (steps_in o)
     (λ p k es e of at same.
-    true≢false (sym none ∙ ap (is_none_of o.at) (sym same) ∙ is.covers ((p, k) ∷ []) e (ap (option_and_then (λ fs. slice_get fs k)) of ∙ at)))
+    true≢false (sym none ∙ ap (is_none_of o.indexes) (sym same) ∙ is.covers ((p, k) ∷ []) e (ap (option_and_then (λ fs. slice_get fs k)) of ∙ at)))
 
-pub stays_same : (o : Opening) → IsOpening o → (counts : ℕ → ℕ) (i : ℕ) → is_none_of o.at i ≡ true → get_or o.words i 0 ≡ word_in o counts i
+pub stays_same : (o : Opening) → IsOpening o → (counts : ℕ → ℕ) (i : ℕ) → is_none_of o.indexes i ≡ true → get_or o.words i 0 ≡ word_in o counts i
 stays_same o is counts i none =
     let parts = not_shared o is i none in
     let w : ℕ = writers i (done counts (steps_in o)) in let all : ℕ = all_writers i (steps_in o) in let few : w ≤ all = done_writers i 0 counts (steps_in o) in let all0 : all ≡ 0 = parts.0 in
@@ -78,14 +78,14 @@ stays_same o is counts i none =
 -- ---- all words
 
 -- with the shared words put back, all words are those after the steps that were done
-pub put_back_words : (o : Opening) → IsOpening o → (counts : ℕ → ℕ) (shared : List ℕ) → shared ≡ words_in o counts → replaced o.words o.at shared ≡ words_after o.words (done counts (steps_in o))
+pub put_back_words : (o : Opening) → IsOpening o → (counts : ℕ → ℕ) (shared : List ℕ) → shared ≡ words_in o counts → replaced o.words o.indexes shared ≡ words_after o.words (done counts (steps_in o))
 put_back_words o is counts shared same =
     let es : List Effect = done counts (steps_in o) in
-    ap (replaced o.words o.at) same
-    ∙ ext_get_or 0 (replaced o.words o.at (words_in o counts)) (words_after o.words es) (length_replaced o.words o.at (words_in o counts) ∙ sym (length_words 0 o.words es))
+    ap (replaced o.words o.indexes) same
+    ∙ ext_get_or 0 (replaced o.words o.indexes (words_in o counts)) (words_after o.words es) (length_replaced o.words o.indexes (words_in o counts) ∙ sym (length_words 0 o.words es))
     (λ i less.
-    let within : i < length o.words = subst (λ n. i < n) (length_replaced o.words o.at (words_in o counts)) less in
-    replaced_at (word_in o counts) o.words o.at (λ j low none. stays_same o is counts j none) i within ∙ ap (λ k. word_after (get_or o.words i 0) k es) (sym (zero-add i)) ∙ sym (word_at 0 o.words es i within))
+    let within : i < length o.words = subst (λ n. i < n) (length_replaced o.words o.indexes (words_in o counts)) less in
+    replaced_at (word_in o counts) o.words o.indexes (λ j low none. stays_same o is counts j none) i within ∙ ap (λ k. word_after (get_or o.words i 0) k es) (sym (zero-add i)) ∙ sym (word_at 0 o.words es i within))
 
 -- ---- of a table that was closed
 

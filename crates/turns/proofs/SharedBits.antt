@@ -108,7 +108,7 @@ added_done counts i b q (es ∷ ess) (suc p) steps piece a =
 -- ---- a shared word
 
 -- where no step writes it, it is the word at opening with the bits that were added
-only_added : (o : Opening) (words : List ℕ) (views : List View) (j i : ℕ) → Holds o words views → slice_get o.at j ≡ Some i → all_writers i (steps_in o) ≡ 0
+only_added : (o : Opening) (words : List ℕ) (views : List View) (j i : ℕ) → Holds o words views → slice_get o.indexes j ≡ Some i → all_writers i (steps_in o) ≡ 0
     → get_or words j 0 ≡ bit_or (get_or o.words i 0) (gained i (done (counted views) (steps_in o)))
 only_added o words views j i h there none =
     let steps = done (counted views) (steps_in o) in
@@ -117,10 +117,10 @@ only_added o words views j i h there none =
     let few : n ≤ m = done_writers i 0 (counted views) (steps_in o) in
     let none' : m ≡ 0 = none in
     let no : n ≡ 0 = omega (arith, few, none') in
-    ap (λ ws. get_or ws j 0) h.words_are ∙ map_here (word_in o (counted views)) o.at j i there ∙ ap (λ w. unwrap_or w (bit_or (get_or o.words i 0) (gained i steps))) (written_none i steps no)
+    ap (λ ws. get_or ws j 0) h.words_are ∙ map_here (word_in o (counted views)) o.indexes j i there ∙ ap (λ w. unwrap_or w (bit_or (get_or o.words i 0) (gained i steps))) (written_none i steps no)
 
 -- between any two steps
-pub bits_told : (o : Opening) (words : List ℕ) (views : List View) (j i b : ℕ) → Holds o words views → slice_get o.at j ≡ Some i → all_writers i (steps_in o) ≡ 0
+pub bits_told : (o : Opening) (words : List ℕ) (views : List View) (j i b : ℕ) → Holds o words views → slice_get o.indexes j ≡ Some i → all_writers i (steps_in o) ≡ 0
     → (IsSet (get_or words j 0) b ↔ (IsSet (get_or o.words i 0) b ⊎ IsAddedAt o (counted views) i b))
 bits_told o words views j i b h there none = (told, untold)
   where

@@ -8,7 +8,7 @@ use Rattle.std.proofs.lemmas.List.{take_all}
 use Rattle.std.proofs.lemmas.Grind.{get_or_default_zero}
 use Rattle.fpage.specs.Rights.{no_rights, join}
 use Rattle.fpage.specs.declared.rights.Rights.{Rights}
-use Rattle.mapnode.specs.declared.node.Node.{Node}
+use Rattle.space.specs.declared.node.Node.{Node}
 use Rattle.space.specs.Entries.{status_of}
 use Rattle.space.specs.Word.{word_of, entry_of}
 use Rattle.pieces.specs.Contents.{StripContent, IsStrip}
@@ -22,7 +22,7 @@ use Rattle.pieces.specs.Values.{remains}
 use Rattle.pieces.proofs.Keeping.{IsFront, kept_next, left_out, status_next}
 use Rattle.pieces.proofs.NamedWords.{one_names, indexes_within}
 use Rattle.turns.specs.Rules.{next_step}
-use Rattle.turns.specs.Sheets.{IsPhase}
+use Rattle.turns.specs.SharedWords.{IsPhase}
 use Rattle.turns.specs.Works.{IsStripWork}
 use Rattle.turns.specs.declared.strip_work.StripWork.{StripWork}
 use Rattle.turns.specs.declared.view.Opening.{Opening}

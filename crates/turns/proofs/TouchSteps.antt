@@ -24,7 +24,7 @@ use Rattle.pieces.proofs.Writers.{touches_write}
 use Rattle.pieces.specs.DistinctParts.{all_split}
 use Rattle.turns.specs.Posts.{PostContent, IsFound}
 use Rattle.turns.specs.Rules.{steps_in, next_step}
-use Rattle.turns.specs.Sheets.{IsPhase}
+use Rattle.turns.specs.SharedWords.{IsPhase}
 use Rattle.turns.specs.Works.{steps_of, IsTouchWork}
 use Rattle.turns.specs.declared.touch_work.TouchWork.{TouchWork}
 use Rattle.turns.specs.declared.view.Opening.{Opening}
@@ -233,10 +233,10 @@ all_touch ps n ts alike at = by (list_all is_touch ps) (list_any is_touch ps) al
     by false false h is = is
 
 -- frame and rights are as at opening
-pub page_found : (p : PostContent) → IsPhase p.sheet.opening → (ts : List WordAccess) → slice_get p.sheet.opening.pieces p.number ≡ Some (piece.Touch ts) → (i word : ℕ) → i < length p.sheet.opening.words → IsFound p i word
-    → (is_pack word ≡ true) × (page_of word ≡ page_of (get_or p.sheet.opening.words i 0))
+pub page_found : (p : PostContent) → IsPhase p.shared.opening → (ts : List WordAccess) → slice_get p.shared.opening.pieces p.number ≡ Some (piece.Touch ts) → (i word : ℕ) → i < length p.shared.opening.words → IsFound p i word
+    → (is_pack word ≡ true) × (page_of word ≡ page_of (get_or p.shared.opening.words i 0))
 page_found p phase ts of i word within found =
-    let o = p.sheet.opening in
+    let o = p.shared.opening in
     let es : List Effect = done found.counts (steps_in o) in
     let suit : AllSuit o.words es = done_suit o.words 0 found.counts o.pieces phase.can.entries in
     let none : writes_at es ≡ [] = touches_write_none o.words 0 found.counts o.pieces (all_touch o.pieces p.number ts phase.can.alike of) in

@@ -6,14 +6,14 @@ use Rattle.std.specs.declared.alloc.Global.{Global}
 use Rattle.pieces.specs.Distinct.{is_none_of}
 use Rattle.pieces.specs.Dones.{DoneContent}
 use Rattle.turns.specs.Posts.{PostContent}
-use Rattle.turns.specs.Sheets.{SheetContent}
+use Rattle.turns.specs.SharedWords.{SharedContent}
 use Rattle.turns.specs.Turns.{steps_to_do}
 use Rattle.turns.specs.Views.{count_in}
 use Rattle.turns.specs.Watching.{WatcherContent}
 use Rattle.turns.specs.declared.open.Unended.{Unended}
 
 -- room for what the turns hand in
-pub record HasRoom (s : SheetContent) (flags watcher_flags : Vec Bool Global) (dones : Vec DoneContent Global) (unended : Vec Unended Global) : Type 0 where
+pub record HasRoom (s : SharedContent) (flags watcher_flags : Vec Bool Global) (dones : Vec DoneContent Global) (unended : Vec Unended Global) : Type 0 where
   pub flag_each : length flags.items ≡ length s.opening.pieces
   pub watcher_each : length watcher_flags.items ≡ s.opening.watchers
   pub no_done : dones.items ≡ []
@@ -42,11 +42,11 @@ abbrev pub numbers_in : List DoneContent → List Unended → List ℕ
 numbers_in ds us = map (λ d. d.number) ds ++ map (λ u. u.piece) us
 
 -- each piece has a turn among these
-abbrev pub AreAll : SheetContent → List PostContent → Type 0
+abbrev pub AreAll : SharedContent → List PostContent → Type 0
 AreAll s ts = (p : ℕ) → p < length s.opening.pieces → is_none_of (numbers_of ts) p ≡ false
 
 -- a piece has none
-abbrev pub OneIsWanting : SheetContent → List PostContent → Type 0
+abbrev pub OneIsWanting : SharedContent → List PostContent → Type 0
 OneIsWanting s ts = (p : ℕ) × (p < length s.opening.pieces) × (is_none_of (numbers_of ts) p ≡ true)
 
 -- the numbers of watchers
@@ -54,11 +54,11 @@ abbrev pub watcher_numbers : List WatcherContent → List ℕ
 watcher_numbers ws = map (λ w. w.number) ws
 
 -- each watcher of the phase is among these
-abbrev pub AreAllWatchers : SheetContent → List WatcherContent → Type 0
+abbrev pub AreAllWatchers : SharedContent → List WatcherContent → Type 0
 AreAllWatchers s ws = (n : ℕ) → n < s.opening.watchers → is_none_of (watcher_numbers ws) n ≡ false
 
 -- one is not
-abbrev pub OneWatcherIsWanting : SheetContent → List WatcherContent → Type 0
+abbrev pub OneWatcherIsWanting : SharedContent → List WatcherContent → Type 0
 OneWatcherIsWanting s ws = (n : ℕ) × (n < s.opening.watchers) × (is_none_of (watcher_numbers ws) n ≡ true)
 
 -- these numbers are flagged, and no others

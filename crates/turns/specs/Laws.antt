@@ -12,7 +12,7 @@ use Rattle.pieces.specs.declared.piece.Piece.{Piece}
 use Rattle.turns.specs.Writers.{all_writers}
 use Rattle.turns.specs.Views.{count_in, names_in, counted, first_view, first_only, others_of, told, entered, joined, spent}
 use Rattle.turns.specs.Rules.{steps_in, words_in, Holds, IsOpening, IsNext, IsMade, IsLooked, index_of, made}
-use Rattle.turns.specs.Sheets.{IsPhase}
+use Rattle.turns.specs.SharedWords.{IsPhase}
 use Rattle.turns.specs.Tables.{Ruled}
 use Rattle.turns.specs.Watching.{entry_with, entry_before, entry_after, WatcherContent, IsMoment, KnowsMore}
 use Rattle.turns.specs.Works.{step_count}
@@ -21,13 +21,13 @@ use Rattle.turns.specs.declared.view.View.{View}
 
 -- at opening, with one seat that has all pieces and no step done, the rule holds of the words at opening
 abbrev pub OpeningMeetsTheRule : Type 0
-OpeningMeetsTheRule = (o : Opening) → Ruled o (opening {S = Unit {0}} (map (slice_index o.words) o.at) [] (first_view o))
+OpeningMeetsTheRule = (o : Opening) → Ruled o (opening {S = Unit {0}} (map (slice_index o.words) o.indexes) [] (first_view o))
 
 -- whatever the shared words are, the next step of a seat's piece is allowed: it changes its word as the step says, raises the
 -- seat's count by one, and finds the word with some steps of the other pieces
 abbrev pub StepsKeepTheRule : Type 0
 StepsKeepTheRule =
-    (o : Opening) → IsOpening o → (slots id : ℕ) (v : View) (held : List (ℕ × Unit {0})) (e : Effect) (j : ℕ) → v.opening ≡ o → IsNext v e → slice_get o.at j ≡ Some (index_of e)
+    (o : Opening) → IsOpening o → (slots id : ℕ) (v : View) (held : List (ℕ × Unit {0})) (e : Effect) (j : ℕ) → v.opening ≡ o → IsNext v e → slice_get o.indexes j ≡ Some (index_of e)
     → Allows (Ruled o) slots id (v, held) j (made e) (λ found after. (after.1 ≡ held) × IsMade (index_of e) v found after.0)
 
 -- a seat may be dealt for the first piece of another
@@ -67,7 +67,7 @@ pub record IsAddedAt (o : Opening) (counts : ℕ → ℕ) (i b : ℕ) : Type 0 w
 -- a step that was done adds it
 abbrev pub BitsOfSharedWordsAreTold : Type 0
 BitsOfSharedWordsAreTold =
-    (o : Opening) (words : List ℕ) (views : List View) (j i b : ℕ) → Holds o words views → slice_get o.at j ≡ Some i → all_writers i (steps_in o) ≡ 0
+    (o : Opening) (words : List ℕ) (views : List View) (j i b : ℕ) → Holds o words views → slice_get o.indexes j ≡ Some i → all_writers i (steps_in o) ≡ 0
     → (IsSet (slice_index words j) b ↔ (IsSet (slice_index o.words i) b ⊎ IsAddedAt o (counted views) i b))
 
 -- ---- watchers
@@ -79,7 +79,7 @@ EnteringKeepsTheRule = (o : Opening) (slots word : ℕ) → Enters {S = Unit {0}
 -- a seat may look at any shared word: the word stays, and the seat finds it as it is with the steps that are done at this moment
 abbrev pub LooksKeepTheRule : Type 0
 LooksKeepTheRule =
-    (o : Opening) (slots id : ℕ) (v : View) (held : List (ℕ × Unit {0})) (j i : ℕ) → v.opening ≡ o → slice_get o.at j ≡ Some i
+    (o : Opening) (slots id : ℕ) (v : View) (held : List (ℕ × Unit {0})) (j i : ℕ) → v.opening ≡ o → slice_get o.indexes j ≡ Some i
     → Allows (Ruled o) slots id (v, held) j (λ n. n) (λ found after. (after.1 ≡ held) × IsLooked i v found after.0)
 
 -- a seat may be dealt that has no piece and knows what another counts
@@ -102,5 +102,5 @@ EndedPiecesHaveChanged =
 -- of two looks of a watcher, at whatever entries, the later is of no earlier moment
 abbrev pub MomentsGoOn : Type 0
 MomentsGoOn =
-    (w v u x : WatcherContent) (i j : ℕ) (e f : Option (ℕ × Rights)) (first : IsMoment w i e v) → KnowsMore v u → (later : IsMoment u j f x) → (p : ℕ) → p < length w.sheet.opening.pieces
+    (w v u x : WatcherContent) (i j : ℕ) (e f : Option (ℕ × Rights)) (first : IsMoment w i e v) → KnowsMore v u → (later : IsMoment u j f x) → (p : ℕ) → p < length w.shared.opening.pieces
     → first.counts p ≤ later.counts p

@@ -2,7 +2,7 @@ pub mod Writers
 pub mod Views
 pub mod Rules
 pub mod Tables
-pub mod Sheets
+pub mod SharedWords
 pub mod Posts
 pub mod Works
 pub mod Turns

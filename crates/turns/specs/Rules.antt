@@ -21,7 +21,7 @@ word_in o counts i = word_after (slice_index o.words i) i (done counts (steps_in
 
 -- the shared words, each at its index
 abbrev pub words_in : Opening → (ℕ → ℕ) → List ℕ
-words_in o counts = map (word_in o counts) o.at
+words_in o counts = map (word_in o counts) o.indexes
 
 -- the rule, which holds between any two steps of any seats
 pub record Holds (o : Opening) (words : List ℕ) (views : List View) : Type 0 where
@@ -59,8 +59,8 @@ next_step o (c ∷ cs) = option_and_then (λ es. slice_get es c.1) (slice_get (s
 -- that a step is about is shared
 pub record IsOpening (o : Opening) : Type 0 where
   pub apart : AreApart (steps_in o)
-  pub distinct : are_distinct o.at ≡ true
-  pub covers : (cs : List (ℕ × ℕ)) (e : Effect) → next_step o cs ≡ Some e → is_none_of o.at (index_of e) ≡ false
+  pub distinct : are_distinct o.indexes ≡ true
+  pub covers : (cs : List (ℕ × ℕ)) (e : Effect) → next_step o cs ≡ Some e → is_none_of o.indexes (index_of e) ≡ false
 
 -- what a seat does next
 pub record IsNext (v : View) (e : Effect) : Type 0 where

@@ -21,7 +21,7 @@ listed (indexes.Listed at) = at.items
 
 -- the phase of a table
 abbrev pub opened : Fixed → Opening
-opened key = record { words = key.words.value.items; pieces = key.pieces.value.items; at = indexes_of (length key.words.value.items) key.at.value; watchers = key.watchers.value }
+opened key = record { words = key.words.value.items; pieces = key.pieces.value.items; indexes = indexes_of (length key.words.value.items) key.indexes.value; watchers = key.watchers.value }
 
 -- the rule of its words and views; it has no slots
 abbrev pub Ruled : Opening → State (Unit {0}) View → Type 0

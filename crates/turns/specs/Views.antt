@@ -84,7 +84,7 @@ entered v = record v { counts = [] }
 
 -- a phase of nothing
 abbrev pub no_opening : Opening
-no_opening = record { words = []; pieces = []; at = []; watchers = 0 }
+no_opening = record { words = []; pieces = []; indexes = []; watchers = 0 }
 
 -- what that other is left with
 abbrev pub spent : View

@@ -5,16 +5,16 @@ ghost use Rattle.std.specs.List.{All};
 ghost use Rattle.std.specs.List.Sorted.{IsStrictlyIncreasing};
 ghost use Rattle.turns.specs.Closing.{AreAll, AreAllWatchers, OneIsWanting, OneWatcherIsWanting, AreMarked, numbers_of, watcher_numbers};
 ghost use Rattle.turns.specs.Views.{none_done};
-ghost use Rattle.turns.specs.Sheets.{IsPhase, IsSeat};
+ghost use Rattle.turns.specs.SharedWords.{IsPhase, IsSeat};
 ghost use Rattle.turns.specs.Tables.{indexes_of};
 ghost use Rattle.turns.specs.Turns.{new_turns};
 ghost use Rattle.turns.specs.Watching.{new_watchers};
 
+use crate::shared_words::{Seat, SharedWords};
 use crate::sharing::{Indexes, shared_indexes, watched_indexes};
-use crate::sheet::{Seat, Sheet};
 use crate::turn::Turn;
 use crate::watcher::Watcher;
-use pieces::{Done, Piece, are_pieces, changed_words};
+use pieces::{Done, Piece, changed_words, learn_are_pieces};
 use space::NoMemory;
 use std::alloc::{AllocError, Global};
 use std::marker::Model;
@@ -23,7 +23,7 @@ use std::snapshot::Snapshot;
 /// The words of a phase, shared by its turns. Threads have it by reference.
 #[derive(Drop)]
 pub struct Open {
-    sheet: Sheet,
+    shared: SharedWords,
     alloc: Global,
     /// Room for `close`: a flag for each piece and for each watcher, and what the turns hand in.
     flags: Vec<bool>,
@@ -33,15 +33,15 @@ pub struct Open {
 }
 
 impl Model for Open {
-    ghost use Rattle.turns.specs.Sheets.{SheetContent};
+    ghost use Rattle.turns.specs.SharedWords.{SharedContent};
 
-    ghost Value = { SheetContent };
+    ghost Value = { SharedContent };
 
     ghost use Rattle.turns.specs.Closing.{HasRoom};
 
-    ghost view = { λ o. o.sheet };
+    ghost view = { λ o. o.shared };
 
-    ghost invariant = { λ o. HasRoom o.sheet o.flags o.watcher_flags o.dones o.unended };
+    ghost invariant = { λ o. HasRoom o.shared o.flags o.watcher_flags o.dones o.unended };
 }
 
 /// A turn that had steps left when its phase was closed.
@@ -83,10 +83,10 @@ impl Open {
         ensures words { IfOk result (λ r. r.0.opening.words ≡ words.items) }
         ensures pieces { IfOk result (λ r. r.0.opening.pieces ≡ pieces.items) }
         ensures turns { IfOk result (λ r. r.1.items ≡ new_turns r.0 (length pieces.items)) }
-        ensures of { IfOk result (λ r. All (λ t. t.sheet ≡ r.0) r.1.items) }
+        ensures of { IfOk result (λ r. All (λ t. t.shared ≡ r.0) r.1.items) }
         ensures unwatched { IfOk result (λ r. r.0.opening.watchers ≡ 0) }
     {
-        are_pieces(&pieces);
+        learn_are_pieces(&pieces);
         let (at, own) = shared_indexes(alloc, &words, &pieces)?;
         Ok(share(alloc, words, pieces, at, own, 0)?)
     }
@@ -104,15 +104,15 @@ impl Open {
         ensures words { IfOk result (λ r. r.0.opening.words ≡ words.items) }
         ensures pieces { IfOk result (λ r. r.0.opening.pieces ≡ pieces.items) }
         ensures turns { IfOk result (λ r. r.1.items ≡ new_turns r.0 (length pieces.items)) }
-        ensures of { IfOk result (λ r. All (λ t. t.sheet ≡ r.0) r.1.items) }
+        ensures of { IfOk result (λ r. All (λ t. t.shared ≡ r.0) r.1.items) }
         ensures watched { IfOk result (λ r. r.0.opening.watchers ≡ watchers) }
         ensures watchers { IfOk result (λ r. r.2.items ≡ new_watchers r.0 watchers) }
-        ensures watchers_of { IfOk result (λ r. All (λ w. w.sheet ≡ r.0) r.2.items) }
+        ensures watchers_of { IfOk result (λ r. All (λ w. w.shared ≡ r.0) r.2.items) }
     {
-        are_pieces(&pieces);
+        learn_are_pieces(&pieces);
         let at = watched_indexes(alloc, &words, &pieces)?;
         let (shared, turns) = share(alloc, words, pieces, at, 0, watchers)?;
-        let watchers = deal_watchers(alloc, shared.sheet(), watchers)?;
+        let watchers = deal_watchers(alloc, shared.shared_words(), watchers)?;
         Ok((shared, turns, watchers))
     }
 
@@ -120,7 +120,7 @@ impl Open {
     pub fn words(&self) -> usize
         ensures { result ≡ length self.now.opening.words }
     {
-        self.sheet.len()
+        self.shared.len()
     }
 
     /// Ends the sharing. The words are those at opening with exactly the steps that the turns made, in whatever order they made
@@ -135,8 +135,8 @@ impl Open {
         turns: Vec<Turn>,
         watchers: Vec<Watcher>,
     ) -> Result<(Vec<u64>, Vec<Done>, Vec<Unended>), NotAll>
-        requires of { All (λ t. t.sheet ≡ self) turns.items }
-        requires watchers { All (λ w. w.sheet ≡ self) watchers.items }
+        requires of { All (λ t. t.shared ≡ self) turns.items }
+        requires watchers { All (λ w. w.shared ≡ self) watchers.items }
         ensures words { IfOk result (λ r. r.0.items ≡ applied self.opening.words self.opening.pieces (steps_made turns.items)) }
         ensures dones { IfOk result (λ r. r.1.items ≡ flat_map done_of turns.items) }
         ensures unended { IfOk result (λ r. r.2.items ≡ flat_map unended_of turns.items) }
@@ -148,8 +148,8 @@ impl Open {
         ensures wanting { OnErr result (OneIsWanting self turns.items ⊎ OneWatcherIsWanting self watchers.items) }
         ensures handed_back { IfErr result (λ e. (e.shared ≡ self) × (e.turns.items ≡ turns.items) × (e.watchers.items ≡ watchers.items)) }
     {
-        if is_one_wanting(&self.sheet, &mut self.flags, &turns)
-            || is_watcher_wanting(&self.sheet, &mut self.watcher_flags, &watchers)
+        if is_one_wanting(&self.shared, &mut self.flags, &turns)
+            || is_watcher_wanting(&self.shared, &mut self.watcher_flags, &watchers)
         {
             return Err(NotAll {
                 shared: self,
@@ -158,33 +158,33 @@ impl Open {
             });
         }
         let Open {
-            sheet,
+            shared,
             alloc,
             flags: _,
             watcher_flags: _,
             mut dones,
             mut unended,
         } = self;
-        let mut seat = sheet.enter();
+        let mut seat = shared.enter();
         for turn in turns {
             let piece = turn.piece();
             let steps = turn.steps();
-            let (other, done) = turn.end(alloc, &sheet);
-            sheet.collect(&mut seat, other);
-            sheet.has_once(&mut seat);
+            let (other, done) = turn.end(alloc, &shared);
+            shared.collect(&mut seat, other);
+            shared.learn_has_once(&mut seat);
             match done {
                 Some(done) => dones.push_reserved(done),
                 None => unended.push_reserved(Unended { piece, steps }),
             }
         }
-        Ok((sheet.finish(seat), dones, unended))
+        Ok((shared.finish(seat), dones, unended))
     }
 
     /// The words.
-    pub(crate) fn sheet(&self) -> &Sheet
+    pub(crate) fn shared_words(&self) -> &SharedWords
         ensures { result.now ≡ self.now }
     {
-        &self.sheet
+        &self.shared
     }
 }
 
@@ -194,29 +194,29 @@ fn share(
     alloc: Global,
     words: Vec<u64>,
     pieces: Vec<Piece>,
-    at: Indexes,
+    indexes: Indexes,
     own: usize,
     watchers: usize,
 ) -> Result<(Open, Vec<Turn>), AllocError>
-    requires phase { IsPhase (record { words = words.items; pieces = pieces.items; at = indexes_of (length words.items) at; watchers = watchers }) }
-    requires some { 0 < length (indexes_of (length words.items) at) }
-    requires within { All (λ i. i < length words.items) (indexes_of (length words.items) at) }
-    requires rise { 0 < watchers → IsStrictlyIncreasing (indexes_of (length words.items) at) }
+    requires phase { IsPhase (record { words = words.items; pieces = pieces.items; indexes = indexes_of (length words.items) indexes; watchers = watchers }) }
+    requires some { 0 < length (indexes_of (length words.items) indexes) }
+    requires within { All (λ i. i < length words.items) (indexes_of (length words.items) indexes) }
+    requires rise { 0 < watchers → IsStrictlyIncreasing (indexes_of (length words.items) indexes) }
     ensures words { IfOk result (λ r. r.0.opening.words ≡ words.items) }
     ensures pieces { IfOk result (λ r. r.0.opening.pieces ≡ pieces.items) }
     ensures watched { IfOk result (λ r. r.0.opening.watchers ≡ watchers) }
     ensures turns { IfOk result (λ r. r.1.items ≡ new_turns r.0 (length pieces.items)) }
-    ensures of { IfOk result (λ r. All (λ t. t.sheet ≡ r.0) r.1.items) }
+    ensures of { IfOk result (λ r. All (λ t. t.shared ≡ r.0) r.1.items) }
 {
     let opening = Snapshot::of(&pieces);
-    let (sheet, seat) = Sheet::lay(alloc, words, opening, at, own, watchers)?;
+    let (shared, seat) = SharedWords::lay(alloc, words, opening, indexes, own, watchers)?;
     let flags = vec![in alloc; false; pieces.len()]?;
     let watcher_flags = vec![in alloc; false; watchers]?;
     let dones = Vec::with_capacity(alloc, pieces.len())?;
     let unended = Vec::with_capacity(alloc, pieces.len())?;
-    let turns = deal(alloc, &sheet, seat, pieces)?;
+    let turns = deal(alloc, &shared, seat, pieces)?;
     let open = Open {
-        sheet,
+        shared,
         alloc,
         flags,
         watcher_flags,
@@ -229,64 +229,68 @@ fn share(
 /// A turn for each piece.
 fn deal(
     alloc: Global,
-    sheet: &Sheet,
+    shared: &SharedWords,
     mut seat: Seat,
     pieces: Vec<Piece>,
 ) -> Result<Vec<Turn>, AllocError>
-    requires seat { IsSeat sheet.now seat.table_id seat.me }
-    requires pieces { sheet.now.opening.pieces ≡ pieces.items }
+    requires seat { IsSeat shared.now seat.table_id seat.me }
+    requires pieces { shared.now.opening.pieces ≡ pieces.items }
     requires all { seat.me.0.counts ≡ none_done (length pieces.items) }
-    ensures turns { IfOk result (λ turns. turns.items ≡ new_turns sheet.now (length pieces.items)) }
-    ensures of { IfOk result (λ turns. All (λ t. t.sheet ≡ sheet.now) turns.items) }
+    ensures turns { IfOk result (λ turns. turns.items ≡ new_turns shared.now (length pieces.items)) }
+    ensures of { IfOk result (λ turns. All (λ t. t.shared ≡ shared.now) turns.items) }
 {
     let mut turns = Vec::with_capacity(alloc, pieces.len())?;
     let mut hint: usize = 0;
     for piece in pieces {
-        let own = sheet.deal(&mut seat);
+        let own = shared.deal(&mut seat);
         let number = turns.len();
         let next = hint.wrapping_add(changed_words(&piece));
-        turns.push(Turn::new(alloc, sheet, own, number, piece, hint)?)?;
+        turns.push(Turn::new(alloc, shared, own, number, piece, hint)?)?;
         hint = next;
     }
     Ok(turns)
 }
 
 /// So many watchers, which are all of the phase.
-fn deal_watchers(alloc: Global, sheet: &Sheet, count: usize) -> Result<Vec<Watcher>, AllocError>
-    requires { sheet.now.opening.watchers ≡ count }
-    ensures watchers { IfOk result (λ watchers. watchers.items ≡ new_watchers sheet.now count) }
-    ensures of { IfOk result (λ watchers. All (λ w. w.sheet ≡ sheet.now) watchers.items) }
+fn deal_watchers(
+    alloc: Global,
+    shared: &SharedWords,
+    count: usize,
+) -> Result<Vec<Watcher>, AllocError>
+    requires { shared.now.opening.watchers ≡ count }
+    ensures watchers { IfOk result (λ watchers. watchers.items ≡ new_watchers shared.now count) }
+    ensures of { IfOk result (λ watchers. All (λ w. w.shared ≡ shared.now) watchers.items) }
 {
     let mut watchers = Vec::with_capacity(alloc, count)?;
     for number in 0..count {
-        watchers.push(Watcher::new(sheet, sheet.enter(), number))?;
+        watchers.push(Watcher::new(shared, shared.enter(), number))?;
     }
     Ok(watchers)
 }
 
 /// Whether a piece has no turn among these.
-fn is_one_wanting(sheet: &Sheet, flags: &mut [bool], turns: &[Turn]) -> bool
-    requires each { length flags.old ≡ length sheet.now.opening.pieces }
-    requires of { All (λ t. t.sheet ≡ sheet.now) turns.now }
+fn is_one_wanting(shared: &SharedWords, flags: &mut [bool], turns: &[Turn]) -> bool
+    requires each { length flags.old ≡ length shared.now.opening.pieces }
+    requires of { All (λ t. t.shared ≡ shared.now) turns.now }
     ensures each { length flags.new ≡ length flags.old }
-    ensures yes { result ≡ true → OneIsWanting sheet.now turns.now }
-    ensures no { result ≡ false → AreAll sheet.now turns.now }
+    ensures yes { result ≡ true → OneIsWanting shared.now turns.now }
+    ensures no { result ≡ false → AreAll shared.now turns.now }
 {
     clear(flags);
-    mark(sheet, flags, turns);
+    mark(shared, flags, turns);
     first_unmarked(flags) < flags.len()
 }
 
 /// Whether a watcher of the phase is none of these.
-fn is_watcher_wanting(sheet: &Sheet, flags: &mut [bool], watchers: &[Watcher]) -> bool
-    requires each { length flags.old ≡ sheet.now.opening.watchers }
-    requires of { All (λ w. w.sheet ≡ sheet.now) watchers.now }
+fn is_watcher_wanting(shared: &SharedWords, flags: &mut [bool], watchers: &[Watcher]) -> bool
+    requires each { length flags.old ≡ shared.now.opening.watchers }
+    requires of { All (λ w. w.shared ≡ shared.now) watchers.now }
     ensures each { length flags.new ≡ length flags.old }
-    ensures yes { result ≡ true → OneWatcherIsWanting sheet.now watchers.now }
-    ensures no { result ≡ false → AreAllWatchers sheet.now watchers.now }
+    ensures yes { result ≡ true → OneWatcherIsWanting shared.now watchers.now }
+    ensures no { result ≡ false → AreAllWatchers shared.now watchers.now }
 {
     clear(flags);
-    mark_watchers(sheet, flags, watchers);
+    mark_watchers(shared, flags, watchers);
     first_unmarked(flags) < flags.len()
 }
 
@@ -314,28 +318,28 @@ fn clear(flags: &mut [bool])
 }
 
 /// Flags the pieces of turns.
-fn mark(sheet: &Sheet, flags: &mut [bool], turns: &[Turn])
-    requires each { length flags.old ≡ length sheet.now.opening.pieces }
+fn mark(shared: &SharedWords, flags: &mut [bool], turns: &[Turn])
+    requires each { length flags.old ≡ length shared.now.opening.pieces }
     requires none { AreMarked flags.old [] }
-    requires of { All (λ t. t.sheet ≡ sheet.now) turns.now }
+    requires of { All (λ t. t.shared ≡ shared.now) turns.now }
     ensures each { length flags.new ≡ length flags.old }
     ensures marked { AreMarked flags.new (numbers_of turns.now) }
 {
-    let _ = sheet;
+    let _ = shared;
     for turn in turns {
         flags[turn.piece()] = true;
     }
 }
 
 /// Flags the numbers of watchers.
-fn mark_watchers(sheet: &Sheet, flags: &mut [bool], watchers: &[Watcher])
-    requires each { length flags.old ≡ sheet.now.opening.watchers }
+fn mark_watchers(shared: &SharedWords, flags: &mut [bool], watchers: &[Watcher])
+    requires each { length flags.old ≡ shared.now.opening.watchers }
     requires none { AreMarked flags.old [] }
-    requires of { All (λ w. w.sheet ≡ sheet.now) watchers.now }
+    requires of { All (λ w. w.shared ≡ shared.now) watchers.now }
     ensures each { length flags.new ≡ length flags.old }
     ensures marked { AreMarked flags.new (watcher_numbers watchers.now) }
 {
-    let _ = sheet;
+    let _ = shared;
     for watcher in watchers {
         flags[watcher.number()] = true;
     }

@@ -1,6 +1,6 @@
 //! What tells a watcher that a piece has ended.
 
-use crate::sheet::{Seat, Sheet};
+use crate::shared_words::{Seat, SharedWords};
 use std::marker::Model;
 
 /// Says that all steps of a piece were done. A turn that has ended gives it out, and a watcher takes it in.
@@ -17,24 +17,24 @@ impl Model for Receipt {
 
     ghost use Rattle.turns.specs.Watching.{IsReceipt};
 
-    ghost view = { λ r. record { sheet = record { id = r.seat.table_id; opening = r.seat.me.0.opening }; piece = r.piece } };
+    ghost view = { λ r. record { shared = record { id = r.seat.table_id; opening = r.seat.me.0.opening }; piece = r.piece } };
 
-    ghost invariant = { λ r. IsReceipt (record { sheet = record { id = r.seat.table_id; opening = r.seat.me.0.opening }; piece = r.piece }) r.seat.table_id r.seat.me };
+    ghost invariant = { λ r. IsReceipt (record { shared = record { id = r.seat.table_id; opening = r.seat.me.0.opening }; piece = r.piece }) r.seat.table_id r.seat.me };
 }
 
 impl Receipt {
     ghost use Rattle.std.specs.Prelude.{◌≡◌};
-    ghost use Rattle.turns.specs.Sheets.{IsSeat};
+    ghost use Rattle.turns.specs.SharedWords.{IsSeat};
     ghost use Rattle.turns.specs.Views.{IsNoted};
     ghost use Rattle.turns.specs.Watching.{steps_of_piece};
 
     /// The receipt of a piece, by a seat that knows that it has ended.
-    pub(crate) fn new(sheet: &Sheet, seat: Seat, piece: usize) -> Receipt
-        requires seat { IsSeat sheet.now seat.table_id seat.me }
-        requires ended { IsNoted seat.me.0.notes piece (steps_of_piece sheet.now piece) }
-        ensures { result ≡ record { sheet = sheet.now; piece = piece } }
+    pub(crate) fn new(shared: &SharedWords, seat: Seat, piece: usize) -> Receipt
+        requires seat { IsSeat shared.now seat.table_id seat.me }
+        requires ended { IsNoted seat.me.0.notes piece (steps_of_piece shared.now piece) }
+        ensures { result ≡ record { shared = shared.now; piece = piece } }
     {
-        let _ = sheet;
+        let _ = shared;
         Receipt { seat, piece }
     }
 
@@ -47,8 +47,8 @@ impl Receipt {
 
     /// Its seat.
     pub(crate) fn into_seat(self) -> Seat
-        ensures seat { IsSeat self.sheet result.table_id result.me }
-        ensures ended { IsNoted result.me.0.notes self.piece (steps_of_piece self.sheet self.piece) }
+        ensures seat { IsSeat self.shared result.table_id result.me }
+        ensures ended { IsNoted result.me.0.notes self.piece (steps_of_piece self.shared self.piece) }
     {
         let Receipt { seat, piece: _ } = self;
         seat

@@ -14,7 +14,7 @@ pub struct Fixed {
     /// The pieces.
     pub pieces: Snapshot<Vec<Piece>>,
     /// Which words are shared.
-    pub at: Snapshot<Indexes>,
+    pub indexes: Snapshot<Indexes>,
     /// How many watchers there are.
     pub watchers: Snapshot<usize>,
 }
@@ -38,7 +38,7 @@ impl Play<(), View> for Made {
     ghost use Rattle.std.specs.Prelude.{◌≡◌, slice_index};
     ghost use Rattle.turns.specs.Rules.{IsMade};
 
-    ghost then = { λ step me found after. (after.1 ≡ me.1) × IsMade (slice_index me.0.opening.at step.word) me.0 found after.0 };
+    ghost then = { λ step me found after. (after.1 ≡ me.1) × IsMade (slice_index me.0.opening.indexes step.word) me.0 found after.0 };
 }
 
 /// A look at a word. The seat knows from then on how many steps of each piece were done by then.
@@ -48,7 +48,7 @@ impl Play<(), View> for Looked {
     ghost use Rattle.std.specs.Prelude.{◌≡◌, slice_index};
     ghost use Rattle.turns.specs.Rules.{IsLooked};
 
-    ghost then = { λ step me found after. (after.1 ≡ me.1) × IsLooked (slice_index me.0.opening.at step.word) me.0 found after.0 };
+    ghost then = { λ step me found after. (after.1 ≡ me.1) × IsLooked (slice_index me.0.opening.indexes step.word) me.0 found after.0 };
 }
 
 /// A seat has no piece twice.

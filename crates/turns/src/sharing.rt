@@ -6,7 +6,7 @@ ghost use Rattle.std.specs.List.Sorted.{IsStrictlyIncreasing};
 ghost use Rattle.std.specs.Option.{option_to_list};
 ghost use Rattle.pieces.specs.Distinct.{is_none_of, are_distinct};
 ghost use Rattle.pieces.specs.Phases.{CanBeWorked, IsPiece, changes};
-ghost use Rattle.turns.specs.Sheets.{IsPhase, common};
+ghost use Rattle.turns.specs.SharedWords.{IsPhase, common};
 ghost use Rattle.turns.specs.Tables.{indexes_of};
 
 use pieces::{Piece, Strip, Touch, changed_indexes, changed_words};
@@ -52,7 +52,7 @@ pub(crate) fn shared_indexes(
 ) -> Result<(Indexes, usize), AllocError>
     requires each { All IsPiece pieces.now }
     requires can { CanBeWorked words.now pieces.now }
-    ensures phase { IfOk result (λ r. IsPhase (record { words = words.now; pieces = pieces.now; at = indexes_of (length words.now) r.0; watchers = 0 })) }
+    ensures phase { IfOk result (λ r. IsPhase (record { words = words.now; pieces = pieces.now; indexes = indexes_of (length words.now) r.0; watchers = 0 })) }
     ensures some { IfOk result (λ r. 0 < length (indexes_of (length words.now) r.0)) }
     ensures within { IfOk result (λ r. All (λ i. i < length words.now) (indexes_of (length words.now) r.0)) }
 {
@@ -72,7 +72,7 @@ pub(crate) fn watched_indexes(
 ) -> Result<Indexes, AllocError>
     requires each { All IsPiece pieces.now }
     requires can { CanBeWorked words.now pieces.now }
-    ensures phase { IfOk result (λ r. (n : ℕ) → IsPhase (record { words = words.now; pieces = pieces.now; at = indexes_of (length words.now) r; watchers = n })) }
+    ensures phase { IfOk result (λ r. (n : ℕ) → IsPhase (record { words = words.now; pieces = pieces.now; indexes = indexes_of (length words.now) r; watchers = n })) }
     ensures some { IfOk result (λ r. 0 < length (indexes_of (length words.now) r)) }
     ensures within { IfOk result (λ r. All (λ i. i < length words.now) (indexes_of (length words.now) r)) }
     ensures rise { IfOk result (λ r. IsStrictlyIncreasing (indexes_of (length words.now) r)) }

@@ -1,11 +1,11 @@
 //! A strip at work.
 
 use crate::post::Post;
-use crate::sheet::Sheet;
+use crate::shared_words::SharedWords;
 use fpage::Rights;
-use mapnode::Slice;
 use pieces::steps::{bits, narrowed, remains, status};
 use pieces::{Masks, Strip, move_node};
+use space::Slice;
 use std::snapshot::Snapshot;
 
 /// A strip, some of whose steps were done. The nodes that are kept stand in front, in their order.
@@ -81,57 +81,57 @@ impl StripWork {
     }
 
     /// The next step: a word loses rights; behind the last, the fold word gains the status that was found.
-    pub(crate) fn step(&mut self, post: &mut Post, sheet: &Sheet)
-        requires of { post.old.sheet ≡ sheet.now }
-        requires piece { slice_get sheet.now.opening.pieces post.old.number ≡ Some (piece.Strip self.old.of.value) }
-        requires work { IsStripWork sheet.now.opening.words self.old post.old.steps }
-        requires left { post.old.steps < length (steps sheet.now.opening.words (piece.Strip self.old.of.value)) }
+    pub(crate) fn step(&mut self, post: &mut Post, shared: &SharedWords)
+        requires of { post.old.shared ≡ shared.now }
+        requires piece { slice_get shared.now.opening.pieces post.old.number ≡ Some (piece.Strip self.old.of.value) }
+        requires work { IsStripWork shared.now.opening.words self.old post.old.steps }
+        requires left { post.old.steps < length (steps shared.now.opening.words (piece.Strip self.old.of.value)) }
         ensures post { post.new ≡ record post.old { steps = post.old.steps + 1 } }
         ensures of { self.new.of.value ≡ self.old.of.value }
-        ensures work { IsStripWork sheet.now.opening.words self.new (post.old.steps + 1) }
+        ensures work { IsStripWork shared.now.opening.words self.new (post.old.steps + 1) }
     {
         let k = post.steps();
         if k < self.indexes.len() {
-            self.narrow(post, sheet, k);
+            self.narrow(post, shared, k);
         } else if let Some(index) = self.fold {
             let found = bits(self.status);
-            post.add(sheet, index, found, self.hint);
+            post.add(shared, index, found, self.hint);
         }
     }
 
     /// All steps that are left.
-    pub(crate) fn step_to_end(&mut self, post: &mut Post, sheet: &Sheet)
-        requires of { post.old.sheet ≡ sheet.now }
-        requires piece { slice_get sheet.now.opening.pieces post.old.number ≡ Some (piece.Strip self.old.of.value) }
-        requires work { IsStripWork sheet.now.opening.words self.old post.old.steps }
-        requires few { post.old.steps ≤ length (steps sheet.now.opening.words (piece.Strip self.old.of.value)) }
-        ensures post { post.new ≡ record post.old { steps = length (steps sheet.now.opening.words (piece.Strip self.old.of.value)) } }
+    pub(crate) fn step_to_end(&mut self, post: &mut Post, shared: &SharedWords)
+        requires of { post.old.shared ≡ shared.now }
+        requires piece { slice_get shared.now.opening.pieces post.old.number ≡ Some (piece.Strip self.old.of.value) }
+        requires work { IsStripWork shared.now.opening.words self.old post.old.steps }
+        requires few { post.old.steps ≤ length (steps shared.now.opening.words (piece.Strip self.old.of.value)) }
+        ensures post { post.new ≡ record post.old { steps = length (steps shared.now.opening.words (piece.Strip self.old.of.value)) } }
         ensures of { self.new.of.value ≡ self.old.of.value }
-        ensures work { IsStripWork sheet.now.opening.words self.new post.new.steps }
+        ensures work { IsStripWork shared.now.opening.words self.new post.new.steps }
     {
         let len = self.len();
         while post.steps() < len {
-            self.step(post, sheet);
+            self.step(post, shared);
         }
     }
 
     /// The step of the node at a position.
-    fn narrow(&mut self, post: &mut Post, sheet: &Sheet, k: usize)
-        requires of { post.old.sheet ≡ sheet.now }
-        requires piece { slice_get sheet.now.opening.pieces post.old.number ≡ Some (piece.Strip self.old.of.value) }
-        requires work { IsStripWork sheet.now.opening.words self.old post.old.steps }
+    fn narrow(&mut self, post: &mut Post, shared: &SharedWords, k: usize)
+        requires of { post.old.shared ≡ shared.now }
+        requires piece { slice_get shared.now.opening.pieces post.old.number ≡ Some (piece.Strip self.old.of.value) }
+        requires work { IsStripWork shared.now.opening.words self.old post.old.steps }
         requires next { post.old.steps ≡ k }
         requires within { k < length self.old.of.value.nodes }
         ensures post { post.new ≡ record post.old { steps = post.old.steps + 1 } }
         ensures of { self.new.of.value ≡ self.old.of.value }
-        ensures work { IsStripWork sheet.now.opening.words self.new (post.old.steps + 1) }
+        ensures work { IsStripWork shared.now.opening.words self.new (post.old.steps + 1) }
     {
-        sheet.can_be_worked();
+        shared.learn_can_be_worked();
         let index = self.indexes[k];
         let mask = self.masks.get(k);
         let hint = self.hint.wrapping_add(k);
-        let word = sheet.shared_word(index, hint);
-        let found = post.write(sheet, index, narrowed(word, mask), hint);
+        let word = shared.shared_word(index, hint);
+        let found = post.write(shared, index, narrowed(word, mask), hint);
         self.status = self.status.join(status(found));
         if remains(found, mask) {
             move_node(&mut self.slice.nodes, k, self.kept);

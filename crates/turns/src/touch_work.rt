@@ -1,7 +1,7 @@
 //! A touch at work.
 
 use crate::post::Post;
-use crate::sheet::Sheet;
+use crate::shared_words::SharedWords;
 use pieces::Touch;
 use pieces::steps::{bits, permits};
 use std::alloc::{AllocError, Global};
@@ -59,52 +59,52 @@ impl TouchWork {
     }
 
     /// The next step: it is found out whether an access may be made; if it may, its status is marked by the step behind.
-    pub(crate) fn step(&mut self, post: &mut Post, sheet: &Sheet)
-        requires of { post.old.sheet ≡ sheet.now }
-        requires piece { slice_get sheet.now.opening.pieces post.old.number ≡ Some (piece.Touch self.old.touch) }
-        requires work { IsTouchWork sheet.now.opening.words self.old post.old.steps }
-        requires left { post.old.steps < length (steps sheet.now.opening.words (piece.Touch self.old.touch)) }
+    pub(crate) fn step(&mut self, post: &mut Post, shared: &SharedWords)
+        requires of { post.old.shared ≡ shared.now }
+        requires piece { slice_get shared.now.opening.pieces post.old.number ≡ Some (piece.Touch self.old.touch) }
+        requires work { IsTouchWork shared.now.opening.words self.old post.old.steps }
+        requires left { post.old.steps < length (steps shared.now.opening.words (piece.Touch self.old.touch)) }
         ensures post { post.new ≡ record post.old { steps = post.old.steps + 1 } }
         ensures of { self.new.touch ≡ self.old.touch }
-        ensures work { IsTouchWork sheet.now.opening.words self.new (post.old.steps + 1) }
+        ensures work { IsTouchWork shared.now.opening.words self.new (post.old.steps + 1) }
     {
         if self.marks {
-            self.mark(post, sheet);
+            self.mark(post, shared);
         } else if self.seen < self.touch.len() {
-            self.see(post, sheet);
+            self.see(post, shared);
         }
     }
 
     /// The step that marks the status of the access that was seen last.
-    fn mark(&mut self, post: &mut Post, sheet: &Sheet)
-        requires of { post.old.sheet ≡ sheet.now }
-        requires piece { slice_get sheet.now.opening.pieces post.old.number ≡ Some (piece.Touch self.old.touch) }
-        requires work { IsTouchWork sheet.now.opening.words self.old post.old.steps }
+    fn mark(&mut self, post: &mut Post, shared: &SharedWords)
+        requires of { post.old.shared ≡ shared.now }
+        requires piece { slice_get shared.now.opening.pieces post.old.number ≡ Some (piece.Touch self.old.touch) }
+        requires work { IsTouchWork shared.now.opening.words self.old post.old.steps }
         requires marks { self.old.marks ≡ true }
         ensures post { post.new ≡ record post.old { steps = post.old.steps + 1 } }
         ensures of { self.new.touch ≡ self.old.touch }
-        ensures work { IsTouchWork sheet.now.opening.words self.new (post.old.steps + 1) }
+        ensures work { IsTouchWork shared.now.opening.words self.new (post.old.steps + 1) }
     {
-        sheet.can_be_worked();
+        shared.learn_can_be_worked();
         let access = self.touch.access(self.seen - 1);
-        post.add(sheet, access.index, bits(access.access.marks()), 0);
+        post.add(shared, access.index, bits(access.access.marks()), 0);
         self.marks = false;
     }
 
     /// The step that finds out whether the next access may be made.
-    fn see(&mut self, post: &mut Post, sheet: &Sheet)
-        requires of { post.old.sheet ≡ sheet.now }
-        requires piece { slice_get sheet.now.opening.pieces post.old.number ≡ Some (piece.Touch self.old.touch) }
-        requires work { IsTouchWork sheet.now.opening.words self.old post.old.steps }
+    fn see(&mut self, post: &mut Post, shared: &SharedWords)
+        requires of { post.old.shared ≡ shared.now }
+        requires piece { slice_get shared.now.opening.pieces post.old.number ≡ Some (piece.Touch self.old.touch) }
+        requires work { IsTouchWork shared.now.opening.words self.old post.old.steps }
         requires marks { self.old.marks ≡ false }
         requires left { self.old.seen < length self.old.touch }
         ensures post { post.new ≡ record post.old { steps = post.old.steps + 1 } }
         ensures of { self.new.touch ≡ self.old.touch }
-        ensures work { IsTouchWork sheet.now.opening.words self.new (post.old.steps + 1) }
+        ensures work { IsTouchWork shared.now.opening.words self.new (post.old.steps + 1) }
     {
-        sheet.can_be_worked();
+        shared.learn_can_be_worked();
         let access = self.touch.access(self.seen);
-        let found = post.look(sheet, access.index, 0);
+        let found = post.look(shared, access.index, 0);
         let may = permits(found, access.access);
         self.answers[self.seen] = may;
         self.seen += 1;

@@ -3,7 +3,7 @@
 use crate::open::Open;
 use crate::post::Post;
 use crate::receipt::Receipt;
-use crate::sheet::{Seat, Sheet};
+use crate::shared_words::{Seat, SharedWords};
 use crate::work::Work;
 use pieces::{Done, Piece};
 use std::alloc::{AllocError, Global};
@@ -43,7 +43,7 @@ impl Model for Turn {
 impl Turn {
     ghost use Rattle.std.specs.Prelude.{◌≡◌, ◌+◌, ◌<◌, ◌≤◌, ◌==◌, [], ◌∷◌, Some, length, slice_get, IfOk};
     ghost use Rattle.std.specs.Option.{option_to_list};
-    ghost use Rattle.turns.specs.Sheets.{IsSeat};
+    ghost use Rattle.turns.specs.SharedWords.{IsSeat};
     ghost use Rattle.turns.specs.declared.turn.Progress.TheVariants.{More};
     ghost use Rattle.turns.specs.Turns.{steps_to_do, progress_of, done_of};
     ghost use Rattle.turns.specs.Watching.{receipt_of};
@@ -51,20 +51,20 @@ impl Turn {
     /// The turn of a piece of which no step was done.
     pub(crate) fn new(
         alloc: Global,
-        sheet: &Sheet,
+        shared: &SharedWords,
         seat: Seat,
         number: usize,
         piece: Piece,
         hint: usize,
     ) -> Result<Turn, AllocError>
-        requires seat { IsSeat sheet.now seat.table_id seat.me }
+        requires seat { IsSeat shared.now seat.table_id seat.me }
         requires first { seat.me.0.counts ≡ (number, 0) ∷ [] }
-        requires piece { slice_get sheet.now.opening.pieces number ≡ Some piece }
-        ensures { IfOk result (λ t. t ≡ record { sheet = sheet.now; number = number; steps = 0 }) }
+        requires piece { slice_get shared.now.opening.pieces number ≡ Some piece }
+        ensures { IfOk result (λ t. t ≡ record { shared = shared.now; number = number; steps = 0 }) }
     {
         let of = Snapshot::of(&piece);
         let work = Work::new(alloc, piece, hint)?;
-        let post = Post::new(sheet, seat, number);
+        let post = Post::new(shared, seat, number);
         Ok(Turn { post, work, of })
     }
 
@@ -73,15 +73,15 @@ impl Turn {
     ///
     /// It is a turn of this phase. It takes no memory, and waits for nobody.
     pub fn step(&mut self, shared: &Open) -> Progress
-        requires of { self.old.sheet ≡ shared.now }
-        ensures same { (self.new.sheet ≡ self.old.sheet) × (self.new.number ≡ self.old.number) }
+        requires of { self.old.shared ≡ shared.now }
+        ensures same { (self.new.shared ≡ self.old.shared) × (self.new.number ≡ self.old.number) }
         ensures made { self.old.steps < steps_to_do self.old → self.new ≡ record self.old { steps = self.old.steps + 1 } }
         ensures still { steps_to_do self.old ≤ self.old.steps → self.new ≡ self.old }
         ensures progress { result ≡ progress_of self.new }
         ensures more { result ≡ More → self.new.steps < steps_to_do self.new }
     {
         if !self.has_ended() {
-            self.work.step(&mut self.post, shared.sheet());
+            self.work.step(&mut self.post, shared.shared_words());
         }
         if self.has_ended() {
             Progress::Ended
@@ -94,34 +94,34 @@ impl Turn {
     ///
     /// It is a turn of this phase. It takes no memory, and waits for nobody.
     pub fn step_to_end(&mut self, shared: &Open)
-        requires of { self.old.sheet ≡ shared.now }
-        ensures same { (self.new.sheet ≡ self.old.sheet) × (self.new.number ≡ self.old.number) }
+        requires of { self.old.shared ≡ shared.now }
+        ensures same { (self.new.shared ≡ self.old.shared) × (self.new.number ≡ self.old.number) }
         ensures ended { self.new.steps ≡ steps_to_do self.new }
     {
-        self.work.step_to_end(&mut self.post, shared.sheet());
+        self.work.step_to_end(&mut self.post, shared.shared_words());
     }
 
     /// A receipt for its piece, if all steps were done.
     ///
     /// It is a turn of this phase. It takes no memory, and waits for nobody.
     pub fn receipt(&mut self, shared: &Open) -> Option<Receipt>
-        requires of { self.old.sheet ≡ shared.now }
+        requires of { self.old.shared ≡ shared.now }
         ensures same { self.new ≡ self.old }
         ensures receipt { result ≡ receipt_of self.old }
     {
         if !self.has_ended() {
             return None;
         }
-        let sheet = shared.sheet();
-        let seat = self.post.tell(sheet);
-        Some(Receipt::new(sheet, seat, self.post.number()))
+        let shared = shared.shared_words();
+        let seat = self.post.tell(shared);
+        Some(Receipt::new(shared, seat, self.post.number()))
     }
 
     /// Gives up its seat, and what its piece found out, if all steps were done.
-    pub(crate) fn end(self, alloc: Global, sheet: &Sheet) -> (Seat, Option<Done>)
-        requires of { self.sheet ≡ sheet.now }
-        ensures seat { IsSeat sheet.now result.0.table_id result.0.me × (result.0.me.0.counts ≡ (self.number, self.steps) ∷ []) }
-        ensures below { self.number < length sheet.now.opening.pieces }
+    pub(crate) fn end(self, alloc: Global, shared: &SharedWords) -> (Seat, Option<Done>)
+        requires of { self.shared ≡ shared.now }
+        ensures seat { IsSeat shared.now result.0.table_id result.0.me × (result.0.me.0.counts ≡ (self.number, self.steps) ∷ []) }
+        ensures below { self.number < length shared.now.opening.pieces }
         ensures done { option_to_list result.1 ≡ done_of self }
     {
         let ended = self.has_ended();
@@ -132,7 +132,7 @@ impl Turn {
             return (seat, None);
         }
         let (kept, status, answers, indexes) = work.into_found(alloc);
-        let done = Done::new(number, kept, status, answers, of, sheet.opening());
+        let done = Done::new(number, kept, status, answers, of, shared.opening());
         (seat, Some(done.with_indexes(indexes)))
     }
 
@@ -146,7 +146,7 @@ impl Turn {
     /// The number of its piece.
     pub fn piece(&self) -> usize
         ensures number { result ≡ self.now.number }
-        ensures below { self.now.number < length self.now.sheet.opening.pieces }
+        ensures below { self.now.number < length self.now.shared.opening.pieces }
     {
         self.post.number()
     }

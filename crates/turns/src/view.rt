@@ -9,7 +9,7 @@ pub struct Opening {
     /// The pieces, by their numbers.
     pub pieces: LinkedList<Piece>,
     /// The indexes of the words that are shared: all, or those that pieces have steps about.
-    pub at: LinkedList<usize>,
+    pub indexes: LinkedList<usize>,
     /// How many watchers there are.
     pub watchers: usize,
 }

@@ -6,7 +6,7 @@ ghost use Rattle.turns.specs.Watching.{page_in};
 
 use crate::open::Open;
 use crate::receipt::Receipt;
-use crate::sheet::{Seat, Sheet};
+use crate::shared_words::{Seat, SharedWords};
 use fpage::Rights;
 use space::unpack;
 use std::marker::Model;
@@ -25,32 +25,32 @@ impl Model for Watcher {
 
     ghost use Rattle.turns.specs.Watching.{IsWatcher};
 
-    ghost view = { λ w. record { sheet = record { id = w.seat.table_id; opening = w.seat.me.0.opening }; number = w.number; notes = w.seat.me.0.notes } };
+    ghost view = { λ w. record { shared = record { id = w.seat.table_id; opening = w.seat.me.0.opening }; number = w.number; notes = w.seat.me.0.notes } };
 
-    ghost invariant = { λ w. IsWatcher (record { sheet = record { id = w.seat.table_id; opening = w.seat.me.0.opening }; number = w.number; notes = w.seat.me.0.notes }) w.seat.table_id w.seat.me };
+    ghost invariant = { λ w. IsWatcher (record { shared = record { id = w.seat.table_id; opening = w.seat.me.0.opening }; number = w.number; notes = w.seat.me.0.notes }) w.seat.table_id w.seat.me };
 }
 
 impl Watcher {
     ghost use Rattle.std.specs.Prelude.{◌≡◌, ◌≢◌, ◌⊎◌, ℕ, ◌<◌, [], false, length};
     ghost use Rattle.pieces.specs.Distinct.{is_none_of};
-    ghost use Rattle.turns.specs.Sheets.{IsSeat};
+    ghost use Rattle.turns.specs.SharedWords.{IsSeat};
     ghost use Rattle.turns.specs.Watching.{IsMoment, KnowsMore, KnowsTheEnd, HasSeen, HasSeenAllOf, entry_before, entry_after, changed_by};
 
     /// A watcher that knows nothing yet.
-    pub(crate) fn new(sheet: &Sheet, seat: Seat, number: usize) -> Watcher
-        requires seat { IsSeat sheet.now seat.table_id seat.me }
+    pub(crate) fn new(shared: &SharedWords, seat: Seat, number: usize) -> Watcher
+        requires seat { IsSeat shared.now seat.table_id seat.me }
         requires new { seat.me.0.notes ≡ [] }
-        requires below { number < sheet.now.opening.watchers }
-        ensures { result ≡ record { sheet = sheet.now; number = number; notes = [] } }
+        requires below { number < shared.now.opening.watchers }
+        ensures { result ≡ record { shared = shared.now; number = number; notes = [] } }
     {
-        let _ = sheet;
+        let _ = shared;
         Watcher { seat, number }
     }
 
     /// Its number among the watchers of its phase.
     pub fn number(&self) -> usize
         ensures number { result ≡ self.now.number }
-        ensures below { self.now.number < self.now.sheet.opening.watchers }
+        ensures below { self.now.number < self.now.shared.opening.watchers }
     {
         self.number
     }
@@ -62,18 +62,18 @@ impl Watcher {
     ///
     /// It is a watcher of this phase. It takes no memory, and waits for nobody.
     pub fn look(&mut self, shared: &Open, index: usize) -> Option<(u32, Rights)>
-        requires of { self.old.sheet ≡ shared.now }
+        requires of { self.old.shared ≡ shared.now }
         requires within { index < length shared.now.opening.words }
-        ensures same { (self.new.sheet ≡ self.old.sheet) × (self.new.number ≡ self.old.number) }
+        ensures same { (self.new.shared ≡ self.old.shared) × (self.new.number ≡ self.old.number) }
         ensures one { (result ≡ entry_before shared.now.opening index) ⊎ (result ≡ entry_after shared.now.opening index) }
         ensures forward { HasSeen self.old index → result ≡ entry_after shared.now.opening index }
         ensures seen { result ≡ entry_after shared.now.opening index → entry_before shared.now.opening index ≢ entry_after shared.now.opening index → HasSeen self.new index }
         ensures still { (i : ℕ) → HasSeen self.old i → HasSeen self.new i }
         ensures moment { IsMoment self.old index result self.new }
     {
-        let sheet = shared.sheet();
-        sheet.can_be_worked();
-        let word = sheet.peek(&mut self.seat, index);
+        let shared = shared.shared_words();
+        shared.learn_can_be_worked();
+        let word = shared.peek(&mut self.seat, index);
         frame_and_rights(word)
     }
 
@@ -87,10 +87,10 @@ impl Watcher {
         receipt: Receipt,
         index: usize,
     ) -> Option<(u32, Rights)>
-        requires of { self.old.sheet ≡ shared.now }
-        requires receipt { receipt.sheet ≡ shared.now }
+        requires of { self.old.shared ≡ shared.now }
+        requires receipt { receipt.shared ≡ shared.now }
         requires within { index < length shared.now.opening.words }
-        ensures same { (self.new.sheet ≡ self.old.sheet) × (self.new.number ≡ self.old.number) }
+        ensures same { (self.new.shared ≡ self.old.shared) × (self.new.number ≡ self.old.number) }
         ensures one { (result ≡ entry_before shared.now.opening index) ⊎ (result ≡ entry_after shared.now.opening index) }
         ensures forward { HasSeen self.old index → result ≡ entry_after shared.now.opening index }
         ensures seen { result ≡ entry_after shared.now.opening index → entry_before shared.now.opening index ≢ entry_after shared.now.opening index → HasSeen self.new index }
@@ -100,21 +100,21 @@ impl Watcher {
         ensures told { KnowsTheEnd self.new receipt.piece }
         ensures ended { HasSeenAllOf self.new receipt.piece }
     {
-        self.learn(shared.sheet(), receipt);
+        self.learn(shared.shared_words(), receipt);
         self.look(shared, index)
     }
 
     /// Learns that a piece has ended.
-    fn learn(&mut self, sheet: &Sheet, receipt: Receipt)
-        requires of { self.old.sheet ≡ sheet.now }
-        requires receipt { receipt.sheet ≡ sheet.now }
-        ensures same { (self.new.sheet ≡ self.old.sheet) × (self.new.number ≡ self.old.number) }
+    fn learn(&mut self, shared: &SharedWords, receipt: Receipt)
+        requires of { self.old.shared ≡ shared.now }
+        requires receipt { receipt.shared ≡ shared.now }
+        ensures same { (self.new.shared ≡ self.old.shared) × (self.new.number ≡ self.old.number) }
         ensures kept { KnowsMore self.old self.new }
         ensures told { KnowsTheEnd self.new receipt.piece }
         ensures ended { HasSeenAllOf self.new receipt.piece }
     {
-        sheet.can_be_worked();
-        sheet.collect(&mut self.seat, receipt.into_seat());
+        shared.learn_can_be_worked();
+        shared.collect(&mut self.seat, receipt.into_seat());
     }
 }
 

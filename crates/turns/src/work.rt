@@ -3,13 +3,13 @@
 ghost use Rattle.std.specs.Prelude.{◌≡◌, []};
 
 use crate::post::Post;
-use crate::sheet::Sheet;
+use crate::shared_words::SharedWords;
 use crate::strip_work::StripWork;
 use crate::touch_work::TouchWork;
 use crate::{link_work, move_work};
 use fpage::Rights;
-use mapnode::Slice;
 use pieces::{Link, Move, Piece};
+use space::Slice;
 use std::alloc::{AllocError, Global};
 
 /// A piece, some of whose steps were done, and what it has found out so far. The numbers are hints: where its words are shared.
@@ -73,33 +73,33 @@ impl Work {
     }
 
     /// The next step.
-    pub(crate) fn step(&mut self, post: &mut Post, sheet: &Sheet)
-        requires of { post.old.sheet ≡ sheet.now }
-        requires work { (p : Piece) × (slice_get sheet.now.opening.pieces post.old.number ≡ Some p) × IsWork sheet.now.opening.words p self.old post.old.steps × (post.old.steps < step_count sheet.now.opening.words p) }
+    pub(crate) fn step(&mut self, post: &mut Post, shared: &SharedWords)
+        requires of { post.old.shared ≡ shared.now }
+        requires work { (p : Piece) × (slice_get shared.now.opening.pieces post.old.number ≡ Some p) × IsWork shared.now.opening.words p self.old post.old.steps × (post.old.steps < step_count shared.now.opening.words p) }
         ensures post { post.new ≡ record post.old { steps = post.old.steps + 1 } }
-        ensures work { (p : Piece) → IsWork sheet.now.opening.words p self.old post.old.steps → IsWork sheet.now.opening.words p self.new (post.old.steps + 1) }
+        ensures work { (p : Piece) → IsWork shared.now.opening.words p self.old post.old.steps → IsWork shared.now.opening.words p self.new (post.old.steps + 1) }
     {
         match self {
-            Work::Strip(strip) => strip.step(post, sheet),
-            Work::Link(link, hint) => link_work::step(link, *hint, post, sheet),
-            Work::Move(pairs, hint) => move_work::step(pairs, *hint, post, sheet),
-            Work::Touch(touch) => touch.step(post, sheet),
+            Work::Strip(strip) => strip.step(post, shared),
+            Work::Link(link, hint) => link_work::step(link, *hint, post, shared),
+            Work::Move(pairs, hint) => move_work::step(pairs, *hint, post, shared),
+            Work::Touch(touch) => touch.step(post, shared),
         }
     }
 
     /// All steps that are left, of a piece of many like steps in one loop.
-    pub(crate) fn step_to_end(&mut self, post: &mut Post, sheet: &Sheet)
-        requires of { post.old.sheet ≡ sheet.now }
-        requires work { (p : Piece) × (slice_get sheet.now.opening.pieces post.old.number ≡ Some p) × IsWork sheet.now.opening.words p self.old post.old.steps × (post.old.steps ≤ step_count sheet.now.opening.words p) }
-        ensures post { (p : Piece) → IsWork sheet.now.opening.words p self.old post.old.steps → post.new ≡ record post.old { steps = step_count sheet.now.opening.words p } }
-        ensures work { (p : Piece) → IsWork sheet.now.opening.words p self.old post.old.steps → IsWork sheet.now.opening.words p self.new post.new.steps }
+    pub(crate) fn step_to_end(&mut self, post: &mut Post, shared: &SharedWords)
+        requires of { post.old.shared ≡ shared.now }
+        requires work { (p : Piece) × (slice_get shared.now.opening.pieces post.old.number ≡ Some p) × IsWork shared.now.opening.words p self.old post.old.steps × (post.old.steps ≤ step_count shared.now.opening.words p) }
+        ensures post { (p : Piece) → IsWork shared.now.opening.words p self.old post.old.steps → post.new ≡ record post.old { steps = step_count shared.now.opening.words p } }
+        ensures work { (p : Piece) → IsWork shared.now.opening.words p self.old post.old.steps → IsWork shared.now.opening.words p self.new post.new.steps }
     {
         if let Work::Strip(strip) = self {
-            strip.step_to_end(post, sheet);
+            strip.step_to_end(post, shared);
             return;
         }
         while !self.has_ended(post.steps()) {
-            self.step(post, sheet);
+            self.step(post, shared);
         }
     }
 }

@@ -9,7 +9,7 @@ use crate::databases::watched::Counter;
 use audit::{AuditError, check_database, lines, report};
 use crew::{Crew, NoGate, Workers};
 use fpage::{Access, Control, Fpage, Item, Rights};
-use mapdb::{Database, DbError, Limits, SendReply};
+use mapdb::{Database, DbError, Limits, SendReply, Unmap};
 use space::Place;
 use std::alloc::Global;
 use std::process::Abort;
@@ -124,7 +124,12 @@ fn unmap_watched<R: Threads + Wait>(
     let Ok(control) = Control::read(0, 1) else {
         panic!(rt; "the control word is refused");
     };
-    database.unmap_watched(alloc, space, control, &[fpage], crew, counter)
+    let unmap = Unmap {
+        space,
+        control,
+        fpages: &[fpage],
+    };
+    database.unmap_watched(alloc, &unmap, crew, counter)
 }
 
 /// Clears a space, by recursion or not.

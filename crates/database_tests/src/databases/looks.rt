@@ -46,8 +46,8 @@ struct Spectator {
 impl Spectator {
     /// Looks at a page.
     fn look(&self, watcher: &mut Watcher, shared: &Open, page: u32)
-        requires of { watcher.old.sheet ≡ shared.now }
-        ensures same { (watcher.new.sheet ≡ watcher.old.sheet) × (watcher.new.number ≡ watcher.old.number) }
+        requires of { watcher.old.shared ≡ shared.now }
+        ensures same { (watcher.new.shared ≡ watcher.old.shared) × (watcher.new.number ≡ watcher.old.number) }
     {
         let at = page as usize;
         let (Some(index), Some(changed)) = (self.indexes.get(at), self.changed.get(at)) else {

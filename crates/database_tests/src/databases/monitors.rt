@@ -11,7 +11,7 @@ use super::unmaps::CHAIN;
 use crate::assertions::assert_equal;
 use crew::{Crew, NoGate, Observe};
 use fpage::{Control, Fpage, Rights};
-use mapdb::{Database, DbError};
+use mapdb::{Database, DbError, Unmap};
 use space::Place;
 use std::alloc::Global;
 use std::process::Abort;
@@ -71,10 +71,10 @@ impl PageMonitor {
     /// Frame and rights of the page, or `None` where it is not held: those from before the unmap, or those from after
     /// it.
     fn look(&self, watcher: &mut Watcher, shared: &Open) -> Option<(u32, Rights)>
-        requires of { watcher.old.sheet ≡ shared.now }
+        requires of { watcher.old.shared ≡ shared.now }
         requires beside { let m = self.now in
             IsBeside m.database.value (left_by m.database.value m.space m.control.flush m.fpage) m.page m.index shared.now.opening.words shared.now.opening.pieces }
-        ensures same { (watcher.new.sheet ≡ watcher.old.sheet) × (watcher.new.number ≡ watcher.old.number) }
+        ensures same { (watcher.new.shared ≡ watcher.old.shared) × (watcher.new.number ≡ watcher.old.number) }
         ensures found { let m = self.now in
             (result ≡ found_in m.database.value.holdings m.page)
             ⊎ (result ≡ found_in (left_by m.database.value m.space m.control.flush m.fpage) m.page) }
@@ -119,7 +119,12 @@ fn unmap_beside<R: Threads + Wait>(
     let page = page(rt, database, at);
     let index = index_of(rt, database, page);
     let monitor = PageMonitor::new(database, page, index, space, control, fpage);
-    database.unmap_watched(alloc, space, control, &[fpage], crew, &monitor)?;
+    let unmap = Unmap {
+        space,
+        control,
+        fpages: &[fpage],
+    };
+    database.unmap_watched(alloc, &unmap, crew, &monitor)?;
     Ok((
         monitor.before.load(Ordering::SeqCst),
         monitor.after.load(Ordering::SeqCst),

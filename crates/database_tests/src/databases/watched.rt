@@ -2,7 +2,7 @@
 
 ghost use Rattle.std.specs.Prelude.{◌≡◌, ℕ, List};
 ghost use Rattle.pieces.specs.declared.piece.Piece.{Piece};
-ghost use Rattle.model.specs.Holdings.{Holdings};
+ghost use Rattle.model.specs.Definitions.Holdings.{Holdings};
 ghost use Rattle.mapdb.specs.Held.{IsPhaseOf};
 
 use super::calls::{ALL, Case, NONE, READ_EXECUTE, Step, expect, fpages, index_of, page, work_all};
@@ -10,7 +10,7 @@ use super::unmaps::CHAIN;
 use crate::assertions::assert_equal;
 use crew::{Crew, Gate, NoGate, Observe};
 use fpage::{Control, with_status};
-use mapdb::{Database, DbError};
+use mapdb::{Database, DbError, Unmap};
 use std::alloc::Global;
 use std::process::Abort;
 use std::sync::Wait;
@@ -105,7 +105,12 @@ pub fn unmap_watched<R: Threads + Wait, G: Gate, O: Observe>(
         panic!(rt; "the control word is refused")
     };
     let fpages = fpages(rt, database, alloc, &[word])?;
-    let status = database.unmap_watched(alloc, space, control, &fpages, crew, observer)?;
+    let unmap = Unmap {
+        space,
+        control,
+        fpages: &fpages,
+    };
+    let status = database.unmap_watched(alloc, &unmap, crew, observer)?;
     assert_equal(rt, status.len(), 1, "words");
     for status in &status {
         assert_equal(rt, with_status(word, *status), reply, word);

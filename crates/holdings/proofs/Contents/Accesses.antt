@@ -10,10 +10,10 @@ use Rattle.space.specs.Place.{same_place}
 use Rattle.space.specs.Shards.{entry_at}
 use Rattle.space.proofs.Places.{same_or_apart, same_self, apart_back}
 use Rattle.maptree.specs.Origins.{Shape}
-use Rattle.model.specs.Holdings.{Held, Holdings, each}
-use Rattle.model.specs.Calls.{Limits}
-use Rattle.model.specs.Lawful.{is_lawful}
-use Rattle.model.specs.Touch.{can_touch, marked, touch}
+use Rattle.model.specs.Definitions.Holdings.{Held, Holdings, each}
+use Rattle.model.specs.Definitions.Calls.{Limits}
+use Rattle.model.specs.Definitions.Lawful.{is_lawful}
+use Rattle.model.specs.Definitions.Touch.{can_touch, marked, touch}
 use Rattle.model.proofs.Lookups.{changed}
 use Rattle.model.proofs.Touches.{touch_keeps_lawful}
 use Rattle.holdings.specs.Places.{IsWithin}

@@ -2,7 +2,7 @@
 use Rattle.std.proofs.Common.{List, sym}
 use Rattle.space.specs.declared.shards.Shards.{Shards}
 use Rattle.maptree.specs.Origins.{Shape}
-use Rattle.model.specs.Holdings.{at}
+use Rattle.model.specs.Definitions.Holdings.{at}
 use Rattle.holdings.specs.Inner.Held.{held_at, contents_of, limits_in}
 use Rattle.holdings.specs.Places.{listing}
 use Rattle.holdings.specs.Contents.{IsConsistent}

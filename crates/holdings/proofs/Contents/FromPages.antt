@@ -1,8 +1,8 @@
 -- What is held of a space from a page on.
 use Rattle.std.proofs.Common.{◌≡◌, ℕ, zero, suc, ◌+◌, ◌-◌, ◌<◌, ◌≤◌, nat_lt, Bool, true, false, ◌&&◌, if◌then◌else◌, List, [], ◌∷◌, ◌++◌, Option, Some, None, refl, sym, ap, ◌∙◌, arith}
 use Rattle.space.specs.declared.place.Place.{Place}
-use Rattle.model.specs.Holdings.{Held, Holdings, keep}
-use Rattle.model.specs.Holdings.{at}
+use Rattle.model.specs.Definitions.Holdings.{Held, Holdings, keep}
+use Rattle.model.specs.Definitions.Holdings.{at}
 use Rattle.space.specs.Directory.{pages_of}
 use Rattle.holdings.specs.Contents.{Contents, IsConsistent}
 use Rattle.std.specs.Option.{option_map}
@@ -10,7 +10,7 @@ use Rattle.std.proofs.lemmas.Bool.{ltb-true}
 use Rattle.space.specs.declared.shards.Shards.{Shards}
 use Rattle.space.specs.Shards.{entry_at}
 use Rattle.maptree.specs.Origins.{Shape}
-use Rattle.model.specs.Calls.{Limits}
+use Rattle.model.specs.Definitions.Calls.{Limits}
 use Rattle.holdings.specs.Mappings.{mapped_of, held_from}
 use Rattle.holdings.specs.Inner.Held.{is_place, held_of, held_at, holdings_of}
 use Rattle.holdings.specs.declared.mapping.Mapping.{Mapping}

@@ -12,8 +12,8 @@ use Rattle.space.specs.Place.{same_place}
 use Rattle.space.specs.Shards.{entry_at}
 use Rattle.space.proofs.Places.{same_self, same_or_apart}
 use Rattle.maptree.specs.Origins.{Shape}
-use Rattle.model.specs.Calls.{Limits}
-use Rattle.model.specs.Holdings.{PlaceSet, is_held}
+use Rattle.model.specs.Definitions.Calls.{Limits}
+use Rattle.model.specs.Definitions.Holdings.{PlaceSet, is_held}
 use Rattle.holdings.specs.Places.{IsWithin, any_of, pages_from}
 use Rattle.holdings.specs.Inner.Held.{has_entry, held_of, limits_in, holdings_in}
 use Rattle.holdings.proofs.Contents.Holders.{held_within}

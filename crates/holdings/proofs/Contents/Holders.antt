@@ -12,8 +12,8 @@ use Rattle.space.specs.Directory.{pages_of}
 use Rattle.space.specs.Shards.{IsPlace, entry_at, IsSetAt}
 use Rattle.space.proofs.Places.{same_self}
 use Rattle.maptree.specs.Origins.{Shape, origin_in}
-use Rattle.model.specs.Holdings.{at, origin_at}
-use Rattle.model.specs.Calls.{Limits}
+use Rattle.model.specs.Definitions.Holdings.{at, origin_at}
+use Rattle.model.specs.Definitions.Calls.{Limits}
 use Rattle.holdings.specs.Places.{IsWithin}
 use Rattle.holdings.specs.Inner.Held.{links_in, held_of, held_at, holdings_of}
 use Rattle.holdings.specs.Contents.{entry_of}

@@ -15,8 +15,8 @@ use Rattle.space.specs.Shards.{HasWord, IsLaidOutAs, IsMade, IsPlace}
 use Rattle.space.proofs.Places.{same_self, same_or_apart}
 use Rattle.space.proofs.ShardWords.{held_have_words, words_are_their_own}
 use Rattle.maptree.specs.Origins.{Shape}
-use Rattle.model.specs.Calls.{Limits}
-use Rattle.model.specs.Holdings.{Held}
+use Rattle.model.specs.Definitions.Calls.{Limits}
+use Rattle.model.specs.Definitions.Holdings.{Held}
 use Rattle.holdings.specs.Layout.{Layout, OnlyGrows, IsLayoutOf, index_in, with_index, indexed, layout_of}
 use Rattle.holdings.specs.Places.{spaces_from}
 use Rattle.holdings.specs.Inner.Held.{held_at, held_of, holdings_in, index_at, is_place, layout_in, limits_in}

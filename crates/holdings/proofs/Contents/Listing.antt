@@ -10,8 +10,8 @@ use Rattle.space.specs.declared.place.Place.{Place}
 use Rattle.space.specs.Place.{place_cmp, same_place}
 use Rattle.space.specs.Directory.{pages_of}
 use Rattle.space.proofs.Places.{same_self, same_or_apart}
-use Rattle.model.specs.Holdings.{Held, Holdings, at, keep, each}
-use Rattle.model.specs.Calls.{Limits}
+use Rattle.model.specs.Definitions.Holdings.{Held, Holdings, at, keep, each}
+use Rattle.model.specs.Definitions.Calls.{Limits}
 use Rattle.model.proofs.Lookups.{Sorted, same_holdings, at_each, sorted_each, changed}
 use Rattle.model.proofs.Puts.{apart_places, put_here, put_elsewhere, sorted_put}
 use Rattle.holdings.specs.Places.{IsWithin, pages_from, spaces_from, listed, listing}

@@ -17,11 +17,11 @@ use Rattle.space.proofs.ShardWords.{held_have_words}
 use Rattle.space.specs.Shards.{word_count, spaces_of, bits_of, IsPlace, entry_at, is_taken, IsSetAt}
 use Rattle.space.proofs.Places.{same_is, same_self, same_or_apart}
 use Rattle.maptree.specs.Origins.{Shape, Origins, origin_in}
-use Rattle.model.specs.Holdings.{Held, at}
-use Rattle.model.specs.Lawful.{is_lawful}
-use Rattle.model.specs.Calls.{Limits}
-use Rattle.model.specs.Records.{are_limits}
-use Rattle.model.specs.Replay.{root, roots_from, start}
+use Rattle.model.specs.Definitions.Holdings.{Held, at}
+use Rattle.model.specs.Definitions.Lawful.{is_lawful}
+use Rattle.model.specs.Definitions.Calls.{Limits}
+use Rattle.model.specs.Definitions.Records.{are_limits}
+use Rattle.model.specs.Definitions.Replay.{root, roots_from, start}
 use Rattle.model.proofs.Starts.{lawful_roots, start_is_lawful}
 use Rattle.holdings.specs.Places.{IsWithin}
 use Rattle.holdings.specs.Inner.Held.{is_place, links_in, is_listed, held_of, held_at, has_frame, holdings_of}

@@ -8,8 +8,8 @@ use Rattle.space.specs.declared.shards.Shards.{Shards}
 use Rattle.space.specs.Shards.{HasWord, IsPlace, word_count, IsMade, entry_at, spaces_of, bits_of, is_taken}
 use Rattle.space.proofs.Made.{place_on}
 use Rattle.maptree.specs.Origins.{Shape}
-use Rattle.model.specs.Calls.{Limits}
-use Rattle.model.specs.Lawful.{is_lawful}
+use Rattle.model.specs.Definitions.Calls.{Limits}
+use Rattle.model.specs.Definitions.Lawful.{is_lawful}
 use Rattle.holdings.specs.Contents.{Contents, AreMapped, AreMoved, laid_out}
 use Rattle.holdings.specs.Layout.{OnlyGrows}
 use Rattle.holdings.specs.Places.{listing}

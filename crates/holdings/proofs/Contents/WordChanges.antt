@@ -14,8 +14,8 @@ use Rattle.space.proofs.ShardWords.{absent_unless, held_have_words}
 use Rattle.holdings.specs.Inner.Words.{IsThere}
 use Rattle.space.proofs.Places.{same_or_apart}
 use Rattle.maptree.specs.Origins.{Shape}
-use Rattle.model.specs.Calls.{Limits}
-use Rattle.model.specs.Lawful.{is_lawful}
+use Rattle.model.specs.Definitions.Calls.{Limits}
+use Rattle.model.specs.Definitions.Lawful.{is_lawful}
 use Rattle.holdings.specs.Places.{IsWithin}
 use Rattle.holdings.specs.Inner.Held.{has_entry, is_listed, has_frame, holdings_of}
 use Rattle.holdings.specs.Inner.Sound.{IsFitting, IsSound}

@@ -15,7 +15,7 @@ use Rattle.space.specs.Word.{entry_of}
 use Rattle.space.specs.Shards.{IsPlace, index_of, entry_at, words_of}
 use Rattle.space.proofs.Places.{same_self, same_or_apart, apart_back}
 use Rattle.maptree.specs.Origins.{Origins, Shape, are_once, origin_in}
-use Rattle.mapnode.proofs.Lists.{take_all}
+use Rattle.space.proofs.Lists.{take_all}
 use Rattle.holdings.specs.Inner.Derivation.{stands_in}
 use Rattle.holdings.specs.Inner.Held.{links_in, is_listed, has_frame, limits_in}
 use Rattle.holdings.specs.Inner.Sound.{AreSound}

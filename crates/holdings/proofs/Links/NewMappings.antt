@@ -17,11 +17,11 @@ use Rattle.space.specs.Place.{place_cmp, same_place}
 use Rattle.space.specs.Shards.{entry_at}
 use Rattle.space.proofs.Places.{same_is, same_self, same_or_apart}
 use Rattle.maptree.specs.Origins.{Shape, Origins, origin_in}
-use Rattle.model.specs.Holdings.{Held, Holdings, at, is_held}
-use Rattle.model.specs.Calls.{Limits}
-use Rattle.model.specs.Lawful.{is_lawful}
-use Rattle.model.specs.Items.{one_page}
-use Rattle.model.specs.Map.{linked}
+use Rattle.model.specs.Definitions.Holdings.{Held, Holdings, at, is_held}
+use Rattle.model.specs.Definitions.Calls.{Limits}
+use Rattle.model.specs.Definitions.Lawful.{is_lawful}
+use Rattle.model.specs.Definitions.Items.{one_page}
+use Rattle.model.specs.Definitions.Map.{linked}
 use Rattle.model.proofs.LawfulParts.{IsLawful, IsOrigin, lawful_parts, lawful_from}
 use Rattle.model.proofs.Growths.{lawful_grown}
 use Rattle.model.proofs.Puts.{apart_places, put_here, put_elsewhere, sorted_put}

@@ -10,11 +10,11 @@ use Rattle.space.specs.declared.place.Place.{Place}
 use Rattle.space.specs.declared.shards.Shards.{Shards}
 use Rattle.space.specs.Place.{same_place}
 use Rattle.maptree.specs.Origins.{Shape}
-use Rattle.model.specs.Holdings.{Holdings, at, is_held}
-use Rattle.model.specs.Calls.{Limits}
-use Rattle.model.specs.Items.{Job, Fate, absent, norights, to_origin, extends, goes, Counts, no_counts, add_counts, counts_of}
-use Rattle.model.specs.Map.{map_pair, link, extend}
-use Rattle.model.specs.SendLaws.{total}
+use Rattle.model.specs.Definitions.Holdings.{Holdings, at, is_held}
+use Rattle.model.specs.Definitions.Calls.{Limits}
+use Rattle.model.specs.Definitions.Items.{Job, Fate, absent, norights, to_origin, extends, goes, Counts, no_counts, add_counts, counts_of}
+use Rattle.model.specs.Definitions.Map.{map_pair, link, extend}
+use Rattle.model.specs.Laws.SendLaws.{total}
 use Rattle.model.proofs.Puts.{apart_places}
 use Rattle.model.proofs.Maps.{pair_other}
 use Rattle.holdings.specs.declared.transfer.Transfer.{Transfer}

@@ -15,11 +15,11 @@ use Rattle.space.specs.Place.{place_cmp, same_place}
 use Rattle.space.specs.Shards.{entry_at, IsLaidOutAs}
 use Rattle.space.proofs.Places.{same_or_apart}
 use Rattle.maptree.specs.Origins.{Shape}
-use Rattle.model.specs.Holdings.{Held, Holdings, at, is_held}
-use Rattle.model.specs.Calls.{Limits}
-use Rattle.model.specs.Lawful.{is_lawful}
-use Rattle.model.specs.Items.{Job, Counts, counts_of, extends, goes}
-use Rattle.model.specs.Map.{extended, map_pair}
+use Rattle.model.specs.Definitions.Holdings.{Held, Holdings, at, is_held}
+use Rattle.model.specs.Definitions.Calls.{Limits}
+use Rattle.model.specs.Definitions.Lawful.{is_lawful}
+use Rattle.model.specs.Definitions.Items.{Job, Counts, counts_of, extends, goes}
+use Rattle.model.specs.Definitions.Map.{extended, map_pair}
 use Rattle.model.proofs.LawfulParts.{IsLawful, IsOrigin, lawful_parts, lawful_from}
 use Rattle.model.proofs.Growths.{lawful_grown}
 use Rattle.model.proofs.Puts.{put_here, put_elsewhere, sorted_put}

@@ -17,12 +17,12 @@ use Rattle.space.specs.Place.{same_place}
 use Rattle.space.specs.Shards.{IsPlace, IsSetAt, entry_at}
 use Rattle.space.proofs.Places.{same_or_apart, apart_back}
 use Rattle.maptree.specs.Origins.{Origins, Shape, origin_in}
-use Rattle.model.specs.Holdings.{Holdings, at}
-use Rattle.model.specs.Calls.{Limits}
-use Rattle.model.specs.Lawful.{is_lawful}
-use Rattle.model.specs.Items.{Counts, no_counts, add_counts, counts_of, extends, goes}
-use Rattle.model.specs.Map.{map_pair}
-use Rattle.model.specs.SendLaws.{total}
+use Rattle.model.specs.Definitions.Holdings.{Holdings, at}
+use Rattle.model.specs.Definitions.Calls.{Limits}
+use Rattle.model.specs.Definitions.Lawful.{is_lawful}
+use Rattle.model.specs.Definitions.Items.{Counts, no_counts, add_counts, counts_of, extends, goes}
+use Rattle.model.specs.Definitions.Map.{map_pair}
+use Rattle.model.specs.Laws.SendLaws.{total}
 use Rattle.holdings.specs.declared.link.Link.{Link}
 use Rattle.holdings.specs.declared.transfer.Transfer.{Transfer}
 use Rattle.holdings.specs.Inner.Derivation.{stands_in, IsDerived}

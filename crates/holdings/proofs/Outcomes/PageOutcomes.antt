@@ -2,8 +2,8 @@
 use Rattle.std.proofs.Common.{◌≡◌, List, Option, Some, None, refl}
 use Rattle.fpage.specs.declared.item.ItemKind.{ItemKind}
 use Rattle.fpage.specs.declared.rights.Rights.{Rights}
-use Rattle.model.specs.Holdings.{Held, Holdings, at}
-use Rattle.model.specs.Items.{Pair, fate_of, fate}
+use Rattle.model.specs.Definitions.Holdings.{Held, Holdings, at}
+use Rattle.model.specs.Definitions.Items.{Pair, fate_of, fate}
 
 -- an item's outcome goes by its kind and rights
 pub same_fate : (h : Holdings) (kind : ItemKind) (rights : Rights) (ps qs : List Pair) (e : Pair) → fate h (record { kind = kind; rights = rights; pairs = ps }) e ≡ fate h (record { kind = kind; rights = rights; pairs = qs }) e

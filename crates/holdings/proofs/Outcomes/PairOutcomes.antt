@@ -15,10 +15,10 @@ use Rattle.space.specs.Place.{same_place}
 use Rattle.space.specs.Shards.{entry_at}
 use Rattle.space.proofs.Places.{same_is, same_self}
 use Rattle.maptree.specs.Origins.{Origins, Shape, origin_in, place_at, LeadsTo}
-use Rattle.model.specs.Holdings.{only, is_held, origin_at}
-use Rattle.model.specs.Derived.{is_under}
-use Rattle.model.specs.DerivationLaws.{LeadsInto}
-use Rattle.model.specs.Items.{Job, Fate, absent, norights, to_origin, extends, goes, is_map, has_origin, fate_of, fate}
+use Rattle.model.specs.Definitions.Holdings.{only, is_held, origin_at}
+use Rattle.model.specs.Definitions.Derived.{is_under}
+use Rattle.model.specs.Laws.DerivationLaws.{LeadsInto}
+use Rattle.model.specs.Definitions.Items.{Job, Fate, absent, norights, to_origin, extends, goes, is_map, has_origin, fate_of, fate}
 use Rattle.model.proofs.Derivations.{under_is_a_chain}
 use Rattle.holdings.specs.Places.{IsWithin}
 use Rattle.holdings.specs.Inner.Held.{links_in, limits_in, holdings_in}

@@ -6,7 +6,7 @@ use Rattle.space.specs.declared.place.Place.{Place}
 use Rattle.space.specs.declared.shards.Shards.{Shards}
 use Rattle.space.specs.Shards.{IsPlace}
 use Rattle.std.proofs.lemmas.List.Elements.{All-filter}
-use Rattle.mapnode.specs.Slices.{pieces}
+use Rattle.space.specs.Slices.{pieces}
 use Rattle.maptree.specs.Origins.{Shape}
 use Rattle.pieces.specs.Phases.{CanBeWorked}
 use Rattle.pieces.specs.Values.{value}

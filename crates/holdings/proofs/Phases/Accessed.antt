@@ -13,8 +13,8 @@ use Rattle.space.specs.Word.{entry_of}
 use Rattle.space.specs.Shards.{IsPlace, HasWord, index_of, entry_at}
 use Rattle.space.proofs.ShardWords.{words_are_their_own}
 use Rattle.maptree.specs.Origins.{Shape}
-use Rattle.model.specs.Calls.{Limits}
-use Rattle.model.specs.Touch.{can_touch, touch}
+use Rattle.model.specs.Definitions.Calls.{Limits}
+use Rattle.model.specs.Definitions.Touch.{can_touch, touch}
 use Rattle.pieces.specs.Laws.{accessed, accessed_in_order, answers_in_order}
 use Rattle.pieces.specs.Steps.{may_access}
 use Rattle.pieces.specs.Effects.{word_after}

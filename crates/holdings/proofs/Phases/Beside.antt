@@ -13,7 +13,7 @@ use Rattle.space.specs.Place.{same_place}
 use Rattle.space.specs.Shards.{IsPlace, index_of, word_count}
 use Rattle.space.proofs.Places.{same_self, apart_back}
 use Rattle.space.proofs.ShardWords.{words_are_their_own}
-use Rattle.mapnode.specs.Slices.{pieces}
+use Rattle.space.specs.Slices.{pieces}
 use Rattle.pieces.specs.Contents.{puts_of, ends_of}
 use Rattle.pieces.specs.Distinct.{is_none_of, are_distinct}
 use Rattle.pieces.specs.Phases.{CanBeWorked, changes, held, named}

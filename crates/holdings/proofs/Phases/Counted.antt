@@ -6,8 +6,8 @@ use Rattle.std.specs.Option.{option_map}
 use Rattle.space.specs.declared.place.Place.{Place}
 use Rattle.space.specs.declared.shards.Shards.{Shards}
 use Rattle.maptree.specs.Origins.{Shape}
-use Rattle.model.specs.Holdings.{Held, at, is_held}
-use Rattle.model.specs.Items.{add_counts, counts_of}
+use Rattle.model.specs.Definitions.Holdings.{Held, at, is_held}
+use Rattle.model.specs.Definitions.Items.{add_counts, counts_of}
 use Rattle.holdings.specs.Contents.{entry_of}
 use Rattle.holdings.specs.Places.{IsWithin}
 use Rattle.holdings.specs.Sending.{IsTransferWithin, fate_in, counts_after_flush}

@@ -10,8 +10,8 @@ use Rattle.space.specs.declared.place.Place.{Place}
 use Rattle.space.specs.declared.shards.Shards.{Shards}
 use Rattle.space.specs.Shards.{HasWord, index_of, word_count}
 use Rattle.space.specs.Place.{same_place}
-use Rattle.model.specs.Holdings.{Held, Holdings, at, each}
-use Rattle.model.specs.Touch.{can_touch, marked, touch}
+use Rattle.model.specs.Definitions.Holdings.{Held, Holdings, at, each}
+use Rattle.model.specs.Definitions.Touch.{can_touch, marked, touch}
 use Rattle.model.proofs.Lookups.{Sorted, changed, at_each, sorted_each}
 use Rattle.maptree.specs.Origins.{Shape}
 use Rattle.space.proofs.ShardWords.{absent_unless}

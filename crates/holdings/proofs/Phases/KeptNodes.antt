@@ -11,7 +11,7 @@ use Rattle.space.specs.Word.{word_of, entry_of}
 use Rattle.space.specs.Shards.{index_of, entry_at}
 use Rattle.space.proofs.ShardWords.{entries_fit}
 use Rattle.space.proofs.Words.{unpack_gives_back}
-use Rattle.mapnode.specs.declared.node.Node.{Node}
+use Rattle.space.specs.declared.node.Node.{Node}
 use Rattle.pieces.specs.Contents.{StripContent, IsStrip}
 use Rattle.pieces.specs.Distinct.{is_none_of, are_distinct}
 use Rattle.pieces.specs.Effects.{gained, word_after}

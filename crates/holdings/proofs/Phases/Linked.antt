@@ -17,8 +17,8 @@ use Rattle.space.specs.Shards.{IsPlace, HasWord, IsLaidOutAs, index_of, entry_at
 use Rattle.space.proofs.ShardWords.{words_are_their_own, entries_fit}
 use Rattle.space.proofs.Words.{unpack_gives_back}
 use Rattle.maptree.specs.Origins.{Shape}
-use Rattle.model.specs.Holdings.{Held, Holdings}
-use Rattle.model.specs.Items.{Counts, no_counts, add_counts, counts_of, goes}
+use Rattle.model.specs.Definitions.Holdings.{Held, Holdings}
+use Rattle.model.specs.Definitions.Items.{Counts, no_counts, add_counts, counts_of, goes}
 use Rattle.model.proofs.LawfulParts.{lawful_parts}
 use Rattle.pieces.specs.Contents.{puts_of}
 use Rattle.pieces.specs.Distinct.{is_none_of, are_distinct}
@@ -51,7 +51,7 @@ use Rattle.std.proofs.lemmas.Option.{same_Some}
 use Rattle.holdings.proofs.Stripping.Walks.{same_layouts}
 use Rattle.holdings.specs.Inner.Words.{AreWordsOf, IsThere, IsWith}
 use Rattle.holdings.proofs.Phases.Words.{with_words, same_holdings, same_sound}
-use Rattle.model.specs.Calls.{Limits}
+use Rattle.model.specs.Definitions.Calls.{Limits}
 use Rattle.fpage.specs.declared.item.ItemKind.TheVariants.{Map}
 
 -- ---- one store

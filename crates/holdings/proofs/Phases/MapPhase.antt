@@ -4,7 +4,7 @@ use Rattle.fpage.specs.declared.rights.Rights.{Rights}
 use Rattle.space.specs.declared.shards.Shards.{Shards}
 use Rattle.space.specs.Shards.{HasWord}
 use Rattle.std.specs.List.{All}
-use Rattle.mapnode.specs.Slices.{pieces}
+use Rattle.space.specs.Slices.{pieces}
 use Rattle.maptree.specs.Origins.{Shape}
 use Rattle.pieces.specs.Applied.{worked}
 use Rattle.pieces.specs.Contents.{puts_of}

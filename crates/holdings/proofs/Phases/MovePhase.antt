@@ -3,9 +3,9 @@ use Rattle.std.proofs.Common.{◌≡◌, ℕ, ◌≤◌, true, List, length, map
 use Rattle.space.specs.declared.shards.Shards.{Shards}
 use Rattle.space.specs.Shards.{HasWord}
 use Rattle.std.specs.List.{All}
-use Rattle.mapnode.specs.Slices.{pieces}
+use Rattle.space.specs.Slices.{pieces}
 use Rattle.maptree.specs.Origins.{Shape}
-use Rattle.model.specs.Grant.{renamed}
+use Rattle.model.specs.Definitions.Grant.{renamed}
 use Rattle.pieces.specs.Applied.{worked}
 use Rattle.pieces.specs.Contents.{ends_of}
 use Rattle.pieces.specs.Distinct.{are_distinct}

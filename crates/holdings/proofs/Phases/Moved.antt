@@ -21,11 +21,11 @@ use Rattle.space.proofs.Places.{same_self, apart_back}
 use Rattle.space.proofs.ShardWords.{held_have_words, words_are_their_own, entries_fit}
 use Rattle.space.proofs.Words.{unpack_gives_back}
 use Rattle.maptree.specs.Origins.{Shape}
-use Rattle.model.specs.Calls.{Limits}
-use Rattle.model.specs.Holdings.{Holdings, at}
-use Rattle.model.specs.Grant.{renamed, moved_to}
-use Rattle.model.specs.Items.{Counts, no_counts, add_counts, counts_of, goes, sources_of}
-use Rattle.model.specs.SendLaws.{In}
+use Rattle.model.specs.Definitions.Calls.{Limits}
+use Rattle.model.specs.Definitions.Holdings.{Holdings, at}
+use Rattle.model.specs.Definitions.Grant.{renamed, moved_to}
+use Rattle.model.specs.Definitions.Items.{Counts, no_counts, add_counts, counts_of, goes, sources_of}
+use Rattle.model.specs.Laws.SendLaws.{In}
 use Rattle.pieces.specs.Contents.{ends_of}
 use Rattle.pieces.specs.Distinct.{is_none_of, are_distinct}
 use Rattle.pieces.specs.Effects.{word_after}

@@ -15,12 +15,12 @@ use Rattle.space.specs.Place.{same_place}
 use Rattle.space.specs.Shards.{IsPlace, index_of, entry_at}
 use Rattle.space.proofs.Places.{same_is, same_self}
 use Rattle.space.proofs.ShardWords.{words_are_their_own}
-use Rattle.mapnode.specs.declared.node.Node.{Node}
+use Rattle.space.specs.declared.node.Node.{Node}
 use Rattle.maptree.specs.Origins.{Shape}
-use Rattle.model.specs.Holdings.{PlaceSet}
-use Rattle.model.specs.Lawful.{is_lawful}
-use Rattle.model.specs.Records.{are_limits}
-use Rattle.model.specs.Strip.{strip, strip_word}
+use Rattle.model.specs.Definitions.Holdings.{PlaceSet}
+use Rattle.model.specs.Definitions.Lawful.{is_lawful}
+use Rattle.model.specs.Definitions.Records.{are_limits}
+use Rattle.model.specs.Definitions.Strip.{strip, strip_word}
 use Rattle.std.specs.Option.{option_and_then}
 use Rattle.space.specs.Shards.{spaces_of, bits_of}
 use Rattle.space.specs.declared.place.Entry.{Entry}

@@ -19,9 +19,9 @@ use Rattle.space.specs.Entries.{status_of, with_status}
 use Rattle.space.specs.Shards.{IsPlace, HasWord, IsLaidOutAs, index_of, entry_at}
 use Rattle.space.proofs.ShardWords.{words_are_their_own}
 use Rattle.std.proofs.lemmas.Option.{same_Some}
-use Rattle.mapnode.specs.declared.node.Node.{Node}
+use Rattle.space.specs.declared.node.Node.{Node}
 use Rattle.maptree.specs.Origins.{Origins, Shape, origin_in, place_at, IsRun}
-use Rattle.model.specs.Strip.{status_over}
+use Rattle.model.specs.Definitions.Strip.{status_over}
 use Rattle.model.proofs.LawfulParts.{lawful_parts}
 use Rattle.pieces.specs.Contents.{StripContent, IsStrip}
 use Rattle.pieces.specs.Masks.{masks_of}

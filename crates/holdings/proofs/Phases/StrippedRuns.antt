@@ -14,11 +14,11 @@ use Rattle.space.specs.Place.{same_place}
 use Rattle.space.specs.Word.{entry_of}
 use Rattle.space.specs.Shards.{IsPlace, index_of, entry_at}
 use Rattle.space.proofs.Places.{same_is}
-use Rattle.mapnode.specs.declared.node.Node.{Node}
+use Rattle.space.specs.declared.node.Node.{Node}
 use Rattle.maptree.specs.Origins.{Shape}
-use Rattle.model.specs.Holdings.{only}
-use Rattle.model.specs.Lawful.{is_lawful}
-use Rattle.model.specs.Strip.{strip, strip_word}
+use Rattle.model.specs.Definitions.Holdings.{only}
+use Rattle.model.specs.Definitions.Lawful.{is_lawful}
+use Rattle.model.specs.Definitions.Strip.{strip, strip_word}
 use Rattle.model.proofs.LawfulParts.{lawful_parts}
 use Rattle.model.proofs.StripUnions.{strip-union, word-union, strip_same, word_same}
 use Rattle.pieces.specs.Contents.{StripContent, IsStrip}

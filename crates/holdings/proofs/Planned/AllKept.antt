@@ -1,5 +1,5 @@
--- A strip that keeps all nodes: no page is gone, and the trees stay as they are.
-use Rattle.std.proofs.Common.{◌≡◌, ℕ, zero, suc, ◌+◌, ◌-◌, ◌<◌, ◌≤◌, ◌==◌, true, false, Bool, ◌&&◌, ◌||◌, List, [], ◌∷◌, ◌++◌, length, take, drop, map, filter, Option, get_or, refl, sym, ap, ◌∙◌, subst, arith, if◌then◌else◌}
+-- A strip that keeps all nodes: no page is gone, and the trees stay as they are. And one that keeps none: the runs go.
+use Rattle.std.proofs.Common.{◌≡◌, ℕ, zero, suc, ◌+◌, ◌-◌, ◌<◌, ◌≤◌, ◌==◌, true, false, Bool, ◌&&◌, ◌||◌, not, List, [], ◌∷◌, ◌++◌, length, take, drop, map, filter, Option, get_or, refl, sym, ap, ◌∙◌, subst, arith, if◌then◌else◌}
 use Rattle.std.specs.List.{All, list_all, slice_range}
 use Rattle.std.specs.declared.ops.Range.{Range}
 use Rattle.std.proofs.lemmas.Bool.{and_parts, eqb-true}
@@ -9,18 +9,19 @@ use Rattle.std.proofs.lemmas.List.Folds.{list_all-append}
 use Rattle.fpage.specs.declared.rights.Rights.{Rights}
 use Rattle.space.specs.declared.place.Place.{Place}
 use Rattle.space.specs.declared.shards.Shards.{Shards}
-use Rattle.mapnode.specs.declared.node.Node.{Node}
-use Rattle.mapnode.specs.declared.slice.Slice.{Slice}
+use Rattle.space.specs.declared.node.Node.{Node}
+use Rattle.space.specs.declared.slice.Slice.{Slice}
 use Rattle.maptree.specs.Origins.{Origins, Shape, AreRising}
-use Rattle.mapnode.specs.Slices.{nodes_of}
-use Rattle.maptree.specs.Cuts.{kept_of, count_of}
+use Rattle.space.specs.Slices.{nodes_of}
+use Rattle.maptree.specs.Cuts.{kept_of, count_of, outside}
 use Rattle.pieces.specs.Contents.{StripContent}
 use Rattle.holdings.specs.declared.planning.FrameRuns.{FrameRuns}
 use Rattle.holdings.specs.Inner.Held.{links_in, has_entry}
 use Rattle.holdings.specs.Inner.Planning.{RunPlan, IsRunPlan, all_places, places_of_runs, strip_of, strips_of_run, strips_of_runs}
+use Rattle.holdings.specs.Inner.Links.{IsTreeSet}
 use Rattle.holdings.specs.Inner.Stripping.{pruned}
 use Rattle.holdings.specs.Inner.StripPlans.{AreFramePlans, CanBePruned, AllCanBePruned, AreKeptNodes, ArePruned, in_runs, in_frames, count_in_runs, count_in_frames, is_planned}
-use Rattle.holdings.proofs.Trees.Pruning.{none_gone, all_pass}
+use Rattle.holdings.proofs.Trees.Pruning.{none_gone, all_gone, all_pass}
 
 -- ---- what the counts count
 
@@ -113,6 +114,24 @@ module _ (test : Place → Bool) where
       both : {a b : Bool} → a ≡ true → b ≡ true → (a && b) ≡ true
       both {a} {b} p q = rw (p, q) refl
 
+  none_in_one : (ns : List Node) → length (filter (λ n. test n.place) ns) ≡ 0 → list_all (λ p. not (test p)) (map (λ n. n.place) ns) ≡ true
+  none_in_one [] none = refl
+  none_in_one (n ∷ ns) none = by (test n.place) refl none (none_in_one ns)
+    where
+      by : (b : Bool) → test n.place ≡ b → length (if b then n ∷ filter (λ n. test n.place) ns else filter (λ n. test n.place) ns) ≡ 0
+          → (length (filter (λ n. test n.place) ns) ≡ 0 → list_all (λ p. not (test p)) (map (λ n. n.place) ns) ≡ true) → (not (test n.place) && list_all (λ p. not (test p)) (map (λ n. n.place) ns)) ≡ true
+      by true is none rest = absurd (omega (arith, none))
+      by false is none rest = rw is (rest none)
+
+  -- where none was kept, none passes
+  pub none_in_all : (parts : List (List Node)) → count_of (kept_of test parts) ≡ 0 → list_all (λ p. not (test p)) (all_places parts) ≡ true
+  none_in_all [] none = refl
+  none_in_all (part ∷ parts) none =
+      list_all-append (λ p. not (test p)) (map (λ n. n.place) part) (all_places parts) ∙ both (none_in_one part (omega (arith, none))) (none_in_all parts (omega (arith, none)))
+    where
+      both : {a b : Bool} → a ≡ true → b ≡ true → (a && b) ≡ true
+      both {a} {b} p q = rw (p, q) refl
+
 -- ---- the runs of a tree
 
 slice_count : (ps : List Place) (a b : ℕ) → a ≤ b → b ≤ length ps → length (slice_range ps a b) ≡ b - a
@@ -150,7 +169,7 @@ module _ (os : Origins) where
   take_of_map (suc n) [] = refl
   take_of_map (suc n) (x ∷ xs) = ap (λ ys. x.0 ∷ ys) (take_of_map n xs)
 
-  all_in_runs : (test : Place → Bool) (rs : List (Range ℕ)) → list_all test (in_runs os rs) ≡ true → list_all (λ r. list_all (λ o. test o.0) (slice_range os r.start r.end)) rs ≡ true
+  pub all_in_runs : (test : Place → Bool) (rs : List (Range ℕ)) → list_all test (in_runs os rs) ≡ true → list_all (λ r. list_all (λ o. test o.0) (slice_range os r.start r.end)) rs ≡ true
   all_in_runs test [] all = refl
   all_in_runs test (r ∷ rs) all =
       let parts = and_parts _ _ (sym (list_all-append test (slice_range (map (λ o. o.0) os) r.start r.end) (in_runs os rs)) ∙ all) in
@@ -194,6 +213,21 @@ module _ (s : Shards) (trees : List Shape) where
       all =
           sym (ap (list_all (has_entry s)) are.parts_are)
           ∙ all_in_all (has_entry s) are.parts (sym (ap count_of are.kept_are) ∙ same ∙ sym (frames_count fs can) ∙ sym (ap length are.parts_are))
+
+  -- where none was kept, no place of the runs has an entry
+  pub all_gone_in_runs : (fs : List FrameRuns) (kept : List (List Node)) → AreKeptNodes s trees fs kept → count_of kept ≡ 0 → list_all (λ p. not (has_entry s p)) (in_frames trees fs) ≡ true
+  all_gone_in_runs fs kept are none = sym (ap (list_all (λ p. not (has_entry s p))) are.parts_are) ∙ none_in_all (has_entry s) are.parts (sym (ap count_of are.kept_are) ∙ none)
+
+  -- and a tree loses them all
+  pub one_gone : (links : Origins) (runs : List (Range ℕ)) → CanBePruned s links runs → list_all (λ p. not (has_entry s p)) (in_runs links runs) ≡ true → outside 0 runs links ≡ pruned s links
+  one_gone links runs can none = sym (all_gone (has_entry s) links 0 runs can.rising (all_in_runs links (λ p. not (has_entry s p)) runs none) can.outside_stay)
+
+-- the places of other frames stay where they are
+pub others_stay : (now next : List Shape) (frame : ℕ) (links : Origins) (fs : List FrameRuns) → IsTreeSet now next frame links → All (λ f. f.frame ≡ frame → ⊥) fs → in_frames next fs ≡ in_frames now fs
+others_stay now next frame links [] set differ = refl
+others_stay now next frame links (f ∷ fs) set differ =
+    ap (λ os. in_runs os f.runs ++ in_frames next fs) (set.elsewhere f.frame (differ 0 f (omega arith)))
+    ∙ ap (λ ps. in_runs (links_in now f.frame) f.runs ++ ps) (others_stay now next frame links fs set (λ k d less. differ (suc k) d (omega (arith, less))))
 
 -- no run ends before it starts
 pub rising_runs : (s : Shards) (trees : List Shape) (fs : List FrameRuns) → AllCanBePruned s trees fs → All (λ f. All (λ r. r.start ≤ r.end) f.runs) fs

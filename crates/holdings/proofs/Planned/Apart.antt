@@ -12,8 +12,8 @@ use Rattle.space.specs.Shards.{entry_at}
 use Rattle.space.proofs.Places.{same_is, same_self}
 use Rattle.maptree.specs.Origins.{Origins, Shape, AreRising, are_once, place_at, origin_in}
 use Rattle.maptree.proofs.Cuttings.{split_at}
-use Rattle.model.specs.Holdings.{only, origin_at}
-use Rattle.model.specs.Derived.{is_below}
+use Rattle.model.specs.Definitions.Holdings.{only, origin_at}
+use Rattle.model.specs.Definitions.Derived.{is_below}
 use Rattle.model.proofs.LawfulParts.{IsLawful, lawful_parts}
 use Rattle.model.proofs.Chains.{under_from, under_self}
 use Rattle.maptree.proofs.Listed.{listed_at}

@@ -7,8 +7,8 @@ use Rattle.space.specs.Word as word
 use Rattle.space.specs.Word.{is_pack}
 use Rattle.space.specs.declared.shards.Shards.{Shards}
 use Rattle.maptree.specs.Origins.{Shape}
-use Rattle.model.specs.Holdings.{PlaceSet}
-use Rattle.model.specs.Strip.{strip}
+use Rattle.model.specs.Definitions.Holdings.{PlaceSet}
+use Rattle.model.specs.Definitions.Strip.{strip}
 use Rattle.pieces.specs.Applied.{worked}
 use Rattle.pieces.specs.Phases.{IsPiece}
 use Rattle.pieces.specs.Steps.{effects}

@@ -9,9 +9,9 @@ use Rattle.space.specs.declared.shards.Shards.{Shards}
 use Rattle.space.specs.Place.{same_place}
 use Rattle.space.proofs.Places.{same_self}
 use Rattle.maptree.specs.Origins.{Shape}
-use Rattle.model.specs.Calls.{Limits}
-use Rattle.model.specs.Holdings.{is_held}
-use Rattle.model.specs.Derived.{is_below}
+use Rattle.model.specs.Definitions.Calls.{Limits}
+use Rattle.model.specs.Definitions.Holdings.{is_held}
+use Rattle.model.specs.Definitions.Derived.{is_below}
 use Rattle.model.proofs.LawfulParts.{IsLawful, lawful_parts}
 use Rattle.model.proofs.Chains.{below_within, in_below}
 use Rattle.holdings.specs.Contents.{Contents, IsStripped, left_with}

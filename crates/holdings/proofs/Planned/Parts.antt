@@ -11,7 +11,7 @@ use Rattle.space.specs.declared.shards.Shards.{Shards}
 use Rattle.space.specs.Place.{same_place}
 use Rattle.space.specs.Shards.{index_of}
 use Rattle.holdings.specs.Inner.Words.{IsThere}
-use Rattle.mapnode.specs.declared.node.Node.{Node}
+use Rattle.space.specs.declared.node.Node.{Node}
 use Rattle.maptree.specs.Origins.{Origins}
 use Rattle.maptree.proofs.Cuttings.{drop_drop, take_more}
 use Rattle.pieces.specs.Contents.{StripContent, is_fold_apart}

@@ -15,8 +15,8 @@ use Rattle.space.specs.Place.{same_place}
 use Rattle.space.specs.Shards.{entry_at}
 use Rattle.space.proofs.Places.{same_is, same_self}
 use Rattle.maptree.specs.Origins.{Origins, Shape, are_once, place_at}
-use Rattle.model.specs.Holdings.{PlaceSet, only, is_held}
-use Rattle.model.specs.Derived.{is_below}
+use Rattle.model.specs.Definitions.Holdings.{PlaceSet, only, is_held}
+use Rattle.model.specs.Definitions.Derived.{is_below}
 use Rattle.model.proofs.LawfulParts.{IsLawful, lawful_parts}
 use Rattle.model.proofs.Chains.{below_from, below_within, in_below}
 use Rattle.holdings.specs.Places.{any_of}

@@ -4,11 +4,11 @@ use Rattle.std.specs.List.{All}
 use Rattle.fpage.specs.Rights.{no_rights}
 use Rattle.fpage.specs.declared.rights.Rights.{Rights}
 use Rattle.space.specs.declared.shards.Shards.{Shards}
-use Rattle.mapnode.specs.Slices.{nodes_of}
+use Rattle.space.specs.Slices.{nodes_of}
 use Rattle.maptree.specs.Cuts.{kept_of}
 use Rattle.maptree.specs.Origins.{Shape}
-use Rattle.model.specs.Holdings.{PlaceSet}
-use Rattle.model.specs.Strip.{strip, strip_word}
+use Rattle.model.specs.Definitions.Holdings.{PlaceSet}
+use Rattle.model.specs.Definitions.Strip.{strip, strip_word}
 use Rattle.model.proofs.Chains.{below_empty}
 use Rattle.model.proofs.LawfulParts.{lawful_parts}
 use Rattle.model.proofs.StripUnions.{strip_nothing, word_nothing}

@@ -11,14 +11,14 @@ use Rattle.space.specs.declared.place.Entry.{Entry}
 use Rattle.space.specs.declared.shards.Shards.{Shards}
 use Rattle.space.specs.Shards.{IsPlace, entry_at}
 use Rattle.maptree.specs.Origins.{Origins, Shape, place_at, are_once, LiesInOne}
-use Rattle.model.specs.Holdings.{at}
-use Rattle.model.specs.Derived.{is_below}
+use Rattle.model.specs.Definitions.Holdings.{at}
+use Rattle.model.specs.Definitions.Derived.{is_below}
 use Rattle.model.proofs.Derivations.{below_is_a_chain}
 use Rattle.model.proofs.LawfulParts.{IsLawful, lawful_parts}
 use Rattle.model.proofs.Lookups.{changed, at_each}
 use Rattle.model.proofs.StripAt.{stripping}
 use Rattle.model.proofs.Narrowings.{not_narrowed}
-use Rattle.model.specs.Holdings.{only}
+use Rattle.model.specs.Definitions.Holdings.{only}
 use Rattle.space.proofs.Places.{same_is, same_self}
 use Rattle.space.specs.Place.{same_place}
 use Rattle.maptree.proofs.Listed.{listed_at}
@@ -62,7 +62,7 @@ pub record ArePrunedUpTo (s : Shards) (fs : List FrameRuns) (old : List Shape) (
 pub none_pruned : (s : Shards) (fs : List FrameRuns) (trees : List Shape) → AllCanBePruned s trees fs → ArePrunedUpTo s fs trees 0 trees
 none_pruned s fs trees can = record { done = record { count = refl; there = λ g is. absurd (cc is); elsewhere = λ g is. refl }; rest = can }
 
-drop_here : (n : ℕ) (fs : List FrameRuns) (d : FrameRuns) → n < length fs → drop n fs ≡ get_or fs n d ∷ drop (n + 1) fs
+pub drop_here : (n : ℕ) (fs : List FrameRuns) (d : FrameRuns) → n < length fs → drop n fs ≡ get_or fs n d ∷ drop (n + 1) fs
 drop_here n [] d less = absurd (omega (arith, less))
 drop_here zero (f ∷ fs) d less = refl
 drop_here (suc n) (f ∷ fs) d less = let more : suc n + 1 ≡ suc (n + 1) = omega arith in drop_here n fs d (omega (arith, less)) ∙ ap (λ m. get_or fs n d ∷ drop m (f ∷ fs)) (sym more)

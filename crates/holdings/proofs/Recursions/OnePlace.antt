@@ -9,8 +9,8 @@ use Rattle.space.specs.Place.{same_place}
 use Rattle.space.specs.Shards.{IsLaidOutAs}
 use Rattle.space.proofs.Places.{same_is}
 use Rattle.maptree.specs.Origins.{Origins, Shape, place_at}
-use Rattle.model.specs.Holdings.{Holdings, only}
-use Rattle.model.specs.Strip.{strip, strip_word}
+use Rattle.model.specs.Definitions.Holdings.{Holdings, only}
+use Rattle.model.specs.Definitions.Strip.{strip, strip_word}
 use Rattle.model.proofs.LawfulParts.{IsLawful, lawful_parts}
 use Rattle.model.proofs.StripUnions.{strip_same, word_same}
 use Rattle.holdings.specs.Inner.Held.{is_listed, holdings_in}

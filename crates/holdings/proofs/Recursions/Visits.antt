@@ -13,9 +13,9 @@ use Rattle.space.specs.declared.shards.Shards.{Shards}
 use Rattle.space.specs.Place.{same_place}
 use Rattle.space.specs.Shards.{IsPlace, IsSetAt, IsLaidOutAs, entry_at, is_taken}
 use Rattle.space.proofs.Places.{same_self, same_or_apart, apart_back}
-use Rattle.mapnode.specs.declared.node.Node.{Node}
+use Rattle.space.specs.declared.node.Node.{Node}
 use Rattle.maptree.specs.Origins.{Origins, Shape, place_at}
-use Rattle.model.specs.Holdings.{PlaceSet}
+use Rattle.model.specs.Definitions.Holdings.{PlaceSet}
 use Rattle.holdings.specs.Inner.Held.{links_in}
 use Rattle.space.specs.Entries.{narrowed, status_of}
 use Rattle.holdings.specs.Inner.Sound.{AreLoose}

@@ -14,12 +14,12 @@ use Rattle.space.specs.Shards.{word_count, spaces_of, bits_of, entry_at, is_take
 use Rattle.space.proofs.Places.{same_self, same_or_apart}
 use Rattle.maptree.specs.Origins.{Shape, Origins, origin_in}
 use Rattle.maptree.specs.Renamings.{replaced_by, all_renamed, StayApart}
-use Rattle.model.specs.Holdings.{Held, Holdings, at}
-use Rattle.model.specs.Calls.{Limits}
-use Rattle.model.specs.Lawful.{is_lawful}
-use Rattle.model.specs.Items.{Pair, sources_of}
-use Rattle.model.specs.Grant.{target_of, moved_to, moved, renamed}
-use Rattle.model.specs.SendLaws.{In}
+use Rattle.model.specs.Definitions.Holdings.{Held, Holdings, at}
+use Rattle.model.specs.Definitions.Calls.{Limits}
+use Rattle.model.specs.Definitions.Lawful.{is_lawful}
+use Rattle.model.specs.Definitions.Items.{Pair, sources_of}
+use Rattle.model.specs.Definitions.Grant.{target_of, moved_to, moved, renamed}
+use Rattle.model.specs.Laws.SendLaws.{In}
 use Rattle.model.proofs.Jobs.{ArePaired}
 use Rattle.model.proofs.LawfulParts.{IsLawful, lawful_parts, lawful_from}
 use Rattle.model.proofs.Puts.{apart_places}

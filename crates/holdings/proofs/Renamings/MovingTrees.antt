@@ -18,11 +18,11 @@ use Rattle.space.specs.Shards.{entry_at}
 use Rattle.space.proofs.Places.{same_self, same_or_apart, apart_back}
 use Rattle.maptree.specs.Origins.{Shape, Origins}
 use Rattle.maptree.specs.Renamings.{replaced_by, all_renamed, StayApart}
-use Rattle.model.specs.Holdings.{Holdings, at, is_held}
-use Rattle.model.specs.Calls.{Limits}
-use Rattle.model.specs.Items.{Pair, sources_of}
-use Rattle.model.specs.Grant.{target_of, moved_to, renamed}
-use Rattle.model.specs.SendLaws.{In}
+use Rattle.model.specs.Definitions.Holdings.{Holdings, at, is_held}
+use Rattle.model.specs.Definitions.Calls.{Limits}
+use Rattle.model.specs.Definitions.Items.{Pair, sources_of}
+use Rattle.model.specs.Definitions.Grant.{target_of, moved_to, renamed}
+use Rattle.model.specs.Laws.SendLaws.{In}
 use Rattle.model.proofs.Jobs as job
 use Rattle.model.proofs.Renames.{moved_cases}
 use Rattle.holdings.specs.declared.link.Link.{Link}

@@ -17,11 +17,11 @@ use Rattle.space.specs.Shards.{IsPlace, entry_at}
 use Rattle.space.specs.Directory.{pages_of}
 use Rattle.space.proofs.Places.{same_self, same_or_apart, apart_back}
 use Rattle.maptree.specs.Origins.{Shape}
-use Rattle.model.specs.Holdings.{Holdings, at, is_held}
-use Rattle.model.specs.Calls.{Limits}
-use Rattle.model.specs.Items.{Pair, Counts, no_counts, add_counts, counts_of, extends, goes, sources_of}
-use Rattle.model.specs.Grant.{target_of, moved_to}
-use Rattle.model.specs.SendLaws.{In, total}
+use Rattle.model.specs.Definitions.Holdings.{Holdings, at, is_held}
+use Rattle.model.specs.Definitions.Calls.{Limits}
+use Rattle.model.specs.Definitions.Items.{Pair, Counts, no_counts, add_counts, counts_of, extends, goes, sources_of}
+use Rattle.model.specs.Definitions.Grant.{target_of, moved_to}
+use Rattle.model.specs.Laws.SendLaws.{In, total}
 use Rattle.model.proofs.Jobs as job
 use Rattle.model.proofs.Puts.{apart_places}
 use Rattle.model.proofs.Renames.{moved_cases}

@@ -16,10 +16,10 @@ use Rattle.space.specs.Shards.{spaces_of, bits_of, IsPlace, entry_at}
 use Rattle.space.proofs.Places.{same_is, same_self, same_or_apart}
 use Rattle.maptree.specs.Origins.{after_origins as after, Origins, Shape, origin_in, place_at, AreRising, LiesInOne, AreOuterRuns}
 use Rattle.maptree.specs.Cuts.{outside}
-use Rattle.model.specs.Holdings.{Held, only, at, is_held, origin_at}
-use Rattle.model.specs.Derived.{is_below}
-use Rattle.model.specs.Lawful.{is_lawful}
-use Rattle.model.specs.Strip.{strip, strip_word}
+use Rattle.model.specs.Definitions.Holdings.{Held, only, at, is_held, origin_at}
+use Rattle.model.specs.Definitions.Derived.{is_below}
+use Rattle.model.specs.Definitions.Lawful.{is_lawful}
+use Rattle.model.specs.Definitions.Strip.{strip, strip_word}
 use Rattle.model.proofs.LawfulParts.{IsLawful, lawful_parts}
 use Rattle.model.proofs.Chains.{below_within, in_below, origin_is_held}
 use Rattle.model.proofs.Derivations.{below_is_a_chain}
@@ -33,7 +33,7 @@ use Rattle.holdings.specs.Inner.Stripping.{firsts, AreOfFrame, OriginsHaveEntrie
 use Rattle.holdings.specs.Inner.Sound.{AreSound, AreLoose}
 use Rattle.holdings.proofs.Contents.Listing.{within_from_place, place_from_within}
 use Rattle.holdings.specs.Inner.Links.{IsTreeSet}
-use Rattle.model.specs.Records.{are_limits}
+use Rattle.model.specs.Definitions.Records.{are_limits}
 use Rattle.holdings.proofs.Contents.Holders.{same_origins, present_within, origin_within}
 use Rattle.holdings.proofs.Trees.Chains.{chains_agree, stands, at_among, below_among, entry_held, place_at_drop}
 use Rattle.holdings.proofs.Stripping.Walks.{place_any}

@@ -5,16 +5,16 @@ use Rattle.std.proofs.lemmas.Bool.{eq-eqb, or_cases}
 use Rattle.std.proofs.lemmas.List.{take_more}
 use Rattle.std.proofs.lemmas.List.Elements.{All-nil, All-push}
 use Rattle.std.proofs.lemmas.List.Folds.{list_any-append}
-use Rattle.mapnode.proofs.Lists.{take_all}
+use Rattle.space.proofs.Lists.{take_all}
 use Rattle.space.specs.declared.place.Place.{Place}
 use Rattle.space.specs.declared.place.Entry.{Entry}
 use Rattle.space.specs.declared.shards.Shards.{Shards}
 use Rattle.space.specs.Place.{same_place}
 use Rattle.space.specs.Shards.{entry_at}
 use Rattle.space.proofs.Places.{same_is, same_or_apart, same_self, apart_back}
-use Rattle.model.specs.Holdings.{only}
+use Rattle.model.specs.Definitions.Holdings.{only}
 use Rattle.holdings.specs.declared.pages.HeldPage.{HeldPage}
-use Rattle.model.specs.Calls.{Limits}
+use Rattle.model.specs.Definitions.Calls.{Limits}
 use Rattle.holdings.specs.Places.{IsWithin, any_of}
 use Rattle.holdings.specs.Inner.Held.{is_place, has_frame, has_entry}
 use Rattle.holdings.specs.Inner.Stripping.{HasItsFrame, AreHeldPages}

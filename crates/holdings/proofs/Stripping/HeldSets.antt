@@ -2,8 +2,8 @@
 use Rattle.std.proofs.Common.{◌≡◌, true, Bool, ap, ◌∙◌}
 use Rattle.fpage.specs.declared.rights.Rights.{Rights}
 use Rattle.space.specs.declared.place.Place.{Place}
-use Rattle.model.specs.Holdings.{PlaceSet, is_held}
-use Rattle.model.specs.Lawful.{is_lawful}
+use Rattle.model.specs.Definitions.Holdings.{PlaceSet, is_held}
+use Rattle.model.specs.Definitions.Lawful.{is_lawful}
 use Rattle.model.proofs.LawfulParts.{lawful_parts}
 use Rattle.model.proofs.StripUnions.{word_same, strip_same}
 use Rattle.holdings.specs.Contents.{Contents, IsStripped, left_with}

@@ -4,9 +4,9 @@ use Rattle.std.proofs.lemmas.Bool.{and_parts, false_from_ne_true}
 use Rattle.fpage.specs.declared.rights.Rights.{Rights}
 use Rattle.fpage.proofs.Truth.{same_truth}
 use Rattle.space.specs.declared.place.Place.{Place}
-use Rattle.model.specs.Holdings.{Holdings, PlaceSet, is_held}
-use Rattle.model.specs.Derived.{is_under, is_below}
-use Rattle.model.specs.Strip.{strip, strip_word, is_narrowed}
+use Rattle.model.specs.Definitions.Holdings.{Holdings, PlaceSet, is_held}
+use Rattle.model.specs.Definitions.Derived.{is_under, is_below}
+use Rattle.model.specs.Definitions.Strip.{strip, strip_word, is_narrowed}
 use Rattle.model.proofs.LawfulParts.{IsLawful}
 use Rattle.model.proofs.Chains.{in_below, under_within, below_within, under_same, below_same}
 use Rattle.model.proofs.StripUnions.{word_alike, strip_alike}

@@ -11,8 +11,8 @@ use Rattle.space.specs.Place.{same_place}
 use Rattle.space.specs.Shards.{IsLaidOutAs}
 use Rattle.space.proofs.Places.{same_or_apart, apart_back}
 use Rattle.maptree.specs.Origins.{Shape, AreRising}
-use Rattle.model.specs.Holdings.{only}
-use Rattle.model.specs.Strip.{strip, strip_word}
+use Rattle.model.specs.Definitions.Holdings.{only}
+use Rattle.model.specs.Definitions.Strip.{strip, strip_word}
 use Rattle.model.proofs.LawfulParts.{IsLawful, lawful_parts}
 use Rattle.model.proofs.Chains.{below_empty}
 use Rattle.model.proofs.StripUnions.{strip_nothing, word_nothing}

@@ -16,9 +16,9 @@ use Rattle.space.specs.Place.{same_place}
 use Rattle.space.specs.Shards.{spaces_of, bits_of, IsPlace, IsSetAt, IsLaidOutAs, entry_at, is_taken}
 use Rattle.space.proofs.Places.{same_is, same_self, same_or_apart, apart_back}
 use Rattle.maptree.specs.Origins.{Origins, Shape, origin_in, place_at, IsRun}
-use Rattle.model.specs.Holdings.{Held, Holdings, PlaceSet, only, at, is_held, origin_at, each}
-use Rattle.model.specs.Derived.{is_under, is_below}
-use Rattle.model.specs.Strip.{rights_left, left_of, status_over, strip_word, strip, is_narrowed}
+use Rattle.model.specs.Definitions.Holdings.{Held, Holdings, PlaceSet, only, at, is_held, origin_at, each}
+use Rattle.model.specs.Definitions.Derived.{is_under, is_below}
+use Rattle.model.specs.Definitions.Strip.{rights_left, left_of, status_over, strip_word, strip, is_narrowed}
 use Rattle.model.proofs.Lookups.{changed}
 use Rattle.model.proofs.LawfulParts.{IsLawful, lawful_parts, lawful_from}
 use Rattle.model.proofs.Chains.{below_unheld, under_self}
@@ -27,11 +27,11 @@ use Rattle.model.proofs.StripAt.{lawful_strip}
 use Rattle.model.proofs.StripUnions.{word_nothing}
 use Rattle.model.proofs.Narrowings.{narrowed_to}
 use Rattle.model.proofs.Clearings.{clear, clearing, clearing_outside}
-use Rattle.model.specs.Recursion.{Visited}
+use Rattle.model.specs.Definitions.Recursion.{Visited}
 use Rattle.std.specs.Option.{is_some}
 use Rattle.model.proofs.Recursions.{passing, passed_is}
-use Rattle.model.specs.Lawful.{is_lawful}
-use Rattle.model.specs.Records.{are_limits}
+use Rattle.model.specs.Definitions.Lawful.{is_lawful}
+use Rattle.model.specs.Definitions.Records.{are_limits}
 use Rattle.std.proofs.lemmas.Option.{same_Some}
 use Rattle.maptree.proofs.Listed.{listed_at}
 use Rattle.holdings.specs.Places.{IsWithin}

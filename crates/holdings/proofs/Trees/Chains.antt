@@ -15,9 +15,9 @@ use Rattle.space.proofs.Places.{same_is, same_self, same_or_apart}
 use Rattle.maptree.specs.Origins as tree
 use Rattle.maptree.specs.Origins.{Origins, Shape, origin_in, place_at, LeadsTo, IsRun}
 use Rattle.maptree.proofs.Listed.{listed_at}
-use Rattle.model.specs.Holdings.{Held, only, at, origin_at}
-use Rattle.model.specs.Derived.{is_below}
-use Rattle.model.specs.DerivationLaws.{after_origins, LeadsInto}
+use Rattle.model.specs.Definitions.Holdings.{Held, only, at, origin_at}
+use Rattle.model.specs.Definitions.Derived.{is_below}
+use Rattle.model.specs.Laws.DerivationLaws.{after_origins, LeadsInto}
 use Rattle.model.proofs.LawfulParts.{IsLawful, lawful_parts}
 use Rattle.model.proofs.Chains.{held_with_origin}
 use Rattle.model.proofs.Derivations.{below_is_a_chain}

@@ -9,10 +9,10 @@ use Rattle.std.proofs.lemmas.Bool.{and_from, and_parts, not-true}
 use Rattle.std.specs.declared.ops.Range.{Range}
 use Rattle.space.specs.declared.place.Place.{Place}
 use Rattle.space.specs.declared.shards.Shards.{Shards}
-use Rattle.mapnode.specs.declared.node.Node.{Node}
-use Rattle.mapnode.specs.declared.slice.Slice.{Slice}
+use Rattle.space.specs.declared.node.Node.{Node}
+use Rattle.space.specs.declared.slice.Slice.{Slice}
 use Rattle.maptree.specs.Origins.{Origins, Shape, place_at, AreRising}
-use Rattle.mapnode.specs.Slices.{pieces, nodes_of}
+use Rattle.space.specs.Slices.{pieces, nodes_of}
 use Rattle.maptree.specs.Cuts.{outside, pieces_of, places_of, kept_of, IsCut, AreKept}
 use Rattle.holdings.specs.Inner.Held.{has_entry}
 use Rattle.maptree.proofs.Cuttings.{take_more as take_further}

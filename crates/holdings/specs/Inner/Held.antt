@@ -9,8 +9,8 @@ use Rattle.space.specs.declared.place.Entry.{Entry}
 use Rattle.space.specs.declared.place.Place.{Place}
 use Rattle.space.specs.declared.shards.Shards.{Shards}
 use Rattle.maptree.specs.Origins.{Origins, Shape, origin_in}
-use Rattle.model.specs.Calls.{Limits}
-use Rattle.model.specs.Holdings.{Held, Holdings, keep}
+use Rattle.model.specs.Definitions.Calls.{Limits}
+use Rattle.model.specs.Definitions.Holdings.{Held, Holdings, keep}
 use Rattle.holdings.specs.Contents.{Contents}
 use Rattle.holdings.specs.Inner.Derivation.{stands_in}
 use Rattle.holdings.specs.Layout.{Layout, layout_of}

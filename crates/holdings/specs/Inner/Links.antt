@@ -10,7 +10,7 @@ use Rattle.space.specs.declared.place.Place.{Place}
 use Rattle.space.specs.declared.shards.Shards.{Shards}
 use Rattle.space.specs.Entries as word
 use Rattle.maptree.specs.Origins.{Origins, Shape, origin_in}
-use Rattle.model.specs.Items.{counts_of, Counts, goes}
+use Rattle.model.specs.Definitions.Items.{counts_of, Counts, goes}
 use Rattle.holdings.specs.Inner.Derivation.{IsDerived}
 use Rattle.holdings.specs.Inner.Held.{links_in, is_listed}
 use Rattle.holdings.specs.Sending.{fate_in}

@@ -5,7 +5,7 @@ use Rattle.fpage.specs.declared.item.ItemKind.{ItemKind}
 use Rattle.space.specs.Place.{same_place}
 use Rattle.space.specs.declared.place.Place.{Place}
 use Rattle.maptree.specs.Origins.{Origins, origin_in, LeadsTo}
-use Rattle.model.specs.Items.{is_map}
+use Rattle.model.specs.Definitions.Items.{is_map}
 use Rattle.holdings.specs.declared.outcome.Outcome.{Outcome}
 use Rattle.holdings.specs.declared.outcome.Outcome.TheVariants as outcome
 

@@ -7,12 +7,12 @@ use Rattle.fpage.specs.declared.rights.Rights.{Rights}
 use Rattle.space.specs.declared.place.Place.{Place}
 use Rattle.space.specs.declared.shards.Shards.{Shards}
 use Rattle.space.specs.Shards.{HasWord}
-use Rattle.mapnode.specs.Slices.{pieces}
+use Rattle.space.specs.Slices.{pieces}
 use Rattle.maptree.specs.Origins.{Shape}
-use Rattle.model.specs.Calls.{Limits}
-use Rattle.model.specs.Grant.{renamed}
-use Rattle.model.specs.Holdings.{PlaceSet, Holdings}
-use Rattle.model.specs.Strip.{strip, strip_word}
+use Rattle.model.specs.Definitions.Calls.{Limits}
+use Rattle.model.specs.Definitions.Grant.{renamed}
+use Rattle.model.specs.Definitions.Holdings.{PlaceSet, Holdings}
+use Rattle.model.specs.Definitions.Strip.{strip, strip_word}
 use Rattle.pieces.specs.Applied.{worked}
 use Rattle.pieces.specs.Gathering.{union_of}
 use Rattle.pieces.specs.Phases.{CanBeWorked, IsPiece}

@@ -7,10 +7,10 @@ use Rattle.space.specs.declared.place.Place.{Place}
 use Rattle.space.specs.declared.shards.Shards.{Shards}
 use Rattle.space.specs.Place.{same_place}
 use Rattle.space.specs.Shards.{index_of}
-use Rattle.mapnode.specs.declared.node.Node.{Node}
+use Rattle.space.specs.declared.node.Node.{Node}
 use Rattle.maptree.specs.Origins.{Shape, IsRun, place_at}
-use Rattle.model.specs.Derived.{is_below}
-use Rattle.model.specs.Holdings.{PlaceSet, is_held}
+use Rattle.model.specs.Definitions.Derived.{is_below}
+use Rattle.model.specs.Definitions.Holdings.{PlaceSet, is_held}
 use Rattle.pieces.specs.Contents.{StripContent}
 use Rattle.maptree.specs.Origins.{IsOriginAt}
 use Rattle.holdings.specs.Inner.Held.{links_in, holdings_in, has_entry}
@@ -21,7 +21,7 @@ use Rattle.pieces.specs.declared.link.Store.{Store}
 use Rattle.pieces.specs.declared.moving.Pair.{Pair}
 use Rattle.holdings.specs.Places.{any_of}
 use Rattle.holdings.specs.Sending.{fate_in}
-use Rattle.model.specs.Items.{Counts, no_counts, add_counts, counts_of}
+use Rattle.model.specs.Definitions.Items.{Counts, no_counts, add_counts, counts_of}
 use Rattle.pieces.specs.Masks.{masks_of}
 
 -- the strip of a part of a run, whose first node may be spared; its status goes to the origin of the run

@@ -9,7 +9,7 @@ use Rattle.space.specs.declared.place.Place.{Place}
 use Rattle.space.specs.declared.shards.Shards.{Shards}
 use Rattle.maptree.specs.Origins.{Shape}
 use Rattle.maptree.specs.Renamings.{all_renamed, StayApart}
-use Rattle.model.specs.Items.{counts_of, Counts, goes}
+use Rattle.model.specs.Definitions.Items.{counts_of, Counts, goes}
 use Rattle.holdings.specs.Inner.Held.{links_in, is_listed}
 use Rattle.holdings.specs.Inner.Links.{last_target}
 use Rattle.holdings.specs.declared.link.Link.{Link}

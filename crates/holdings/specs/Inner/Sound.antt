@@ -5,9 +5,9 @@ use Rattle.space.specs.declared.place.Entry.{Entry}
 use Rattle.space.specs.declared.place.Place.{Place}
 use Rattle.space.specs.declared.shards.Shards.{Shards}
 use Rattle.maptree.specs.Origins.{Shape}
-use Rattle.model.specs.Calls.{Limits}
-use Rattle.model.specs.Lawful.{is_lawful}
-use Rattle.model.specs.Records.{are_limits}
+use Rattle.model.specs.Definitions.Calls.{Limits}
+use Rattle.model.specs.Definitions.Lawful.{is_lawful}
+use Rattle.model.specs.Definitions.Records.{are_limits}
 use Rattle.holdings.specs.Inner.Held.{is_place, is_listed, has_frame, holdings_of, limits_in, holdings_in}
 use Rattle.holdings.specs.Places.{IsWithin}
 

@@ -9,9 +9,9 @@ use Rattle.space.specs.Shards.{IsPlace}
 use Rattle.holdings.specs.Inner.Words.{IsThere}
 use Rattle.maptree.specs.Origins.{Origins, Shape, AreOuterRuns, AreRising, IsRun, are_once}
 use Rattle.maptree.specs.Cuts.{outside, kept_of}
-use Rattle.mapnode.specs.declared.node.Node.{Node}
-use Rattle.model.specs.Derived.{is_below}
-use Rattle.model.specs.Holdings.{PlaceSet, is_held}
+use Rattle.space.specs.declared.node.Node.{Node}
+use Rattle.model.specs.Definitions.Derived.{is_below}
+use Rattle.model.specs.Definitions.Holdings.{PlaceSet, is_held}
 use Rattle.pieces.specs.Phases.{IsPiece}
 use Rattle.pieces.specs.declared.piece.Piece.{Piece}
 use Rattle.pieces.specs.declared.piece.Piece.TheVariants as piece

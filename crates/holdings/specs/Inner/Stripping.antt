@@ -8,7 +8,7 @@ use Rattle.space.specs.declared.place.Entry.{Entry}
 use Rattle.space.specs.declared.place.Place.{Place}
 use Rattle.space.specs.declared.shards.Shards.{Shards}
 use Rattle.maptree.specs.Origins.{Origins, Shape, origin_in, place_at}
-use Rattle.model.specs.Holdings.{PlaceSet}
+use Rattle.model.specs.Definitions.Holdings.{PlaceSet}
 use Rattle.holdings.specs.Inner.Held.{is_place, has_entry, has_frame, limits_in}
 use Rattle.holdings.specs.Places.{any_of}
 use Rattle.holdings.specs.declared.pages.HeldPage.{HeldPage}

@@ -5,16 +5,15 @@ ghost use Rattle.std.specs.List.{All, list_all, list_any};
 ghost use Rattle.space.specs.declared.place.Place.{Place};
 ghost use Rattle.space.specs.Place.{same_place};
 ghost use Rattle.maptree.specs.Origins.{origin_in, AreRising, IsRun};
-ghost use Rattle.mapnode.specs.Slices.{nodes_of};
+ghost use Rattle.space.specs.Slices.{nodes_of};
 ghost use Rattle.maptree.specs.Cuts.{kept_of, IsCut};
 
 use super::cases::{BETWEEN, CASES, Case, SAMPLE, case_of};
 use super::lists::{assert_parts, assert_runs, assert_tree, place_of, places_of, tree_of};
 use super::{place, sample};
 use crate::assertions::assert_equal;
-use mapnode::{Node, Slice};
 use maptree::Tree;
-use space::{NoMemory, Place};
+use space::{NoMemory, Node, Place, Slice};
 use std::alloc::{AllocError, Global};
 use std::ops::Range;
 use std::process::Abort;

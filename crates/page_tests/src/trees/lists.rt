@@ -5,9 +5,8 @@ ghost use Rattle.std.specs.Prelude.{◌≡◌, ◌<◌, ◌+◌, IfOk, length};
 
 use super::{position, put_below};
 use crate::assertions::assert_equal;
-use mapnode::{Node, Slice};
 use maptree::Tree;
-use space::{NoMemory, Place};
+use space::{NoMemory, Node, Place, Slice};
 use std::alloc::{AllocError, Global};
 use std::ops::Range;
 use std::process::Abort;

@@ -3,7 +3,7 @@ use Rattle.std.proofs.Common.{◌≡◌, false, Option, Some, None, is_some, ◌
 use Rattle.std.proofs.lemmas.List.{append-nil}
 use Rattle.std.proofs.lemmas.Grind.{flat_map-append}
 use Rattle.std.specs.Prelude.{MatchOption}
-use Rattle.model.specs.Holdings.{Holdings}
+use Rattle.model.specs.Definitions.Holdings.{Holdings}
 use Rattle.mapdb.specs.Held.{Mapping, held_from}
 use Rattle.holdings.proofs.Contents.FromPages.{from_space, all_spaces, one_space}
 use Rattle.audit.proofs.audit.held_spaces.Goals.{then-is_some+in_ok-push, else-is_some}

@@ -1,7 +1,7 @@
 -- Whether all are lawful is decided by the lines to come.
 use Rattle.std.proofs.Common.{◌≡◌, drop, map}
 use Rattle.std.specs.List.{list_all}
-use Rattle.model.specs.Lawful.{is_lawful_at}
+use Rattle.model.specs.Definitions.Lawful.{is_lawful_at}
 use Rattle.mapdb.specs.Held.{mapped_of}
 use Rattle.audit.proofs.checker.are_lawful.Given as goal
 

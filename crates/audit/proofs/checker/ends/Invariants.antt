@@ -1,6 +1,6 @@
 -- Whether the chain ends is decided by the origins to come.
 use Rattle.std.proofs.Common.{◌≡◌, ◌-◌, length, map}
-use Rattle.model.specs.Lawful.{ends}
+use Rattle.model.specs.Definitions.Lawful.{ends}
 use Rattle.mapdb.specs.Held.{mapped_of}
 use Rattle.audit.proofs.checker.ends.Given as goal
 

@@ -3,7 +3,7 @@ use Rattle.std.proofs.Common.{◌≡◌, ◌*◌, ◌/◌, ◌%◌, false, [], �
 use Rattle.std.proofs.lemmas.List.Elements.{All-cons}
 use Rattle.fpage.specs.declared.rights.Access.{Access}
 use Rattle.space.specs.declared.place.Place.{Place}
-use Rattle.model.specs.Calls.{Limits}
+use Rattle.model.specs.Definitions.Calls.{Limits}
 use Rattle.mapdb.specs.Held.{IsWithin}
 use Rattle.mapdb.specs.State.{State}
 use Rattle.c_handle.proofs.Pages.{page_within, shifted}
@@ -18,7 +18,7 @@ answer_access-requires c =
     let same_spaces = ap (λ (l : Limits). l.spaces) c.limits-limits.ensures.limits in
     let are = served s.limits (c.limits-limits.ensures.served runs) in
     let all = ap (λ b. 1 * 2 ^ b % 2 ^ 64) same_bits ∙ shifted s.limits.bits are.high in
-    let below : c.args.address < 2 ^ s.limits.bits = omega (arith, all, c.from-2.ensures, c.if-from-limits-2.false) in
-    let there : c.args.space < s.limits.spaces = omega (arith, same_spaces, c.from.ensures, c.if-from-limits.false) in
-    let within : IsWithin s.limits (record { space = c.args.space; page = c.args.address / 4096 }) = record { space = there; page = page_within s.limits.bits c.args.address are.low below } in
+    let below : c.args.asked.address < 2 ^ s.limits.bits = omega (arith, all, c.from-2.ensures, c.if-from-limits-2.false) in
+    let there : c.args.asked.space < s.limits.spaces = omega (arith, same_spaces, c.from.ensures, c.if-from-limits.false) in
+    let within : IsWithin s.limits (record { space = c.args.asked.space; page = c.args.asked.address / 4096 }) = record { space = there; page = page_within s.limits.bits c.args.asked.address are.low below } in
     record { within = within }

@@ -1,8 +1,8 @@
 -- A database that is not halted refuses nothing.
 use Rattle.std.proofs.Common.{◌≡◌, ◌-◌, ◌^◌, ◌≤◌, Err, true, ap, arith, pow_mono}
 use Rattle.space.specs.Directory.{pages_of}
-use Rattle.model.specs.Calls.{Limits}
-use Rattle.model.specs.Records.{are_limits}
+use Rattle.model.specs.Definitions.Calls.{Limits}
+use Rattle.model.specs.Definitions.Records.{are_limits}
 use Rattle.c_handle.proofs.Served.{served}
 use Rattle.c_handle.proofs.mappings.next_page.Goals as goal
 

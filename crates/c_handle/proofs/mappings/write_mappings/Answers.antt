@@ -1,7 +1,7 @@
 -- Space after space, until the last.
 use Rattle.std.proofs.Common.{◌≡◌, ◌≤◌, ◌<◌, List, [], sym, ap, ◌∙◌, subst, arith}
-use Rattle.model.specs.Calls.{Limits}
-use Rattle.model.specs.Holdings.{at}
+use Rattle.model.specs.Definitions.Calls.{Limits}
+use Rattle.model.specs.Definitions.Holdings.{at}
 use Rattle.space.specs.Directory.{pages_of}
 use Rattle.mapdb.specs.State.{State}
 use Rattle.c_handle.specs.Listed.{mappings_at, IsWritten}

@@ -1,7 +1,7 @@
 -- the mappings of the spaces so far are written, as far as there is room
 use Rattle.std.proofs.Common.{◌≤◌, length}
 use Rattle.space.specs.Directory.{pages_of}
-use Rattle.model.specs.Holdings.{at}
+use Rattle.model.specs.Definitions.Holdings.{at}
 use Rattle.c_handle.specs.Listed.{mappings_at, WritesBehind}
 use Rattle.c_handle.proofs.Found.{places_to}
 use Rattle.c_handle.proofs.mappings.write_mappings.Given as goal

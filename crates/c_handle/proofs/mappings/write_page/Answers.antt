@@ -1,5 +1,5 @@
 -- What stands behind the others is the mapping of the page, or nothing.
-use Rattle.model.specs.Holdings.{at}
+use Rattle.model.specs.Definitions.Holdings.{at}
 use Rattle.c_handle.proofs.Found.{page_none, page_some}
 use Rattle.c_handle.proofs.mappings.write_page.Goals as goal
 

@@ -2,7 +2,7 @@
 use Rattle.std.proofs.Common.{◌≡◌, ◌+◌, ◌-◌, ◌<◌, ◌≤◌, [], ◌∷◌, subst, arith}
 use Rattle.space.specs.Directory.{pages_of}
 use Rattle.space.specs.declared.place.Place.{Place}
-use Rattle.model.specs.Holdings.{at}
+use Rattle.model.specs.Definitions.Holdings.{at}
 use Rattle.mapdb.specs.State.{State}
 use Rattle.c_handle.specs.Listed.{mappings_at, WritesBehind}
 use Rattle.c_handle.proofs.Found.{space_more, space_gap, space_full, space_end}

@@ -1,7 +1,7 @@
 -- The mappings of the pages before one are behind the others, as far as there is room.
 use Rattle.std.proofs.Common.{◌≡◌, ◌-◌, ◌<◌, ◌≤◌, length}
 use Rattle.space.specs.Directory.{pages_of}
-use Rattle.model.specs.Holdings.{at}
+use Rattle.model.specs.Definitions.Holdings.{at}
 use Rattle.mapdb.specs.Held.{pages_from}
 use Rattle.c_handle.specs.Listed.{mappings_at, WritesBehind}
 use Rattle.c_handle.proofs.mappings.write_space.Given as goal

@@ -18,7 +18,7 @@ loop-turn-preserved c =
     let front = c.loop-turn.yielded in let t = c.in-Some.turn in let all = c.args.turns.items in
     let road = YieldsList-from_vec all (search rules) (search rules) in
     let here = YieldsList-turn road front c.loop-turn.turn-iterator c.loop-turn.yielded_by c.next.result c.next.new.self t c.in-Some.is c.next.ensures.steps in
-    let of : t.sheet ≡ s = (subst (IsFresh s) (sym here.1) (c.requires.fresh (length front) t here.0)).0 in
+    let of : t.shared ≡ s = (subst (IsFresh s) (sym here.1) (c.requires.fresh (length front) t here.0)).0 in
     record {
       ended = subst (All (IsEnded s)) (sym pushed) (All-push (IsEnded s) before turn c.loop-turn.invariant.ended (c.step_to_end.ensures.same.0 ∙ of, c.step_to_end.ensures.ended));
       numbers = ap numbers_of pushed ∙ map-append (λ (t : PostContent). t.number) before (turn ∷ []) ∙ ap (λ n. numbers_of before ++ n ∷ []) c.step_to_end.ensures.same.1

@@ -1,6 +1,6 @@
--- The claims so far are taken back.
+-- The passes so far are taken back.
 use Rattle.crew.specs.Crews.{AreTakenBack}
 use Rattle.crew.proofs.settling.take_back.Given as goal
 
-abbrev pub invariant-loop-claim : goal.invariant-loop-claim
-invariant-loop-claim g l = AreTakenBack l.initial.owns l.yielded l.owns
+abbrev pub invariant-loop-pass : goal.invariant-loop-pass
+invariant-loop-pass g l = AreTakenBack l.initial.owns l.yielded l.owns

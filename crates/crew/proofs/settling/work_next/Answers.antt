@@ -5,12 +5,12 @@ use Rattle.turns.specs.Closing.{numbers_of}
 use Rattle.crew.specs.Crews.{IsEnded}
 use Rattle.crew.specs.Hands.{weigh}
 use Rattle.crew.specs.declared.hand.Hand.{Hand}
-use Rattle.crew.proofs.Lots.{one_more, weigh_more}
+use Rattle.crew.proofs.WorkerSums.{one_more, weigh_more}
 use Rattle.crew.proofs.settling.work_next.Goals as goal
 
 pub returns-clause-ended : goal.returns-clause-ended
 returns-clause-ended g c =
-    let s = g.N.Which.sheet in let turns = c.args.turns.now.items in let t = c.work-turn.result in
+    let s = g.N.Which.shared in let turns = c.args.turns.now.items in let t = c.work-turn.result in
     subst (All (IsEnded s)) (sym (c.push_reserved.ensures.items ∙ ap (λ ts. ts ++ t ∷ []) c.in_ok-reserve.ensures.items)) (All-push (IsEnded s) turns t c.requires c.work-turn.ensures.ended)
 
 pub returns-clause-sums : goal.returns-clause-sums

@@ -2,4 +2,4 @@
 use Rattle.crew.proofs.shared.work_shared.Given as goal
 
 abbrev pub ghosts-work_turns : goal.ghosts-work_turns
-ghosts-work_turns g a = record { sheet = a.shared.now }
+ghosts-work_turns g a = record { shared = a.shared.now }

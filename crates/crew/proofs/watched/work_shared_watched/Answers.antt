@@ -25,15 +25,15 @@ work_turns_watched-requires-clause-each g c =
 pub close-requires-clause-watchers : goal.close-requires-clause-watchers
 close-requires-clause-watchers g c =
     let s = c.in_ok-shared.shared in
-    let first : WatcherContent = record { sheet = s; number = 0; notes = [] } in
+    let first : WatcherContent = record { shared = s; number = 0; notes = [] } in
     let only = only_one c.in_ok-shared.watchers.items c.pop.new.self.items first c.in-Some.watcher c.in_ok-shared.ensures.watchers (c.pop.ensures.items ∙ ap (λ x. c.pop.new.self.items ++ option_to_list x) c.in-Some.is) in
     let pushed = c.push_reserved.ensures.items ∙ ap (λ ws. ws ++ c.in_ok-turns.watcher ∷ []) only.none in
-    subst (All (λ (w : WatcherContent). w.sheet ≡ s)) (sym pushed) (All-cons (λ (w : WatcherContent). w.sheet ≡ s) c.in_ok-turns.watcher [] (c.in_ok-turns.ensures.watcher.0 ∙ ap (λ (w : WatcherContent). w.sheet) only.same) (λ k d less. absurd (omega (arith, less))))
+    subst (All (λ (w : WatcherContent). w.shared ≡ s)) (sym pushed) (All-cons (λ (w : WatcherContent). w.shared ≡ s) c.in_ok-turns.watcher [] (c.in_ok-turns.ensures.watcher.0 ∙ ap (λ (w : WatcherContent). w.shared) only.same) (λ k d less. absurd (omega (arith, less))))
 
 pub unreachable-requires-in-Err : goal.unreachable-requires-in-Err
 unreachable-requires-in-Err g c =
     let s = c.in_ok-shared.shared in let ended = c.in_ok-turns.turns.items in
-    let first : WatcherContent = record { sheet = s; number = 0; notes = [] } in
+    let first : WatcherContent = record { shared = s; number = 0; notes = [] } in
     let only = only_one c.in_ok-shared.watchers.items c.pop.new.self.items first c.in-Some.watcher c.in_ok-shared.ensures.watchers (c.pop.ensures.items ∙ ap (λ x. c.pop.new.self.items ++ option_to_list x) c.in-Some.is) in
     let numbers = ap numbers_of c.in_ok-shared.ensures.turns ∙ numbers_new s (length c.args.pieces.items) ∙ ap (λ ps. range_with_len 0 (length ps)) (sym c.in_ok-shared.ensures.pieces) in
     ⊎_elim (none_wanting s ended (all_there s ended (λ h. c.in_ok-turns.ensures.sums h ∙ ap (weigh h) numbers)))

@@ -2,4 +2,4 @@
 use Rattle.crew.proofs.watched.work_shared_watched.Given as goal
 
 abbrev pub ghosts-work_turns_watched : goal.ghosts-work_turns_watched
-ghosts-work_turns_watched g a = record { sheet = a.shared.now }
+ghosts-work_turns_watched g a = record { shared = a.shared.now }

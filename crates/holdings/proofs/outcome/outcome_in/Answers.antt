@@ -5,7 +5,7 @@ use Rattle.std.specs.Option.{option_map_or}
 use Rattle.fpage.specs.declared.item.ItemKind.{ItemKind}
 use Rattle.space.specs.declared.place.Place.{Place}
 use Rattle.maptree.specs.Origins.{Origins, origin_in}
-use Rattle.model.specs.Items.{is_map}
+use Rattle.model.specs.Definitions.Items.{is_map}
 use Rattle.maptree.specs.Origins.{IsOriginAt}
 use Rattle.space.specs.Place.{same_place}
 use Rattle.maptree.proofs.Found.{some_found, found_at}

@@ -64,7 +64,7 @@ add_run-requires-clause-words c =
     let run : Range ℕ = get_or c.as_slice-run-items.result.now c.loop-run.run-index (record { start = 0; end = 0 }) in
     let links = links_read trees f c.index-trees-frame.result c.requires.runs.frame c.index-trees-frame.is in
     subst (λ os. HaveWords s c.at-origin.result (pages_of os run.start run.end)) links
-    (run_has_words s trees c.requires.sound f run c.at-origin.result (run_of ((goal.at.add_run-requires-clause-words c).After-at-origin)) (once_in _ _ links c.places_are_distinct.ensures))
+    (run_has_words s trees c.requires.sound f run c.at-origin.result (run_of ((goal.at.add_run-requires-clause-words c).After-at-origin)) (once_in _ _ links c.learn_places_are_distinct.ensures))
 
 pub loop-run-preserved : goal.loop-run-preserved
 loop-run-preserved c =
@@ -80,4 +80,4 @@ loop-run-preserved c =
     let grown : take (k + 1) read ≡ take k read ++ run ∷ [] = take_more read k (record { start = 0; end = 0 }) c.loop-run-test.true in
     subst (λ rs. AreAdded s trees c.args.revoked c.args.flush f rs c.args.pieces.now.items c.add_run.new.pieces.items) (sym grown)
     (one_added s trees c.args.revoked c.args.flush f (take k read) c.args.pieces.now.items c.loop-run.pieces.items c.add_run.new.pieces.items c.loop-run.invariant run origin
-    (run_of ((goal.at.loop-run-preserved c).After-at-origin)) (once_in _ _ links c.places_are_distinct.ensures) added)
+    (run_of ((goal.at.loop-run-preserved c).After-at-origin)) (once_in _ _ links c.learn_places_are_distinct.ensures) added)

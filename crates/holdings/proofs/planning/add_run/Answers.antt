@@ -5,7 +5,7 @@ use Rattle.std.proofs.lemmas.List.{length-map}
 use Rattle.space.specs.declared.shards.Shards.{Shards}
 use Rattle.space.specs.Shards.{index_of}
 use Rattle.holdings.specs.Inner.Words.{IsThere}
-use Rattle.mapnode.specs.declared.node.Node.{Node}
+use Rattle.space.specs.declared.node.Node.{Node}
 use Rattle.pieces.specs.Contents.{is_fold_apart}
 use Rattle.pieces.specs.Distinct.{are_distinct}
 use Rattle.pieces.specs.Masks.{masks_of}

@@ -45,5 +45,5 @@ returns c =
       planned = planned.planned;
       strip = strip_planned s trees c.requires.sound (any_of c.args.places.now) pages fs planned.plans c.in_ok-pages.ensures.held groups planned.planned;
       pieces_are = planned.items;
-      pieces = subst (All IsPiece) c.deref-3.ensures.value c.are_pieces.ensures;
+      pieces = subst (All IsPiece) c.deref-3.ensures.value c.learn_are_pieces.ensures;
     }

@@ -1,6 +1,6 @@
 -- One slice more.
 use Rattle.std.proofs.Common.{◌+◌, take, sym, ap, ◌∙◌}
-use Rattle.mapnode.specs.Slices.{nodes_of}
+use Rattle.space.specs.Slices.{nodes_of}
 use Rattle.maptree.specs.Cuts.{count_of}
 use Rattle.holdings.proofs.Planned.AllKept.{slices_more}
 use Rattle.holdings.proofs.prune.count_in_slices.Goals as goal

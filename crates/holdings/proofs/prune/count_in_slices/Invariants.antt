@@ -1,6 +1,6 @@
 -- The nodes of the slices so far.
 use Rattle.std.proofs.Common.{◌≡◌, take}
-use Rattle.mapnode.specs.Slices.{nodes_of}
+use Rattle.space.specs.Slices.{nodes_of}
 use Rattle.maptree.specs.Cuts.{count_of}
 use Rattle.holdings.proofs.prune.count_in_slices.Given as goal
 

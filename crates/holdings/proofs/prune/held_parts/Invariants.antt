@@ -1,6 +1,6 @@
 -- The parts so far.
 use Rattle.std.proofs.Common.{◌≡◌, take}
-use Rattle.mapnode.specs.Slices.{nodes_of}
+use Rattle.space.specs.Slices.{nodes_of}
 use Rattle.maptree.specs.Cuts.{kept_of}
 use Rattle.holdings.specs.Inner.Held.{has_entry}
 use Rattle.holdings.proofs.prune.held_parts.Given as goal

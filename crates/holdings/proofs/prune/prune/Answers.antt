@@ -2,7 +2,7 @@
 use Rattle.std.proofs.Common.{length, map, subst, sym, ap, ◌∙◌}
 use Rattle.std.specs.List.{All}
 use Rattle.space.specs.Shards.{IsPlace}
-use Rattle.mapnode.specs.Slices.{nodes_of}
+use Rattle.space.specs.Slices.{nodes_of}
 use Rattle.maptree.specs.Cuts.{kept_of}
 use Rattle.holdings.specs.Inner.Held.{has_entry}
 use Rattle.holdings.proofs.Trees.Pruning.{all_pieces_of, all_parts, all_firsts, kept_parts, on_ok, none_gone, all_pass, all_gone}

@@ -4,7 +4,7 @@ use Rattle.std.proofs.Common.{◌≡◌, ◌<◌, ◌+◌, ◌||◌, not, List, 
 use Rattle.fpage.specs.Rights.{join, no_rights}
 use Rattle.space.specs.declared.place.Place.{Place}
 use Rattle.space.specs.Place.{same_place}
-use Rattle.mapnode.specs.declared.node.Node.{Node}
+use Rattle.space.specs.declared.node.Node.{Node}
 use Rattle.maptree.specs.Origins.{origin_in, place_at}
 use Rattle.holdings.specs.Inner.Held.{links_in}
 use Rattle.holdings.proofs.Contents.Holders.{links_read}

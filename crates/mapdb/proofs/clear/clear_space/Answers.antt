@@ -1,20 +1,20 @@
 -- The complete space names all pages of the space.
 use Rattle.std.proofs.Common.{sym, ap, ◌∙◌, subst}
 use Rattle.fpage.specs.Fpage.{IsSpaceBits}
-use Rattle.model.specs.Calls.{Limits}
+use Rattle.model.specs.Definitions.Calls.{Limits}
 use Rattle.mapdb.proofs.WholeSpaces.{complete_of, complete_within, served_bits, whole_stripped}
 use Rattle.mapdb.proofs.clear.clear_space.Goals as goal
 
-pub complete_space-complete-requires : goal.complete_space-complete-requires
-complete_space-complete-requires g c =
+pub complete_space-requires : goal.complete_space-requires
+complete_space-requires g c =
     subst IsSpaceBits (ap (λ (l : Limits). l.bits) (sym c.limits.ensures.limits)) (served_bits c.args.held.limits c.limits.ensures.consistent.served)
 
 pub unmap_word-requires-clause-fpage : goal.unmap_word-requires-clause-fpage
 unmap_word-requires-clause-fpage g c =
-    complete_within c.args.held.limits.bits c.complete_space-complete.result
-    (c.complete_space-complete.ensures ∙ ap complete_of (ap (λ (l : Limits). l.bits) c.limits.ensures.limits))
+    complete_within c.args.held.limits.bits c.complete_space.result
+    (c.complete_space.ensures ∙ ap complete_of (ap (λ (l : Limits). l.bits) c.limits.ensures.limits))
 
 pub returns-clause-stripped : goal.returns-clause-stripped
 returns-clause-stripped g c =
-    whole_stripped c.args.held c.limits.ensures.consistent c.args.space c.complete_space-complete.result
-    (c.complete_space-complete.ensures ∙ ap complete_of (ap (λ (l : Limits). l.bits) c.limits.ensures.limits)) c.unmap_word.result c.unmap_word.ensures.stripped
+    whole_stripped c.args.held c.limits.ensures.consistent c.args.space c.complete_space.result
+    (c.complete_space.ensures ∙ ap complete_of (ap (λ (l : Limits). l.bits) c.limits.ensures.limits)) c.unmap_word.result c.unmap_word.ensures.stripped

@@ -2,10 +2,10 @@
 use Rattle.std.proofs.Common.{◌≡◌, ℕ, ◌+◌, ◌*◌, ◌^◌, ◌<◌, ◌≤◌, sym, ap, ◌∙◌, subst, arith}
 use Rattle.fpage.specs.Fpage.{Flexpage, IsFpageOf}
 use Rattle.fpage.specs.declared.item.Item.{Item}
-use Rattle.model.specs.Calls.{Limits}
-use Rattle.model.specs.Answers.{item_answer}
-use Rattle.model.specs.Items.{job_of}
-use Rattle.model.specs.SendLaws.{total}
+use Rattle.model.specs.Definitions.Calls.{Limits}
+use Rattle.model.specs.Definitions.Answers.{item_answer}
+use Rattle.model.specs.Definitions.Items.{job_of}
+use Rattle.model.specs.Laws.SendLaws.{total}
 use Rattle.holdings.specs.declared.item_pages.ItemPages.{ItemPages}
 use Rattle.holdings.specs.Contents.{Contents}
 use Rattle.holdings.specs.Sending.{job_of_pages, AreItemPages}

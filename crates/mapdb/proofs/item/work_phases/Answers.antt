@@ -3,8 +3,8 @@ use Rattle.std.proofs.Common.{◌≡◌, ◌+◌, ◌^◌, ◌<◌, sym, ap, ◌
 use Rattle.std.specs.List.{All}
 use Rattle.fpage.specs.Rights.{without}
 use Rattle.fpage.specs.declared.item.ItemKind.TheVariants.{Map, Grant}
-use Rattle.model.specs.Items.{Counts, add_counts}
-use Rattle.model.specs.SendLaws.{total}
+use Rattle.model.specs.Definitions.Items.{Counts, add_counts}
+use Rattle.model.specs.Laws.SendLaws.{total}
 use Rattle.holdings.specs.Contents.{Contents}
 use Rattle.holdings.specs.Meaning as phase
 use Rattle.holdings.specs.Sending.{IsTransferWithin, ArePlanned}

@@ -1,6 +1,6 @@
 -- Sources that are not there are absent.
 use Rattle.std.proofs.Common.{◌≡◌, ◌+◌, ◌-◌, sym, ap, ◌∙◌, subst, arith}
-use Rattle.model.specs.Items.{add_counts}
+use Rattle.model.specs.Definitions.Items.{add_counts}
 use Rattle.holdings.specs.Sending.{job_of_pages}
 use Rattle.mapdb.specs.Meaning.{counts_of}
 use Rattle.mapdb.specs.Sending.{AreDecided}

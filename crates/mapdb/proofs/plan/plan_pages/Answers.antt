@@ -1,7 +1,7 @@
 -- One page more.
 use Rattle.std.proofs.Common.{◌≡◌, ◌+◌, ◌++◌, [], sym, ap, ◌∙◌, arith}
 use Rattle.std.proofs.lemmas.List.{append-nil}
-use Rattle.model.specs.Items.{Pair, fate, add_counts}
+use Rattle.model.specs.Definitions.Items.{Pair, fate, add_counts}
 use Rattle.holdings.specs.Sending.{fate_of_outcome, job_of_pages, page_on}
 use Rattle.mapdb.specs.Meaning.{counts_of}
 use Rattle.mapdb.specs.Sending.{transfer_of, AreDecided}

@@ -2,8 +2,8 @@
 use Rattle.std.proofs.Common.{subst}
 use Rattle.std.specs.Prelude.{IfOk}
 use Rattle.fpage.specs.declared.rights.Rights.{Rights}
-use Rattle.model.specs.Answers.{pages_in}
-use Rattle.model.specs.Holdings.{PlaceSet}
+use Rattle.model.specs.Definitions.Answers.{pages_in}
+use Rattle.model.specs.Definitions.Holdings.{PlaceSet}
 use Rattle.holdings.specs.Places.{any_of}
 use Rattle.holdings.specs.Contents.{IsStripped}
 use Rattle.mapdb.proofs.NamedPlaces.{held_within, named_stripped, only_within, only_set}
@@ -11,20 +11,20 @@ use Rattle.mapdb.proofs.unmap.unmap_word.Goals as goal
 
 pub strip-requires-2 : goal.strip-requires-2
 strip-requires-2 g c =
-    record { within = held_within c.args.held c.args.space c.args.fpage.now c.pages-pages.result c.pages-pages.ensures.start c.pages-pages.ensures.end c.in_ok-places.places.items c.deref.result.now c.deref.ensures.value c.in_ok-places.ensures.held c.requires.space c.requires.fpage }
+    record { within = held_within c.args.held c.args.word.now.space c.args.word.now.fpage c.pages-pages.result c.pages-pages.ensures.start c.pages-pages.ensures.end c.in_ok-places.places.items c.deref.result.now c.deref.ensures.value c.in_ok-places.ensures.held c.requires.space c.requires.fpage }
 
 pub returns-clause-stripped : goal.returns-clause-stripped
 returns-clause-stripped g c =
-    let word = c.args.fpage.now in
-    named_stripped c.args.held c.args.space word c.pages-pages.result c.pages-pages.ensures.start c.pages-pages.ensures.end c.in_ok-places.places.items c.deref.result.now c.deref.ensures.value c.in_ok-places.ensures.held c.held_among.ensures.consistent word.rights c.args.flush c.strip-2.result
-    (subst (λ (a : Rights). IfOk c.strip-2.result (IsStripped c.args.held (any_of c.deref.result.now) a c.args.flush)) c.rights-2.ensures c.strip-2.ensures.stripped)
+    let word = c.args.word.now.fpage in
+    named_stripped c.args.held c.args.word.now.space word c.pages-pages.result c.pages-pages.ensures.start c.pages-pages.ensures.end c.in_ok-places.places.items c.deref.result.now c.deref.ensures.value c.in_ok-places.ensures.held c.held_among.ensures.consistent word.rights c.args.word.now.flush c.strip-2.result
+    (subst (λ (a : Rights). IfOk c.strip-2.result (IsStripped c.args.held (any_of c.deref.result.now) a c.args.word.now.flush)) c.rights-2.ensures c.strip-2.ensures.stripped)
 
 pub strip-requires : goal.strip-requires
 strip-requires g c =
-    record { within = only_within c.args.space c.args.fpage.now c.pages-pages.result c.pages-pages.ensures.start c.pages-pages.ensures.end c.if-pages-eq1.true c.args.held.limits c.requires.space c.requires.fpage }
+    record { within = only_within c.args.word.now.space c.args.word.now.fpage c.pages-pages.result c.pages-pages.ensures.start c.pages-pages.ensures.end c.if-pages-eq1.true c.args.held.limits c.requires.space c.requires.fpage }
 
 pub returns-then-pages-eq1-clause-stripped : goal.returns-then-pages-eq1-clause-stripped
 returns-then-pages-eq1-clause-stripped g c =
-    let set = only_set c.args.space c.args.fpage.now c.pages-pages.result c.pages-pages.ensures.start c.pages-pages.ensures.end c.if-pages-eq1.true in
-    subst (λ (a : Rights). IfOk c.strip.result (IsStripped c.args.held (pages_in c.args.space c.args.fpage.now) a c.args.flush)) c.rights.ensures
-    (subst (λ (s : PlaceSet). IfOk c.strip.result (IsStripped c.args.held s c.rights.result c.args.flush)) set c.strip.ensures.stripped)
+    let set = only_set c.args.word.now.space c.args.word.now.fpage c.pages-pages.result c.pages-pages.ensures.start c.pages-pages.ensures.end c.if-pages-eq1.true in
+    subst (λ (a : Rights). IfOk c.strip.result (IsStripped c.args.held (pages_in c.args.word.now.space c.args.word.now.fpage) a c.args.word.now.flush)) c.rights.ensures
+    (subst (λ (s : PlaceSet). IfOk c.strip.result (IsStripped c.args.held s c.rights.result c.args.word.now.flush)) set c.strip.ensures.stripped)

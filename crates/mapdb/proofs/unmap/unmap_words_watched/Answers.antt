@@ -2,9 +2,9 @@
 use Rattle.std.proofs.Common.{◌≡◌, ◌+◌, ◌++◌, ◌∷◌, [], ◌∙◌, sym, ap, subst, get_or, take, rules, Bool}
 use Rattle.fpage.specs.Fpage.{Flexpage}
 use Rattle.fpage.specs.declared.rights.Rights.{Rights}
-use Rattle.model.specs.Answers.{pages_in}
-use Rattle.model.specs.Holdings.{Holdings}
-use Rattle.model.specs.Strip.{strip}
+use Rattle.model.specs.Definitions.Answers.{pages_in}
+use Rattle.model.specs.Definitions.Holdings.{Holdings}
+use Rattle.model.specs.Definitions.Strip.{strip}
 use Rattle.holdings.specs.Contents.{Contents, IsStripped}
 use Rattle.holdings.specs.Layout.{Layout}
 use Rattle.holdings.specs.Observing.{IsPhaseOf}
@@ -44,8 +44,8 @@ loop-fpage-preserved g c =
     let word = c.fpage-item.result in
     let so_far = c.loop-fpage.invariant.now in
     let item : get_or fpages i word ≡ word = search rules in
-    let pushed : c.push.new.self.items ≡ c.loop-fpage.status.items ++ c.in_ok-left.word ∷ [] = search rules in
-    let one : Contents × Rights = (c.in_ok-left.left, c.in_ok-left.word) in
+    let pushed : c.push.new.self.items ≡ c.loop-fpage.status.items ++ c.in_ok-left.told ∷ [] = search rules in
+    let one : Contents × Rights = (c.in_ok-left.left, c.in_ok-left.told) in
     let stripped = subst (λ (f : Bool). IsStripped c.loop-fpage.held (pages_in space word) word.rights f one) c.is_flush-flush.ensures c.in_ok-left.ensures in
     record {
       worked = subst (AreWorkedUpTo old space flush fpages (i + 1) c.in_ok-left.left) (sym pushed)

@@ -2,7 +2,7 @@
 use Rattle.std.proofs.Common.{◌<◌, ◌≤◌, ◌+◌, ◌-◌, subst, sym, ap, ◌∙◌, arith}
 use Rattle.std.specs.Prelude.{reverse}
 use Rattle.std.proofs.lemmas.List.{length-reverse}
-use Rattle.mapnode.specs.declared.node.Node.{Node}
+use Rattle.space.specs.declared.node.Node.{Node}
 use Rattle.maptree.proofs.Reversed.{deeper_begins, deeper_goes, deeper_stops, deeper_ends}
 use Rattle.maptree.proofs.backward.deeper.Goals as goal
 

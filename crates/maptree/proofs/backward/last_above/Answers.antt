@@ -2,7 +2,7 @@
 use Rattle.std.proofs.Common.{◌≡◌, ℕ, ◌<◌, ◌≤◌, ◌-◌, suc, List, length, subst, sym, ap, ◌∙◌, take, drop, arith}
 use Rattle.std.specs.Prelude.{reverse}
 use Rattle.std.proofs.lemmas.List.{length-reverse, length-take-le, get_or-take}
-use Rattle.mapnode.specs.declared.node.Node.{Node}
+use Rattle.space.specs.declared.node.Node.{Node}
 use Rattle.maptree.specs.Nodes.{last_less}
 use Rattle.maptree.proofs.LastLess.{last_at, last_on, last_of_none}
 use Rattle.maptree.proofs.backward.last_above.Goals as goal

@@ -2,8 +2,8 @@
 use Rattle.std.proofs.Common.{◌-◌, length, get_or, set, sym, ap, ◌∙◌, arith}
 use Rattle.std.specs.Prelude.{reverse}
 use Rattle.std.proofs.lemmas.List.{get_or-reverse}
-use Rattle.mapnode.specs.declared.node.Node.{Node}
-use Rattle.mapnode.proofs.Lists.{blank, read_any}
+use Rattle.space.specs.declared.node.Node.{Node}
+use Rattle.space.proofs.Lists.{blank, read_any}
 use Rattle.maptree.proofs.Reversed.{set_back}
 use Rattle.maptree.proofs.backward.set_place.Goals as goal
 

@@ -1,7 +1,7 @@
 -- The first block has the nodes of both, and the second none.
 use Rattle.std.proofs.Common.{◌≡◌, ℕ, zero, suc, ◌-◌, ◌<◌, ◌++◌, [], ◌∷◌, List, length, get_or, set, ap, ◌∙◌, sym, rules, arith}
 use Rattle.std.proofs.lemmas.List.{append_assoc}
-use Rattle.mapnode.specs.declared.node.Node.{Node}
+use Rattle.space.specs.declared.node.Node.{Node}
 use Rattle.maptree.specs.Blocks.{nodes_in}
 use Rattle.maptree.proofs.blocks.join.Goals as goal
 

@@ -3,7 +3,7 @@ use Rattle.std.proofs.Common.{◌-◌, ◌++◌, ◌+◌, [], ◌∷◌, length,
 use Rattle.std.specs.Prelude.{reverse}
 use Rattle.std.specs.List.{slice_get}
 use Rattle.maptree.specs.Nodes.{links}
-use Rattle.mapnode.proofs.Lists.{blank}
+use Rattle.space.proofs.Lists.{blank}
 use Rattle.maptree.proofs.Linking.{one_more_link}
 use Rattle.maptree.proofs.links.linked.Goals as goal
 

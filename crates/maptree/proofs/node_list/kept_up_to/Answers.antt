@@ -1,6 +1,6 @@
 -- One part more.
 use Rattle.std.proofs.Common.{◌≡◌, ◌+◌, suc, length, drop, get_or, ap, rules, arith}
-use Rattle.mapnode.specs.Slices.{nodes_of}
+use Rattle.space.specs.Slices.{nodes_of}
 use Rattle.maptree.specs.Cuts.{count_of}
 use Rattle.maptree.proofs.Parts.{parts_from}
 use Rattle.maptree.proofs.node_list.kept_up_to.Goals as goal

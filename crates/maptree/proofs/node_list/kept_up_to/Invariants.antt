@@ -1,6 +1,6 @@
 -- So many so far.
 use Rattle.std.proofs.Common.{◌≡◌, ◌+◌, ◌≤◌, drop}
-use Rattle.mapnode.specs.Slices.{nodes_of}
+use Rattle.space.specs.Slices.{nodes_of}
 use Rattle.maptree.specs.Cuts.{count_of}
 use Rattle.maptree.proofs.node_list.kept_up_to.Given as goal
 

@@ -1,7 +1,7 @@
 -- One node more has its new place, or stays.
 use Rattle.std.proofs.Common.{None, Some, sym, ◌∙◌}
 use Rattle.maptree.specs.PlaceMaps.{place_for}
-use Rattle.mapnode.proofs.Lists.{blank}
+use Rattle.space.proofs.Lists.{blank}
 use Rattle.maptree.proofs.ManyRenamed.{one_renamed}
 use Rattle.maptree.proofs.replacing.replace_places.Goals.{in-Some, in_default}
 use Rattle.maptree.proofs.replacing.replace_places.Goals as goal

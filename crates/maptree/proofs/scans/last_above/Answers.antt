@@ -1,7 +1,7 @@
 -- Of the last few, or of those before.
 use Rattle.std.proofs.Common.{◌≡◌, ◌++◌, List, length, take, drop, sym, ap, ◌∙◌, rules, arith, Some, None}
 use Rattle.std.proofs.lemmas.List.{take-append-drop, length-append}
-use Rattle.mapnode.specs.declared.node.Node.{Node}
+use Rattle.space.specs.declared.node.Node.{Node}
 use Rattle.maptree.specs.Nodes.{last_less}
 use Rattle.maptree.proofs.LastLess.{later, last_append, some_says}
 use Rattle.maptree.proofs.scans.last_above.Goals as goal

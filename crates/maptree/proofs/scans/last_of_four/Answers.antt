@@ -1,6 +1,6 @@
 -- One node more is the last, or changes nothing.
 use Rattle.std.proofs.Common.{◌≡◌, ℕ, ◌<◌, List, length, ◌∙◌, sym, ap, arith}
-use Rattle.mapnode.specs.declared.node.Node.{Node}
+use Rattle.space.specs.declared.node.Node.{Node}
 use Rattle.std.proofs.lemmas.List.{take_all}
 use Rattle.maptree.specs.Nodes.{last_less}
 use Rattle.maptree.proofs.LastLess.{last_more_low, last_more_deep}

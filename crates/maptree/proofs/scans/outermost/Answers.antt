@@ -1,8 +1,8 @@
 -- The outermost runs of the nodes so far.
 use Rattle.std.proofs.Common.{◌+◌, ◌≤◌, length, get_or, sym, ◌∙◌, subst, arith, rules}
-use Rattle.mapnode.proofs.Lists.{blank}
+use Rattle.space.proofs.Lists.{blank}
 use Rattle.maptree.proofs.Outermost.{AreSoFar, one_passed, one_more_run, all_runs, run_within}
-use Rattle.mapnode.proofs.Lists.{read_any}
+use Rattle.space.proofs.Lists.{read_any}
 use Rattle.maptree.proofs.Positions.{run_is}
 use Rattle.maptree.proofs.scans.outermost.Goals as goal
 

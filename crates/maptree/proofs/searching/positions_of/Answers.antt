@@ -3,7 +3,7 @@ use Rattle.std.proofs.Common.{◌+◌, take, sym, ap, ◌∙◌, subst, rules, a
 use Rattle.std.proofs.lemmas.List.{get_or_default, take_all}
 use Rattle.std.proofs.lemmas.List.Sorted.{IsNonDecreasingBy-from_sort}
 use Rattle.maptree.specs.Named.{ArePositions}
-use Rattle.mapnode.proofs.Lists.{blank}
+use Rattle.space.proofs.Lists.{blank}
 use Rattle.maptree.proofs.Named.{one_found, one_absent, sorted_positions}
 use Rattle.maptree.proofs.searching.positions_of.Goals.{in-Some+in_ok-push, in_default}
 use Rattle.maptree.proofs.searching.positions_of.Goals as goal

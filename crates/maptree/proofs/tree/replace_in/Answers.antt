@@ -1,7 +1,7 @@
 -- The one node that has the place of a map's only entry, or no node, has its new place.
 use Rattle.std.proofs.Common.{sym, ◌∙◌}
 use Rattle.maptree.specs.PlaceMaps.{place_for}
-use Rattle.mapnode.proofs.Lists.{blank}
+use Rattle.space.proofs.Lists.{blank}
 use Rattle.maptree.proofs.OneReplaced.{one_replaced, none_replaced}
 use Rattle.maptree.proofs.tree.replace_in.Goals as goal
 

@@ -1,6 +1,6 @@
 -- The node that has the place, or none, has the other.
 use Rattle.std.proofs.Common.{sym, ◌∙◌}
-use Rattle.mapnode.proofs.Lists.{blank}
+use Rattle.space.proofs.Lists.{blank}
 use Rattle.maptree.proofs.OneReplaced.{one_replaced, none_replaced}
 use Rattle.maptree.proofs.tree.replace_one.Goals as goal
 

@@ -1,6 +1,6 @@
 -- One more place is in the set.
 use Rattle.std.proofs.Common.{refl, sym, ap, ◌∙◌, is_ok}
-use Rattle.mapnode.proofs.Lists.{blank}
+use Rattle.space.proofs.Lists.{blank}
 use Rattle.maptree.proofs.Outermost.{on_ok, one_named}
 use Rattle.maptree.proofs.tree.set_of.Goals as goal
 

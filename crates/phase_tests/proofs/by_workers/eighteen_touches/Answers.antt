@@ -1,7 +1,7 @@
 -- Touches of words that are there can be worked beside one another.
 use Rattle.std.proofs.Common.{rules, ◌≡◌, ℕ, ◌<◌, nat_lt, true, List, [], ◌∷◌, length, map, arith}
 use Rattle.std.specs.List.{list_all}
-use Rattle.mapnode.specs.Slices.{pieces}
+use Rattle.space.specs.Slices.{pieces}
 use Rattle.pieces.specs.Phases.{CanBeWorked}
 use Rattle.pieces.specs.declared.touch.WordAccess.{WordAccess}
 use Rattle.pieces.specs.declared.piece.Piece.{Piece}

@@ -3,4 +3,4 @@ use Rattle.std.proofs.Common.{◌≡◌}
 use Rattle.phase_tests.proofs.random.step_two.Given as goal
 
 abbrev pub invariant-loop-k : goal.invariant-loop-k
-invariant-loop-k l = (l.first.sheet ≡ l.phase) × (l.second.sheet ≡ l.phase)
+invariant-loop-k l = (l.first.shared ≡ l.phase) × (l.second.shared ≡ l.phase)

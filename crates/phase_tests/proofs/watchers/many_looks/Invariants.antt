@@ -3,4 +3,4 @@ use Rattle.std.proofs.Common.{◌≡◌}
 use Rattle.phase_tests.proofs.watchers.many_looks.Given as goal
 
 abbrev pub invariant-loop : goal.invariant-loop
-invariant-loop l = l.watcher.sheet ≡ l.phase
+invariant-loop l = l.watcher.shared ≡ l.phase

@@ -1,6 +1,6 @@
 -- The pieces so far, with those of the rest, are all.
 use Rattle.std.proofs.Common.{◌≡◌, ◌++◌, true, length, map}
-use Rattle.mapnode.specs.Slices.{pieces}
+use Rattle.space.specs.Slices.{pieces}
 use Rattle.pieces.proofs.cutting.cut_parts.Given as goal
 
 abbrev pub invariant-loop-rest : goal.invariant-loop-rest

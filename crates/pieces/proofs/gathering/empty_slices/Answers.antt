@@ -1,7 +1,7 @@
 -- One more place.
 use Rattle.std.proofs.Common.{◌∙◌, ap}
-use Rattle.mapnode.specs.Slices.{nodes_of}
-use Rattle.mapnode.specs.declared.slice.Slice.{Slice}
+use Rattle.space.specs.Slices.{nodes_of}
+use Rattle.space.specs.declared.slice.Slice.{Slice}
 use Rattle.pieces.proofs.Placed.{empty_more}
 use Rattle.pieces.proofs.gathering.empty_slices.Goals as goal
 

@@ -1,6 +1,6 @@
 -- So many places are there.
 use Rattle.std.proofs.Common.{◌≡◌, [], map}
-use Rattle.mapnode.specs.Slices.{nodes_of}
+use Rattle.space.specs.Slices.{nodes_of}
 use Rattle.pieces.specs.Gathering.{all_found}
 use Rattle.pieces.proofs.gathering.empty_slices.Given as goal
 

@@ -2,7 +2,7 @@
 use Rattle.std.proofs.Common.{arith, ◌∙◌, sym, ap, length, map, []}
 use Rattle.std.specs.List.{flat_map}
 use Rattle.std.proofs.lemmas.List.{with_items_is}
-use Rattle.mapnode.specs.Slices.{nodes_of}
+use Rattle.space.specs.Slices.{nodes_of}
 use Rattle.pieces.specs.Values.{Value}
 use Rattle.pieces.specs.Gathering.{all_found, has_stranger, fault_in, union_of}
 use Rattle.pieces.proofs.Placed.{no_stranger, slices_length}

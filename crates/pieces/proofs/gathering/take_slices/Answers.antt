@@ -2,7 +2,7 @@
 use Rattle.std.proofs.Common.{rules, arith, ◌∙◌, sym, ap, ◌<◌, length, drop, set, map}
 use Rattle.pieces.specs.Gathering.{all_found}
 use Rattle.pieces.specs.Values.{Value}
-use Rattle.mapnode.specs.Slices.{nodes_of}
+use Rattle.space.specs.Slices.{nodes_of}
 use Rattle.pieces.proofs.Placed.{popped, below_of_last, kept_more, nodes_set}
 use Rattle.pieces.proofs.gathering.take_slices.Goals as goal
 

@@ -1,6 +1,6 @@
 -- The nodes of the results that were taken, which stood behind those that are left, are in their places.
 use Rattle.std.proofs.Common.{◌≡◌, ◌≤◌, length, map, take, drop}
-use Rattle.mapnode.specs.Slices.{nodes_of}
+use Rattle.space.specs.Slices.{nodes_of}
 use Rattle.pieces.specs.Gathering.{all_found}
 use Rattle.pieces.proofs.gathering.take_slices.Given as goal
 

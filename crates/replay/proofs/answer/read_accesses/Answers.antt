@@ -4,7 +4,7 @@ use Rattle.std.proofs.lemmas.List.{length-append}
 use Rattle.std.proofs.lemmas.List.Elements.{All-cons, All-nil, All-push, All-same}
 use Rattle.fpage.specs.declared.rights.Access.{Access}
 use Rattle.space.specs.declared.place.Place.{Place}
-use Rattle.model.specs.Records.{Fields, Version}
+use Rattle.model.specs.Definitions.Records.{Fields, Version}
 use Rattle.mapdb.specs.Held.{limits_of, IsWithin}
 use Rattle.trace.specs.Unread.{Unread, past, first_request, access_in}
 use Rattle.replay.proofs.Answering.{AskedSoFar, asked_start, asked_more, asked_past, past_none}

@@ -2,8 +2,8 @@
 -- the end line.
 use Rattle.std.proofs.Common.{◌≡◌, ◌+◌, ◌-◌, true, [], length, arith, sym, subst, ap, refl, ◌∙◌}
 use Rattle.crew.specs.declared.error.CrewError.TheVariants as crew
-use Rattle.model.specs.Calls.{Limits}
-use Rattle.model.specs.Records.{are_limits}
+use Rattle.model.specs.Definitions.Calls.{Limits}
+use Rattle.model.specs.Definitions.Records.{are_limits}
 use Rattle.mapdb.specs.State.{State, laid_out, left_with, new_state}
 use Rattle.trace.specs.Unread.{Unread}
 use Rattle.replay.specs.Steps.{replies_of}

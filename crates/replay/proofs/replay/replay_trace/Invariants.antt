@@ -1,7 +1,7 @@
 -- Replies are written or left, and those to the records that are left follow.
 use Rattle.std.proofs.Common.{◌≡◌, true, length}
-use Rattle.model.specs.Records.{are_limits}
-use Rattle.model.specs.Replay.{start}
+use Rattle.model.specs.Definitions.Records.{are_limits}
+use Rattle.model.specs.Definitions.Replay.{start}
 use Rattle.mapdb.specs.State.{laid_out, left_with, new_state}
 use Rattle.replay.specs.Steps.{told_of}
 use Rattle.replay.proofs.Steps.{SoFar}

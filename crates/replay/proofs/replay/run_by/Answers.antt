@@ -7,7 +7,7 @@ pub returns-clause-replayed : goal.returns-clause-replayed
 returns-clause-replayed g c =
     let known = g.R.Source.remaining c.args.reader.now in
     let contents = g.W.Sink.contents in
-    let is = opened known c.in_ok-bytes.bytes.items c.in_ok-trace.trace c.in_ok-bytes.ensures.bytes (rw c.deref.ensures.value at c.in_ok-trace.ensures.ok) in
+    let is = opened known c.in_ok-input.input.items c.in_ok-trace.trace c.in_ok-input.ensures.bytes (rw c.deref.ensures.value at c.in_ok-trace.ensures.ok) in
     replayed known c.in_ok-trace.trace (contents c.args.writer.now) (contents c.replay_trace.new.writer) c.replay_trace.result is c.replay_trace.ensures.ok
 
 pub returns-clause-ended : goal.returns-clause-ended
@@ -15,7 +15,7 @@ returns-clause-ended g c =
     let known = g.R.Source.remaining c.args.reader.now in
     let contents = g.W.Sink.contents in
     let failed = g.W.Sink.failed in
-    let is = opened known c.in_ok-bytes.bytes.items c.in_ok-trace.trace c.in_ok-bytes.ensures.bytes (rw c.deref.ensures.value at c.in_ok-trace.ensures.ok) in
+    let is = opened known c.in_ok-input.input.items c.in_ok-trace.trace c.in_ok-input.ensures.bytes (rw c.deref.ensures.value at c.in_ok-trace.ensures.ok) in
     ended known c.in_ok-trace.trace (contents c.args.writer.now) (contents c.replay_trace.new.writer) (failed c.args.writer.now) (failed c.replay_trace.new.writer) c.replay_trace.result is c.replay_trace.ensures.err
 
 pub returns-clause-nothing : goal.returns-clause-nothing
@@ -29,4 +29,4 @@ returns-clause-streams g c =
     let contents = g.W.Sink.contents in
     let failed = g.W.Sink.failed in
     streams c.in_ok-trace.trace (contents c.args.writer.now) (contents c.replay_trace.new.writer) (g.R.Source.failed c.read_input.new.reader) (failed c.args.writer.now) (failed c.replay_trace.new.writer) c.replay_trace.result
-    (c.in_ok-bytes.ensures.ok ∙ c.requires.reader) c.requires.writer c.replay_trace.ensures.err
+    (c.in_ok-input.ensures.ok ∙ c.requires.reader) c.requires.writer c.replay_trace.ensures.err

@@ -1,7 +1,7 @@
 -- One more line is that of the next answer.
 use Rattle.std.proofs.Common.{◌+◌, ◌∙◌, false, get_or, subst, refl, arith, List, ℕ}
-use Rattle.model.specs.Calls.{accessed}
-use Rattle.model.specs.Text.{reply_line}
+use Rattle.model.specs.Definitions.Calls.{accessed}
+use Rattle.model.specs.Definitions.Text.{reply_line}
 use Rattle.replay.specs.Steps.{PassesOn}
 use Rattle.replay.proofs.Passing.{passes_more}
 use Rattle.replay.proofs.Replays.{line_more}

@@ -1,7 +1,7 @@
 -- The lines so far are those of the answers so far.
 use Rattle.std.proofs.Common.{◌≡◌, ◌++◌, map, take}
-use Rattle.model.specs.Calls.{accessed}
-use Rattle.model.specs.Text.{reply_lines}
+use Rattle.model.specs.Definitions.Calls.{accessed}
+use Rattle.model.specs.Definitions.Text.{reply_lines}
 use Rattle.replay.specs.Steps.{PassesOn}
 use Rattle.replay.proofs.replay.write_accesses.Given as goal
 

@@ -1,7 +1,7 @@
 -- What the line says stands behind the digits.
 use Rattle.std.proofs.Common.{codes}
 use Rattle.std.specs.Fmt.{decimal}
-use Rattle.model.specs.Text.{line_feed}
+use Rattle.model.specs.Definitions.Text.{line_feed}
 use Rattle.trace.proofs.Lines.{line_behind}
 use Rattle.trace.proofs.reply.push_access.Goals as goal
 

@@ -1,6 +1,6 @@
 -- The word that is written is that of the complete space with the status.
 use Rattle.std.proofs.Common.{◌≡◌, ◌++◌, subst, OnOk, string_bytes}
-use Rattle.model.specs.Text.{hex_digits}
+use Rattle.model.specs.Definitions.Text.{hex_digits}
 use Rattle.trace.proofs.reply.push_status.Goals as goal
 
 pub returns : goal.returns

@@ -1,6 +1,6 @@
 -- the words so far are written
 use Rattle.std.proofs.Common.{◌≡◌, ◌++◌, take, string_bytes}
-use Rattle.model.specs.Text.{words_text}
+use Rattle.model.specs.Definitions.Text.{words_text}
 use Rattle.trace.proofs.reply.push_words.Given as goal
 
 abbrev pub invariant-loop-word : goal.invariant-loop-word

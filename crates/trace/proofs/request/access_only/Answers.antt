@@ -1,7 +1,7 @@
 -- A record with another name asks for no access.
 use Rattle.std.proofs.Common.{◌≡◌, ◌∷◌, false, Some, codes, rules, sym, ap, ◌∙◌}
 use Rattle.std.specs.Str.{bytes_eq}
-use Rattle.model.specs.Records.{Fields, request}
+use Rattle.model.specs.Definitions.Records.{Fields, request}
 use Rattle.mapdb.specs.Held.{limits_of}
 use Rattle.trace.specs.Unread.{access_in}
 use Rattle.trace.proofs.NoAccess.{no_access}

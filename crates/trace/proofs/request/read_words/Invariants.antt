@@ -1,6 +1,6 @@
 -- the words so far and those of the fields that are left are the words of all
 use Rattle.std.proofs.Common.{◌≡◌, length}
-use Rattle.model.specs.Records.{word_fields}
+use Rattle.model.specs.Definitions.Records.{word_fields}
 use Rattle.trace.proofs.Words.{prefixed}
 use Rattle.trace.proofs.request.read_words.Given as goal
 

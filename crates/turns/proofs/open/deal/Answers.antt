@@ -17,7 +17,7 @@ pub new-requires-clause-first : goal.new-requires-clause-first
 new-requires-clause-first c =
     let road = YieldsList-from_vec c.args.pieces.items (search rules) (search rules) in
     let turn = YieldsList-turn road c.loop-piece.yielded c.loop-piece.piece-iterator c.loop-piece.yielded_by c.next.result c.next.new.self c.in-Some.piece c.in-Some.is c.next.ensures.steps in
-    let number = c.len-number.ensures ∙ c.loop-piece.turns.ok.0 ∙ ap length c.loop-piece.invariant.2 ∙ turns_length c.args.sheet.now (length c.loop-piece.yielded) in
+    let number = c.len-number.ensures ∙ c.loop-piece.turns.ok.0 ∙ ap length c.loop-piece.invariant.2 ∙ turns_length c.args.shared.now (length c.loop-piece.yielded) in
     c.deal-own.ensures.first.1 ∙ first_left c.loop-piece.seat.me.0.counts (length c.loop-piece.yielded) (length c.args.pieces.items) c.loop-piece.invariant.1 turn.0 ∙ ap (λ n. (n, 0) ∷ []) (sym number)
 
 pub new-requires-clause-piece : goal.new-requires-clause-piece
@@ -25,7 +25,7 @@ new-requires-clause-piece c =
     let road = YieldsList-from_vec c.args.pieces.items (search rules) (search rules) in
     let p = c.in-Some.piece in
     let turn = YieldsList-turn road c.loop-piece.yielded c.loop-piece.piece-iterator c.loop-piece.yielded_by c.next.result c.next.new.self p c.in-Some.is c.next.ensures.steps in
-    let number = c.len-number.ensures ∙ c.loop-piece.turns.ok.0 ∙ ap length c.loop-piece.invariant.2 ∙ turns_length c.args.sheet.now (length c.loop-piece.yielded) in
+    let number = c.len-number.ensures ∙ c.loop-piece.turns.ok.0 ∙ ap length c.loop-piece.invariant.2 ∙ turns_length c.args.shared.now (length c.loop-piece.yielded) in
     ap (λ ps. slice_get ps c.len-number.result) c.requires.pieces ∙ ap (slice_get c.args.pieces.items) number ∙ slice_get-get_or c.args.pieces.items (length c.loop-piece.yielded) p turn.0 ∙ ap Some (sym turn.1)
 
 pub loop-piece-preserved : goal.loop-piece-preserved
@@ -34,14 +34,14 @@ loop-piece-preserved c =
     let p = c.in-Some.piece in
     let k : ℕ = length c.loop-piece.yielded in
     let turn = YieldsList-turn road c.loop-piece.yielded c.loop-piece.piece-iterator c.loop-piece.yielded_by c.next.result c.next.new.self p c.in-Some.is c.next.ensures.steps in
-    let number = c.len-number.ensures ∙ c.loop-piece.turns.ok.0 ∙ ap length c.loop-piece.invariant.2 ∙ turns_length c.args.sheet.now k in
+    let number = c.len-number.ensures ∙ c.loop-piece.turns.ok.0 ∙ ap length c.loop-piece.invariant.2 ∙ turns_length c.args.shared.now k in
     let more : length (c.loop-piece.yielded ++ p ∷ []) ≡ k + 1 = length-append c.loop-piece.yielded (p ∷ []) in (
       c.deal-own.ensures.others.0,
       c.deal-own.ensures.others.1 ∙ others_left c.loop-piece.seat.me.0.counts k (length c.args.pieces.items) c.loop-piece.invariant.1 turn.0 ∙ ap (λ n. left n (length c.args.pieces.items - n)) (sym more),
       c.in_ok-push.ensures.items ∙ ap (λ ts. ts ++ c.in_ok-new.field-0 ∷ []) c.loop-piece.invariant.2
-          ∙ ap (λ t. new_turns c.args.sheet.now k ++ t ∷ []) (c.in_ok-new.ensures ∙ ap (λ n. record { sheet = c.args.sheet.now; number = n; steps = 0 }) number)
-          ∙ sym (turns_more c.args.sheet.now k) ∙ ap (new_turns c.args.sheet.now) (sym more),
+          ∙ ap (λ t. new_turns c.args.shared.now k ++ t ∷ []) (c.in_ok-new.ensures ∙ ap (λ n. record { shared = c.args.shared.now; number = n; steps = 0 }) number)
+          ∙ sym (turns_more c.args.shared.now k) ∙ ap (new_turns c.args.shared.now) (sym more),
     )
 
 pub returns-clause-of : goal.returns-clause-of
-returns-clause-of c = subst (All (λ (t : PostContent). t.sheet ≡ c.args.sheet.now)) (sym c.loop-piece.invariant.2) (turns_of c.args.sheet.now 0 (length c.loop-piece.yielded))
+returns-clause-of c = subst (All (λ (t : PostContent). t.shared ≡ c.args.shared.now)) (sym c.loop-piece.invariant.2) (turns_of c.args.shared.now 0 (length c.loop-piece.yielded))

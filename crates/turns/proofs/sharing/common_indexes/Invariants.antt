@@ -1,7 +1,7 @@
 -- The indexes so far.
 use Rattle.std.proofs.Common.{◌≡◌, take}
 use Rattle.std.specs.List.{flat_map}
-use Rattle.turns.specs.Sheets.{common}
+use Rattle.turns.specs.SharedWords.{common}
 use Rattle.turns.proofs.sharing.common_indexes.Given as goal
 
 abbrev pub invariant-loop-piece : goal.invariant-loop-piece

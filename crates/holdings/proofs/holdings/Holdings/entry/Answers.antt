@@ -1,7 +1,7 @@
 -- The word of a place has the frame, rights and status of what is held there.
 use Rattle.std.proofs.Common.{◌≡◌, sym, ◌∙◌, subst}
 use Rattle.std.specs.Option.{option_map}
-use Rattle.model.specs.Holdings.{at}
+use Rattle.model.specs.Definitions.Holdings.{at}
 use Rattle.holdings.specs.Places.{IsWithin}
 use Rattle.holdings.specs.Contents.{Contents, entry_of}
 use Rattle.holdings.specs.Inner.Held.{limits_in}

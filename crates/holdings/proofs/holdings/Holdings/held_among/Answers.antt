@@ -6,7 +6,7 @@ use Rattle.space.specs.declared.shards.Shards.{Shards}
 use Rattle.space.specs.Directory.{pages_of}
 use Rattle.space.specs.Shards.{entry_at}
 use Rattle.maptree.specs.Origins.{Shape}
-use Rattle.model.specs.Holdings.{is_held}
+use Rattle.model.specs.Definitions.Holdings.{is_held}
 use Rattle.holdings.specs.Contents.{Contents, IsConsistent}
 use Rattle.holdings.specs.Places.{pages_from}
 use Rattle.holdings.specs.Inner.Held.{limits_in, contents_of}

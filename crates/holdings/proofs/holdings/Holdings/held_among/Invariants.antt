@@ -1,6 +1,6 @@
 -- The held ones so far, with those of the pages to come, are all of them.
 use Rattle.std.proofs.Common.{◌≡◌, ◌-◌, ◌++◌, filter}
-use Rattle.model.specs.Holdings.{is_held}
+use Rattle.model.specs.Definitions.Holdings.{is_held}
 use Rattle.holdings.specs.Places.{pages_from}
 use Rattle.holdings.proofs.holdings.Holdings.held_among.Given as goal
 

@@ -3,7 +3,7 @@ use Rattle.std.proofs.Common.{◌≡◌, ◌+◌, List, length, sym, ap, subst, 
 use Rattle.std.specs.Vec.{with_items}
 use Rattle.std.proofs.lemmas.List.{with_items_is}
 use Rattle.maptree.specs.Origins.{Shape}
-use Rattle.model.specs.SendLaws.{total}
+use Rattle.model.specs.Laws.SendLaws.{total}
 use Rattle.holdings.specs.Contents.{Contents}
 use Rattle.holdings.specs.Meaning.{counts_of}
 use Rattle.holdings.specs.Inner.Links.{AreLinkable, AreLinked, links_of}
@@ -16,7 +16,7 @@ use Rattle.space.specs.declared.place.Place.{Place}
 use Rattle.space.specs.declared.place.Entry.{Entry}
 use Rattle.space.specs.declared.shards.Shards.{Shards}
 use Rattle.space.specs.Shards.{HasWord, entry_at}
-use Rattle.model.specs.Items.{Counts}
+use Rattle.model.specs.Definitions.Items.{Counts}
 use Rattle.holdings.specs.declared.transfer.Transfer.{Transfer}
 use Rattle.holdings.specs.Inner.Links.{IsPageLost, IsPageMapped}
 use Rattle.holdings.proofs.Contents.Layouts.{same_grows}

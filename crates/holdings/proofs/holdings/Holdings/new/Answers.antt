@@ -1,7 +1,7 @@
 -- The words and trees of roots are sound, and their holdings are those of the start.
 use Rattle.std.proofs.Common.{◌≡◌, sym, ap, ◌∙◌, subst}
-use Rattle.model.specs.Calls.{Limits}
-use Rattle.model.specs.Holdings.{Holdings}
+use Rattle.model.specs.Definitions.Calls.{Limits}
+use Rattle.model.specs.Definitions.Holdings.{Holdings}
 use Rattle.holdings.specs.Inner.Held.{holdings_of, layout_in, limits_in}
 use Rattle.holdings.specs.Meaning.{limits_of}
 use Rattle.holdings.specs.Inner.Sound.{IsSound}

@@ -5,7 +5,7 @@ use Rattle.space.specs.declared.shards.Shards.{Shards}
 use Rattle.space.specs.Shards.{entry_at}
 use Rattle.maptree.specs.Origins.{Shape}
 use Rattle.space.specs.Directory.{pages_of}
-use Rattle.model.specs.Holdings.{at, is_held}
+use Rattle.model.specs.Definitions.Holdings.{at, is_held}
 use Rattle.holdings.specs.Contents.{Contents}
 use Rattle.holdings.specs.Places.{IsWithin}
 use Rattle.holdings.specs.Inner.Held.{contents_of, limits_in}

@@ -5,7 +5,7 @@ use Rattle.space.specs.declared.shards.Shards.{Shards}
 use Rattle.space.specs.Directory.{pages_of}
 use Rattle.space.specs.Shards.{entry_at}
 use Rattle.maptree.specs.Origins.{Shape}
-use Rattle.model.specs.Holdings.{at}
+use Rattle.model.specs.Definitions.Holdings.{at}
 use Rattle.holdings.specs.Contents.{Contents, IsConsistent}
 use Rattle.holdings.specs.Sending.{page_on}
 use Rattle.holdings.specs.Inner.Held.{limits_in, contents_of}

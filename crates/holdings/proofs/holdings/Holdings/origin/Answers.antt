@@ -3,7 +3,7 @@ use Rattle.std.proofs.Common.{◌≡◌, ◌<◌, None, Option, length, sym, ap,
 use Rattle.std.specs.Option.{option_and_then}
 use Rattle.space.specs.declared.place.Place.{Place}
 use Rattle.maptree.specs.Origins.{origin_in}
-use Rattle.model.specs.Holdings.{origin_at}
+use Rattle.model.specs.Definitions.Holdings.{origin_at}
 use Rattle.holdings.specs.Places.{IsWithin}
 use Rattle.holdings.specs.Contents.{Contents}
 use Rattle.holdings.specs.Inner.Held.{limits_in}

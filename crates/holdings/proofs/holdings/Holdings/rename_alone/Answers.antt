@@ -17,7 +17,7 @@ use Rattle.space.specs.declared.place.Place.{Place}
 use Rattle.space.specs.declared.place.Entry.{Entry}
 use Rattle.space.specs.declared.shards.Shards.{Shards}
 use Rattle.space.specs.Shards.{HasWord, entry_at}
-use Rattle.model.specs.Items.{Counts}
+use Rattle.model.specs.Definitions.Items.{Counts}
 use Rattle.holdings.specs.Inner.Links.{IsPageLost}
 use Rattle.holdings.specs.Inner.Renamings.{IsPageMoved}
 use Rattle.holdings.proofs.Contents.Layouts.{same_grows}

@@ -5,10 +5,10 @@ use Rattle.std.proofs.lemmas.Bool.{eqb-true}
 use Rattle.std.proofs.lemmas.List.{with_items_is}
 use Rattle.fpage.specs.declared.rights.Rights.{Rights}
 use Rattle.space.specs.declared.shards.Shards.{Shards}
-use Rattle.mapnode.specs.Slices.{nodes_of}
+use Rattle.space.specs.Slices.{nodes_of}
 use Rattle.maptree.specs.Origins.{Shape}
-use Rattle.mapnode.specs.declared.slice.Slice.{Slice}
-use Rattle.model.specs.Strip.{strip}
+use Rattle.space.specs.declared.slice.Slice.{Slice}
+use Rattle.model.specs.Definitions.Strip.{strip}
 use Rattle.std.specs.Prelude.{IsErrOf}
 use Rattle.crew.specs.declared.error.CrewError.TheVariants.{NoWorker}
 use Rattle.holdings.specs.Contents.{Contents, IsStripped}

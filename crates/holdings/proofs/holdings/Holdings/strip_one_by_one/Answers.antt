@@ -4,9 +4,9 @@ use Rattle.std.specs.List.{All}
 use Rattle.std.proofs.lemmas.List.{with_items_is}
 use Rattle.space.specs.declared.place.Place.{Place}
 use Rattle.maptree.specs.Origins.{Shape}
-use Rattle.model.specs.Calls.{Limits}
-use Rattle.model.specs.Holdings.{only}
-use Rattle.model.specs.Strip.{strip, strip_word}
+use Rattle.model.specs.Definitions.Calls.{Limits}
+use Rattle.model.specs.Definitions.Holdings.{only}
+use Rattle.model.specs.Definitions.Strip.{strip, strip_word}
 use Rattle.holdings.specs.Contents.{Contents, IsStripped}
 use Rattle.holdings.specs.Inner.Held.{contents_of, is_listed, limits_in, holdings_in}
 use Rattle.holdings.specs.Places.{IsWithin, any_of}

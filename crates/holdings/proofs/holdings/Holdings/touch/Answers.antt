@@ -3,8 +3,8 @@ use Rattle.std.proofs.Common.{◌≡◌, length, true, false, Some, sym, ap, ◌
 use Rattle.std.specs.Option.{option_map}
 use Rattle.fpage.specs.Rights.{has}
 use Rattle.space.specs.Entries.{with_status}
-use Rattle.model.specs.Calls.{Limits}
-use Rattle.model.specs.Touch.{can_touch, touch}
+use Rattle.model.specs.Definitions.Calls.{Limits}
+use Rattle.model.specs.Definitions.Touch.{can_touch, touch}
 use Rattle.holdings.specs.Places.{IsWithin}
 use Rattle.holdings.specs.Inner.Held.{holdings_of, contents_of, layout_in, limits_in}
 use Rattle.holdings.specs.Contents.{Contents, left_with}

@@ -1,7 +1,7 @@
 -- Its word says what a page holds.
 use Rattle.std.proofs.Common.{◌∙◌, ap, sym, subst}
 use Rattle.std.specs.Option.{option_map}
-use Rattle.model.specs.Holdings.{at}
+use Rattle.model.specs.Definitions.Holdings.{at}
 use Rattle.holdings.specs.Mappings.{mapped_of}
 use Rattle.holdings.specs.Places.{IsWithin}
 use Rattle.holdings.specs.Contents.{Contents, entry_of}

@@ -8,7 +8,7 @@ use Rattle.space.specs.declared.shards.Shards.{Shards}
 use Rattle.space.proofs.ShardWords.{held_have_words}
 use Rattle.space.specs.Shards.{IsPlace, entry_at}
 use Rattle.maptree.specs.Origins.{Shape, origin_in}
-use Rattle.model.specs.Holdings.{at}
+use Rattle.model.specs.Definitions.Holdings.{at}
 use Rattle.holdings.specs.Places.{IsWithin}
 use Rattle.holdings.specs.Contents.{Contents, entry_of}
 use Rattle.holdings.specs.Inner.Held.{contents_of, limits_in, links_in, held_with}

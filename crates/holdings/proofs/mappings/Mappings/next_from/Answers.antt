@@ -6,7 +6,7 @@ use Rattle.space.specs.declared.shards.Shards.{Shards}
 use Rattle.space.specs.Shards.{entry_at}
 use Rattle.maptree.specs.Origins.{Shape}
 use Rattle.space.specs.Directory.{pages_of}
-use Rattle.model.specs.Holdings.{at}
+use Rattle.model.specs.Definitions.Holdings.{at}
 use Rattle.holdings.specs.Contents.{Contents, entry_of}
 use Rattle.holdings.specs.Inner.Held.{contents_of, limits_in}
 use Rattle.holdings.proofs.Contents.FromPages.{none_held, found, pages_passed, none_from, outside_none, absent_anywhere}

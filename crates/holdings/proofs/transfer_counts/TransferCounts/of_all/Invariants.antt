@@ -1,7 +1,7 @@
 -- The transfers so far, with those to come, are all; each so far counts once.
 use Rattle.std.proofs.Common.{◌≡◌, drop}
-use Rattle.model.specs.Items.{add_counts}
-use Rattle.model.specs.SendLaws.{total}
+use Rattle.model.specs.Definitions.Items.{add_counts}
+use Rattle.model.specs.Laws.SendLaws.{total}
 use Rattle.holdings.specs.Inner.Planning.{counts_in}
 use Rattle.holdings.specs.Meaning.{counts_of}
 use Rattle.holdings.proofs.transfer_counts.TransferCounts.of_all.Given as goal

@@ -1,10 +1,10 @@
 -- What is held is lawful, so the recursion and strip give and leave the same.
 use Rattle.std.proofs.Common.{◌≡◌, true, false, Some, sym, ap, ◌∙◌}
 use Rattle.fpage.specs.Rights.{all_rights}
-use Rattle.model.specs.Answers.{in_space}
-use Rattle.model.specs.Holdings.{Holdings}
-use Rattle.model.specs.Recursion.{Visited, recur}
-use Rattle.model.specs.Strip.{strip, strip_word}
+use Rattle.model.specs.Definitions.Answers.{in_space}
+use Rattle.model.specs.Definitions.Holdings.{Holdings}
+use Rattle.model.specs.Definitions.Recursion.{Visited, recur}
+use Rattle.model.specs.Definitions.Strip.{strip, strip_word}
 use Rattle.model.proofs.LawfulParts.{lawful_parts}
 use Rattle.model.proofs.Recursions.{recursion_is_strip}
 use Rattle.holdings.specs.Contents.{Contents}

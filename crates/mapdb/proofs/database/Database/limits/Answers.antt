@@ -1,6 +1,6 @@
 -- A database that is halted holds nothing, and nothing is listed.
 use Rattle.std.proofs.Common.{◌≡◌, [], None, refl, sym, ap, ◌∙◌, subst}
-use Rattle.model.specs.Holdings.{Holdings, at}
+use Rattle.model.specs.Definitions.Holdings.{Holdings, at}
 use Rattle.holdings.specs.Places.{listing}
 use Rattle.holdings.specs.Meaning.{limits_of}
 use Rattle.holdings.proofs.Contents.Listing.{listing_is}

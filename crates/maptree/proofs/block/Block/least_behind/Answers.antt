@@ -1,6 +1,6 @@
 -- The first of all is the first that comes, where there was none.
 use Rattle.std.proofs.Common.{◌≡◌, ◌<◌, ◌==◌, ◌∙◌, ℕ, true, false, List, [], ◌∷◌, length, refl, sym, ap, arith, eqb-true, eq-eqb}
-use Rattle.mapnode.specs.declared.node.Node.{Node}
+use Rattle.space.specs.declared.node.Node.{Node}
 use Rattle.maptree.specs.Blocks.{is_least}
 use Rattle.maptree.proofs.Depths.{behind_new, behind_more}
 use Rattle.maptree.proofs.block.Block.least_behind.Goals as goal

@@ -3,7 +3,7 @@ use Rattle.std.proofs.Common.{◌≡◌, ◌≤◌, ap, ◌∙◌, rules, arith,
 use Rattle.std.proofs.lemmas.List.{length-map, with_items_is}
 use Rattle.maptree.specs.Blocks.{is_least}
 use Rattle.space.specs.declared.place.Place.{Place}
-use Rattle.mapnode.specs.declared.node.Node.{Node}
+use Rattle.space.specs.declared.node.Node.{Node}
 use Rattle.maptree.specs.PlaceMaps.{place_for}
 use Rattle.maptree.specs.Renamings.{nodes_renamed}
 use Rattle.maptree.proofs.Depths.{least_renamed, behind_renamed}

@@ -2,7 +2,7 @@
 use Rattle.std.proofs.Common.{◌≡◌, ◌<◌, ◌+◌, length, ap, rules, arith, ◌∙◌, sym, Some}
 use Rattle.maptree.specs.Blocks.{nodes_in}
 use Rattle.maptree.proofs.InBlocks.{read_of, counts}
-use Rattle.mapnode.proofs.Lists.{blank}
+use Rattle.space.proofs.Lists.{blank}
 use Rattle.maptree.proofs.Starts.{start_read}
 use Rattle.maptree.proofs.Standing.{stands_in_block}
 use Rattle.maptree.proofs.blocks.Blocks.find.Goals as goal

@@ -1,7 +1,7 @@
 -- What was counted, and the bounds of depths.
 use Rattle.std.proofs.Common.{◌≡◌, List, [], ◌∷◌, ◌++◌, length, drop, sym, ap, ◌∙◌, rules, arith}
 use Rattle.std.proofs.lemmas.List.{append-nil}
-use Rattle.mapnode.specs.declared.node.Node.{Node}
+use Rattle.space.specs.declared.node.Node.{Node}
 use Rattle.maptree.specs.Blocks.{nodes_in, is_least, is_most}
 use Rattle.maptree.proofs.blocks.Blocks.of.Goals as goal
 

@@ -1,7 +1,7 @@
 -- The parts from this one on are in their gaps.
 use Rattle.std.proofs.Common.{◌≡◌, ◌+◌, drop}
 use Rattle.maptree.specs.Blocks.{nodes_in}
-use Rattle.mapnode.specs.Slices.{nodes_of}
+use Rattle.space.specs.Slices.{nodes_of}
 use Rattle.maptree.specs.Cuts.{joined, count_of}
 use Rattle.maptree.proofs.blocks.Blocks.put_back.Given as goal
 

@@ -1,6 +1,6 @@
 -- In a block that is not full, or in one of two halves.
 use Rattle.std.proofs.Common.{◌≡◌, ◌<◌, ◌≤◌, ◌+◌, ◌-◌, ℕ, [], length, get_or, ap, rules, arith, ◌∙◌, sym, subst, List}
-use Rattle.mapnode.specs.declared.node.Node.{Node}
+use Rattle.space.specs.declared.node.Node.{Node}
 use Rattle.maptree.specs.Blocks.{nodes_in, IsSeat}
 use Rattle.maptree.proofs.InBlocks.{read_of, as_read}
 use Rattle.maptree.proofs.BlockChanges.{split_nodes, first_half, second_half}

@@ -1,7 +1,7 @@
 -- One node of one block.
 use Rattle.std.proofs.Common.{◌≡◌, ◌<◌, ◌+◌, length, set, get_or, take, ap, arith, ◌∙◌, sym, refl, drop, true, subst}
 use Rattle.std.proofs.lemmas.List.{length-set}
-use Rattle.mapnode.specs.declared.node.Node.{Node}
+use Rattle.space.specs.declared.node.Node.{Node}
 use Rattle.std.specs.List.{slice_index}
 use Rattle.maptree.specs.Blocks.{nodes_in, is_least, is_most}
 use Rattle.maptree.proofs.InBlocks.{read_of, as_read, at_seat}
@@ -10,7 +10,7 @@ use Rattle.maptree.proofs.Starts.{starts_set}
 use Rattle.maptree.proofs.Depths.{least_set, behind_set}
 use Rattle.maptree.proofs.Deepest.{most_set}
 use Rattle.maptree.proofs.MinDepths.{least_of_block, min_depths_kept}
-use Rattle.mapnode.proofs.Lists.{blank}
+use Rattle.space.proofs.Lists.{blank}
 use Rattle.maptree.proofs.blocks.Blocks.set_place.Goals as goal
 
 pub returns-clause-nodes : goal.returns-clause-nodes

@@ -1,7 +1,7 @@
 -- The nodes of a block from a position on stand in a block behind it.
 use Rattle.std.proofs.Common.{◌≡◌, ℕ, List, ◌<◌, ◌≤◌, ◌+◌, ◌-◌, [], length, ap, rules, arith, ◌∙◌, sym, vec_capacity, set, take, drop, get_or, if◌then◌else◌}
 use Rattle.std.specs.Prelude.{insert}
-use Rattle.mapnode.specs.declared.node.Node.{Node}
+use Rattle.space.specs.declared.node.Node.{Node}
 use Rattle.maptree.proofs.InBlocks.{as_read}
 use Rattle.maptree.specs.Blocks.{nodes_in, split_block, is_least, is_most}
 use Rattle.maptree.proofs.BlockChanges.{split_nodes, split_length}

@@ -1,8 +1,8 @@
 -- One more part is taken.
 use Rattle.std.proofs.Common.{◌≡◌, ◌<◌, ◌+◌, min, refl, ap, sym, ◌∙◌, length, arith, rules}
 use Rattle.std.specs.List.{slice_range}
-use Rattle.mapnode.specs.declared.slice.Slice.{Slice}
-use Rattle.mapnode.specs.Slices.{nodes_of}
+use Rattle.space.specs.declared.slice.Slice.{Slice}
+use Rattle.space.specs.Slices.{nodes_of}
 use Rattle.maptree.proofs.Cuttings.{taken_part, more_parts, range_parts}
 use Rattle.maptree.proofs.cutting.Cutting.take.Goals as goal
 

@@ -2,7 +2,7 @@
 use Rattle.std.proofs.Common.{◌<◌, length, take, get_or, Some, option_map, ap, sym, ◌∙◌, arith}
 use Rattle.std.proofs.lemmas.List.{get_or_default, length-take}
 use Rattle.std.proofs.Math.Nat.{min-le_right}
-use Rattle.mapnode.proofs.Lists.{blank}
+use Rattle.space.proofs.Lists.{blank}
 use Rattle.maptree.proofs.LastLess.{some_says}
 use Rattle.maptree.proofs.node_list.NodeList.place_of_origin.Goals as goal
 

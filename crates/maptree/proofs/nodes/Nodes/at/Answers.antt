@@ -58,3 +58,12 @@ returns-clause-only c = (found c).only
 
 pub returns-clause-depth : goal.returns-clause-depth
 returns-clause-depth c = (found c).depth
+
+pub returns-in_default-clause-upto : goal.returns-in_default-clause-upto
+returns-in_default-clause-upto c = (alone c).upto
+
+pub returns-then-i-self-clause-upto : goal.returns-then-i-self-clause-upto
+returns-then-i-self-clause-upto c = (there c).upto
+
+pub returns-clause-upto : goal.returns-clause-upto
+returns-clause-upto c = (found c).upto

@@ -3,7 +3,7 @@ use Rattle.std.proofs.Common.{length, subst, sym, ap, ◌∙◌}
 use Rattle.std.specs.List.{All}
 use Rattle.maptree.specs.Origins.{Shape, IsRun, AreRising}
 use Rattle.maptree.specs.Nodes.{origins_of}
-use Rattle.mapnode.specs.Slices.{nodes_of}
+use Rattle.space.specs.Slices.{nodes_of}
 use Rattle.maptree.specs.Cuts.{outside, ArePartsOf, IsCut}
 use Rattle.maptree.proofs.Outside.{IsCutOut, cut_out}
 use Rattle.maptree.proofs.tree.Tree.cut.Goals as goal

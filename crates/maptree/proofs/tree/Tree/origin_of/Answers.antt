@@ -2,7 +2,7 @@
 use Rattle.std.proofs.Common.{◌≡◌, ◌<◌, length, [], get_or, subst, sym, ap, ◌∙◌, arith, option_map}
 use Rattle.std.proofs.lemmas.List.{get_or_default}
 use Rattle.space.specs.declared.place.Place.{Place}
-use Rattle.mapnode.proofs.Lists.{blank}
+use Rattle.space.proofs.Lists.{blank}
 use Rattle.maptree.specs.Origins.{Shape, origin_in, place_at}
 use Rattle.maptree.proofs.Positions.{length-links}
 use Rattle.maptree.proofs.Nearest.{nearest_before, nearest_says}

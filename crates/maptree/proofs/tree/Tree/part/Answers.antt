@@ -1,7 +1,7 @@
 -- The copied nodes stand in the tree.
 use Rattle.std.proofs.Common.{◌≡◌, map, ap, sym, ◌∙◌, subst}
 use Rattle.std.specs.List.{All, slice_range}
-use Rattle.mapnode.specs.declared.node.Node.{Node}
+use Rattle.space.specs.declared.node.Node.{Node}
 use Rattle.maptree.specs.Nodes.{origins_of}
 use Rattle.maptree.specs.Origins.{Shape, HasDepth}
 use Rattle.maptree.proofs.Outside.{part_places, part_depths}

@@ -1,6 +1,6 @@
 -- The place of the nearest node that is less deep.
 use Rattle.std.proofs.Common.{◌≡◌, length, [], subst, sym, ap, ◌∙◌, arith}
-use Rattle.mapnode.proofs.Lists.{blank}
+use Rattle.space.proofs.Lists.{blank}
 use Rattle.maptree.specs.Origins.{Shape, IsOriginAt}
 use Rattle.maptree.proofs.Positions.{length-links}
 use Rattle.maptree.proofs.Nearest.{nearest_place}

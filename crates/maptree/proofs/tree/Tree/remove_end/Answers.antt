@@ -7,6 +7,12 @@ use Rattle.maptree.proofs.Positions.{length-links}
 use Rattle.maptree.proofs.Outside.{end_forest}
 use Rattle.maptree.proofs.tree.Tree.remove_end.Goals as goal
 
+pub remove_all-requires-clause-forest : goal.remove_all-requires-clause-forest
+remove_all-requires-clause-forest c =
+    let size = ap (λ (s : Shape). length s.links) c.self.view_is in let same = length-links [] c.self.inside.nodes.nodes in
+    (end_forest c.self.inside.nodes.nodes c.args.run.now c.args.from c.self.invariant (subst (λ (s : Shape). IsRun s.links c.args.run.now) (sym c.self.view_is) c.requires.run) c.requires.behind c.requires.some
+    (omega (arith, size, same, c.requires.within))).0
+
 within : (c : goal.After-remove_all) → c.args.run.now.end ≤ length c.self.inside.nodes.nodes
 within c = let size = ap (λ (s : Shape). length s.links) c.self.view_is in let same = length-links [] c.self.inside.nodes.nodes in omega (arith, size, same, c.requires.within)
 

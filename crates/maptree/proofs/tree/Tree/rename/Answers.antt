@@ -5,7 +5,7 @@ use Rattle.space.specs.declared.place.Place.{Place}
 use Rattle.space.specs.Place.{same_place}
 use Rattle.maptree.specs.Origins.{Shape, place_at, renamed}
 use Rattle.maptree.specs.Nodes.{is_forest, origins_of}
-use Rattle.mapnode.proofs.Lists.{blank, read_any}
+use Rattle.space.proofs.Lists.{blank, read_any}
 use Rattle.maptree.proofs.Positions.{length-links}
 use Rattle.maptree.proofs.Renaming.{renamed_says, renamed_forest}
 use Rattle.maptree.proofs.tree.Tree.rename.Goals as goal

@@ -1,7 +1,7 @@
 -- What is kept is put back.
 use Rattle.std.proofs.Common.{◌≡◌, subst, sym, ap, ◌∙◌}
 use Rattle.maptree.specs.Origins.{Shape}
-use Rattle.mapnode.specs.Slices.{nodes_of}
+use Rattle.space.specs.Slices.{nodes_of}
 use Rattle.maptree.specs.Cuts.{joined, AreKept}
 use Rattle.maptree.proofs.Splicing.{IsPutBack, put_back}
 use Rattle.maptree.proofs.tree.Tree.splice.Goals as goal

@@ -2,7 +2,7 @@
 use Rattle.std.proofs.Common.{◌≡◌, not, take}
 use Rattle.std.specs.List.{list_any}
 use Rattle.space.specs.Place.{same_place}
-use Rattle.mapnode.specs.Slices.{nodes_of}
+use Rattle.space.specs.Slices.{nodes_of}
 use Rattle.maptree.specs.Cuts.{kept_of}
 use Rattle.page_tests.proofs.trees.cuts.parts_without.Given as goal
 

@@ -3,4 +3,4 @@ use Rattle.std.proofs.Common.{◌≡◌}
 use Rattle.phase_tests.proofs.times.LookerObserve.observe.Given as goal
 
 abbrev pub invariant-loop : goal.invariant-loop
-invariant-loop l = (l.watcher.sheet ≡ l.shared) × (l.watcher.number ≡ l.fn.watcher.number)
+invariant-loop l = (l.watcher.shared ≡ l.shared) × (l.watcher.number ≡ l.fn.watcher.number)

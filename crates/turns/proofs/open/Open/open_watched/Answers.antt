@@ -2,12 +2,12 @@ use Rattle.std.proofs.Common.{◌<◌, length, ◌∙◌, sym, subst}
 use Rattle.std.specs.List.{All}
 use Rattle.std.specs.List.Sorted.{IsStrictlyIncreasing}
 use Rattle.pieces.specs.Phases.{CanBeWorked, IsPiece}
-use Rattle.turns.specs.Sheets.{IsPhase}
+use Rattle.turns.specs.SharedWords.{IsPhase}
 use Rattle.turns.specs.Tables.{indexes_of}
 use Rattle.turns.proofs.open.Open.open_watched.Goals as goal
 
 pub watched_indexes-requires-clause-each : goal.watched_indexes-requires-clause-each
-watched_indexes-requires-clause-each c = subst (All IsPiece) (c.deref.ensures.value ∙ sym c.deref-3.ensures.value) c.are_pieces.ensures
+watched_indexes-requires-clause-each c = subst (All IsPiece) (c.deref.ensures.value ∙ sym c.deref-3.ensures.value) c.learn_are_pieces.ensures
 
 pub watched_indexes-requires-clause-can : goal.watched_indexes-requires-clause-can
 watched_indexes-requires-clause-can c =
@@ -15,8 +15,8 @@ watched_indexes-requires-clause-can c =
 
 pub share-requires-clause-phase : goal.share-requires-clause-phase
 share-requires-clause-phase c =
-    subst (λ ps. IsPhase (record { words = c.args.words.items; pieces = ps; at = indexes_of (length c.args.words.items) c.in_ok-at.at; watchers = c.args.watchers })) c.deref-3.ensures.value
-    (subst (λ ws. IsPhase (record { words = ws; pieces = c.deref-3.result.now; at = indexes_of (length ws) c.in_ok-at.at; watchers = c.args.watchers })) c.deref-2.ensures.value (c.in_ok-at.ensures.phase c.args.watchers))
+    subst (λ ps. IsPhase (record { words = c.args.words.items; pieces = ps; indexes = indexes_of (length c.args.words.items) c.in_ok-at.at; watchers = c.args.watchers })) c.deref-3.ensures.value
+    (subst (λ ws. IsPhase (record { words = ws; pieces = c.deref-3.result.now; indexes = indexes_of (length ws) c.in_ok-at.at; watchers = c.args.watchers })) c.deref-2.ensures.value (c.in_ok-at.ensures.phase c.args.watchers))
 
 pub share-requires-clause-some : goal.share-requires-clause-some
 share-requires-clause-some c = subst (λ ws. 0 < length (indexes_of (length ws) c.in_ok-at.at)) c.deref-2.ensures.value c.in_ok-at.ensures.some

@@ -1,20 +1,20 @@
 use Rattle.std.proofs.Common.{◌≡◌, ℕ, length, ◌∷◌, [], ◌≤◌, ◌∙◌, ap, sym, subst, arith}
 use Rattle.turns.specs.Rules.{next_step}
-use Rattle.turns.specs.Sheets.{SheetContent}
+use Rattle.turns.specs.SharedWords.{SharedContent}
 use Rattle.pieces.proofs.Placed.{not_some}
 use Rattle.turns.proofs.StripSteps.{is_last, fold_next}
 use Rattle.turns.proofs.strip_work.StripWork.step.Goals as goal
 
 pub add-requires-clause-next : goal.add-requires-clause-next
 add-requires-clause-next c =
-    let o = c.args.sheet.now.opening in
+    let o = c.args.shared.now.opening in
     let last = is_last o.words c.args.self.now c.args.post.now.steps c.len.result c.requires.work c.requires.left (c.len.ensures ∙ c.args.self.now.indexes.ok.0) (subst (λ k. c.len.result ≤ k) c.steps-k.ensures c.if-k-len.false) in
-    ap (λ (s : SheetContent). next_step s.opening ((c.args.post.now.number, c.args.post.now.steps) ∷ [])) c.requires.of
+    ap (λ (s : SharedContent). next_step s.opening ((c.args.post.now.number, c.args.post.now.steps) ∷ [])) c.requires.of
     ∙ fold_next o c.args.post.now.number c.args.post.now.steps c.args.self.now c.requires.piece c.requires.work last.last c.in-Some.index c.bits-found.result c.in-Some.is c.bits-found.ensures
 
 pub add-requires-clause-fits : goal.add-requires-clause-fits
 add-requires-clause-fits c =
-    let last = is_last c.args.sheet.now.opening.words c.args.self.now c.args.post.now.steps c.len.result c.requires.work c.requires.left (c.len.ensures ∙ c.args.self.now.indexes.ok.0) (subst (λ k. c.len.result ≤ k) c.steps-k.ensures c.if-k-len.false) in
+    let last = is_last c.args.shared.now.opening.words c.args.self.now c.args.post.now.steps c.len.result c.requires.work c.requires.left (c.len.ensures ∙ c.args.self.now.indexes.ok.0) (subst (λ k. c.len.result ≤ k) c.steps-k.ensures c.if-k-len.false) in
     let k : ℕ = c.args.post.now.steps in
     let m : ℕ = length c.args.self.now.of.value.indexes in
     let n : ℕ = length c.args.self.now.indexes.items in
@@ -25,5 +25,5 @@ add-requires-clause-fits c =
 
 pub returns-in_default-clause-post : goal.returns-in_default-clause-post
 returns-in_default-clause-post c =
-    let last = is_last c.args.sheet.now.opening.words c.args.self.now c.args.post.now.steps c.len.result c.requires.work c.requires.left (c.len.ensures ∙ c.args.self.now.indexes.ok.0) (subst (λ k. c.len.result ≤ k) c.steps-k.ensures c.if-k-len.false) in
+    let last = is_last c.args.shared.now.opening.words c.args.self.now c.args.post.now.steps c.len.result c.requires.work c.requires.left (c.len.ensures ∙ c.args.self.now.indexes.ok.0) (subst (λ k. c.len.result ≤ k) c.steps-k.ensures c.if-k-len.false) in
     absurd (last.some (sym c.requires.work.fold ∙ not_some _ c.in_default.not-Some))

@@ -9,8 +9,8 @@ abbrev pub invariant-loop-self : goal.invariant-loop-self
 invariant-loop-self l = record {
   post : l.post ≡ record l.initial.post { steps = l.post.steps };
   of : l.self.of.value ≡ l.initial.self.of.value;
-  work : IsStripWork l.sheet.opening.words l.self l.post.steps;
-  few : l.post.steps ≤ length (steps l.sheet.opening.words (piece.Strip l.self.of.value));
+  work : IsStripWork l.shared.opening.words l.self l.post.steps;
+  few : l.post.steps ≤ length (steps l.shared.opening.words (piece.Strip l.self.of.value));
 }
 
 abbrev pub decreases-loop-self : goal.decreases-loop-self

@@ -1,6 +1,6 @@
 use Rattle.std.proofs.Common.{◌≤◌, ap, ◌∙◌, sym, subst}
 use Rattle.pieces.specs.Distinct.{is_none_of}
-use Rattle.turns.specs.Sheets.{SheetContent}
+use Rattle.turns.specs.SharedWords.{SharedContent}
 use Rattle.turns.specs.Watching.{changed_by, steps_of_piece}
 use Rattle.turns.proofs.Moments.{still_of, then_looked}
 use Rattle.turns.proofs.watcher.Watcher.look_after.Goals as goal
@@ -16,12 +16,12 @@ returns-clause-moment c = then_looked c.args.self.now c.learn.new.self c.look.ne
 
 pub returns-clause-after : goal.returns-clause-after
 returns-clause-after c =
-    λ changed. c.look.ensures.forward (c.learn.ensures.ended c.args.index (ap (λ (s : SheetContent). is_none_of (changed_by s c.args.receipt.piece) c.args.index) (c.learn.ensures.same.0 ∙ c.requires.of) ∙ changed))
+    λ changed. c.look.ensures.forward (c.learn.ensures.ended c.args.index (ap (λ (s : SharedContent). is_none_of (changed_by s c.args.receipt.piece) c.args.index) (c.learn.ensures.same.0 ∙ c.requires.of) ∙ changed))
 
 pub returns-clause-ended : goal.returns-clause-ended
-returns-clause-ended c = λ i changed. c.look.ensures.still i (c.learn.ensures.ended i (ap (λ (s : SheetContent). is_none_of (changed_by s c.args.receipt.piece) i) (sym c.look.ensures.same.0) ∙ changed))
+returns-clause-ended c = λ i changed. c.look.ensures.still i (c.learn.ensures.ended i (ap (λ (s : SharedContent). is_none_of (changed_by s c.args.receipt.piece) i) (sym c.look.ensures.same.0) ∙ changed))
 
 pub returns-clause-told : goal.returns-clause-told
 returns-clause-told c =
     λ counts all.
-    subst (λ (s : SheetContent). steps_of_piece s c.args.receipt.piece ≤ counts c.args.receipt.piece) (sym c.look.ensures.same.0) (c.learn.ensures.told counts (c.look.ensures.moment.kept counts all))
+    subst (λ (s : SharedContent). steps_of_piece s c.args.receipt.piece ≤ counts c.args.receipt.piece) (sym c.look.ensures.same.0) (c.learn.ensures.told counts (c.look.ensures.moment.kept counts all))

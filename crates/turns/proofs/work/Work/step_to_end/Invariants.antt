@@ -8,7 +8,7 @@ use Rattle.turns.proofs.work.Work.step_to_end.Given as goal
 abbrev pub invariant-loop-self : goal.invariant-loop-self
 invariant-loop-self l = record {
   post : l.post ≡ record l.initial.post { steps = l.post.steps };
-  work : (p : Piece) → IsWork l.sheet.opening.words p l.initial.self l.initial.post.steps → IsWork l.sheet.opening.words p l.self l.post.steps;
+  work : (p : Piece) → IsWork l.shared.opening.words p l.initial.self l.initial.post.steps → IsWork l.shared.opening.words p l.self l.post.steps;
   few : l.post.steps ≤ steps_to_do l.post;
 }
 

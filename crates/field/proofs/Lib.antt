@@ -1,2 +1,0 @@
-mod SpelledDigits
-mod DigitTable

@@ -1,0 +1,3 @@
+mod SpelledDigits
+mod DigitTable
+pub mod ReadWords

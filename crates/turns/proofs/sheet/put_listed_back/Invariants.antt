@@ -1,8 +1,0 @@
--- The words so far.
-use Rattle.std.proofs.Common.{◌≡◌, take}
-use Rattle.std.specs.Slots.{slots_items}
-use Rattle.turns.specs.Sheets.{replaced}
-use Rattle.turns.proofs.sheet.put_listed_back.Given as goal
-
-abbrev pub invariant-loop-k : goal.invariant-loop-k
-invariant-loop-k l = l.words ≡ replaced l.initial.words (take l.k l.at) (slots_items l.shared.words)
