@@ -1,4 +1,5 @@
-/* Calls of which each allocation is refused in turn, alone and with all after it.
+/* Calls of which each allocation is refused in turn, alone and with all after it, without notes of what they change and
+ * with them.
  *
  * l4map_new() answers L4MAP_NO_MEMORY, leaves the handle empty, and made again does what it does at once. Any other
  * call that is refused memory answers L4MAP_HALTED, and so does every call after it until l4map_free(). Either way
@@ -63,6 +64,9 @@ struct held {
 static uint32_t refusing;
 static unsigned told[KINDS], wrong;
 
+/* Whether calls note what they change. */
+static bool notes_changes;
+
 static void want(bool is_right, const char *what, size_t call) {
     if (!is_right) {
         printf("call %zu, allocation %u: %s\n", call, refusing, what);
@@ -77,12 +81,22 @@ static void look(struct l4map *db, struct held *held) {
     }
 }
 
+/* Makes a database, whose calls note what they change if this run is one with notes. */
+static uint32_t make_new(struct l4map *db) {
+    uint32_t code = l4map_new(db, 3, 18, 16);
+    if (code == L4MAP_DONE && notes_changes) {
+        uint32_t asked = arena_asked;
+        want(l4map_note_changes(db, 1) == L4MAP_DONE && arena_asked == asked, "notes cannot be asked for", 0);
+    }
+    return code;
+}
+
 /* Makes a call, with its words or nines in what is lent. */
 static uint32_t make(struct l4map *db, const struct call *c, struct lent *lent) {
     memset(lent, 9, sizeof *lent);
     switch (c->kind) {
     case NEW:
-        return l4map_new(db, 3, 18, 16);
+        return make_new(db);
     case SEND:
         return l4map_send(db, c->space, c->to, c->word, c->words, c->n, &lent->reply);
     case UNMAP:
@@ -155,11 +169,14 @@ static bool halts_looks(struct l4map *db) {
     struct l4map_entry_reply entry = {9, 9, 9, 9};
     struct l4map_origin_reply origin = {9, 9, 9};
     struct l4map_mapping mapping = {.frame = 9};
+    struct l4map_change change = {.frame = 9};
     uint32_t asked = arena_asked;
     size_t count = 9;
     return l4map_entry(db, 0, 0, &entry) == L4MAP_HALTED && l4map_origin(db, 0, 0, &origin) == L4MAP_HALTED &&
-           l4map_mappings(db, 0, 0, &mapping, 1, &count) == L4MAP_HALTED && entry.held == 9 && origin.known == 9 &&
-           mapping.frame == 9 && count == 9 && arena_asked == asked;
+           l4map_mappings(db, 0, 0, &mapping, 1, &count) == L4MAP_HALTED &&
+           l4map_changes(db, 0, &change, 1, &count) == L4MAP_HALTED && l4map_note_changes(db, 1) == L4MAP_HALTED &&
+           entry.held == 9 && origin.known == 9 && mapping.frame == 9 && change.frame == 9 && count == 9 &&
+           arena_asked == asked;
 }
 
 static bool stays_halted(struct l4map *db) {
@@ -219,7 +236,8 @@ static bool run(void) {
     return arena_asked >= refusing;
 }
 
-static void run_all(const char *how) {
+/* Makes all calls once for each allocation that they need, and returns how many these are. */
+static uint32_t run_all(const char *how) {
     memset(told, 0, sizeof told);
     wrong = 0;
     refusing = 0;
@@ -229,11 +247,17 @@ static void run_all(const char *how) {
     printf("%s: told by %s new, %s sends, %s unmaps, %s accesses, %s clears; wrong %u\n", how,
            told[NEW] ? "some" : "no", told[SEND] ? "some" : "no", told[UNMAP] ? "some" : "no",
            told[ACCESS] ? "some" : "no", told[CLEAR] ? "some" : "no", wrong);
+    return refusing;
 }
 
 int main(void) {
-    run_all("alone");
+    uint32_t without = run_all("alone"), with;
+    notes_changes = true;
+    with = run_all("alone, with notes");
+    printf("notes ask for %s memory\n", with > without ? "some" : "no");
     arena_refuses_rest = true;
+    run_all("with all after it, with notes");
+    notes_changes = false;
     run_all("with all after it");
     return 0;
 }

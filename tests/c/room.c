@@ -47,8 +47,10 @@ static size_t stack_of(void (*work)(void)) {
 static void do_nothing(void) {
 }
 
+/* Calls note what they change, which takes more than where they do not. */
 static void make_largest(void) {
     must(l4map_new(&db, 512, 24, 4096), "new");
+    must(l4map_note_changes(&db, 1), "note_changes");
 }
 
 static void free_it(void) {
@@ -148,8 +150,30 @@ static void tell_mappings(void) {
     must(l4map_mappings(&db, 0, 0, mappings, 16384, &count), "mappings");
 }
 
+static void tell_changes(void) {
+    static struct l4map_change changes[16384];
+    size_t count;
+    must(l4map_changes(&db, 0, changes, 16384, &count), "changes");
+    if (count < 4096) {
+        fprintf(stderr, "room: only %zu changes\n", count);
+        exit(1);
+    }
+}
+
 static void print_stack(const char *name, void (*work)(void)) {
     printf("stack %s %zu\n", name, stack_of(work) - stack_of(do_nothing));
+}
+
+/* The bytes that are kept for the notes of 4096 pages, for each of them. The first unmap takes a right from the same
+ * pages without notes. */
+static void print_heap_of_notes(void) {
+    uint32_t write = 0x12, execute = 0x11;
+    size_t before;
+    must(l4map_unmap(&db, 1, 0x40, &write, 1), "an unmap");
+    before = arena_bytes;
+    must(l4map_note_changes(&db, 1), "note_changes");
+    must(l4map_unmap(&db, 1, 0x40, &execute, 1), "an unmap");
+    printf("heap note %zu\n", (arena_bytes - before + 4095) / 4096);
 }
 
 static void print_heap(void) {
@@ -168,6 +192,7 @@ static void print_heap(void) {
     send(0, 2, item, 2);
     printf("heap mapping %zu\n", (arena_bytes - empty + 8191) / 8192);
     printf("heap sending %zu\n", arena_most - arena_bytes);
+    print_heap_of_notes();
     l4map_free(&db);
 }
 
@@ -179,6 +204,7 @@ int main(void) {
     print_stack("look", look);
     print_stack("mappings", tell_mappings);
     print_stack("unmap", unmap_in_all_ways);
+    print_stack("changes", tell_changes);
     print_stack("free", free_it);
     make_largest();
     send_in_all_ways();

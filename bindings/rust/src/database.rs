@@ -2,6 +2,7 @@ use core::cell::UnsafeCell;
 use core::fmt;
 use core::ptr::null_mut;
 
+use crate::changes::Changes;
 use crate::mappings::Mappings;
 use crate::raw;
 use crate::{Error, Fpage, Item, Place, Rights, Space};
@@ -377,11 +378,78 @@ impl Database {
     ///
     /// [`Error::Halted`].
     pub fn mappings(&self) -> Result<Mappings<'_>, Error> {
-        Mappings::of(self)
+        self.mappings_from(place_of(0, 0))
+    }
+
+    /// Every mapping at or behind a page, by rising place. A page past the end of its space stands for the start of the
+    /// next space; past the last space there are no mappings.
+    ///
+    /// ```
+    /// use l4map::{Database, Limits, Place, Space};
+    ///
+    /// # fn main() -> Result<(), l4map::Error> {
+    /// let database = Database::new(Limits { spaces: 2, bits: 18, frames: 5 })?;
+    /// assert_eq!(database.mappings_from(Place { space: Space(0), page: 3 })?.count(), 2);
+    /// # Ok(())
+    /// # }
+    /// ```
+    ///
+    /// # Errors
+    ///
+    /// [`Error::Halted`].
+    pub fn mappings_from(&self, place: Place) -> Result<Mappings<'_>, Error> {
+        Mappings::from(self, place)
+    }
+
+    /// Says whether calls note which pages they change, from the next call on. At the start they do not. What was noted
+    /// is forgotten.
+    ///
+    /// Notes take 12 bytes for each page that a call notes; the next call uses that memory again.
+    ///
+    /// # Errors
+    ///
+    /// [`Error::Halted`].
+    pub fn note_changes(&mut self, on: bool) -> Result<(), Error> {
+        // SAFETY: the handle is this database's own, and no other call runs.
+        Error::check(unsafe { raw::l4map_note_changes(self.handle.get(), on.into()) })
+    }
+
+    /// What the last send, unmap, clear or access changed, if that was noted: every page whose frame or rights it
+    /// changed, in whatever space, with what the page holds now. A page may come more than once, with the same entry,
+    /// and a page that did not change may come too.
+    ///
+    /// A kernel asks for notes once. It reads the changes after each call that was done, and makes each in its page
+    /// tables. After a call that was refused it has nothing to do.
+    ///
+    /// # Errors
+    ///
+    /// [`Error::Halted`].
+    pub fn changes(&self) -> Result<Changes<'_>, Error> {
+        Changes::of(self)
+    }
+
+    /// Writes the changes from number `from` on to `some`, and tells how many they are.
+    pub(crate) fn read_changes(
+        &self,
+        from: usize,
+        some: &mut [raw::Change],
+    ) -> Result<usize, Error> {
+        let mut count = 0;
+        // SAFETY: both are lent for the call, and apart from one another; the rest as in `entry`.
+        Error::check(unsafe {
+            raw::l4map_changes(
+                self.handle.get(),
+                from,
+                some.as_mut_ptr(),
+                some.len(),
+                &mut count,
+            )
+        })?;
+        Ok(count)
     }
 
     /// Writes the first mappings at or behind a page to `some`, and tells how many they are.
-    pub(crate) fn mappings_from(
+    pub(crate) fn read_mappings(
         &self,
         space: u16,
         page: u32,
@@ -414,6 +482,16 @@ impl fmt::Debug for Database {
     fn fmt(&self, f: &mut fmt::Formatter<'_>) -> fmt::Result {
         f.debug_struct("Database").finish_non_exhaustive()
     }
+}
+
+/// The version of the interface of the archive that was linked. This package is written for version 2.
+///
+/// ```
+/// assert_eq!(l4map::version(), 2);
+/// ```
+pub fn version() -> u32 {
+    // SAFETY: nothing is lent for the call.
+    unsafe { raw::l4map_version() }
 }
 
 /// The bit of a control word by which a space's own pages lose the rights too.

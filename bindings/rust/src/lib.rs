@@ -44,6 +44,7 @@
 #[cfg(test)]
 extern crate std;
 
+mod changes;
 mod database;
 mod error;
 #[cfg(feature = "std-heap")]
@@ -53,7 +54,8 @@ mod raw;
 mod rights;
 mod words;
 
-pub use database::{Access, Counts, Database, Entry, Limits};
+pub use changes::{Change, Changes, TableEntry};
+pub use database::{version, Access, Counts, Database, Entry, Limits};
 pub use error::Error;
 pub use mappings::{Mapping, Mappings};
 pub use rights::Rights;

@@ -57,10 +57,10 @@ pub struct Mappings<'a> {
 }
 
 impl<'a> Mappings<'a> {
-    /// All of a database.
-    pub(crate) fn of(database: &'a Database) -> Result<Mappings<'a>, Error> {
+    /// Those of a database at or behind a page.
+    pub(crate) fn from(database: &'a Database, place: Place) -> Result<Mappings<'a>, Error> {
         let mut some = [raw::Mapping::default(); SOME];
-        let count = database.mappings_from(0, 0, &mut some)?;
+        let count = database.read_mappings(place.space.0, place.page, &mut some)?;
         Ok(Mappings {
             database,
             some,
@@ -76,7 +76,7 @@ impl<'a> Mappings<'a> {
             // It is not refused: the database is lent, so that nothing can have halted it.
             let more =
                 self.database
-                    .mappings_from(last.space as u16, last.page + 1, &mut self.some);
+                    .read_mappings(last.space as u16, last.page + 1, &mut self.some);
             self.count = more.unwrap_or(0);
             self.given = 0;
         }
@@ -148,6 +148,29 @@ mod tests {
         for frames in [1, 7, 8, 9, 16, 32, 64] {
             let (database, wanted) = held_twice(frames);
             assert_eq!(database.mappings().unwrap().collect::<Vec<_>>(), wanted);
+        }
+    }
+
+    #[test]
+    fn mappings_from_a_page_on() {
+        let (database, wanted) = held_twice(32);
+        for (space, page, before) in [
+            (0, 0, 0),
+            (0, 31, 31),
+            (0, 32, 32),
+            (0, u32::MAX, 32),
+            (1, 0, 32),
+            (1, 31, 63),
+            (1, 32, 64),
+            (2, 0, 64),
+            (u16::MAX, u32::MAX, 64),
+        ] {
+            let start = Place {
+                space: Space(space),
+                page,
+            };
+            let told: Vec<_> = database.mappings_from(start).unwrap().collect();
+            assert_eq!(told, wanted[before..], "{start}");
         }
     }
 

@@ -46,7 +46,18 @@ pub struct Mapping {
     pub origin_page: u32,
 }
 
+#[repr(C)]
+#[derive(Clone, Copy, Default)]
+pub struct Change {
+    pub space: u32,
+    pub page: u32,
+    pub held: u32,
+    pub frame: u32,
+    pub rights: u32,
+}
+
 extern "C" {
+    pub fn l4map_version() -> u32;
     pub fn l4map_new(db: *mut Handle, spaces: u32, bits: u32, frames: u32) -> u32;
     pub fn l4map_free(db: *mut Handle);
     pub fn l4map_send(
@@ -75,6 +86,14 @@ extern "C" {
         space: u16,
         page: u32,
         mappings: *mut Mapping,
+        n: usize,
+        count: *mut usize,
+    ) -> u32;
+    pub fn l4map_note_changes(db: *mut Handle, on: u32) -> u32;
+    pub fn l4map_changes(
+        db: *mut Handle,
+        from: usize,
+        changes: *mut Change,
         n: usize,
         count: *mut usize,
     ) -> u32;

@@ -51,6 +51,7 @@ unsafe impl GlobalAlloc for Counting {
 }
 
 /// Maps all pages of space 0 to space 1, and page 5 on to 40 pages of space 2; writes to the first and takes them back.
+/// Notes are asked for, so that they take memory too.
 fn work() -> Result<Rights, Error> {
     let limits = Limits {
         spaces: 3,
@@ -58,6 +59,7 @@ fn work() -> Result<Rights, Error> {
         frames: 64,
     };
     let mut database = Database::new(limits)?;
+    database.note_changes(true)?;
     let (window, page) = (Fpage::complete(Rights::NONE), Fpage::page(5, Rights::ALL));
     let all = Item::map(Fpage::complete(Rights::ALL), 0);
     database.send(Space(0), Space(1), window, &[all])?;
@@ -66,8 +68,26 @@ fn work() -> Result<Rights, Error> {
     }
     database.access(Space(2), 0, Access::Write)?;
     let status = database.flush_page(Space(1), page)?;
+    assert_eq!(database.changes()?.count(), 1 + 40);
     assert_eq!(database.mappings()?.count(), 64 + 63);
     Ok(status)
+}
+
+#[test]
+fn a_halted_database_tells_nothing() {
+    let limits = Limits {
+        spaces: 2,
+        bits: 18,
+        frames: 64,
+    };
+    let mut database = Database::new(limits).unwrap();
+    let all = Item::map(Fpage::complete(Rights::ALL), 0);
+    UNTIL_REFUSED.set(0);
+    let sent = database.send(Space(0), Space(1), Fpage::complete(Rights::NONE), &[all]);
+    UNTIL_REFUSED.set(usize::MAX);
+    assert_eq!(sent, Err(Error::Halted));
+    assert_eq!(database.changes().err(), Some(Error::Halted));
+    assert_eq!(database.note_changes(true), Err(Error::Halted));
 }
 
 #[test]

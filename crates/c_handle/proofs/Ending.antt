@@ -1,6 +1,6 @@
 -- What comes of a call, by the answer of the database.
 use Rattle.std.proofs.Common.{◌≡◌, inl, inr, Result, Ok, Err, refl, sym, subst, ◌∙◌}
-use Rattle.std.specs.Prelude.{IfOk, IfErr}
+use Rattle.std.specs.Prelude.{IfOk, IfErr, OnOk}
 use Rattle.model.specs.Definitions.Calls.{Call}
 use Rattle.mapdb.specs.Answered.{IsAnswered, IsUnanswered}
 use Rattle.mapdb.specs.State.{State}
@@ -33,3 +33,11 @@ module _ (s new : State) (call : Call) where
   -- not done
   pub was_not_done : (r : Result Reply DbError) → IfOk r (IsAnswered s call new) → IfErr r (IsUnanswered s call new) → (d : Result Reply CallError) → d ≡ done_as r → (e : CallError) → d ≡ Err e → IsNotDone s call new e
   was_not_done r ok err d same e is = subst (λ o. IfErr o (IsNotDone s call new)) (sym same ∙ is) (ends r ok err).1
+
+-- what is known of an answer is known where the call was done
+pub known_done : {P : Type 0} (r : Result Reply DbError) → OnOk r P → (d : Result Reply CallError) → d ≡ done_as r → (x : Reply) → d ≡ Ok x → P
+known_done {P} r known d same x is = by r known (sym same ∙ is)
+  where
+    by : (r : Result Reply DbError) → OnOk r P → done_as r ≡ Ok x → P
+    by (Ok y) known done = known
+    by (Err e) known done = absurd (cc done)

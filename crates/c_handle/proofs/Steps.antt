@@ -29,7 +29,7 @@ use Rattle.std.specs.declared.alloc.Global.{Global}
 use Rattle.std.specs.declared.option.Option.{Option}
 use Rattle.std.specs.declared.option.Option.TheVariants.{None, Some}
 use Rattle.std.specs.Box.Ownership.{box_owns}
-use Rattle.mapdb.specs.contracts.database.Database as database
+use Rattle.c_handle.specs.contracts.kept.Kept as kept
 use Rattle.c_handle.specs.contracts.raw_box.RawBox as raw_box
 use Rattle.c_handle.specs.Owned.{owned_at}
 use Rattle.c_handle.specs.contracts.handle.Handle as handle
@@ -38,7 +38,7 @@ abbrev pub Held : RattleType
 Held = handle.the_row
 
 abbrev pub Stored : RattleType
-Stored = database.the_row
+Stored = kept.the_row
 
 abbrev pub Pointer : RattleType
 Pointer = raw_box.the_row Stored heap.the_row ghosts
@@ -66,12 +66,12 @@ pointer_typed null_ptr h fits = (and_tt (has_ty (layout heap.the_row) h) fits.0,
 pointer_typed (block_ptr b o) h fits = (and_tt (has_ty (layout heap.the_row) h) fits.0, (tt, (fits.1, tt)))
 
 module _ {M : Type 1} {𝓤 : Ura M} {𝓛 : Logic 𝓤} {K : Type 0} {Γ : List (Item 𝓤)} {G : Goal 𝓤 𝓛.H} where
-  pub handle_in : K → (d : Held.Denot) → Step K 𝓛 (‵ (Held.own_val d (handle_word d.at ∷ [])) ∷ Γ) G (‵ (owned_at Stored d.at d.held) ∷ Γ) G
+  pub handle_in : K → (d : Held.Denot) → Step K 𝓛 (‵ (Held.own_val d (handle_word d.at ∷ [])) ∷ Γ) G (‵ (owned_at Stored d.at d.kept) ∷ Γ) G
   handle_in t d = step (λ s. let w : Val = handle_word d.at in
       nothing t $ feq_i t (List Val) (ptr_val d.at ∷ []) (ptr_val d.at ∷ []) refl $ fjoin t $ feq_i t (List Val) (w ∷ []) (w ∷ []) refl $ fjoin t $
       fpack t (Valss (RawPtr ∷ [])) (within (shape handle.the_type) (d.at, tt) (w ∷ [])) (ptr_val d.at ∷ [], tt) $ fjoin t $ s)
 
-  pub handle_out : K → (d : Held.Denot) (vs : List Val) → (vs ≡ handle_word d.at ∷ [] → Seq K 𝓛 (‵ (owned_at Stored d.at d.held) ∷ Γ) G) → Seq K 𝓛 (‵ (Held.own_val d vs) ∷ Γ) G
+  pub handle_out : K → (d : Held.Denot) (vs : List Val) → (vs ≡ handle_word d.at ∷ [] → Seq K 𝓛 (‵ (owned_at Stored d.at d.kept) ∷ Γ) G) → Seq K 𝓛 (‵ (Held.own_val d vs) ∷ Γ) G
   handle_out t d vs k =
       fsplit t $ fpick t (λ vss. fsplit t $ feq_l t (λ word_is. fsplit t $ feq_l t (λ at_is. drop t $
       k (subst (λ (ps : List Val). vs ≡ vstruct (of_list (ps ++ [])) ∷ []) at_is word_is))))

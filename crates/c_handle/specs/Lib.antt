@@ -12,3 +12,4 @@ pub mod Called
 pub mod Done
 pub mod Sent
 pub mod Listed
+pub mod Changed

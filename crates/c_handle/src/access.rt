@@ -1,6 +1,8 @@
 //! Accesses to pages.
 
 ghost use Rattle.std.specs.Prelude.{◌≡◌, Some};
+ghost use Rattle.std.specs.Result.{OnOk};
+ghost use Rattle.mapdb.specs.Held.{NotesTell};
 ghost use Rattle.c_handle.specs.Asked.{access_asked, kind_of};
 ghost use Rattle.c_handle.specs.Called.{IsCalled};
 ghost use Rattle.c_handle.specs.Errors.{result_code};
@@ -9,9 +11,10 @@ ghost use Rattle.c_handle.specs.Replied.{made_told};
 use crate::answer::done;
 use crate::asked::AccessAsked;
 use crate::error::CallError;
+use crate::kept::Kept;
 use crew::Alone;
 use fpage::Access;
-use mapdb::{Database, Refusal, Reply};
+use mapdb::{Refusal, Reply};
 use space::Place;
 use std::alloc::Global;
 
@@ -33,18 +36,19 @@ fn kind_of(number: u32) -> Option<Access>
 /// is. Then `made` is as it was.
 pub fn access(
     alloc: Global,
-    database: &mut Database,
+    kept: &mut Kept,
     asked: AccessAsked,
     made: &mut u32,
 ) -> Result<(), CallError>
-    ensures { IsCalled made_told (access_asked asked.space asked.address asked.kind database.old.limits) database.old made.old
-        (record { code = result_code result; held = Some database.new; lent = made.new }) }
+    ensures called { IsCalled made_told (access_asked asked.space asked.address asked.kind kept.old.database.limits) kept.old.database made.old
+        (record { code = result_code result; held = Some kept.new.database; lent = made.new }) }
+    ensures told { OnOk result (NotesTell kept.old.database.holdings kept.new.database.holdings kept.old.scratch.notes kept.new.scratch.notes) }
 {
-    if database.is_halted() {
+    if kept.database.is_halted() {
         return Err(CallError::Halted);
     }
     let access = kind_of(asked.kind).ok_or(CallError::Refused(Refusal::BadRecord))?;
-    let limits = database.limits();
+    let limits = kept.database.limits();
     if u32::from(asked.space) >= limits.spaces {
         return Err(CallError::Refused(Refusal::NoSuchSpace));
     }
@@ -55,7 +59,10 @@ pub fn access(
         space: asked.space,
         page: asked.address / 4096,
     };
-    let reply = done(database.answer_access(alloc, (place, access), &Alone))?;
+    let reply = done(
+        kept.database
+            .answer_access(alloc, (place, access), &mut kept.scratch, &Alone),
+    )?;
     if let Reply::Accessed(was_made) = reply {
         *made = u32::from(was_made);
     }

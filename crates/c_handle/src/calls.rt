@@ -6,16 +6,18 @@ ghost use Rattle.c_handle.specs.Boxed.{value_of};
 
 use crate::access::access;
 use crate::asked::{AccessAsked, SendAsked, UnmapAsked};
+use crate::changes::{ChangeReply, ask, list_changes};
 use crate::clear::clear_space;
 use crate::code::{BAD_LIMITS, DONE, EMPTY, HOLDS_ONE, NO_MEMORY};
 use crate::error::result_code;
 use crate::handle::Handle;
+use crate::kept::Kept;
 use crate::look::{EntryReply, OriginReply, entry, origin};
 use crate::mappings::{MappingReply, list};
 use crate::raw_box::RawBox;
 use crate::send::{SendReply, send};
 use crate::unmap::unmap;
-use mapdb::{Database, DbError};
+use mapdb::{Database, DbError, Scratch};
 use std::alloc::Global;
 use std::mem;
 
@@ -28,13 +30,15 @@ impl Handle {
     ghost use Rattle.c_handle.specs.Replied.{words_told, made_told, status_told};
     ghost use Rattle.c_handle.specs.Sent.{IsSentOf};
     ghost use Rattle.c_handle.specs.Listed.{listed_of};
+    ghost use Rattle.c_handle.specs.Held.{held_of};
+    ghost use Rattle.c_handle.specs.Changed.{IsTold, IsAsked, changes_of};
 
     /// Makes a database of so many spaces of `2^bits` bytes, and of so many frames, which space 0 holds at the start.
     ///
     /// Refused: `HOLDS_ONE`, where the handle holds a database, which stays; `BAD_LIMITS`, where the limits are not served;
     /// `NO_MEMORY`.
     pub fn make(&mut self, alloc: Global, spaces: u32, bits: u32, frames: u32) -> u32
-        ensures { IsMade self.old.held (record { spaces = spaces; bits = bits; frames = frames }) result self.new.held }
+        ensures { IsMade (held_of self.old.kept) (record { spaces = spaces; bits = bits; frames = frames }) result (held_of self.new.kept) }
     {
         if let Some(whole) = take(self, alloc) {
             put(self, alloc, whole);
@@ -45,7 +49,11 @@ impl Handle {
             Err(DbError::BadLimits) => return BAD_LIMITS,
             Err(_) => return NO_MEMORY,
         };
-        match Box::new(alloc, made) {
+        let kept = Kept {
+            database: made,
+            scratch: Scratch::new(alloc),
+        };
+        match Box::new(alloc, kept) {
             Ok(whole) => {
                 put(self, alloc, whole);
                 DONE
@@ -56,7 +64,7 @@ impl Handle {
 
     /// Gives all memory of the database back, if there is one. The handle holds nothing afterwards.
     pub fn clear(&mut self, alloc: Global)
-        ensures { self.new.held ≡ None }
+        ensures { self.new.kept ≡ None }
     {
         if let Some(whole) = take(self, alloc) {
             drop(whole);
@@ -68,8 +76,9 @@ impl Handle {
     ///
     /// Refused: `EMPTY`, where the handle holds nothing; and what `send` refuses, in its order.
     pub fn send(&mut self, alloc: Global, asked: &SendAsked<'_>, reply: &mut SendReply) -> u32
-        ensures { IsSentOf (send_asked asked.now.from asked.now.to asked.now.window asked.now.words.now) self.old.held reply.old
-            (record { code = result; held = self.new.held; lent = reply.new }) }
+        ensures called { IsSentOf (send_asked asked.now.from asked.now.to asked.now.window asked.now.words.now) (held_of self.old.kept) reply.old
+            (record { code = result; held = held_of self.new.kept; lent = reply.new }) }
+        ensures told { IsTold self.old.kept result self.new.kept }
     {
         let Some(mut whole) = take(self, alloc) else {
             return EMPTY;
@@ -84,8 +93,9 @@ impl Handle {
     ///
     /// Refused: `EMPTY`, where the handle holds nothing; and what `unmap` refuses, in its order.
     pub fn unmap(&mut self, alloc: Global, asked: UnmapAsked, words: &mut [u32]) -> u32
-        ensures { IsCalledOf words_told (unmap_asked asked.space asked.control words.old) self.old.held words.old
-            (record { code = result; held = self.new.held; lent = words.new }) }
+        ensures called { IsCalledOf words_told (unmap_asked asked.space asked.control words.old) (held_of self.old.kept) words.old
+            (record { code = result; held = held_of self.new.kept; lent = words.new }) }
+        ensures told { IsTold self.old.kept result self.new.kept }
     {
         let Some(mut whole) = take(self, alloc) else {
             return EMPTY;
@@ -100,8 +110,9 @@ impl Handle {
     ///
     /// Refused: `EMPTY`, where the handle holds nothing; and what `Database::clear` refuses, in its order.
     pub fn clear_space(&mut self, alloc: Global, space: u16, status: &mut u32) -> u32
-        ensures { IsCalledOf status_told (clear_asked space) self.old.held status.old
-            (record { code = result; held = self.new.held; lent = status.new }) }
+        ensures called { IsCalledOf status_told (clear_asked space) (held_of self.old.kept) status.old
+            (record { code = result; held = held_of self.new.kept; lent = status.new }) }
+        ensures told { IsTold self.old.kept result self.new.kept }
     {
         let Some(mut whole) = take(self, alloc) else {
             return EMPTY;
@@ -115,8 +126,9 @@ impl Handle {
     ///
     /// Refused: `EMPTY`, where the handle holds nothing; and what `access` refuses, in its order.
     pub fn access(&mut self, alloc: Global, asked: AccessAsked, made: &mut u32) -> u32
-        ensures { IsCalledOf made_told (access_asked asked.space asked.address asked.kind) self.old.held made.old
-            (record { code = result; held = self.new.held; lent = made.new }) }
+        ensures called { IsCalledOf made_told (access_asked asked.space asked.address asked.kind) (held_of self.old.kept) made.old
+            (record { code = result; held = held_of self.new.kept; lent = made.new }) }
+        ensures told { IsTold self.old.kept result self.new.kept }
     {
         let Some(mut whole) = take(self, alloc) else {
             return EMPTY;
@@ -130,14 +142,14 @@ impl Handle {
     ///
     /// Refused, the first that fits: `EMPTY`, `HALTED`, `NO_SUCH_SPACE`, `OUT_OF_SPACE`.
     pub fn entry(&mut self, alloc: Global, space: u16, page: u32, reply: &mut EntryReply) -> u32
-        ensures code { result ≡ held_code self.old.held space page }
-        ensures reply { reply.new ≡ held_entry self.old.held space page reply.old }
-        ensures held { self.new.held ≡ self.old.held }
+        ensures code { result ≡ held_code (held_of self.old.kept) space page }
+        ensures reply { reply.new ≡ held_entry (held_of self.old.kept) space page reply.old }
+        ensures kept { self.new.kept ≡ self.old.kept }
     {
         let Some(whole) = take(self, alloc) else {
             return EMPTY;
         };
-        let code = entry(&whole, space, page, reply);
+        let code = entry(&whole.database, space, page, reply);
         put(self, alloc, whole);
         code
     }
@@ -146,14 +158,14 @@ impl Handle {
     ///
     /// Refused, the first that fits: `EMPTY`, `HALTED`, `NO_SUCH_SPACE`, `OUT_OF_SPACE`.
     pub fn origin(&mut self, alloc: Global, space: u16, page: u32, reply: &mut OriginReply) -> u32
-        ensures code { result ≡ held_code self.old.held space page }
-        ensures reply { reply.new ≡ held_origin self.old.held space page reply.old }
-        ensures held { self.new.held ≡ self.old.held }
+        ensures code { result ≡ held_code (held_of self.old.kept) space page }
+        ensures reply { reply.new ≡ held_origin (held_of self.old.kept) space page reply.old }
+        ensures kept { self.new.kept ≡ self.old.kept }
     {
         let Some(whole) = take(self, alloc) else {
             return EMPTY;
         };
-        let code = origin(&whole, space, page, reply);
+        let code = origin(&whole.database, space, page, reply);
         put(self, alloc, whole);
         code
     }
@@ -170,30 +182,67 @@ impl Handle {
         mappings: &mut [MappingReply],
         count: &mut usize,
     ) -> u32
-        ensures { record { code = result; held = self.new.held; mappings = mappings.new; count = count.new }
-            ≡ listed_of self.old.held space page mappings.old count.old }
+        ensures listed { record { code = result; held = held_of self.new.kept; mappings = mappings.new; count = count.new }
+            ≡ listed_of (held_of self.old.kept) space page mappings.old count.old }
+        ensures kept { self.new.kept ≡ self.old.kept }
     {
         let Some(whole) = take(self, alloc) else {
             return EMPTY;
         };
-        let code = list(&whole, space, page, mappings, count);
+        let code = list(&whole.database, space, page, mappings, count);
+        put(self, alloc, whole);
+        code
+    }
+
+    /// Whether the calls from now on note what they change.
+    ///
+    /// Refused: `EMPTY`, `HALTED`.
+    pub fn note_changes(&mut self, alloc: Global, asked: bool) -> u32
+        ensures { IsAsked self.old.kept asked result self.new.kept }
+    {
+        let Some(mut whole) = take(self, alloc) else {
+            return EMPTY;
+        };
+        let code = ask(&mut whole, asked);
+        put(self, alloc, whole);
+        code
+    }
+
+    /// Writes what the last call noted, from a number on, to `changes`, as many pages as there is room for, and how many
+    /// they are to `count`.
+    ///
+    /// Refused: `EMPTY`, `HALTED`.
+    pub fn changes(
+        &mut self,
+        alloc: Global,
+        from: usize,
+        changes: &mut [ChangeReply],
+        count: &mut usize,
+    ) -> u32
+        ensures told { record { code = result; changes = changes.new; count = count.new } ≡ changes_of self.old.kept from changes.old count.old }
+        ensures kept { self.new.kept ≡ self.old.kept }
+    {
+        let Some(whole) = take(self, alloc) else {
+            return EMPTY;
+        };
+        let code = list_changes(&whole, from, changes, count);
         put(self, alloc, whole);
         code
     }
 }
 
 /// Takes the database out of a handle, which is then empty.
-fn take(db: &mut Handle, alloc: Global) -> Option<Box<Database>>
-    ensures taken { option_map value_of result ≡ db.old.held }
-    ensures empty { db.new.held ≡ None }
+fn take(db: &mut Handle, alloc: Global) -> Option<Box<Kept>>
+    ensures taken { option_map value_of result ≡ db.old.kept }
+    ensures empty { db.new.kept ≡ None }
 {
     let raw = mem::replace(db, Handle::empty()).into_raw_box(alloc)?;
     Some(raw.into_box())
 }
 
 /// Puts a database in place of what a handle holds.
-fn put(db: &mut Handle, alloc: Global, whole: Box<Database>)
-    ensures { db.new.held ≡ Some whole.value }
+fn put(db: &mut Handle, alloc: Global, whole: Box<Kept>)
+    ensures { db.new.kept ≡ Some whole.value }
 {
     let before = mem::replace(db, Handle::holding(RawBox::of(whole)));
     if let Some(raw) = before.into_raw_box(alloc) {

@@ -1,6 +1,8 @@
 //! Spaces that are deleted.
 
 ghost use Rattle.std.specs.Prelude.{◌≡◌, Some};
+ghost use Rattle.std.specs.Result.{OnOk};
+ghost use Rattle.mapdb.specs.Held.{NotesTell};
 ghost use Rattle.c_handle.specs.Asked.{clear_asked};
 ghost use Rattle.c_handle.specs.Called.{IsCalled};
 ghost use Rattle.c_handle.specs.Errors.{result_code};
@@ -8,8 +10,9 @@ ghost use Rattle.c_handle.specs.Replied.{status_told};
 
 use crate::answer::done;
 use crate::error::CallError;
+use crate::kept::Kept;
 use crew::Alone;
-use mapdb::{Database, Reply};
+use mapdb::Reply;
 use std::alloc::Global;
 
 /// Takes all pages from a space, and all that derives from them, and writes their status to `status`.
@@ -17,14 +20,18 @@ use std::alloc::Global;
 /// Refused as `Database::clear` is. Then `status` is as it was.
 pub fn clear_space(
     alloc: Global,
-    database: &mut Database,
+    kept: &mut Kept,
     space: u16,
     status: &mut u32,
 ) -> Result<(), CallError>
-    ensures { IsCalled status_told (clear_asked space database.old.limits) database.old status.old
-        (record { code = result_code result; held = Some database.new; lent = status.new }) }
+    ensures called { IsCalled status_told (clear_asked space kept.old.database.limits) kept.old.database status.old
+        (record { code = result_code result; held = Some kept.new.database; lent = status.new }) }
+    ensures told { OnOk result (NotesTell kept.old.database.holdings kept.new.database.holdings kept.old.scratch.notes kept.new.scratch.notes) }
 {
-    let reply = done(database.answer_clear(alloc, space, &Alone))?;
+    let reply = done(
+        kept.database
+            .answer_clear(alloc, space, &mut kept.scratch, &Alone),
+    )?;
     if let Reply::Cleared(cleared) = reply {
         *status = cleared.number();
     }

@@ -3,6 +3,8 @@
 ghost use Rattle.std.specs.Prelude.{◌≡◌, ◌<◌, ◌^◌, Some};
 ghost use Rattle.model.specs.Laws.SendLaws.{total};
 ghost use Rattle.mapdb.specs.Meaning.{counts_of};
+ghost use Rattle.std.specs.Result.{OnOk};
+ghost use Rattle.mapdb.specs.Held.{NotesTell};
 ghost use Rattle.c_handle.specs.Asked.{send_asked};
 ghost use Rattle.c_handle.specs.Errors.{result_code};
 ghost use Rattle.c_handle.specs.Replied.{counts_in};
@@ -11,10 +13,11 @@ ghost use Rattle.c_handle.specs.Sent.{IsSent};
 use crate::answer::done;
 use crate::asked::SendAsked;
 use crate::error::CallError;
+use crate::kept::Kept;
 use crew::Alone;
 use fields::read_items;
 use fpage::{Fpage, Item, ItemKind};
-use mapdb::{Database, Refusal, Reply, Sending};
+use mapdb::{Refusal, Reply, Sending};
 use std::alloc::Global;
 
 /// How many items a message has at most.
@@ -61,21 +64,22 @@ fn counts(reply: mapdb::SendReply) -> SendReply
 /// was.
 pub fn send(
     alloc: Global,
-    database: &mut Database,
+    kept: &mut Kept,
     asked: &SendAsked<'_>,
     reply: &mut SendReply,
 ) -> Result<(), CallError>
-    ensures { IsSent (send_asked asked.now.from asked.now.to asked.now.window asked.now.words.now database.old.limits) database.old reply.old
-        (record { code = result_code result; held = Some database.new; lent = reply.new }) }
+    ensures called { IsSent (send_asked asked.now.from asked.now.to asked.now.window asked.now.words.now kept.old.database.limits) kept.old.database reply.old
+        (record { code = result_code result; held = Some kept.new.database; lent = reply.new }) }
+    ensures told { OnOk result (NotesTell kept.old.database.holdings kept.new.database.holdings kept.old.scratch.notes kept.new.scratch.notes) }
 {
-    if database.is_halted() {
+    if kept.database.is_halted() {
         return Err(CallError::Halted);
     }
     let words = asked.words;
     if words.len() % 2 != 0 || words.len() < 2 || words.len() > 2 * MOST_ITEMS {
         return Err(CallError::Refused(Refusal::BadRecord));
     }
-    let bits = database.limits().bits;
+    let bits = kept.database.limits().bits;
     let window = Fpage::read(asked.window, bits)?;
     // What stands in the items before they are read has no meaning.
     let mut items = [Item {
@@ -91,7 +95,10 @@ pub fn send(
         window,
         items,
     };
-    let answered = done(database.answer_send(alloc, &send, &Alone))?;
+    let answered = done(
+        kept.database
+            .answer_send(alloc, &send, &mut kept.scratch, &Alone),
+    )?;
     if let Reply::Sent(sent) = answered {
         *reply = counts(sent);
     }

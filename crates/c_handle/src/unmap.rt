@@ -1,6 +1,8 @@
 //! Unmaps and flushes.
 
 ghost use Rattle.std.specs.Prelude.{Some};
+ghost use Rattle.std.specs.Result.{OnOk};
+ghost use Rattle.mapdb.specs.Held.{NotesTell};
 ghost use Rattle.c_handle.specs.Asked.{unmap_asked};
 ghost use Rattle.c_handle.specs.Called.{IsCalled};
 ghost use Rattle.c_handle.specs.Errors.{result_code};
@@ -9,10 +11,11 @@ ghost use Rattle.c_handle.specs.Replied.{words_told};
 use crate::answer::done;
 use crate::asked::UnmapAsked;
 use crate::error::CallError;
+use crate::kept::Kept;
 use crew::Alone;
 use fields::read_fpages;
 use fpage::{Control, Fpage};
-use mapdb::{Database, Reply, Scratch, Unmap};
+use mapdb::{Reply, Unmap};
 use std::alloc::Global;
 
 /// How many words an unmap has at most.
@@ -25,17 +28,18 @@ const MOST_WORDS: usize = 64;
 /// order; and what `Database::unmap` refuses. Then the words are as they were.
 pub fn unmap(
     alloc: Global,
-    database: &mut Database,
+    kept: &mut Kept,
     asked: UnmapAsked,
     words: &mut [u32],
 ) -> Result<(), CallError>
-    ensures { IsCalled words_told (unmap_asked asked.space asked.control words.old database.old.limits) database.old words.old
-        (record { code = result_code result; held = Some database.new; lent = words.new }) }
+    ensures called { IsCalled words_told (unmap_asked asked.space asked.control words.old kept.old.database.limits) kept.old.database words.old
+        (record { code = result_code result; held = Some kept.new.database; lent = words.new }) }
+    ensures told { OnOk result (NotesTell kept.old.database.holdings kept.new.database.holdings kept.old.scratch.notes kept.new.scratch.notes) }
 {
-    if database.is_halted() {
+    if kept.database.is_halted() {
         return Err(CallError::Halted);
     }
-    let bits = database.limits().bits;
+    let bits = kept.database.limits().bits;
     let control = Control::read(asked.control, words.len())?;
     // The control word names as many words as there are, so there is a first.
     let first = Fpage::read(words[0], bits)?;
@@ -47,8 +51,10 @@ pub fn unmap(
         control,
         fpages,
     };
-    let mut scratch = Scratch::new(alloc);
-    let reply = done(database.answer_words(alloc, &unmap, &*words, &mut scratch, &Alone))?;
+    let reply = done(
+        kept.database
+            .answer_words(alloc, &unmap, &*words, &mut kept.scratch, &Alone),
+    )?;
     if let Reply::Unmapped(told) = reply {
         words.copy_from_slice(&told);
     }

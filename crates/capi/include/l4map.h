@@ -31,8 +31,9 @@
 extern "C" {
 #endif
 
-/* The version of this interface, which l4map_version() returns. */
-#define L4MAP_VERSION 1u
+/* The version of this interface, which l4map_version() returns. A later version has all that an earlier one has: a program
+ * compiled with version n runs with any library of version n or above. Version 2 added the changes of a call. */
+#define L4MAP_VERSION 2u
 
 /* What a function answers. A refused call changes nothing of what is held, and writes nothing to what is lent to it, but
  * for what is lost by the call that answers L4MAP_HALTED first. */
@@ -88,6 +89,16 @@ struct l4map_send_reply {
                         * replaces; the receiver's page of the pair is gone too, if it was held */
     uint32_t extended; /* the receiver's page came from the sender's already, and got the rights that it lacked */
     uint32_t linked;   /* the receiver's page came from the sender's by this call */
+};
+
+/* A page whose frame or rights a call may have changed, and what it holds now. Where it holds nothing, `held`, `frame` and
+ * `rights` are 0. */
+struct l4map_change {
+    uint32_t space;
+    uint32_t page;
+    uint32_t held;   /* 1 if the page holds something */
+    uint32_t frame;  /* which frame it holds */
+    uint32_t rights; /* which kinds of access it allows */
 };
 
 /* What a page holds and from which page it came: a mapping. A root came from none, and then both numbers of its origin
@@ -173,6 +184,22 @@ uint32_t l4map_origin(struct l4map *db, uint16_t space, uint32_t page, struct l4
 uint32_t l4map_mappings(struct l4map *db, uint16_t space, uint32_t page, struct l4map_mapping *mappings, size_t n,
                         size_t *count);
 
+/* Says whether calls note which pages they change (`on` is not 0), from the next call on, or do not, as at the start. What
+ * was noted is forgotten. A call that notes asks for memory for that, 12 bytes for each page that a word or an item may
+ * change, and halts the database where it is refused. That memory is used again by the next call.
+ *
+ * L4MAP_EMPTY, L4MAP_HALTED, the first that fits. */
+uint32_t l4map_note_changes(struct l4map *db, uint32_t on);
+
+/* Writes what the last send, unmap, clear or access changed, if it was done and was noted: the entries from number `from`
+ * on, n of them or fewer, where there are fewer, to `changes`, and how many they are to *count. Every page whose frame
+ * or rights that call changed is among them, in whatever space. A page among them may hold what it held before, and it
+ * may come more than once, with the same entry. After a call that was refused nothing has changed, and what is written
+ * is of no use. What l4map_new() makes is not told. It takes no memory and changes nothing else.
+ *
+ * L4MAP_EMPTY, L4MAP_HALTED, the first that fits: `changes` and *count are as they were. */
+uint32_t l4map_changes(struct l4map *db, size_t from, struct l4map_change *changes, size_t n, size_t *count);
+
 /* Words, made and read. These functions are part of the header alone. None of them refuses anything: what is no word of
  * its kind, or lies outside its space, is refused by the call that is given it. */
 
@@ -239,6 +266,6 @@ static inline uint32_t l4map_page_count(uint32_t word, uint32_t bits) {
  * back.
  *
  * Written in C++, they must be declared extern "C": without it the link fails. The archive that LLVM builds also wants
- * memset, memmove and memcpy, as in C; the one by `rt lib --backend rattle` does not. */
+ * memset, memmove and memcpy, as in C; the one by `./library.sh --backend rattle` does not. */
 
 #endif

@@ -1,6 +1,6 @@
 //! What a C program calls.
 
-ghost use Rattle.std.specs.Prelude.{◌≡◌, None};
+ghost use Rattle.std.specs.Prelude.{◌≡◌, ◌==◌, not, None};
 ghost use Rattle.c_handle.specs.New.{IsMade};
 ghost use Rattle.c_handle.specs.Look.{held_code, held_entry, held_origin};
 ghost use Rattle.c_handle.specs.Asked.{send_asked, unmap_asked, access_asked, clear_asked};
@@ -8,19 +8,22 @@ ghost use Rattle.c_handle.specs.Called.{IsCalledOf};
 ghost use Rattle.c_handle.specs.Replied.{words_told, made_told, status_told};
 ghost use Rattle.c_handle.specs.Sent.{IsSentOf};
 ghost use Rattle.c_handle.specs.Listed.{listed_of};
+ghost use Rattle.c_handle.specs.Held.{held_of};
+ghost use Rattle.c_handle.specs.Changed.{IsTold, IsAsked, changes_of};
 
 use c_handle::{
-    AccessAsked, EntryReply, Handle, MappingReply, OriginReply, SendAsked, SendReply, UnmapAsked,
+    AccessAsked, ChangeReply, EntryReply, Handle, MappingReply, OriginReply, SendAsked, SendReply,
+    UnmapAsked,
 };
 use std::alloc::Global;
 
 /// The version of the interface.
-const VERSION: u32 = 1;
+const VERSION: u32 = 2;
 
-/// The version of the interface: 1.
+/// The version of the interface: 2.
 #[unsafe(no_mangle)]
 pub extern "C" fn l4map_version() -> u32
-    ensures { result ≡ 1 }
+    ensures { result ≡ 2 }
 {
     VERSION
 }
@@ -34,7 +37,7 @@ pub extern "C" fn l4map_new(
     bits: u32,
     frames: u32,
 ) -> u32
-    ensures { IsMade db.old.held (record { spaces = spaces; bits = bits; frames = frames }) result db.new.held }
+    ensures { IsMade (held_of db.old.kept) (record { spaces = spaces; bits = bits; frames = frames }) result (held_of db.new.kept) }
 {
     db.make(alloc, spaces, bits, frames)
 }
@@ -42,7 +45,7 @@ pub extern "C" fn l4map_new(
 /// Gives all memory of a database back.
 #[unsafe(no_mangle)]
 pub extern "C" fn l4map_free(alloc: Global, db: &mut Handle)
-    ensures { db.new.held ≡ None }
+    ensures { db.new.kept ≡ None }
 {
     db.clear(alloc);
 }
@@ -58,8 +61,9 @@ pub extern "C" fn l4map_send(
     words: &[u32],
     reply: &mut SendReply,
 ) -> u32
-    ensures { IsSentOf (send_asked from to window words.now) db.old.held reply.old
-        (record { code = result; held = db.new.held; lent = reply.new }) }
+    ensures called { IsSentOf (send_asked from to window words.now) (held_of db.old.kept) reply.old
+        (record { code = result; held = held_of db.new.kept; lent = reply.new }) }
+    ensures told { IsTold db.old.kept result db.new.kept }
 {
     let asked = SendAsked {
         from,
@@ -79,8 +83,9 @@ pub extern "C" fn l4map_unmap(
     control: u32,
     words: &mut [u32],
 ) -> u32
-    ensures { IsCalledOf words_told (unmap_asked space control words.old) db.old.held words.old
-        (record { code = result; held = db.new.held; lent = words.new }) }
+    ensures called { IsCalledOf words_told (unmap_asked space control words.old) (held_of db.old.kept) words.old
+        (record { code = result; held = held_of db.new.kept; lent = words.new }) }
+    ensures told { IsTold db.old.kept result db.new.kept }
 {
     db.unmap(alloc, UnmapAsked { space, control }, words)
 }
@@ -88,8 +93,9 @@ pub extern "C" fn l4map_unmap(
 /// Takes all pages from a space, and all that derives from them.
 #[unsafe(no_mangle)]
 pub extern "C" fn l4map_clear(alloc: Global, db: &mut Handle, space: u16, status: &mut u32) -> u32
-    ensures { IsCalledOf status_told (clear_asked space) db.old.held status.old
-        (record { code = result; held = db.new.held; lent = status.new }) }
+    ensures called { IsCalledOf status_told (clear_asked space) (held_of db.old.kept) status.old
+        (record { code = result; held = held_of db.new.kept; lent = status.new }) }
+    ensures told { IsTold db.old.kept result db.new.kept }
 {
     db.clear_space(alloc, space, status)
 }
@@ -104,8 +110,9 @@ pub extern "C" fn l4map_access(
     kind: u32,
     made: &mut u32,
 ) -> u32
-    ensures { IsCalledOf made_told (access_asked space address kind) db.old.held made.old
-        (record { code = result; held = db.new.held; lent = made.new }) }
+    ensures called { IsCalledOf made_told (access_asked space address kind) (held_of db.old.kept) made.old
+        (record { code = result; held = held_of db.new.kept; lent = made.new }) }
+    ensures told { IsTold db.old.kept result db.new.kept }
 {
     let asked = AccessAsked {
         space,
@@ -124,9 +131,9 @@ pub extern "C" fn l4map_entry(
     page: u32,
     reply: &mut EntryReply,
 ) -> u32
-    ensures code { result ≡ held_code db.old.held space page }
-    ensures reply { reply.new ≡ held_entry db.old.held space page reply.old }
-    ensures held { db.new.held ≡ db.old.held }
+    ensures code { result ≡ held_code (held_of db.old.kept) space page }
+    ensures reply { reply.new ≡ held_entry (held_of db.old.kept) space page reply.old }
+    ensures kept { db.new.kept ≡ db.old.kept }
 {
     db.entry(alloc, space, page, reply)
 }
@@ -140,9 +147,9 @@ pub extern "C" fn l4map_origin(
     page: u32,
     reply: &mut OriginReply,
 ) -> u32
-    ensures code { result ≡ held_code db.old.held space page }
-    ensures reply { reply.new ≡ held_origin db.old.held space page reply.old }
-    ensures held { db.new.held ≡ db.old.held }
+    ensures code { result ≡ held_code (held_of db.old.kept) space page }
+    ensures reply { reply.new ≡ held_origin (held_of db.old.kept) space page reply.old }
+    ensures kept { db.new.kept ≡ db.old.kept }
 {
     db.origin(alloc, space, page, reply)
 }
@@ -157,8 +164,32 @@ pub extern "C" fn l4map_mappings(
     mappings: &mut [MappingReply],
     count: &mut usize,
 ) -> u32
-    ensures { record { code = result; held = db.new.held; mappings = mappings.new; count = count.new }
-        ≡ listed_of db.old.held space page mappings.old count.old }
+    ensures listed { record { code = result; held = held_of db.new.kept; mappings = mappings.new; count = count.new }
+        ≡ listed_of (held_of db.old.kept) space page mappings.old count.old }
+    ensures kept { db.new.kept ≡ db.old.kept }
 {
     db.mappings(alloc, space, page, mappings, count)
+}
+
+/// Whether calls note what they change.
+#[unsafe(no_mangle)]
+pub extern "C" fn l4map_note_changes(alloc: Global, db: &mut Handle, on: u32) -> u32
+    ensures { IsAsked db.old.kept (not (on == 0)) result db.new.kept }
+{
+    db.note_changes(alloc, on != 0)
+}
+
+/// What the last call changed, page by page.
+#[unsafe(no_mangle)]
+pub extern "C" fn l4map_changes(
+    alloc: Global,
+    db: &mut Handle,
+    from: usize,
+    changes: &mut [ChangeReply],
+    count: &mut usize,
+) -> u32
+    ensures told { record { code = result; changes = changes.new; count = count.new } ≡ changes_of db.old.kept from changes.old count.old }
+    ensures kept { db.new.kept ≡ db.old.kept }
+{
+    db.changes(alloc, from, changes, count)
 }

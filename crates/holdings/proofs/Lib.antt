@@ -10,3 +10,4 @@ pub mod Maps
 pub mod Renamings
 pub mod Phases
 pub mod Planned
+pub mod NotedPages

@@ -17,3 +17,4 @@ pub mod OriginWords
 pub mod WordOrigins
 pub mod Faults
 pub mod NextHeld
+pub mod Notes

@@ -5,4 +5,5 @@ pub mod Contents
 pub mod Observing
 pub mod Mappings
 pub mod Sending
+pub mod Noting
 pub mod Inner

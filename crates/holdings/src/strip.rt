@@ -20,6 +20,7 @@ impl Holdings {
     ghost use Rattle.model.specs.Definitions.Strip.{strip};
     ghost use Rattle.holdings.specs.Contents.{IsStripped};
     ghost use Rattle.holdings.specs.Inner.StripPlans.{StandFor};
+    ghost use Rattle.holdings.specs.Inner.Notes.{AreOuter};
     ghost use Rattle.holdings.specs.Observing.{IsPhaseOf};
     ghost use Rattle.holdings.specs.Places.{IsWithin, any_of};
 
@@ -73,10 +74,11 @@ impl Holdings {
     }
 
     /// Pages from which all derives that derives from these, and of which none derives from another.
-    fn outermost(&self, alloc: Global, places: &[Place]) -> Result<Vec<Place>, NoMemory>
+    pub(crate) fn outermost(&self, alloc: Global, places: &[Place]) -> Result<Vec<Place>, NoMemory>
         requires { All (IsWithin self.now.limits) places.now }
         ensures within { IfOk result (λ outer. All (IsWithin self.now.limits) outer.items) }
         ensures stand { IfOk result (λ outer. StandFor self.now places.now outer.items) }
+        ensures outer { IfOk result (λ outer. AreOuter self.now.holdings places.now outer.items) }
     {
         outer_places(alloc, &self.shards, &self.trees, places)
     }

@@ -10,3 +10,5 @@ pub mod WordsTold
 pub mod NamedPlaces
 pub mod WholeSpaces
 pub mod OneItem
+pub mod Following
+pub mod NotedItems

@@ -11,15 +11,19 @@ use crate::error::DbError;
 use crate::reply::Reply;
 use crew::Workers;
 use fpage::Access;
+use holdings::Notes;
 use space::Place;
 use std::alloc::Global;
 use std::mem;
 
-/// Memory that is used again from call to call, so that an answer takes none of its own.
+/// What calls lend one another: memory that is used again, so that an answer takes none of its own, and the notes of the last
+/// call, where they are asked for.
 #[derive(Drop)]
 pub struct Scratch {
     /// For the words of a reply.
     pub(crate) words: Vec<u32>,
+    /// The pages that the last call may have changed.
+    pub notes: Notes,
 }
 
 impl Scratch {
@@ -27,16 +31,20 @@ impl Scratch {
     ghost use Rattle.model.specs.Definitions.Calls.{unmapped};
     ghost use Rattle.mapdb.specs.Calls.{reply_of};
 
-    /// No memory yet.
-    pub fn new(alloc: Global) -> Scratch {
+    /// No memory yet, and no notes are asked for.
+    pub fn new(alloc: Global) -> Scratch
+        ensures { result.notes.asked ≡ false }
+    {
         Scratch {
             words: Vec::new(alloc),
+            notes: Notes::none(alloc),
         }
     }
 
     /// The reply that the words are.
     pub(crate) fn reply(&mut self, alloc: Global) -> Reply
-        ensures { reply_of result ≡ unmapped self.old.words.items }
+        ensures reply { reply_of result ≡ unmapped self.old.words.items }
+        ensures notes { self.new.notes ≡ self.old.notes }
     {
         Reply::Unmapped(mem::replace(&mut self.words, Vec::new(alloc)))
     }
@@ -55,6 +63,7 @@ impl Database {
     ghost use Rattle.std.specs.List.{All};
     ghost use Rattle.fpage.specs.Fpage.{IsFpageOf};
     ghost use Rattle.model.specs.Definitions.Calls.{access as access_to, clear};
+    ghost use Rattle.holdings.specs.Noting.{NotesTell};
     ghost use Rattle.holdings.specs.Places.{IsWithin};
     ghost use Rattle.mapdb.specs.Answered.{IsAnswered, IsUnanswered, IsSendOrAccess};
     ghost use Rattle.mapdb.specs.Calls.{call_of, send_of, unmap_of, AreWordsWithin, IsWithinLimits};
@@ -62,7 +71,7 @@ impl Database {
     ghost use Rattle.mapdb.specs.declared.error.DbError.TheVariants.{NoMemory, NoWorker};
 
     /// Answers a call, as `send`, `access_all`, `unmap` and `clear` do: a call that is refused for what it asks is answered
-    /// by its refusal.
+    /// by its refusal. Where notes are asked for, they then name every page whose frame or rights the call changed.
     ///
     /// Not answered where the database is halted, `Halted`, and where memory or a worker is refused, `NoMemory`,
     /// `NoWorker`: then the database is halted.
@@ -77,6 +86,7 @@ impl Database {
         ensures ok { IfOk result (IsAnswered self.old (call_of call.now) self.new) }
         ensures err { IfErr result (IsUnanswered self.old (call_of call.now) self.new) }
         ensures needs_no_worker { W.starts_none workers.now → IsErrOf result NoWorker → ⊥ }
+        ensures noted { OnOk result (NotesTell self.old.holdings self.new.holdings scratch.old.notes scratch.new.notes) }
     {
         match call {
             Call::Send {
@@ -91,9 +101,11 @@ impl Database {
                     window: *window,
                     items,
                 };
-                self.answer_send(alloc, &send, workers)
+                self.answer_send(alloc, &send, scratch, workers)
             }
-            Call::Access { place, access } => self.answer_access(alloc, (*place, *access), workers),
+            Call::Access { place, access } => {
+                self.answer_access(alloc, (*place, *access), scratch, workers)
+            }
             Call::Unmap {
                 space,
                 control,
@@ -107,7 +119,7 @@ impl Database {
                 };
                 self.answer_words(alloc, &unmap, words, scratch, workers)
             }
-            Call::Clear { space } => self.answer_clear(alloc, *space, workers),
+            Call::Clear { space } => self.answer_clear(alloc, *space, scratch, workers),
         }
     }
 
@@ -126,6 +138,7 @@ impl Database {
         ensures err { IfErr result (IsUnanswered self.old (call_of call.now) self.new) }
         ensures worker { IsErrOf result NoWorker → IsSendOrAccess (call_of call.now) }
         ensures needs_no_worker { W.starts_none workers.now → IsErrOf result NoWorker → ⊥ }
+        ensures noted { OnOk result (NotesTell self.old.holdings self.new.holdings scratch.old.notes scratch.new.notes) }
     {
         match call {
             Call::Send { .. } | Call::Access { .. } => self.answer(alloc, call, scratch, workers),
@@ -142,7 +155,7 @@ impl Database {
                 };
                 self.answer_words_plain(alloc, &unmap, words, scratch)
             }
-            Call::Clear { space } => self.answer_clear_plain(alloc, *space),
+            Call::Clear { space } => self.answer_clear_plain(alloc, *space, scratch),
         }
     }
 
@@ -151,6 +164,7 @@ impl Database {
         &mut self,
         alloc: Global,
         send: &Sending<'_>,
+        scratch: &mut Scratch,
         workers: &W,
     ) -> Result<Reply, DbError>
         requires window { IsFpageOf self.old.limits.bits send.now.window }
@@ -158,10 +172,16 @@ impl Database {
         ensures ok { IfOk result (IsAnswered self.old (send_of send.now) self.new) }
         ensures err { IfErr result (IsUnanswered self.old (send_of send.now) self.new) }
         ensures needs_no_worker { W.starts_none workers.now → IsErrOf result NoWorker → ⊥ }
+        ensures noted { OnOk result (NotesTell self.old.holdings self.new.holdings scratch.old.notes scratch.new.notes) }
     {
-        match self.send(alloc, send.from, send.to, &send.window, send.items, workers) {
+        let asked = scratch.notes.asked;
+        scratch.notes.forget();
+        match self.send_noted(alloc, send, &mut scratch.notes, workers) {
             Ok(counts) => Ok(Reply::Sent(counts)),
-            Err(error) => refused_by(error),
+            Err(error) => {
+                scratch.notes.ask(asked);
+                refused_by(error)
+            }
         }
     }
 
@@ -170,16 +190,21 @@ impl Database {
         &mut self,
         alloc: Global,
         access: (Place, Access),
+        scratch: &mut Scratch,
         workers: &W,
     ) -> Result<Reply, DbError>
         requires within { IsWithin self.old.limits access.0 }
         ensures ok { IfOk result (IsAnswered self.old (access_to access.0 access.1) self.new) }
         ensures err { IfErr result (IsUnanswered self.old (access_to access.0 access.1) self.new) }
         ensures needs_no_worker { W.starts_none workers.now → IsErrOf result NoWorker → ⊥ }
+        ensures noted { OnOk result (NotesTell self.old.holdings self.new.holdings scratch.old.notes scratch.new.notes) }
     {
+        scratch.notes.forget();
         if self.is_halted() {
             return Err(DbError::Halted);
         }
+        // Its contract says that what is held is lawful.
+        let _ = self.limits();
         let answers = self.access_all(alloc, &[access], workers)?;
         Ok(Reply::Accessed(answers[0]))
     }
@@ -196,10 +221,16 @@ impl Database {
         ensures ok { IfOk result (IsAnswered self.old (unmap_of unmap.now words.now) self.new) }
         ensures err { IfErr result (IsUnanswered self.old (unmap_of unmap.now words.now) self.new) }
         ensures needs_no_worker { IfErr result (λ e. e ≡ NoWorker → ⊥) }
+        ensures noted { OnOk result (NotesTell self.old.holdings self.new.holdings scratch.old.notes scratch.new.notes) }
     {
-        match self.answer_unmap_plain(alloc, unmap, words, &mut scratch.words) {
+        let asked = scratch.notes.asked;
+        scratch.notes.forget();
+        match self.answer_unmap_plain(alloc, unmap, words, scratch) {
             Ok(()) => Ok(scratch.reply(alloc)),
-            Err(error) => refused_by(error),
+            Err(error) => {
+                scratch.notes.ask(asked);
+                refused_by(error)
+            }
         }
     }
 
@@ -208,27 +239,45 @@ impl Database {
         &mut self,
         alloc: Global,
         space: u16,
+        scratch: &mut Scratch,
         workers: &W,
     ) -> Result<Reply, DbError>
         ensures ok { IfOk result (IsAnswered self.old (clear space) self.new) }
         ensures err { IfErr result (IsUnanswered self.old (clear space) self.new) }
         ensures needs_no_worker { W.starts_none workers.now → IsErrOf result NoWorker → ⊥ }
+        ensures noted { OnOk result (NotesTell self.old.holdings self.new.holdings scratch.old.notes scratch.new.notes) }
     {
-        match self.clear(alloc, space, workers) {
+        let asked = scratch.notes.asked;
+        scratch.notes.forget();
+        match self.clear_noted(alloc, space, &mut scratch.notes, workers) {
             Ok(status) => Ok(Reply::Cleared(status)),
-            Err(error) => refused_by(error),
+            Err(error) => {
+                scratch.notes.ask(asked);
+                refused_by(error)
+            }
         }
     }
 
     /// Answers a clear, as `answer_plain` does.
-    fn answer_clear_plain(&mut self, alloc: Global, space: u16) -> Result<Reply, DbError>
+    fn answer_clear_plain(
+        &mut self,
+        alloc: Global,
+        space: u16,
+        scratch: &mut Scratch,
+    ) -> Result<Reply, DbError>
         ensures ok { IfOk result (IsAnswered self.old (clear space) self.new) }
         ensures err { IfErr result (IsUnanswered self.old (clear space) self.new) }
         ensures needs_no_worker { IfErr result (λ e. e ≡ NoWorker → ⊥) }
+        ensures noted { OnOk result (NotesTell self.old.holdings self.new.holdings scratch.old.notes scratch.new.notes) }
     {
-        match self.clear_plain(alloc, space) {
+        let asked = scratch.notes.asked;
+        scratch.notes.forget();
+        match self.clear_plain_noted(alloc, space, &mut scratch.notes) {
             Ok(status) => Ok(Reply::Cleared(status)),
-            Err(error) => refused_by(error),
+            Err(error) => {
+                scratch.notes.ask(asked);
+                refused_by(error)
+            }
         }
     }
 }

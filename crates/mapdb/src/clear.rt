@@ -6,29 +6,33 @@ ghost use Rattle.fpage.specs.Rights.{all_rights};
 ghost use Rattle.model.specs.Definitions.Answers.{in_space};
 ghost use Rattle.crew.specs.declared.error.CrewError.TheVariants.{NoWorker};
 ghost use Rattle.holdings.specs.Contents.{IsStripped};
+ghost use Rattle.holdings.specs.Noting.{NotesFollow};
 
 use crate::call::UnmapWord;
-use crate::unmap::{unmap_word, unmap_word_by_recursion};
+use crate::unmap::{note_word, unmap_word, unmap_word_by_recursion};
 use crew::{CrewError, Workers};
 use fpage::{Fpage, Rights};
-use holdings::Holdings;
+use holdings::{Holdings, Notes};
 use space::NoMemory;
 use std::alloc::Global;
 
 /// The word of the complete space, with all rights.
 const COMPLETE_SPACE: u32 = 0x17;
 
-/// Takes all rights from the pages of a space, and from all that derives from them. Returns their status.
+/// Takes all rights from the pages of a space, and from all that derives from them. Returns their status. Notes the pages
+/// that this may change.
 ///
 /// Refused, where memory or a worker is: `NoMemory`, `NoWorker`.
 pub fn clear_space<W: Workers>(
     alloc: Global,
     held: Holdings,
     space: u16,
+    notes: &mut Notes,
     workers: &W,
 ) -> Result<(Holdings, Rights), CrewError>
     requires { space < held.limits.spaces }
     ensures stripped { IfOk result (IsStripped held (in_space space) all_rights true) }
+    ensures noted { IfOk result (λ r. NotesFollow held.holdings r.0.holdings notes.old notes.new) }
     ensures needs_no_worker { W.starts_none workers.now → IsErrOf result NoWorker → ⊥ }
 {
     let word = UnmapWord {
@@ -36,6 +40,7 @@ pub fn clear_space<W: Workers>(
         flush: true,
         fpage: complete_space(held.limits().bits),
     };
+    note_word(alloc, &held, &word, notes)?;
     unmap_word(alloc, held, &word, workers)
 }
 
@@ -46,15 +51,18 @@ pub fn clear_space_by_recursion(
     alloc: Global,
     held: Holdings,
     space: u16,
+    notes: &mut Notes,
 ) -> Result<(Holdings, Rights), NoMemory>
     requires { space < held.limits.spaces }
-    ensures { IfOk result (IsStripped held (in_space space) all_rights true) }
+    ensures stripped { IfOk result (IsStripped held (in_space space) all_rights true) }
+    ensures noted { IfOk result (λ r. NotesFollow held.holdings r.0.holdings notes.old notes.new) }
 {
     let word = UnmapWord {
         space,
         flush: true,
         fpage: complete_space(held.limits().bits),
     };
+    note_word(alloc, &held, &word, notes)?;
     unmap_word_by_recursion(alloc, held, &word)
 }
 

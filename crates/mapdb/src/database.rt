@@ -9,7 +9,7 @@ use crate::unmap::{
 };
 use crew::{Crew, Gate, Observe, Workers};
 use fpage::{Access, Control, Fpage, Item, Rights};
-use holdings::{Holdings, Limits, Mapping, Mappings};
+use holdings::{Holdings, Limits, Mapping, Mappings, Notes};
 use space::{Entry, Place};
 use std::alloc::Global;
 use std::marker::Model;
@@ -48,7 +48,8 @@ impl Database {
     ghost use Rattle.model.specs.Definitions.Records.{are_limits};
     ghost use Rattle.model.specs.Definitions.Answers.{send_answer, in_space, unmap_answer, clear_answer};
     ghost use Rattle.mapdb.specs.Answered.{IsAnswered, IsUnanswered};
-    ghost use Rattle.mapdb.specs.Calls.{AreWordsWithin, unmap_of};
+    ghost use Rattle.mapdb.specs.Calls.{AreWordsWithin, send_of, unmap_of};
+    ghost use Rattle.holdings.specs.Noting.{NotesFollow, NotesTell};
     ghost use Rattle.model.specs.Definitions.Calls.{send, clear};
     ghost use Rattle.model.specs.Definitions.Recursion.{recur};
     ghost use Rattle.fpage.specs.Fpage.{IsFpageOf};
@@ -257,30 +258,54 @@ impl Database {
             (left_with self.old (send_answer from to window.now items.now self.old.holdings).left) self.new.layout) }
         ensures grows { OnOk result (OnlyGrows self.old.layout self.new.layout) }
     {
+        let send = Sending {
+            from,
+            to,
+            window: *window,
+            items,
+        };
+        self.send_noted(alloc, &send, &mut Notes::none(alloc), workers)
+    }
+
+    /// The same as `send`. Notes the pages that it may change, if notes are asked for.
+    ///
+    /// Refused as `send` is.
+    pub(crate) fn send_noted<W: Workers>(
+        &mut self,
+        alloc: Global,
+        send: &Sending<'_>,
+        notes: &mut Notes,
+        workers: &W,
+    ) -> Result<SendReply, DbError>
+        requires window { IsFpageOf self.old.limits.bits send.now.window }
+        requires items { All (λ item. IsFpageOf self.old.limits.bits item.sent) send.now.items.now }
+        ensures refused { IsRefused (refusal self.old (send_of send.now)) self.old self.new result }
+        ensures no_memory { IsErrOf result NoMemory → self.new ≡ halted self.old }
+        ensures no_worker { IsErrOf result NoWorker → self.new ≡ halted self.old }
+        ensures needs_no_worker { W.starts_none workers.now → IsErrOf result NoWorker → ⊥ }
+        ensures limits { self.new.limits ≡ self.old.limits }
+        ensures counts { IfOk result (λ reply.
+            counts_of reply ≡ (send_answer send.now.from send.now.to send.now.window send.now.items.now self.old.holdings).counts) }
+        ensures left { OnOk result (self.new ≡ laid_out
+            (left_with self.old (send_answer send.now.from send.now.to send.now.window send.now.items.now self.old.holdings).left) self.new.layout) }
+        ensures grows { OnOk result (OnlyGrows self.old.layout self.new.layout) }
+        ensures noted { OnOk result (NotesFollow self.old.holdings self.new.holdings notes.old notes.new) }
+    {
         if self.held.is_none() {
             return Err(DbError::Halted);
         }
-        if u32::from(from) >= self.limits.spaces || u32::from(to) >= self.limits.spaces {
+        let spaces = self.limits.spaces;
+        if u32::from(send.from) >= spaces || u32::from(send.to) >= spaces {
             return Err(DbError::NoSuchSpace);
         }
-        if from == to {
+        if send.from == send.to {
             return Err(DbError::SameSpace);
         }
-        if window.is_nil() {
+        if send.window.is_nil() {
             return Err(DbError::NoWindow);
         }
         let held = self.held.take().unwrap();
-        let (held, reply) = work_items(
-            alloc,
-            held,
-            &Sending {
-                from,
-                to,
-                window: *window,
-                items,
-            },
-            workers,
-        )?;
+        let (held, reply) = work_items(alloc, held, send, notes, workers)?;
         self.held = Some(held);
         Ok(reply)
     }
@@ -340,7 +365,9 @@ impl Database {
         ensures ok { IfOk result (IsAnswered self.old (unmap_of unmap.now words.now) self.new) }
         ensures err { IfErr result (IsUnanswered self.old (unmap_of unmap.now words.now) self.new) }
         ensures needs_no_worker { W.starts_none workers.now → IsErrOf result NoWorker → ⊥ }
+        ensures noted { OnOk result (NotesTell self.old.holdings self.new.holdings scratch.old.notes scratch.new.notes) }
     {
+        scratch.notes.forget();
         if self.held.is_none() {
             return Err(DbError::Halted);
         }
@@ -348,31 +375,32 @@ impl Database {
             return Ok(Reply::Refused(Refusal::NoSuchSpace));
         }
         let held = self.held.take().unwrap();
-        let held = answer_unmap(alloc, held, unmap, words, &mut scratch.words, workers)?;
+        let held = answer_unmap(alloc, held, unmap, words, scratch, workers)?;
         self.held = Some(held);
         Ok(scratch.reply(alloc))
     }
 
     /// The same as `unmap_plain`; each word of the reply is the word with the status of its pages in place of its rights.
     ///
-    /// Refused as `unmap_plain` is. Then the reply has anything.
+    /// Refused as `unmap_plain` is. Then the words of the reply are anything.
     pub(crate) fn answer_unmap_plain(
         &mut self,
         alloc: Global,
         unmap: &Unmap<'_>,
         words: &[u32],
-        reply: &mut Vec<u32>,
+        scratch: &mut Scratch,
     ) -> Result<(), DbError>
         requires within { AreWordsWithin self.old.limits words.now unmap.now.fpages.now }
         ensures refused { IsRefused (refusal self.old (unmap_of unmap.now words.now)) self.old self.new result }
         ensures needs_no_worker { IfErr result (λ e. e ≡ NoWorker → ⊥) }
         ensures no_memory { IsErrOf result NoMemory → self.new ≡ halted self.old }
-        ensures told { OnOk result (record { words = reply.new.items; left = self.new.holdings }
+        ensures told { OnOk result (record { words = scratch.new.words.items; left = self.new.holdings }
             ≡ unmap_answer unmap.now.space unmap.now.control.flush (zip words.now unmap.now.fpages.now) self.old.holdings) }
         ensures left { OnOk result (self.new ≡ left_with self.old self.new.holdings) }
+        ensures noted { OnOk result (NotesFollow self.old.holdings self.new.holdings scratch.old.notes scratch.new.notes) }
     {
-        let status = self.unmap_plain(alloc, unmap.space, unmap.control, unmap.fpages)?;
-        if put_status(words, &status, reply).is_err() {
+        let status = self.unmap_plain_noted(alloc, unmap, &mut scratch.notes)?;
+        if put_status(words, &status, &mut scratch.words).is_err() {
             self.held = None;
             return Err(DbError::NoMemory);
         }
@@ -440,19 +468,45 @@ impl Database {
         ensures recursion_left { OnOk result (self.new ≡
             left_with self.old (plain_left space control.flush fpages.now self.old.holdings)) }
     {
-        if self.held.is_none() {
-            return Err(DbError::Halted);
-        }
-        if u32::from(space) >= self.limits().spaces {
-            return Err(DbError::NoSuchSpace);
-        }
-        let held = self.held.take().unwrap();
         let unmap = Unmap {
             space,
             control,
             fpages,
         };
-        let (held, status) = unmap_words_by_recursion(alloc, held, &unmap)?;
+        self.unmap_plain_noted(alloc, &unmap, &mut Notes::none(alloc))
+    }
+
+    /// The same as `unmap_plain`. Notes the pages that it may change, if notes are asked for.
+    ///
+    /// Refused as `unmap_plain` is.
+    fn unmap_plain_noted(
+        &mut self,
+        alloc: Global,
+        unmap: &Unmap<'_>,
+        notes: &mut Notes,
+    ) -> Result<Vec<Rights>, DbError>
+        requires bits { All (IsFpageOf self.old.limits.bits) unmap.now.fpages.now }
+        ensures refused { IsRefused (unmap_refusal self.old unmap.now.space) self.old self.new result }
+        ensures needs_no_worker { IfErr result (λ e. e ≡ NoWorker → ⊥) }
+        ensures no_memory { IsErrOf result NoMemory → self.new ≡ halted self.old }
+        ensures status { IfOk result (λ status.
+            status.items ≡ unmap_status unmap.now.space unmap.now.control.flush unmap.now.fpages.now self.old.holdings) }
+        ensures left { OnOk result (self.new ≡
+            left_with self.old (unmap_left unmap.now.space unmap.now.control.flush unmap.now.fpages.now self.old.holdings)) }
+        ensures recursion_status { IfOk result (λ status.
+            status.items ≡ plain_status unmap.now.space unmap.now.control.flush unmap.now.fpages.now self.old.holdings) }
+        ensures recursion_left { OnOk result (self.new ≡
+            left_with self.old (plain_left unmap.now.space unmap.now.control.flush unmap.now.fpages.now self.old.holdings)) }
+        ensures noted { OnOk result (NotesFollow self.old.holdings self.new.holdings notes.old notes.new) }
+    {
+        if self.held.is_none() {
+            return Err(DbError::Halted);
+        }
+        if u32::from(unmap.space) >= self.limits().spaces {
+            return Err(DbError::NoSuchSpace);
+        }
+        let held = self.held.take().unwrap();
+        let (held, status) = unmap_words_by_recursion(alloc, held, unmap, notes)?;
         self.held = Some(held);
         Ok(status)
     }
@@ -477,6 +531,27 @@ impl Database {
         ensures status { IfOk result (λ status. status ≡ (clear_answer space self.old.holdings).status) }
         ensures left { OnOk result (self.new ≡ left_with self.old (clear_answer space self.old.holdings).left) }
     {
+        self.clear_noted(alloc, space, &mut Notes::none(alloc), workers)
+    }
+
+    /// The same as `clear`. Notes the pages that it may change, if notes are asked for.
+    ///
+    /// Refused as `clear` is.
+    pub(crate) fn clear_noted<W: Workers>(
+        &mut self,
+        alloc: Global,
+        space: u16,
+        notes: &mut Notes,
+        workers: &W,
+    ) -> Result<Rights, DbError>
+        ensures refused { IsRefused (refusal self.old (clear space)) self.old self.new result }
+        ensures no_memory { IsErrOf result NoMemory → self.new ≡ halted self.old }
+        ensures no_worker { IsErrOf result NoWorker → self.new ≡ halted self.old }
+        ensures needs_no_worker { W.starts_none workers.now → IsErrOf result NoWorker → ⊥ }
+        ensures status { IfOk result (λ status. status ≡ (clear_answer space self.old.holdings).status) }
+        ensures left { OnOk result (self.new ≡ left_with self.old (clear_answer space self.old.holdings).left) }
+        ensures noted { OnOk result (NotesFollow self.old.holdings self.new.holdings notes.old notes.new) }
+    {
         if self.held.is_none() {
             return Err(DbError::Halted);
         }
@@ -484,7 +559,7 @@ impl Database {
             return Err(DbError::NoSuchSpace);
         }
         let held = self.held.take().unwrap();
-        let (held, status) = clear_space(alloc, held, space, workers)?;
+        let (held, status) = clear_space(alloc, held, space, notes, workers)?;
         self.held = Some(held);
         Ok(status)
     }
@@ -504,6 +579,29 @@ impl Database {
         ensures recursion_left { OnOk result (self.new ≡
             left_with self.old (recur self.old.holdings (in_space space) all_rights true).left) }
     {
+        self.clear_plain_noted(alloc, space, &mut Notes::none(alloc))
+    }
+
+    /// The same as `clear_plain`. Notes the pages that it may change, if notes are asked for.
+    ///
+    /// Refused as `clear_plain` is.
+    pub(crate) fn clear_plain_noted(
+        &mut self,
+        alloc: Global,
+        space: u16,
+        notes: &mut Notes,
+    ) -> Result<Rights, DbError>
+        ensures refused { IsRefused (refusal self.old (clear space)) self.old self.new result }
+        ensures needs_no_worker { IfErr result (λ e. e ≡ NoWorker → ⊥) }
+        ensures no_memory { IsErrOf result NoMemory → self.new ≡ halted self.old }
+        ensures status { IfOk result (λ status. status ≡ (clear_answer space self.old.holdings).status) }
+        ensures left { OnOk result (self.new ≡ left_with self.old (clear_answer space self.old.holdings).left) }
+        ensures recursion_status { IfOk result (λ status.
+            status ≡ (recur self.old.holdings (in_space space) all_rights true).word) }
+        ensures recursion_left { OnOk result (self.new ≡
+            left_with self.old (recur self.old.holdings (in_space space) all_rights true).left) }
+        ensures noted { OnOk result (NotesFollow self.old.holdings self.new.holdings notes.old notes.new) }
+    {
         if self.held.is_none() {
             return Err(DbError::Halted);
         }
@@ -511,7 +609,7 @@ impl Database {
             return Err(DbError::NoSuchSpace);
         }
         let held = self.held.take().unwrap();
-        let (held, status) = clear_space_by_recursion(alloc, held, space)?;
+        let (held, status) = clear_space_by_recursion(alloc, held, space, notes)?;
         self.held = Some(held);
         Ok(status)
     }

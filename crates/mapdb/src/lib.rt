@@ -16,5 +16,5 @@ pub use answer::Scratch;
 pub use call::{Call, Refusal, Sending, Unmap};
 pub use database::Database;
 pub use error::DbError;
-pub use holdings::{Limits, Mapping, Mappings};
+pub use holdings::{Limits, Mapping, Mappings, Note, Notes};
 pub use reply::{Reply, SendReply};

@@ -6,16 +6,18 @@ ghost use Rattle.fpage.specs.Fpage.{IsFpageOf};
 ghost use Rattle.model.specs.Definitions.Answers.{pages_in, unmap_answer};
 ghost use Rattle.crew.specs.declared.error.CrewError.TheVariants.{NoWorker};
 ghost use Rattle.holdings.specs.Contents.{IsStripped, left_with};
+ghost use Rattle.holdings.specs.Noting.{NotesFollow};
 ghost use Rattle.mapdb.specs.Calls.{AreWordsWithin, words_with};
 ghost use Rattle.mapdb.specs.State.{unmap_status, unmap_left};
 ghost use Rattle.pieces.specs.declared.piece.Piece.{Piece};
 ghost use Rattle.model.specs.Definitions.Strip.{strip};
 ghost use Rattle.holdings.specs.Observing.{IsPhaseOf};
 
+use crate::answer::Scratch;
 use crate::call::{Unmap, UnmapWord};
 use crew::{Crew, CrewError, Gate, Observe, Workers};
 use fpage::{Rights, with_status};
-use holdings::Holdings;
+use holdings::{Holdings, Notes};
 use space::{NoMemory, Place};
 use std::alloc::{AllocError, Global};
 use std::sync::Wait;
@@ -53,8 +55,8 @@ pub fn unmap_words<W: Workers>(
     Ok((held, status))
 }
 
-/// Works the words of an unmap one after another, and puts each with what it tells into the reply, in place of what that
-/// had.
+/// Works the words of an unmap one after another, and puts each with what it tells into the words of a reply, in place of
+/// what they had. Notes the pages that the words may change.
 ///
 /// Refused, where memory or a worker is: `NoMemory`, `NoWorker`.
 pub fn answer_unmap<W: Workers>(
@@ -62,29 +64,32 @@ pub fn answer_unmap<W: Workers>(
     held: Holdings,
     unmap: &Unmap<'_>,
     words: &[u32],
-    reply: &mut Vec<u32>,
+    scratch: &mut Scratch,
     workers: &W,
 ) -> Result<Holdings, CrewError>
     requires space { unmap.now.space < held.limits.spaces }
     requires within { AreWordsWithin held.limits words.now unmap.now.fpages.now }
     ensures left { IfOk result (λ left. left ≡ left_with held left.holdings) }
-    ensures told { IfOk result (λ left. record { words = reply.new.items; left = left.holdings }
+    ensures told { IfOk result (λ left. record { words = scratch.new.words.items; left = left.holdings }
         ≡ unmap_answer unmap.now.space unmap.now.control.flush (zip words.now unmap.now.fpages.now) held.holdings) }
+    ensures noted { IfOk result (λ left. NotesFollow held.holdings left.holdings scratch.old.notes scratch.new.notes) }
     ensures needs_no_worker { W.starts_none workers.now → IsErrOf result NoWorker → ⊥ }
 {
     let mut held = held;
     let flush = unmap.control.is_flush();
-    reply.clear();
-    reply.reserve(words.len())?;
+    scratch.words.clear();
+    scratch.words.reserve(words.len())?;
     for i in 0..unmap.fpages.len() {
         let word = UnmapWord {
             space: unmap.space,
             flush,
             fpage: unmap.fpages[i],
         };
+        note_word(alloc, &held, &word, &mut scratch.notes)?;
         let (left, status) = unmap_word(alloc, held, &word, workers)?;
         held = left;
-        reply
+        scratch
+            .words
             .push(with_status(words[i], status))
             .map_err(AllocError::from)?;
     }
@@ -105,18 +110,20 @@ pub fn put_status(words: &[u32], status: &[Rights], reply: &mut Vec<u32>) -> Res
     Ok(())
 }
 
-/// The same as `unmap_words`, each word by recursion, on the calling thread.
+/// The same as `unmap_words`, each word by recursion, on the calling thread. Notes the pages that the words may change.
 ///
 /// Refused, where memory is: `NoMemory`.
 pub fn unmap_words_by_recursion(
     alloc: Global,
     held: Holdings,
     unmap: &Unmap<'_>,
+    notes: &mut Notes,
 ) -> Result<(Holdings, Vec<Rights>), NoMemory>
     requires space { unmap.now.space < held.limits.spaces }
     requires fpages { All (IsFpageOf held.limits.bits) unmap.now.fpages.now }
     ensures left { IfOk result (λ r. r.0 ≡ left_with held (unmap_left unmap.now.space unmap.now.control.flush unmap.now.fpages.now held.holdings)) }
     ensures status { IfOk result (λ r. r.1.items ≡ unmap_status unmap.now.space unmap.now.control.flush unmap.now.fpages.now held.holdings) }
+    ensures noted { IfOk result (λ r. NotesFollow held.holdings r.0.holdings notes.old notes.new) }
 {
     let mut held = held;
     let flush = unmap.control.is_flush();
@@ -127,11 +134,32 @@ pub fn unmap_words_by_recursion(
             flush,
             fpage: *fpage,
         };
+        note_word(alloc, &held, &word, notes)?;
         let (left, told) = unmap_word_by_recursion(alloc, held, &word)?;
         held = left;
         status.push(told).map_err(AllocError::from)?;
     }
     Ok((held, status))
+}
+
+/// Notes the pages that one word of an unmap may change.
+///
+/// Refused, where memory is: `NoMemory`.
+pub fn note_word(
+    alloc: Global,
+    held: &Holdings,
+    word: &UnmapWord,
+    notes: &mut Notes,
+) -> Result<(), NoMemory>
+    requires space { word.now.space < held.now.limits.spaces }
+    requires fpage { IsFpageOf held.now.limits.bits word.now.fpage }
+    ensures { OnOk result (NotesFollow held.now.holdings (strip held.now.holdings (pages_in word.now.space word.now.fpage) word.now.fpage.rights word.now.flush) notes.old notes.new) }
+{
+    if !notes.asked {
+        return Ok(());
+    }
+    let places = held.held_among(alloc, word.space, word.fpage.pages())?;
+    held.note_strip(alloc, &places, word.fpage.rights(), notes)
 }
 
 /// Works one word of an unmap.

@@ -43,3 +43,4 @@ pub mod FateOutcomes
 pub mod TextReadings
 pub mod ReplyReadings
 pub mod AccessOutcomes
+pub mod TableChanges

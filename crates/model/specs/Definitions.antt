@@ -11,5 +11,6 @@ pub mod Grant
 pub mod Calls
 pub mod Answers
 pub mod Replay
+pub mod Changes
 pub mod Records
 pub mod Text

@@ -13,3 +13,4 @@ pub mod RefusalLaws
 pub mod KeptStatusLaws
 pub mod RecursionLaws
 pub mod ReplayLaws
+pub mod ChangeLaws

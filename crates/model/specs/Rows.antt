@@ -12,3 +12,4 @@ pub mod RowsOfMaps
 pub mod RowsOfGrants
 pub mod RowsOfHoldings
 pub mod RowsOfRecursion
+pub mod RowsOfChanges

@@ -13,6 +13,7 @@ ghost use Rattle.model.specs.Laws.UnmapLaws.{UnmapNamesItsOwn, UnmapSays, Unmaps
 ghost use Rattle.model.specs.Laws.ClearLaws.{ClearSays, ClearIsUnmap};
 ghost use Rattle.model.specs.Laws.RefusalLaws.{SendRefusals, UnmapRefusals, ClearRefusals, AccessRefusals};
 ghost use Rattle.model.specs.Laws.KeptStatusLaws.{CallKeepsBits, ReplayKeepsBits, BitsComeFromAccesses};
+ghost use Rattle.model.specs.Laws.ChangeLaws.{ChangesSay, ChangesTellEachOnce, ChangesMissNoPage, ChangesAreEnough, AccessChangesNoTable, TablesFollow, TablesFollowFromStart, RevokedIsInNoTable};
 ghost use Rattle.model.specs.Laws.ReplayLaws.{RefusedChangesNothing, FaultChangesNothing, NoPageNamed, NilpageSends, NothingAsked, StartSays, ReplaysJoin};
 
 /// What derived means.
@@ -120,6 +121,18 @@ pub fn replays()
     ensures nothing_asked { NothingAsked }
     ensures start_says { StartSays }
     ensures replays_join { ReplaysJoin }
+{}
+
+/// What a kernel has to change in its page tables.
+pub fn changes()
+    ensures changes_say { ChangesSay }
+    ensures changes_tell_each_once { ChangesTellEachOnce }
+    ensures changes_miss_no_page { ChangesMissNoPage }
+    ensures changes_are_enough { ChangesAreEnough }
+    ensures access_changes_no_table { AccessChangesNoTable }
+    ensures tables_follow { TablesFollow }
+    ensures tables_follow_from_start { TablesFollowFromStart }
+    ensures revoked_is_in_no_table { RevokedIsInNoTable }
 {}
 
 /// What is written reads back.

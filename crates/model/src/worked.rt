@@ -13,6 +13,7 @@ ghost use Rattle.model.specs.Rows.RowsOfMaps.{SecondMapExtends, ReplacedTargetTa
 ghost use Rattle.model.specs.Rows.RowsOfGrants.{GrantMovesAndNarrows, GrantRenamesAllAtOnce, RootIsGranted, GrantReplacesTarget, GrantOntoOwnDerived, GrantOfFlushedSourceIsLost, GrantRemovesWhatIsWithheld, GrantPassesStatusOn, SendBasesOfGrants, GrantPassesStatusOfTarget, GrantOntoOwnDerivedPassesStatus, GrantLeavesOtherStatus, GrantRenamesEachOrigin, GrantOfSeveralPages};
 ghost use Rattle.model.specs.Rows.RowsOfHoldings.{LawfulHoldings, UnlawfulHoldings, PlacesUnderSets, LongestLawfulChain, UnlawfulAmongOthers, OrderOfPlaces, SamePlaces};
 ghost use Rattle.model.specs.Rows.RowsOfRecursion.{NestedMappingByRecursion, NestedMappingOfHigherPage, StatusByRecursion, NestedStatusOfLowerPage, NestedStatusOfHigherPage, FlushByRecursion, FlushOfNestedByRecursion, FlushOfNestedHigherPage, BranchesByRecursion, DeepChainByRecursion, OriginGainsByRecursion};
+ghost use Rattle.model.specs.Rows.RowsOfChanges.{MapSetsTarget, GrantRemovesSource, UnmapChangesWhatDerives, FlushRemovesChain, ExtensionSetsTarget, StatusChangesNothing, ReplacedTargetRemovesItsDerived, OriginChangesNothing, ChangesOfHoldings, ChangesInOrder, TablesAfterCalls};
 
 /// Words: which pages fpages and items name, and what is refused of them.
 pub fn rows_of_words()
@@ -233,4 +234,19 @@ pub fn rows_of_recursion()
     ensures branches_by_recursion { BranchesByRecursion }
     ensures deep_chain_by_recursion { DeepChainByRecursion }
     ensures origin_gains_by_recursion { OriginGainsByRecursion }
+{}
+
+/// Changes: what a kernel has to change in its page tables.
+pub fn rows_of_changes()
+    ensures map_sets_target { MapSetsTarget }
+    ensures grant_removes_source { GrantRemovesSource }
+    ensures unmap_changes_what_derives { UnmapChangesWhatDerives }
+    ensures flush_removes_chain { FlushRemovesChain }
+    ensures extension_sets_target { ExtensionSetsTarget }
+    ensures status_changes_nothing { StatusChangesNothing }
+    ensures replaced_target_removes_its_derived { ReplacedTargetRemovesItsDerived }
+    ensures origin_changes_nothing { OriginChangesNothing }
+    ensures changes_of_holdings { ChangesOfHoldings }
+    ensures changes_in_order { ChangesInOrder }
+    ensures tables_after_calls { TablesAfterCalls }
 {}

@@ -28,7 +28,7 @@ module _ (h : Holdings) (l : IsLawful h) (C X : PlaceSet) (named : (q : Place) �
   back : (q : Place) → held q ≡ true → is_below h C q ≡ true
   back q is = let parts = and_parts (X q) (is_held h q) is in covers q parts.1 parts.0
 
-  below_is : (p : Place) → is_held h p ≡ true → is_below h C p ≡ is_below h X p
+  pub below_is : (p : Place) → is_held h p ≡ true → is_below h C p ≡ is_below h X p
   below_is p is = same_truth (is_below h C p) (is_below h X p) (below_within h l C X there p) (λ below. below_within h l held C back p (sym (below_same h l X held held_same p is) ∙ below))
 
   under_is : (p : Place) → is_held h p ≡ true → is_under h C p ≡ is_under h X p

@@ -1,5 +1,5 @@
 -- How worked rows are written: what a short trace writes, evaluated on the definitions.
-use Rattle.std.specs.Prelude.{ℕ, zero, suc, ◌+◌, Bool, false, not, if◌then◌else◌, List, [], ◌∷◌, ◌++◌, map, filter, replicate, codes, Option, Some, Result, Ok, Err}
+use Rattle.std.specs.Prelude.{ℕ, zero, suc, ◌+◌, Bool, false, not, if◌then◌else◌, List, [], ◌∷◌, ◌++◌, map, filter, replicate, codes, Option, Some, None, Result, Ok, Err}
 use Rattle.std.specs.List.{flat_map, list_all}
 use Rattle.std.specs.Str.{bytes_eq}
 use Rattle.std.specs.Fmt.{decimal}
@@ -13,9 +13,10 @@ use Rattle.space.specs.declared.place.Place.{Place}
 use Rattle.model.specs.Definitions.Holdings.{Held, Holdings, PlaceSet, is_held}
 use Rattle.model.specs.Definitions.Strip.{strip, strip_word}
 use Rattle.model.specs.Definitions.Recursion.{recur}
-use Rattle.model.specs.Definitions.Calls.{Limits}
-use Rattle.model.specs.Definitions.Answers.{pages_in}
-use Rattle.model.specs.Definitions.Replay.{Told}
+use Rattle.model.specs.Definitions.Calls.{Limits, Request}
+use Rattle.model.specs.Definitions.Answers.{answer, pages_in}
+use Rattle.model.specs.Definitions.Replay.{Told, start}
+use Rattle.model.specs.Definitions.Changes.{TableEntry, tables_of, Change, changes, follow}
 use Rattle.model.specs.Definitions.Records.{Trace, HeaderFault, trace_of}
 use Rattle.model.specs.Definitions.Text.{reply_lines, audit_line, audit_lines, told}
 
@@ -180,3 +181,36 @@ pairs_of_words window first second = related_pairs (read_fpage 18 window) (read_
 -- a place itself
 abbrev pub at_page : ℕ → ℕ → Place
 at_page space page = record { space = space; page = page }
+
+-- what a page table says of a page: a frame, and rights as a number
+abbrev pub table_entry : ℕ → ℕ → Option TableEntry
+table_entry frame rights = Some (record { frame = frame; rights = of_bits rights })
+
+-- the change of a page to a frame with rights as a number
+abbrev pub sets : ℕ → ℕ → ℕ → ℕ → Change
+sets space page frame rights = record { place = at_page space page; now = table_entry frame rights }
+
+-- the change of a page to no entry
+abbrev pub removes : ℕ → ℕ → Change
+removes space page = record { place = at_page space page; now = None }
+
+-- the changes of each request
+abbrev pub changes_from : Limits → Holdings → List Request → List (List Change)
+changes_from limits h [] = []
+changes_from limits h (r ∷ rs) = let left = (answer limits h r).left in changes h left ∷ changes_from limits left rs
+
+abbrev pub changes_of_trace : Result Trace HeaderFault → Result (List (List Change)) HeaderFault
+changes_of_trace (Ok t) = Ok (changes_from t.limits (start t.limits) t.requests)
+changes_of_trace (Err e) = Err e
+
+-- the changes of each record of a trace of four spaces of 64 pages and 8 frames
+abbrev pub changes_by : List (List ℕ) → Result (List (List Change)) HeaderFault
+changes_by records = changes_of_trace (trace_of (lines (codes "l4map,2,4,18,8" ∷ records)))
+
+abbrev pub tables_of_trace : Result Trace HeaderFault → List Place → Result (List (Option TableEntry)) HeaderFault
+tables_of_trace (Ok t) ps = Ok (map (follow t.limits (start t.limits) t.requests (tables_of (start t.limits))) ps)
+tables_of_trace (Err e) ps = Err e
+
+-- what the tables that followed the records of such a trace say of these pages
+abbrev pub tables_after : List (List ℕ) → List Place → Result (List (Option TableEntry)) HeaderFault
+tables_after records = tables_of_trace (trace_of (lines (codes "l4map,2,4,18,8" ∷ records)))

@@ -1,8 +1,5 @@
 -- The page of an address below the end of a space is one of its pages.
-use Rattle.std.proofs.Common.{◌≡◌, ◌*◌, ◌/◌, ◌%◌, false, [], ◌<◌, ◌^◌, arith, sym, ap, ◌∙◌}
-use Rattle.std.proofs.lemmas.List.Elements.{All-cons}
-use Rattle.fpage.specs.declared.rights.Access.{Access}
-use Rattle.space.specs.declared.place.Place.{Place}
+use Rattle.std.proofs.Common.{◌≡◌, ◌*◌, ◌/◌, ◌%◌, false, ◌<◌, ◌^◌, arith, sym, ap, ◌∙◌}
 use Rattle.model.specs.Definitions.Calls.{Limits}
 use Rattle.mapdb.specs.Held.{IsWithin}
 use Rattle.mapdb.specs.State.{State}
@@ -12,7 +9,7 @@ use Rattle.c_handle.proofs.access.access.Goals as goal
 
 pub answer_access-requires : goal.answer_access-requires
 answer_access-requires c =
-    let s : State = c.args.database.now in
+    let s : State = c.args.kept.now.database in
     let runs : s.is_halted ≡ false = sym c.if-is_halted.ensures in
     let same_bits = ap (λ (l : Limits). l.bits) c.limits-limits.ensures.limits in
     let same_spaces = ap (λ (l : Limits). l.spaces) c.limits-limits.ensures.limits in

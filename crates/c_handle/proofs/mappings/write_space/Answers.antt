@@ -1,5 +1,5 @@
 -- Page after page that is held, until the buffer is full.
-use Rattle.std.proofs.Common.{◌≡◌, ◌+◌, ◌-◌, ◌<◌, ◌≤◌, [], ◌∷◌, subst, arith}
+use Rattle.std.proofs.Common.{[], ◌∷◌, subst, arith}
 use Rattle.space.specs.Directory.{pages_of}
 use Rattle.space.specs.declared.place.Place.{Place}
 use Rattle.model.specs.Definitions.Holdings.{at}

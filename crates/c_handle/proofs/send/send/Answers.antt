@@ -1,5 +1,5 @@
 -- The words are read as a record's are, and the database answers as it is asked.
-use Rattle.std.proofs.Common.{◌≡◌, inl, inr, ℕ, ◌/◌, ◌<◌, ◌≤◌, false, List, length, take, Some, Ok, Err, refl, sym, ap, ◌∙◌, subst, arith}
+use Rattle.std.proofs.Common.{◌≡◌, inl, inr, ℕ, ◌/◌, ◌<◌, ◌≤◌, false, length, take, Some, refl, sym, ap, ◌∙◌, subst, arith}
 use Rattle.std.proofs.lemmas.List.{length-take-le}
 use Rattle.fpage.specs.Fpage.{IsSpaceBits, read_fpage}
 use Rattle.model.specs.Definitions.Calls.{Call, Limits, send, bad_record, refusal_of, Request}
@@ -11,30 +11,27 @@ use Rattle.mapdb.specs.Calls.{reply_of}
 use Rattle.mapdb.specs.Meaning.{counts_of}
 use Rattle.mapdb.specs.declared.reply.Reply.{Reply}
 use Rattle.model.specs.Definitions.Answers.{Answer}
-use Rattle.fpage.specs.declared.item.Item.{Item}
-use Rattle.c_handle.specs.Done.{IsDone, IsNotDone}
-use Rattle.c_handle.specs.declared.error.CallError.{CallError}
 use Rattle.c_handle.specs.Asked.{send_asked}
-use Rattle.c_handle.specs.Replied.{counts_in, counts_told}
+use Rattle.c_handle.specs.Replied.{counts_told}
 use Rattle.c_handle.specs.Sent.{IsSent}
 use Rattle.c_handle.proofs.Calling.{word_coded, coded, called_halted, called_refused}
 use Rattle.c_handle.proofs.Requests.{are_words, not_words, words_refused, window_refused, send_is, send_refused}
-use Rattle.c_handle.proofs.Ending.{was_done, was_not_done}
+use Rattle.c_handle.proofs.Ending.{was_done, was_not_done, known_done}
 use Rattle.c_handle.proofs.Sendings.{counts_are, sent_called, sent_done, sent_not_done, told_none}
 use Rattle.c_handle.proofs.Served.{served}
 use Rattle.c_handle.proofs.Totals.{send_total}
 use Rattle.c_handle.proofs.send.send.Goals.{in-Sent, in_default, then-words-ne0-via-then-words-ne0, then-words-ne0-via-else-words-ne0+then-words-lt2, then-words-ne0-via-else-words-ne0+else-words-lt2+then-words}
 use Rattle.c_handle.proofs.send.send.Goals as goal
 
-pub returns-then-is_halted : goal.returns-then-is_halted
-returns-then-is_halted c =
-    let s : State = c.args.database.now in
+pub returns-then-is_halted-clause-called : goal.returns-then-is_halted-clause-called
+returns-then-is_halted-clause-called c =
+    let s : State = c.args.kept.now.database in
     let asked : Request = send_asked c.args.asked.now.from c.args.asked.now.to c.args.asked.now.window c.args.asked.now.words.now s.limits in
     sent_called asked s c.args.reply.now _ (called_halted counts_told asked s c.args.reply.now (sym c.if-is_halted.ensures))
 
-pub returns-then-words-ne0 : goal.returns-then-words-ne0
-returns-then-words-ne0 c =
-    let s : State = c.args.database.now in
+pub returns-then-words-ne0-clause-called : goal.returns-then-words-ne0-clause-called
+returns-then-words-ne0-clause-called c =
+    let s : State = c.args.kept.now.database in
     let words = c.args.asked.now.words.now in
     let asked : Request = send_asked c.args.asked.now.from c.args.asked.now.to c.args.asked.now.window words s.limits in
     let runs : s.is_halted ≡ false = sym c.if-is_halted.ensures in
@@ -47,9 +44,9 @@ returns-then-words-ne0 c =
     sent_called asked s c.args.reply.now _
     (called_refused counts_told asked s c.args.reply.now runs bad_record (words_refused c.args.asked.now.from c.args.asked.now.to c.args.asked.now.window words s.limits is) refl)
 
-pub returns-in_err-window : goal.returns-in_err-window
-returns-in_err-window c =
-    let s : State = c.args.database.now in
+pub returns-in_err-window-clause-called : goal.returns-in_err-window-clause-called
+returns-in_err-window-clause-called c =
+    let s : State = c.args.kept.now.database in
     let words = c.args.asked.now.words.now in
     let asked : Request = send_asked c.args.asked.now.from c.args.asked.now.to c.args.asked.now.window words s.limits in
     let e = c.in_err-window.field-0.0 in
@@ -64,14 +61,14 @@ returns-in_err-window c =
 
 pub read_items-requires-clause-bits : goal.read_items-requires-clause-bits
 read_items-requires-clause-bits c =
-    let s : State = c.args.database.now in
+    let s : State = c.args.kept.now.database in
     let runs : s.is_halted ≡ false = sym c.if-is_halted.ensures in
     let limits = served s.limits (c.limits-bits.ensures.served runs) in
     subst IsSpaceBits (sym (ap (λ (l : Limits). l.bits) c.limits-bits.ensures.limits)) (record { low = limits.low; high = limits.high })
 
-pub returns-in_err-read_items : goal.returns-in_err-read_items
-returns-in_err-read_items c =
-    let s : State = c.args.database.now in
+pub returns-in_err-read_items-clause-called : goal.returns-in_err-read_items-clause-called
+returns-in_err-read_items-clause-called c =
+    let s : State = c.args.kept.now.database in
     let words = c.args.asked.now.words.now in
     let asked : Request = send_asked c.args.asked.now.from c.args.asked.now.to c.args.asked.now.window words s.limits in
     let e = c.in_err-read_items.field-0.0 in
@@ -85,9 +82,9 @@ returns-in_err-read_items c =
     let P : ℕ → Type 0 = λ k. IsSent asked s c.args.reply.now (record { code = k; held = Some s; lent = c.args.reply.now }) in
     subst P (sym code) (sent_called asked s c.args.reply.now _ (called_refused counts_told asked s c.args.reply.now runs (refusal_of e) is refl))
 
-pub returns-in_err-answered : goal.returns-in_err-answered
-returns-in_err-answered c =
-    let s : State = c.args.database.now in
+pub returns-in_err-answered-clause-called : goal.returns-in_err-answered-clause-called
+returns-in_err-answered-clause-called c =
+    let s : State = c.args.kept.now.database in
     let asked : Request = send_asked c.args.asked.now.from c.args.asked.now.to c.args.asked.now.window c.args.asked.now.words.now s.limits in
     let words = c.args.asked.now.words.now in
     let items = take (length words / 2) c.read_items.new.items in
@@ -105,7 +102,7 @@ returns-in_err-answered c =
 
 pub counts-requires : goal.counts-requires
 counts-requires c =
-    let s : State = c.args.database.now in
+    let s : State = c.args.kept.now.database in
     let words = c.args.asked.now.words.now in
     let all = c.read_items.new.items in
     let items = take (length words / 2) all in
@@ -122,9 +119,9 @@ counts-requires c =
     let counts = counts_are s.limits s.holdings c.args.asked.now.from c.args.asked.now.to c.in_ok-window.window items (counts_of c.in-Sent.sent) (ap (λ (a : Answer). a.reply) done.answered.told ∙ ap reply_of c.in-Sent.is) in
     subst (λ (k : Counts). total k < 4294967296) counts (omega (arith, most, many, few))
 
-pub returns : goal.returns
-returns c =
-    let s : State = c.args.database.now in
+pub returns-clause-called : goal.returns-clause-called
+returns-clause-called c =
+    let s : State = c.args.kept.now.database in
     let lent = c.args.reply.now in
     let asked : Request = send_asked c.args.asked.now.from c.args.asked.now.to c.args.asked.now.window c.args.asked.now.words.now s.limits in
     let words = c.args.asked.now.words.now in
@@ -143,3 +140,6 @@ returns c =
       | in_default w ↦ w.reply-is ∙ told_none lent answered w.in_default.not-Sent
     ] in
     sent_done asked s lent call is c.answer_send.new.self answered done done.answered.layout c.match-answered.reply mine
+
+pub returns-clause-told : goal.returns-clause-told
+returns-clause-told c = known_done c.answer_send.result c.answer_send.ensures.noted c.done.result c.done.ensures c.in_ok-answered.answered c.in_ok-answered.was

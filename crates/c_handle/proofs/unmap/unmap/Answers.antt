@@ -1,5 +1,5 @@
 -- As many words come back as were given.
-use Rattle.std.proofs.Common.{◌≡◌, ◌≤◌, length, take, Ok, sym, ap, ◌∙◌, arith}
+use Rattle.std.proofs.Common.{◌≤◌, length, take, sym, ap, ◌∙◌, arith}
 use Rattle.std.specs.List.{zip}
 use Rattle.std.proofs.lemmas.List.{length-take-le}
 use Rattle.fpage.specs.Control.{read_control}
@@ -12,7 +12,7 @@ use Rattle.c_handle.proofs.unmap.unmap.Goals as goal
 
 pub copy_from_slice-requires : goal.copy_from_slice-requires
 copy_from_slice-requires c =
-    let s = c.args.database.now in
+    let s = c.args.kept.now.database in
     let words = c.args.words.now in
     let all = c.read_fpages.new.fpages in
     let same = words_are (length words) (read_control c.args.asked.control (length words)) c.in_ok-control.control c.in_ok-control.ensures.read in

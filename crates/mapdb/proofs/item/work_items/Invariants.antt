@@ -1,7 +1,11 @@
 -- The items so far.
+use Rattle.holdings.specs.Noting.{NotesFollow}
 use Rattle.mapdb.specs.Meaning.{counts_of}
 use Rattle.mapdb.proofs.ItemByItem.{AreWorked}
 use Rattle.mapdb.proofs.item.work_items.Given as goal
 
 abbrev pub invariant-loop-item : goal.invariant-loop-item
-invariant-loop-item g l = AreWorked l.fn.held l.send.from l.send.to l.send.window l.send.items.now l.item-index l.held (counts_of l.reply)
+invariant-loop-item g l = record {
+  worked : AreWorked l.fn.held l.send.from l.send.to l.send.window l.send.items.now l.item-index l.held (counts_of l.reply);
+  noted : NotesFollow l.fn.held.holdings l.held.holdings l.fn.notes l.notes;
+}

@@ -1,5 +1,5 @@
 -- The places are those that the word names and that are held.
-use Rattle.std.proofs.Common.{◌∙◌, sym, ap, subst}
+use Rattle.std.proofs.Common.{◌∙◌, ap, subst}
 use Rattle.std.specs.Prelude.{IfOk}
 use Rattle.fpage.specs.declared.rights.Rights.{Rights}
 use Rattle.model.specs.Definitions.Holdings.{Holdings}

@@ -25,11 +25,11 @@ empty_spec 𝓤 𝓛 𝓜 𝓡 wired =
     proved 𝓛 f.ended tt c 𝓜 𝓡 tt f.Key.name code.function (code.unfolded 𝓤 𝓛.H 𝓜 𝓡 wired)
     (λ κs. tt) (λ κs. tt) (λ κs qs bounds a g are.
     let z : (walk_of 𝓛 f.ended tt c).Ghost = ((κs, qs, bounds, a, tt), g) in
-    let made : Held.Denot = record { at = null_ptr; held = None } in
+    let made : Held.Denot = record { at = null_ptr; kept = None } in
     qed 𝓛 (raw (on_entry 𝓛 f.signature κs qs a tt) ∷ raw ((c κs a).requires g) ∷ []) ∵ drop ! $ drop ! $
     enter ! _ _ _ _ _ $ alloc_all ! (λ l. pass_all ! refl tt $
     sets ! (agg ! (and_then ! (lit ! tt) (no_more !))) refl (tt, (record { fits = lit< tt }, tt)) $
     nothing ! $ fpack ! (null_ptr ≡ null_ptr) (λ _. ftrue) refl $ handle_in ! made $
-    use0 𝓛 (raw (fact 𝓤 (made.held ≡ None))) (fact_i 𝓤 (made.held ≡ None) (emp 𝓤) refl) $ nothing ! $ nothing ! $
+    use0 𝓛 (raw (fact 𝓤 (made.kept ≡ None))) (fact_i 𝓤 (made.kept ≡ None) (emp 𝓤) refl) $ nothing ! $ nothing ! $
     returns ! (look_at ! 0 refl) $ free_all ! refl $
     keep ! (0 ∷ 1 ∷ 3 ∷ 2 ∷ []) $ by ! (leaves 𝓛 f.ended tt c z (handle_word null_ptr) made tt tt)))

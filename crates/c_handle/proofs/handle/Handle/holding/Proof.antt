@@ -36,7 +36,7 @@ holding_spec 𝓤 𝓛 𝓜 𝓡 wired =
     let κs = z.0.0 in let qs = z.0.1 in let pointer = z.0.3.0 in
     let Post : Val → SProp 𝓤 = (walk_of 𝓛 f.ended stayed c).post z in
     let Runs : List Val → SProp 𝓤 = λ ws. WpFn 𝓤 𝓛.H 𝓣.C 𝓣.Λ fn ws Post in
-    let made : Held.Denot = record { at = pointer.at; held = Some pointer.value } in
+    let made : Held.Denot = record { at = pointer.at; kept = Some pointer.value } in
     qed 𝓛 ((raw (alive 𝓛 f.signature κs qs) ⊛ ‵ (owns (types_at f.ended.signature.params κs) z.0.3 z.0.4)) ∷ raw ((c κs z.0.3).requires z.1) ∷ []) ∵
     split ! $ drop ! $ fsplit ! $ pointer_out ! pointer z.0.4.0 (λ h ws fits.
     let w : Val = pointer_word pointer.at h in
@@ -46,7 +46,7 @@ holding_spec 𝓤 𝓛 𝓜 𝓡 wired =
     sets ! (of_opd ! (get ! refl)) refl (at_typed pointer.at) $
     sets ! (agg ! (and_then ! (get ! refl) (no_more !))) refl (handle_typed pointer.at) $
     fpack ! Global (λ heap. box_owns (ghosts.dealloc_token heap) Stored pointer.at pointer.value) pointer.alloc $ handle_in ! made $
-    use0 𝓛 (raw (fact 𝓤 (made.held ≡ Some pointer.value))) (fact_i 𝓤 (made.held ≡ Some pointer.value) (emp 𝓤) refl) $
+    use0 𝓛 (raw (fact 𝓤 (made.kept ≡ Some pointer.value))) (fact_i 𝓤 (made.kept ≡ Some pointer.value) (emp 𝓤) refl) $
     nothing ! $ nothing ! $ fjoin ! $ nothing ! $
     returns ! (look_at ! 0 refl) $ free_all ! refl $
     keep ! (0 ∷ 1 ∷ 3 ∷ 2 ∷ []) $ by ! (leaves 𝓛 f.ended stayed c z (handle_word pointer.at) made (tt, tt) (tt, tt)))))

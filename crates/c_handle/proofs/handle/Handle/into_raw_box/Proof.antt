@@ -52,7 +52,7 @@ into_raw_box_spec 𝓤 𝓛 𝓜 𝓡 wired =
     let Runs-at : Ptr → SProp 𝓤 = λ p. Runs (handle_word p ∷ h ∷ []) in
     move ! (2 ∷ []) $
     suffices ! (Runs-at handle.at) (subst (λ (us : List Val). ent 𝓤 (Runs-at handle.at) (Runs us)) (sym (λ i. hs i ++ (gs i ++ []))) (id⊢ 𝓤 (Runs-at handle.at))) $
-    either_held ! handle.at handle.held
+    either_held ! handle.at handle.kept
     (λ is_none is_null.
     suffices ! (Runs-at null_ptr) (subst (λ (p : Ptr). ent 𝓤 (Runs-at null_ptr) (Runs-at p)) (sym is_null) (id⊢ 𝓤 (Runs-at null_ptr))) $
     enter ! 𝓣.C 𝓣.Λ fn (handle_word null_ptr ∷ h ∷ []) Post $ alloc_all ! (λ l. let Locals = env fn.locals l in pass_all ! refl (handle_typed null_ptr, (fits, tt)) $
@@ -61,7 +61,7 @@ into_raw_box_spec 𝓤 𝓛 𝓜 𝓡 wired =
     (λ _. sets_last ! (agg ! (and_then ! (lit ! tt) (no_more !))) refl (tt, (record { fits = lit< tt }, tt)) $
     exec ! 𝓣.C 𝓣.Λ Locals (after 3 fn.body) (at_ret Locals Post) $ sets ! (of_opd ! (get ! refl)) refl (tt, (record { fits = lit< tt }, tt)) $
     use0 𝓛 (‵ (Out.own_val None (live 0 vnil ∷ []))) (none_of 𝓛 Pointer) $
-    use0 𝓛 (raw (fact 𝓤 (option_map boxed_value None ≡ handle.held))) (fact_i 𝓤 (option_map boxed_value None ≡ handle.held) (emp 𝓤) (sym is_none)) $
+    use0 𝓛 (raw (fact 𝓤 (option_map boxed_value None ≡ handle.kept))) (fact_i 𝓤 (option_map boxed_value None ≡ handle.kept) (emp 𝓤) (sym is_none)) $
     nothing ! $ nothing ! $ fjoin ! $ nothing ! $ fjoin ! $ nothing ! $
     returns ! (look_at ! 0 refl) $ free_all ! refl $
     keep ! (0 ∷ 1 ∷ 3 ∷ 2 ∷ []) $ by ! (leaves 𝓛 f.ended stayed c z (live 0 vnil) None (tt, (tt, tt)) (tt, (tt, tt))))
@@ -81,7 +81,7 @@ into_raw_box_spec 𝓤 𝓛 𝓜 𝓡 wired =
     exec ! 𝓣.C 𝓣.Λ Locals (after 3 fn.body) (at_ret Locals Post) $ sets ! (of_opd ! (get ! refl)) refl out_typed $
     use1 𝓛 (‵ (box_owns (ghosts.dealloc_token a) Stored p x)) (id⊢ 𝓤 _) $ pointer_in ! h made $
     use1 𝓛 (‵ (Out.own_val (Some made) (v ∷ []))) (Some-of 𝓛 Pointer made (pointer_word p h)) $
-    use0 𝓛 (raw (fact 𝓤 (option_map boxed_value (Some made) ≡ handle.held))) (fact_i 𝓤 (option_map boxed_value (Some made) ≡ handle.held) (emp 𝓤) (sym is_some)) $
+    use0 𝓛 (raw (fact 𝓤 (option_map boxed_value (Some made) ≡ handle.kept))) (fact_i 𝓤 (option_map boxed_value (Some made) ≡ handle.kept) (emp 𝓤) (sym is_some)) $
     nothing ! $ nothing ! $ fjoin ! $ nothing ! $ fjoin ! $ nothing ! $
     returns ! (look_at ! 0 refl) $ free_all ! refl $
     keep ! (0 ∷ 1 ∷ 3 ∷ 2 ∷ []) $ by ! (leaves 𝓛 f.ended stayed c z v (Some made) (tt, (tt, tt)) (tt, (tt, tt)))))))))

@@ -1,5 +1,5 @@
 -- Memory and workers are refused to a call that is accepted.
-use Rattle.std.proofs.Common.{◌≡◌, ◌<◌, [], true, false, None, Some, Bool, ℕ, List, Result, Ok, Err, IfErr, refl, sym, ap, ◌∙◌, subst, arith, nat_lt}
+use Rattle.std.proofs.Common.{◌≡◌, ◌<◌, [], true, false, Some, Bool, ℕ, List, Result, Ok, Err, IfErr, refl, sym, ap, ◌∙◌, subst, arith, nat_lt}
 use Rattle.std.specs.List.{zip}
 use Rattle.std.specs.Result.{IsErrAnd}
 use Rattle.std.proofs.lemmas.Bool.Decides.{nat_tests}

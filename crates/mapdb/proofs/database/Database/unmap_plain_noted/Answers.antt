@@ -5,7 +5,7 @@ use Rattle.holdings.specs.Contents.{Contents}
 use Rattle.holdings.specs.Meaning.{limits_of}
 use Rattle.mapdb.specs.State.{State, state_of, unmap_status, unmap_left}
 use Rattle.mapdb.proofs.PlainWords.{plain_status_is, plain_left_is}
-use Rattle.mapdb.proofs.database.Database.unmap_plain.Goals as goal
+use Rattle.mapdb.proofs.database.Database.unmap_plain_noted.Goals as goal
 
 module _ (c : goal.Joined-self) where
   -- the database that was not halted
@@ -20,12 +20,12 @@ module _ (c : goal.Joined-self) where
 
 pub returns-clause-recursion_status : goal.returns-clause-recursion_status
 returns-clause-recursion_status c =
-    c.in_ok-held.ensures.status ∙ ap (unmap_status c.args.space c.args.control.flush c.args.fpages.now) (held c)
-    ∙ sym (plain_status_is c.args.space c.args.control.flush c.args.fpages.now c.args.self.now.holdings (lawful_parts c.args.self.now.holdings (c.limits.ensures.lawful (running c))))
+    c.in_ok-held.ensures.status ∙ ap (unmap_status c.args.unmap.now.space c.args.unmap.now.control.flush c.args.unmap.now.fpages.now) (held c)
+    ∙ sym (plain_status_is c.args.unmap.now.space c.args.unmap.now.control.flush c.args.unmap.now.fpages.now c.args.self.now.holdings (lawful_parts c.args.self.now.holdings (c.limits.ensures.lawful (running c))))
 
 pub returns-clause-recursion_left : goal.returns-clause-recursion_left
 returns-clause-recursion_left c =
-    let left = ap (λ (k : Contents). k.holdings) c.in_ok-held.ensures.left ∙ ap (unmap_left c.args.space c.args.control.flush c.args.fpages.now) (held c)
-    ∙ sym (plain_left_is c.args.space c.args.control.flush c.args.fpages.now c.args.self.now.holdings (lawful_parts c.args.self.now.holdings (c.limits.ensures.lawful (running c)))) in
+    let left = ap (λ (k : Contents). k.holdings) c.in_ok-held.ensures.left ∙ ap (unmap_left c.args.unmap.now.space c.args.unmap.now.control.flush c.args.unmap.now.fpages.now) (held c)
+    ∙ sym (plain_left_is c.args.unmap.now.space c.args.unmap.now.control.flush c.args.unmap.now.fpages.now c.args.self.now.holdings (lawful_parts c.args.self.now.holdings (c.limits.ensures.lawful (running c)))) in
     let layout = ap (λ (k : Contents). k.layout) c.in_ok-held.ensures.left ∙ ap (λ (s : State). s.layout) (seen c) in
     λ i. record { limits = ap (λ (s : State). s.limits) (seen c) i; holdings = left i; layout = layout i; is_halted = sym (running c) i }

@@ -3,7 +3,7 @@ use Rattle.std.proofs.Common.{◌≡◌, Some, sym, ap, ◌∙◌}
 use Rattle.holdings.specs.Layout.{index_in}
 use Rattle.holdings.specs.Meaning.{limits_of}
 use Rattle.mapdb.specs.State.{State, state_of}
-use Rattle.mapdb.proofs.database.Database.send.Goals as goal
+use Rattle.mapdb.proofs.database.Database.send_noted.Goals as goal
 
 pub returns-clause-grows : goal.returns-clause-grows
 returns-clause-grows g c =

@@ -10,7 +10,7 @@ use Rattle.model.proofs.Recursions.{recursion_is_strip}
 use Rattle.holdings.specs.Contents.{Contents}
 use Rattle.holdings.specs.Meaning.{limits_of}
 use Rattle.mapdb.specs.State.{State, state_of}
-use Rattle.mapdb.proofs.database.Database.clear_plain.Goals as goal
+use Rattle.mapdb.proofs.database.Database.clear_plain_noted.Goals as goal
 
 module _ (c : goal.Joined-self) where
   -- the database that was not halted
@@ -29,10 +29,10 @@ module _ (c : goal.Joined-self) where
 
 pub returns-clause-recursion_status : goal.returns-clause-recursion_status
 returns-clause-recursion_status c =
-    c.in_ok-held.ensures.status ∙ ap (λ (h : Holdings). strip_word h (in_space c.args.space)) (held c) ∙ ap (λ (v : Visited). v.word) (sym (same c))
+    c.in_ok-held.ensures.stripped.status ∙ ap (λ (h : Holdings). strip_word h (in_space c.args.space)) (held c) ∙ ap (λ (v : Visited). v.word) (sym (same c))
 
 pub returns-clause-recursion_left : goal.returns-clause-recursion_left
 returns-clause-recursion_left c =
-    let left = ap (λ (k : Contents). k.holdings) c.in_ok-held.ensures.left ∙ ap (λ (h : Holdings). strip h (in_space c.args.space) all_rights true) (held c) ∙ ap (λ (v : Visited). v.left) (sym (same c)) in
-    let layout = ap (λ (k : Contents). k.layout) c.in_ok-held.ensures.left ∙ ap (λ (s : State). s.layout) (seen c) in
+    let left = ap (λ (k : Contents). k.holdings) c.in_ok-held.ensures.stripped.left ∙ ap (λ (h : Holdings). strip h (in_space c.args.space) all_rights true) (held c) ∙ ap (λ (v : Visited). v.left) (sym (same c)) in
+    let layout = ap (λ (k : Contents). k.layout) c.in_ok-held.ensures.stripped.left ∙ ap (λ (s : State). s.layout) (seen c) in
     λ i. record { limits = ap (λ (s : State). s.limits) (seen c) i; holdings = left i; layout = layout i; is_halted = sym (running c) i }
