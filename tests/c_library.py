@@ -6,7 +6,7 @@ header, its Rust package, its examples and library.sh are right.
 
 The archive is built by both of the kit's compilers, and all is tried over both; the one by LLVM is left in
 crates/capi/out. The programs of c/ are compared with the texts beside them, which were worked out by hand; c/readme.c
-runs the function that docs/KERNELS.md has. Traces are replayed by c/replay.c: those of replays/ and of examples/
+runs the functions that docs/KERNELS.md has. Traces are replayed by c/replay.c: those of replays/ and of examples/
 as the answers beside them say, and random ones, made from a table of seeds, as the program l4map replays them; some of
 both also under valgrind. Where there is no valgrind, C++ compiler, make or cargo, a line says what was not tried.
 """
@@ -131,7 +131,7 @@ def check_bare(cases, room, archive):
 
 
 def check_cpp(cases, room, archive):
-    """The header in a program in C++, and the example in C as one in C++."""
+    """The header in a program in C++, and the pager in C as one in C++."""
     if not shutil.which(CPP17[0]):
         return
     pager, heap = os.path.join(EXAMPLE, "pager.c"), os.path.join(EXAMPLE, "heap.c")
@@ -148,11 +148,12 @@ def check_in_cpp(cases, room, archive, path, heap, wanted):
             cases.compare(f"{name} in C++, {archive.backend}", Ended(0, wanted, b""), run([program]))
 
 
-def write_function_of_document(room):
-    """The block in C of docs/KERNELS.md, as live.h, which c/readme.c includes."""
-    found = re.search(r"^```c\n((?:.*\n)*?)```$", read("docs", "KERNELS.md").decode(), re.M)
-    with open(os.path.join(room, "live.h"), "w", encoding="utf-8") as file:
-        file.write(found[1] if found else "")
+def write_functions_of_document(room):
+    """The blocks in C of docs/KERNELS.md, as live.h and follow.h, which c/readme.c includes."""
+    found = re.findall(r"^```c\n((?:.*\n)*?)```$", read("docs", "KERNELS.md").decode(), re.M)
+    for name, block in zip(("live.h", "follow.h"), [*found, "", ""]):
+        with open(os.path.join(room, name), "w", encoding="utf-8") as file:
+            file.write(block)
 
 
 def numbers(text):
@@ -314,15 +315,18 @@ def environment(**settings):
 
 
 def check_c_example(cases, tree, archive):
-    """The example in C, compiled anew each time: by the command of the READMEs, and over an archive that is named."""
+    """The examples in C, compiled anew each time: by the command of the READMEs, and over an archive that is named."""
     if not shutil.which("make"):
         return
     for how, words in (("as it stands", []), ("over a named archive", [f"ARCHIVE={archive.path}"])):
         shutil.rmtree(os.path.join(tree, "examples", "c", "out"), ignore_errors=True)
         got = run(["make", "-C", "examples/c", "run", *words], cwd=tree, env=environment())
-        # What make says itself, and the command by which it compiles.
-        said = re.sub(rb"^(?:make\b|.* -o out/pager ).*\n", b"", got.stdout, flags=re.M)
-        cases.compare(f"examples/c {how}, {archive.backend}", Ended(0, read(ANSWER), b""), got._replace(stdout=said))
+        # What make says itself, and the commands by which it compiles.
+        said = re.sub(rb"^(?:make\b|.* -o out/(?:pager|tables) ).*\n", b"", got.stdout, flags=re.M)
+        # Its numbers of changes and mappings were not worked out by hand; they are not 0.
+        said = re.sub(rb"^(10000 calls), [1-9]\d+ changes, [1-9]\d+ mappings: ", rb"\1: ", said, flags=re.M)
+        wanted = Ended(0, read(ANSWER) + b"10000 calls: the tables are right\n", b"")
+        cases.compare(f"examples/c {how}, {archive.backend}", wanted, got._replace(stdout=said))
 
 
 def cargo(tree, folder, *words, **settings):
@@ -332,14 +336,14 @@ def cargo(tree, folder, *words, **settings):
 
 
 def check_rust(cases, tree, archive):
-    """The tests of the Rust package, of its units, its heap and its documentation, and the example over it, which looks
-    for the archive where library.sh leaves it."""
+    """The tests of the Rust package, of its units, its changes, its heap and its documentation, and the example over it,
+    which looks for the archive where library.sh leaves it."""
     package, name, named = "bindings/rust", f"bindings/rust, {archive.backend}", {"L4MAP_ARCHIVE": archive.path}
     if not shutil.which("cargo"):
         return
     tested = cargo(tree, package, "test", **named)
     counts = [int(count) for count in re.findall(rb"^test result: ok\. (\d+) passed; 0 failed;", tested.stdout, re.M)]
-    right = tested.status == 0 and len(counts) == 3 and all(counts)
+    right = tested.status == 0 and len(counts) == 4 and all(counts)
     cases.check(f"{name}: its tests", "" if right else f"it ended with {tested}")
     got = cargo(tree, package, "build", "--no-default-features", **named)
     cases.compare(f"{name}: without its heap", Ended(0, b"", b""), got)
@@ -408,7 +412,14 @@ def check_script(cases, room):
     os.utime(archive, (1, 1))
     cases.check("library.sh with an old archive", difference(Ended(0, got.stdout, b""), run([link], env=builds, cwd=room)))
     cases.check("library.sh builds an old archive anew", differs(asked, "fpage lib\nwords lib\ncapi lib\n" * 2))
-    wanted = Ended(1, b"", f"{link}: no argument is taken; usage: {link}\n".encode())
+    os.remove(asked)
+    by_rattle = os.path.join(os.path.dirname(archive), "libcapi-rattle.a")
+    got = run([link, "--backend", "rattle"], env=builds, cwd=room)
+    right = got.status == 0 and got.stdout.endswith(told.replace(archive.encode(), by_rattle.encode())) and not got.stderr
+    cases.check("library.sh tells where the archive by rattle is", "" if right else f"it ended with {got}")
+    cases.check("library.sh builds both archives", differs(asked, "fpage lib\nwords lib\ncapi lib\ncapi lib --backend rattle\n"))
+    cases.check("library.sh keeps both archives", "" if os.path.exists(archive) and os.path.exists(by_rattle) else "one is missing")
+    wanted = Ended(1, b"", f"{link}: usage: {link} [--backend llvm|rattle]\n".encode())
     cases.compare("library.sh with an argument", wanted, run([link, "--fast"], env=builds, cwd=room))
 
 
@@ -431,12 +442,12 @@ def main():
     with tempfile.TemporaryDirectory() as room:
         check_script(cases, room)
         replayed, tree = replay_random(cases, program), copy_tree(room)
-        write_function_of_document(room)
+        write_functions_of_document(room)
         for archive in archives(room):
             put_in_place(tree, archive)
             cases.check(f"what the archive asks for, {archive.backend}", fault_in_symbols(archive))
             cases.check(f"the archive has no variables, {archive.backend}", fault_in_variables(archive))
-            for name in ("look", "words", "calls", "refused", "large", "readme"):
+            for name in ("look", "words", "calls", "changes", "refused", "large", "readme"):
                 check_program(cases, room, archive, name)
             check_bare(cases, room, archive)
             check_cpp(cases, room, archive)

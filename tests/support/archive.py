@@ -1,5 +1,7 @@
 """The archive of the library for C, by both of the kit's compilers."""
 
+import fcntl
+import glob
 import os
 import shutil
 import subprocess
@@ -10,6 +12,8 @@ from support.program import TOP, give_up
 CAPI = os.path.join(TOP, "crates", "capi")
 BUILT = os.path.join(CAPI, "out", "libcapi.a")
 BACKENDS = ("llvm", "rattle")
+# Where library.sh leaves the archives, by LLVM and by the kit's own compiler.
+LEFT = (BUILT, os.path.join(CAPI, "out", "libcapi-rattle.a"))
 
 
 def libraries():
@@ -74,19 +78,32 @@ def build_over(room, named, below):
     return paths
 
 
+def are_current(below):
+    """Whether both archives are there, and newer than what they are built from."""
+    made_of = [rlib(crate) for crate in below] + glob.glob(os.path.join(CAPI, "src", "*")) + glob.glob(os.path.join(CAPI, "include", "*"))
+    if not all(os.path.exists(path) for path in (*LEFT, *made_of)):
+        return False
+    return min(map(os.path.getmtime, LEFT)) > max(map(os.path.getmtime, made_of))
+
+
 def build_both(room):
-    """The paths of archives in a folder by both compilers; the one by LLVM is left where `rt lib` leaves it too."""
+    """The paths of archives by both compilers. Of several scripts the first builds them, in a folder of its own, and
+    leaves them where library.sh does."""
     named = libraries()
     below = crates_below(named, "capi")
-    # `rt ci` leaves what it built without the stamp by which `rt lib` knows it.
-    stamped = any(os.path.exists(os.path.join(os.path.dirname(rlib(crate)), "stamp")) for crate in below)
-    if stamped or not all(os.path.exists(rlib(crate)) for crate in below):
-        paths = build_by_rt(room)
-    else:
-        paths = build_over(room, named, below)
     os.makedirs(os.path.dirname(BUILT), exist_ok=True)
-    shutil.copy2(paths[0], BUILT)
-    return paths
+    with open(os.path.join(os.path.dirname(BUILT), "archives.lock"), "w", encoding="ascii") as lock:
+        fcntl.flock(lock, fcntl.LOCK_EX)
+        if not are_current(below):
+            # `rt ci` leaves what it built without the stamp by which `rt lib` knows it.
+            stamped = any(os.path.exists(os.path.join(os.path.dirname(rlib(crate)), "stamp")) for crate in below)
+            if stamped or not all(os.path.exists(rlib(crate)) for crate in below):
+                paths = build_by_rt(room)
+            else:
+                paths = build_over(room, named, below)
+            for path, left in zip(paths, LEFT):
+                shutil.copy(path, left)
+    return list(LEFT)
 
 
 if __name__ == "__main__":
