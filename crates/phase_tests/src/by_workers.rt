@@ -516,10 +516,10 @@ fn lies_within(rt: &impl Abort, count: &AtomicU64, least: u64, most: u64, name: 
 }
 
 #[test]
-fn two_of_four_workers_work_eighteen_pieces_and_one_steals(rt: HostRuntime) -> Result<(), Fail> {
+fn two_workers_work_eighteen_pieces_and_one_steals(rt: HostRuntime) -> Result<(), Fail> {
     let gate = Meeting::new();
     let crew = Held {
-        crew: Crew::new(&rt, 4, 1, &gate),
+        crew: Crew::new(&rt, 2, 1, &gate),
     };
     let marked = [0x1_0000_052f, 0];
     let gathered = gathers(&rt, rt.alloc(), &crew, Phase::EighteenTouches, 18, &marked)?;
