@@ -184,6 +184,12 @@ static void tell_grants_and_what_is_replaced(void) {
     send(2, 1, WORDS(0x1500a, 0x50c1)); /* a grant without w, which 1:20 loses */
 }
 
+/* What the first item of a send maps, the second one takes away: a page that held nothing is not told. */
+static void tell_no_page_that_came_and_went(void) {
+    send(0, 1, WORDS(0x1d008, 0xa0c2, 0x1e00a, 0xa0c4)); /* 1:29 gets w, which the grant to 1:30 withholds */
+    send(0, 1, WORDS(0x1e008, 0xb0c2, 0x1f00a, 0xb0c4)); /* 1:30 held a page before */
+}
+
 static void tell_clears(void) {
     send(0, 1, WORDS(0x1008, 0x70c7));
     send(1, 2, WORDS(0x1008, 0x10c7));
@@ -246,6 +252,7 @@ int main(void) {
     tell_unmaps();
     tell_in_parts();
     tell_grants_and_what_is_replaced();
+    tell_no_page_that_came_and_went();
     tell_clears();
     refuse();
     turn_off_and_on();

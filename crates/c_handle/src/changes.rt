@@ -10,7 +10,7 @@ use crate::look::{EntryReply, entry};
 use mapdb::{Database, Note};
 use space::Place;
 
-/// A page that a call may have changed, and what it holds.
+/// A page that a call noted, and what it holds now.
 #[repr(C)]
 #[derive(Clone, Copy, Debug, PartialEq, Eq)]
 pub struct ChangeReply {

@@ -91,8 +91,7 @@ struct l4map_send_reply {
     uint32_t linked;   /* the receiver's page came from the sender's by this call */
 };
 
-/* A page whose frame or rights a call may have changed, and what it holds now. Where it holds nothing, `held`, `frame` and
- * `rights` are 0. */
+/* A page that a call noted, and what it holds now. Where it holds nothing, `held`, `frame` and `rights` are 0. */
 struct l4map_change {
     uint32_t space;
     uint32_t page;
@@ -185,17 +184,20 @@ uint32_t l4map_mappings(struct l4map *db, uint16_t space, uint32_t page, struct 
                         size_t *count);
 
 /* Says whether calls note which pages they change (`on` is not 0), from the next call on, or do not, as at the start. What
- * was noted is forgotten. A call that notes asks for memory for that, 12 bytes for each page that a word or an item may
- * change, and halts the database where it is refused. That memory is used again by the next call.
+ * was noted is forgotten. A call that notes asks for memory for that, 12 bytes for each page that a word or an item
+ * changes, and halts the database where it is refused. That memory is used again by the next call. Where one item of a
+ * send takes away what an earlier one mapped, the send asks for as much again, and for some 20 bytes for each page noted
+ * that is held no longer.
  *
  * L4MAP_EMPTY, L4MAP_HALTED, the first that fits. */
 uint32_t l4map_note_changes(struct l4map *db, uint32_t on);
 
 /* Writes what the last send, unmap, clear or access changed, if it was done and was noted: the entries from number `from`
  * on, n of them or fewer, where there are fewer, to `changes`, and how many they are to *count. Every page whose frame
- * or rights that call changed is among them, in whatever space. A page among them may hold what it held before, and it
- * may come more than once, with the same entry. After a call that was refused nothing has changed, and what is written
- * is of no use. What l4map_new() makes is not told. It takes no memory and changes nothing else.
+ * or rights that call changed is among them, in whatever space, and none that was held neither before it nor after it. A
+ * page among them may hold what it held before, and it may come more than once, with the same entry. After a call that
+ * was refused nothing has changed, and what is written is of no use. What l4map_new() makes is not told. It takes no
+ * memory and changes nothing else.
  *
  * L4MAP_EMPTY, L4MAP_HALTED, the first that fits: `changes` and *count are as they were. */
 uint32_t l4map_changes(struct l4map *db, size_t from, struct l4map_change *changes, size_t n, size_t *count);

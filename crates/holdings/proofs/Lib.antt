@@ -11,3 +11,4 @@ pub mod Renamings
 pub mod Phases
 pub mod Planned
 pub mod NotedPages
+pub mod NotedTransfers

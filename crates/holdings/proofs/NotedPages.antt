@@ -1,41 +1,37 @@
 -- Notes follow a phase that changes nothing but what was noted.
-use Rattle.std.proofs.Common.{◌≡◌, ℕ, ◌+◌, ◌-◌, ◌<◌, ◌≤◌, true, false, Bool, ◌&&◌, ◌||◌, not, if◌then◌else◌, List, [], ◌∷◌, ◌++◌, length, take, drop, get_or, Option, Some, None, is_some, refl, sym, ap, ◌∙◌, subst, arith, ◌⊎◌, inl, inr}
-use Rattle.std.specs.List.{list_any}
-use Rattle.std.specs.Option.{option_map, option_or}
-use Rattle.std.proofs.lemmas.List.{take_more}
-use Rattle.std.proofs.lemmas.Bool.{or_right}
-use Rattle.std.proofs.lemmas.List.Folds.{list_any-append}
-use Rattle.std.proofs.Math.Bool.{or-false}
-use Rattle.fpage.specs.Rights.{is_empty, without}
-use Rattle.fpage.specs.declared.item.ItemKind.{ItemKind}
+use Rattle.std.proofs.Common.{◌≡◌, ℕ, zero, suc, ◌+◌, ◌-◌, ◌<◌, ◌≤◌, true, false, Bool, ◌&&◌, ◌||◌, not, if◌then◌else◌, List, [], ◌∷◌, ◌++◌, length, take, drop, get_or, Option, Some, None, is_some, refl, sym, ap, ◌∙◌, subst, arith, ◌⊎◌, inl, inr}
+use Rattle.std.specs.List.{All, list_any}
+use Rattle.std.specs.Option.{option_map, option_map_or, option_or}
+use Rattle.std.proofs.lemmas.List.{take_more, drop_more}
+use Rattle.std.proofs.lemmas.Bool.{or_right, and_parts, and_from}
+use Rattle.fpage.specs.Rights.{is_empty, meet, without}
 use Rattle.fpage.specs.declared.rights.Rights.{Rights}
 use Rattle.space.specs.declared.place.Place.{Place}
 use Rattle.space.specs.declared.place.Entry.{Entry}
 use Rattle.space.specs.declared.shards.Shards.{Shards}
 use Rattle.space.specs.Place.{same_place}
-use Rattle.space.proofs.Places.{same_is}
-use Rattle.space.specs.Shards.{entry_at}
+use Rattle.space.proofs.Places.{same_is, same_or_apart}
+use Rattle.space.specs.Shards.{IsPlace, entry_at}
 use Rattle.maptree.specs.Origins.{Origins, Shape, place_at}
 use Rattle.model.specs.Definitions.Holdings.{Held, Holdings, PlaceSet, only, at, is_held}
 use Rattle.model.specs.Definitions.Derived.{is_below, is_under}
 use Rattle.model.specs.Definitions.Strip.{is_narrowed, left_of, rights_left, strip, stripped}
-use Rattle.model.specs.Definitions.Changes.{TableEntry, entry_for, tables_of}
+use Rattle.model.specs.Definitions.Changes.{entry_for, tables_of}
 use Rattle.model.proofs.LawfulParts.{IsLawful, lawful_parts}
 use Rattle.model.proofs.Lookups.{at_each, changed}
 use Rattle.model.proofs.StripAt.{stripping}
 use Rattle.model.proofs.Narrowings.{either, not_narrowed, under-either}
-use Rattle.model.proofs.Chains.{below_unheld, below_empty}
+use Rattle.model.proofs.Chains.{below_unheld, below_empty, under_self}
 use Rattle.holdings.specs.declared.notes.Note.{Note}
-use Rattle.holdings.specs.declared.transfer.Transfer.{Transfer}
-use Rattle.holdings.specs.Noting.{first_note, AreNoted, AreAdded, noted_now, is_end, ends_of_transfers, IsStripNoted}
+use Rattle.holdings.specs.declared.notes.Notes.{Notes}
+use Rattle.holdings.specs.Noting.{first_note, AreNoted, NotesFollow}
 use Rattle.holdings.specs.Inner.Held.{links_in, is_listed, has_frame, limits_in, holdings_in}
 use Rattle.holdings.specs.Inner.Sound.{AreSound}
-use Rattle.holdings.specs.Inner.Notes.{AreBelowNoted, AreOuter, IsRunNoted, in_range, all_held}
+use Rattle.holdings.specs.Inner.Notes.{NotesAdd, AreAdded, noted_now, IsStripNoted, IsRunNoted, in_range, all_held, loses_at, loses_in, losing_from}
 use Rattle.holdings.specs.Places.{IsWithin, any_of}
 use Rattle.holdings.proofs.Contents.Holders.{absent_within, present_within}
 use Rattle.holdings.proofs.Contents.Listing.{within_from_place}
 use Rattle.holdings.proofs.Stripping.Frames.{loose_from}
-use Rattle.holdings.proofs.Stripping.Outer.{below_is}
 use Rattle.holdings.proofs.Stripping.Sequences.{any_more}
 use Rattle.holdings.proofs.Stripping.Walks.{among_more}
 use Rattle.holdings.proofs.Trees.Chains.{below_among, among_at, entry_held}
@@ -94,35 +90,55 @@ page_added h p b is old new more q = ap (λ ns. first_note ns q) more ∙ first_
     by true same = ap Some (is ∙ ap (is_held h) (sym (same_is q p same)))
     by false apart = refl
 
--- the pages of one transfer more
-pub transfer_more : (kind : ItemKind) (ts : List Transfer) (i : ℕ) (d : Transfer) → i < length ts → (p : Place) → (ends_of_transfers kind (take i ts) p || is_end kind p (get_or ts i d)) ≡ ends_of_transfers kind (take (i + 1) ts) p
-transfer_more kind ts i d within p =
-    ap (λ b. ends_of_transfers kind (take i ts) p || b) (sym (or-false (is_end kind p (get_or ts i d))))
-    ∙ sym (list_any-append (is_end kind p) (take i ts) (get_or ts i d ∷ [])) ∙ ap (λ xs. ends_of_transfers kind xs p) (sym (take_more ts i d within))
-
 -- ---- a run
 
 -- before its first place
-pub run_begins : (os : Origins) (a b : ℕ) → b ≤ a → (old now : List Note) → now ≡ old → (q : Place) → first_note now q ≡ option_or (first_note old q) (all_held (in_range os a b) q)
-run_begins os a b least old now same q =
+pub run_begins : (os : Origins) (lose : PlaceSet) (a b : ℕ) → b ≤ a → (old : List Note) → (q : Place) → first_note old q ≡ option_or (first_note old q) (all_held (λ r. in_range os a b r && lose r) q)
+run_begins os lose a b least old q =
     let zero : b - a ≡ 0 = omega (arith, least) in
-    ap (λ ns. first_note ns q) same ∙ nothing (first_note old q) ∙ ap (λ n. option_or (first_note old q) (if list_any (λ o. same_place q o.0) (take n (drop a os)) then Some true else None)) (sym zero)
+    nothing (first_note old q) ∙ ap (λ n. option_or (first_note old q) (if list_any (λ o. same_place q o.0) (take n (drop a os)) && lose q then Some true else None)) (sym zero)
   where
     nothing : (o : Option Bool) → o ≡ option_or o None
     nothing None = refl
     nothing (Some b) = refl
 
--- one place more
-pub run_more : (os : Origins) (a i : ℕ) (p d : Place) → a ≤ i → i < length os → p ≡ place_at os i d → (old now new : List Note) → new ≡ now ++ (record { place = p; was_held = true }) ∷ []
-    → ((q : Place) → first_note now q ≡ option_or (first_note old q) (all_held (in_range os a i) q)) → (q : Place) → first_note new q ≡ option_or (first_note old q) (all_held (in_range os a (i + 1)) q)
-run_more os a i p d least within place old now new is so_far q =
-    ap (λ ns. first_note ns q) is ∙ first_more now (record { place = p; was_held = true }) q ∙ ap (λ o. option_or o (if same_place q p then Some true else None)) (so_far q)
-    ∙ or_assoc (first_note old q) (all_held (in_range os a i) q) (if same_place q p then Some true else None) ∙ ap (option_or (first_note old q)) (both (in_range os a i q) (same_place q p))
-    ∙ ap (λ b. option_or (first_note old q) (if b then Some true else None)) (ap (λ x. in_range os a i q || same_place q x) place ∙ sym (among_more os a i q d least within))
+-- one place more, noted where it is to be
+pub run_more : (os : Origins) (lose : PlaceSet) (a i : ℕ) (p d : Place) → a ≤ i → i < length os → p ≡ place_at os i d → (old now new : List Note)
+    → ((q : Place) → first_note new q ≡ option_or (first_note now q) (if same_place q p && lose p then Some true else None))
+    → ((q : Place) → first_note now q ≡ option_or (first_note old q) (all_held (λ r. in_range os a i r && lose r) q))
+    → (q : Place) → first_note new q ≡ option_or (first_note old q) (all_held (λ r. in_range os a (i + 1) r && lose r) q)
+run_more os lose a i p d least within place old now new is so_far q =
+    is q ∙ ap (λ o. option_or o (if same_place q p && lose p then Some true else None)) (so_far q)
+    ∙ or_assoc (first_note old q) (all_held (λ r. in_range os a i r && lose r) q) (if same_place q p && lose p then Some true else None) ∙ ap (option_or (first_note old q)) (both (in_range os a i q) (same_place q p) refl)
+    ∙ ap (λ b. option_or (first_note old q) (if b && lose q then Some true else None)) (ap (λ x. in_range os a i q || same_place q x) place ∙ sym (among_more os a i q d least within))
   where
-    both : (x y : Bool) → option_or (if x then Some true else None) (if y then Some true else None) ≡ (if x || y then Some true else None)
-    both true y = refl
-    both false y = refl
+    both : (x y : Bool) → same_place q p ≡ y → option_or (if x && lose q then Some true else None) (if y && lose p then Some true else None) ≡ (if (x || y) && lose q then Some true else None)
+    both x false apart = none x (lose q)
+      where
+        none : (x l : Bool) → option_or (if x && l then Some true else None) None ≡ (if (x || false) && l then Some true else None)
+        none true true = refl
+        none true false = refl
+        none false l = refl
+    both x true same = subst (λ r. option_or (if x && lose q then Some true else None) (if lose r then Some true else None) ≡ (if (x || true) && lose q then Some true else None)) (same_is q p same) (here x (lose q))
+      where
+        here : (x l : Bool) → option_or (if x && l then Some true else None) (if l then Some true else None) ≡ (if (x || true) && l then Some true else None)
+        here true true = refl
+        here true false = refl
+        here false true = refl
+        here false false = refl
+
+-- its first place, and the others
+range_first : (os : Origins) (a b : ℕ) → a < b → b ≤ length os → (p d : Place) → in_range os a b p ≡ (same_place p (place_at os a d) || in_range os (a + 1) b p)
+range_first os a b some within p d =
+    let one : b - a ≡ suc (b - (a + 1)) = omega (arith, some) in
+    ap (λ n. list_any (λ o. same_place p o.0) (take n (drop a os))) one
+    ∙ ap (λ xs. list_any (λ o. same_place p o.0) (take (suc (b - (a + 1))) xs)) (drop_more os a (d, None) (omega (arith, some, within)))
+    ∙ ap (λ q. same_place p q || in_range os (a + 1) b p) (read os a (d, None) (omega (arith, some, within)))
+  where
+    read : (os : Origins) (k : ℕ) (d : Place × Option Place) → k < length os → (get_or os k d).0 ≡ place_at os k d.0
+    read [] k d within = absurd (omega (arith, within))
+    read (o ∷ os) zero d within = refl
+    read (o ∷ os) (suc k) d within = read os k d (omega (arith, within))
 
 -- ---- what follows
 
@@ -133,6 +149,13 @@ held_same g h p same = sym (seen (at g p)) ∙ ap is_some same ∙ seen (at h p)
     seen : (o : Option Held) → is_some (option_map entry_for o) ≡ is_some o
     seen None = refl
     seen (Some m) = refl
+
+-- phases one after another
+pub follow_none : (h : Holdings) (n : Notes) → NotesFollow h h n n
+follow_none h n = record { asked = refl; noted = λ is start noted. noted }
+
+pub follow_both : (a b c : Holdings) (n m k : Notes) → NotesFollow a b n m → NotesFollow b c m k → NotesFollow a c n k
+follow_both a b c n m k first second = record { asked = second.asked ∙ first.asked; noted = λ is start noted. second.noted (first.asked ∙ is) start (first.noted is start noted) }
 
 -- a set was noted, and nothing changed but pages of it
 pub follow_set : (old new : Holdings) (set : PlaceSet) (before after : List Note) → AreAdded old set before after → ((p : Place) → set p ≡ false → tables_of new p ≡ tables_of old p)
@@ -152,169 +175,208 @@ follow_set old new set before after added same start noted = record {
     told p b None was true in_set is = sym (held_same old start p (noted.others p was)) ∙ cc (was, in_set, is)
     told p b None was false in_set is = absurd (cc (was, in_set, is))
 
--- a strip changes nothing but what is below its pages
-pub strip_outside : (h : Holdings) → IsLawful h → (set : PlaceSet) (a : Rights) (f : Bool) (p : Place) → is_below h set p ≡ false → tables_of (strip h set a f) p ≡ tables_of h p
+-- what has none of some rights keeps all without them
+pub without_others : (a r : Rights) → not (is_empty (meet r a)) ≡ false → without r a ≡ r
+without_others a r none = λ i. record { read = one r.read a.read (no_read r.read r.write r.execute a.read a.write a.execute none) i; write = one r.write a.write (no_write r.read r.write r.execute a.read a.write a.execute none) i; execute = one r.execute a.execute (no_execute r.read r.write r.execute a.read a.write a.execute none) i }
+  where
+    one : (x y : Bool) → (x && y) ≡ false → (x && not y) ≡ x
+    one x y none = grind (arith, none)
+
+    no_read : (x y z u v w : Bool) → not (not ((x && u) || (y && v) || (z && w))) ≡ false → (x && u) ≡ false
+    no_read x y z u v w none = grind (arith, none)
+
+    no_write : (x y z u v w : Bool) → not (not ((x && u) || (y && v) || (z && w))) ≡ false → (y && v) ≡ false
+    no_write x y z u v w none = grind (arith, none)
+
+    no_execute : (x y z u v w : Bool) → not (not ((x && u) || (y && v) || (z && w))) ≡ false → (z && w) ≡ false
+    no_execute x y z u v w none = grind (arith, none)
+
+-- a strip changes nothing but what it narrows
+strip_outside : (h : Holdings) → IsLawful h → (set : PlaceSet) (a : Rights) (f : Bool) (p : Place) → is_narrowed h set f p ≡ false → tables_of (strip h set a f) p ≡ tables_of h p
 strip_outside h l set a f p outside = ap (option_map entry_for) (at_each (stripping h set a f) h p l.sorted) ∙ by (at h p)
   where
     by : (o : Option Held) → option_map entry_for (changed (stripping h set a f) p o) ≡ option_map entry_for o
     by None = refl
-    by (Some m) = rw (not_narrowed h set f p outside) refl
+    by (Some m) = rw outside refl
 
--- nor does one of a page that is not held
-pub strip_unheld : (h : Holdings) → IsLawful h → (set : PlaceSet) (a : Rights) (f : Bool) (p : Place) → is_held h p ≡ false → tables_of (strip h set a f) p ≡ tables_of h p
-strip_unheld h l set a f p unheld = ap (option_map entry_for) (at_each (stripping h set a f) h p l.sorted) ∙ by (at h p) unheld
+-- nor does a page lose what it has not
+pub strip_kept : (h : Holdings) → IsLawful h → (set : PlaceSet) (a : Rights) (f : Bool) (p : Place) → loses_at h a p ≡ false → tables_of (strip h set a f) p ≡ tables_of h p
+strip_kept h l set a f p none = ap (option_map entry_for) (at_each (stripping h set a f) h p l.sorted) ∙ by (at h p) refl
   where
-    by : (o : Option Held) → is_some o ≡ false → option_map entry_for (changed (stripping h set a f) p o) ≡ option_map entry_for o
-    by None none = refl
-    by (Some m) none = absurd (cc none)
-
--- to take nothing changes nothing
-pub without_nothing : (a : Rights) → is_empty a ≡ true → (r : Rights) → without r a ≡ r
-without_nothing a nothing r = λ i. record {
-  read = one r.read a.read (no_read a.read a.write a.execute nothing) i;
-  write = one r.write a.write (no_write a.read a.write a.execute nothing) i;
-  execute = one r.execute a.execute (no_execute a.read a.write a.execute nothing) i;
-}
-  where
-    one : (x y : Bool) → y ≡ false → (x && not y) ≡ x
-    one x y none = grind (arith, none)
-
-    no_read : (x y z : Bool) → not (x || y || z) ≡ true → x ≡ false
-    no_read x y z none = grind (arith, none)
-
-    no_write : (x y z : Bool) → not (x || y || z) ≡ true → y ≡ false
-    no_write x y z none = grind (arith, none)
-
-    no_execute : (x y z : Bool) → not (x || y || z) ≡ true → z ≡ false
-    no_execute x y z none = grind (arith, none)
-
--- nor one of no rights
-pub strip_of_nothing : (h : Holdings) → IsLawful h → (set : PlaceSet) (a : Rights) (f : Bool) → is_empty a ≡ true → (p : Place) → tables_of (strip h set a f) p ≡ tables_of h p
-strip_of_nothing h l set a f nothing p = ap (option_map entry_for) (at_each (stripping h set a f) h p l.sorted) ∙ by (at h p) refl
-  where
-    kept : (r : Rights) → without r a ≡ r
-    kept r = without_nothing a nothing r
-
-    left : (b : Bool) (r : Rights) → rights_left b a r ≡ r
-    left true r = kept r
-    left false r = refl
-
     by : (o : Option Held) → at h p ≡ o → option_map entry_for (changed (stripping h set a f) p o) ≡ option_map entry_for o
     by None is = refl
     by (Some m) is = stays (is_narrowed h set f p)
       where
+        kept : without m.rights a ≡ m.rights
+        kept = without_others a m.rights (ap (λ o. option_map_or (λ (k : Held). not (is_empty (meet k.rights a))) o false) (sym is) ∙ none)
+
         stays : (b : Bool) → option_map entry_for (left_of b (record (stripped h set a f p m) { rights = rights_left b a m.rights })) ≡ Some (entry_for m)
-        stays true = choose (is_empty (without m.rights a)) (ap is_empty (kept m.rights) ∙ l.some p m is)
+        stays true = choose (is_empty (without m.rights a)) (ap is_empty kept ∙ l.some p m is)
           where
             choose : (b : Bool) → b ≡ false → option_map entry_for (if b then None else Some (record (stripped h set a f p m) { rights = without m.rights a })) ≡ Some (entry_for m)
             choose true none = absurd (cc none)
-            choose false none = ap (λ (r : Rights). Some (entry_for (record m { rights = r }))) (kept m.rights)
+            choose false none = ap (λ (r : Rights). Some (entry_for (record m { rights = r }))) kept
         stays false = refl
 
--- pages were noted with all that derives from them, before a strip of them
-pub follow_strip : (h : Holdings) → IsLawful h → (set : PlaceSet) (a : Rights) (f : Bool) (before after : List Note) → IsStripNoted h set a before after
+-- pages were noted before a strip of them
+pub follow_strip : (h : Holdings) → IsLawful h → (set : PlaceSet) (a : Rights) (f : Bool) (before after : List Note) → IsStripNoted h set a f before after
     → (start : Holdings) → AreNoted start h before → AreNoted start (strip h set a f) after
 follow_strip h l set a f before after noted = follow_set h (strip h set a f) noted.noted before after noted.added same
   where
     same : (p : Place) → noted.noted p ≡ false → tables_of (strip h set a f) p ≡ tables_of h p
-    same p unnoted = by (is_held h p) refl (is_below h set p) refl (is_empty a) refl
+    same p unnoted = by (loses_at h a p) refl (is_narrowed h set f p) refl
       where
-        by : (x : Bool) → is_held h p ≡ x → (y : Bool) → is_below h set p ≡ y → (z : Bool) → is_empty a ≡ z → tables_of (strip h set a f) p ≡ tables_of h p
-        by false unheld y below z nothing = strip_unheld h l set a f p unheld
-        by true held true below true nothing = strip_of_nothing h l set a f nothing p
-        by true held true below false some = absurd (cc (noted.covers p some held below, unnoted))
-        by true held false outside z nothing = strip_outside h l set a f p outside
+        by : (x : Bool) → loses_at h a p ≡ x → (y : Bool) → is_narrowed h set f p ≡ y → tables_of (strip h set a f) p ≡ tables_of h p
+        by false none y within = strip_kept h l set a f p none
+        by true some true within = absurd (cc (noted.covers p some within, unnoted))
+        by true some false outside = strip_outside h l set a f p outside
 
--- those of which none derives from another stand for all
-pub noted_outer : (h : Holdings) → IsLawful h → (places outer : List Place) → AreOuter h places outer → (old new : List Note) → AreBelowNoted h (any_of outer) old new → AreBelowNoted h (any_of places) old new
-noted_outer h l places outer are old new noted = record {
-  noted = noted.noted;
-  added = noted.added;
-  covers = λ p held below. noted.covers p held (below_is h l (any_of outer) (any_of places) are.named are.covers p held ∙ below);
-}
+-- what loses a right is held
+pub loses_held : (h : Holdings) (a : Rights) (p : Place) → loses_at h a p ≡ true → is_held h p ≡ true
+loses_held h a p is = by (at h p) is
+  where
+    by : (o : Option Held) → option_map_or (λ (k : Held). not (is_empty (meet k.rights a))) o false ≡ true → is_some o ≡ true
+    by None none = absurd (cc none)
+    by (Some m) some = refl
 
--- no right is revoked: nothing is to be noted
-pub none_revoked : (h : Holdings) (set : PlaceSet) (a : Rights) → is_empty a ≡ true → (list : List Note) → IsStripNoted h set a list list
-none_revoked h set a nothing list = record { noted = λ q. false; added = none_added h list; covers = λ p some held below. absurd (cc (nothing, some)) }
+-- such notes follow the strip
+pub strip_follow : (h : Holdings) → IsLawful h → (set : PlaceSet) (a : Rights) (f : Bool) (n m : Notes) → NotesAdd (IsStripNoted h set a f) n m → NotesFollow h (strip h set a f) n m
+strip_follow h l set a f n m added = record { asked = added.asked; noted = λ is. follow_strip h l set a f n.list.items m.list.items (added.added is) }
 
--- all below is enough
-pub below_noted : (h : Holdings) (set : PlaceSet) (a : Rights) (old new : List Note) → AreBelowNoted h set old new → IsStripNoted h set a old new
-below_noted h set a old new noted = record { noted = noted.noted; added = noted.added; covers = λ p some held below. noted.covers p held below }
+-- such notes of a set follow what changes nothing but pages of it
+pub set_follow : (old new : Holdings) (set : PlaceSet) (n m : Notes) → NotesAdd (AreAdded old set) n m → ((p : Place) → set p ≡ false → tables_of new p ≡ tables_of old p) → NotesFollow old new n m
+set_follow old new set n m added same = record { asked = added.asked; noted = λ is. follow_set old new set n.list.items m.list.items (added.added is) same }
 
--- ---- the runs of pages
+-- ---- one page after another
 
-module _ (s : Shards) (trees : List Shape) (sound : AreSound s trees) (places : List Place) where
-  lawful : IsLawful (holdings_in s trees)
-  lawful = lawful_parts (holdings_in s trees) sound.kept.lawful
+module _ (h : Holdings) (l : IsLawful h) (a : Rights) (f : Bool) where
+  -- narrowed by one of two sets
+  narrowed_either : (X Y : PlaceSet) (p : Place) → is_narrowed h (either X Y) f p ≡ true → (is_narrowed h X f p ≡ true) ⊎ (is_narrowed h Y f p ≡ true)
+  narrowed_either X Y p within = split (X p) (Y p) (is_under h X p) (is_under h Y p) f (ap (λ b. b || (f && (X p || Y p))) (sym (under-either h l X Y p)) ∙ within)
+    where
+      split : (x y v w g : Bool) → ((v || w) || (g && (x || y))) ≡ true → ((v || (g && x)) ≡ true) ⊎ ((w || (g && y)) ≡ true)
+      split x y true w g is = inl refl
+      split x y false true g is = inr refl
+      split x y false false false is = absurd (cc is)
+      split true y false false true is = inl refl
+      split false y false false true is = inr is
+
+  -- notes of one set and of another
+  noted_either : (X Y : PlaceSet) (old now new : List Note) → IsStripNoted h X a f old now → IsStripNoted h Y a f now new → IsStripNoted h (either X Y) a f old new
+  noted_either X Y old now new first second = record {
+    noted = λ q. first.noted q || second.noted q;
+    added = added_more h first.noted second.noted old now new first.added second.added;
+    covers = λ p some within. by p some (narrowed_either X Y p within);
+  }
+    where
+      by : (p : Place) → loses_at h a p ≡ true → (is_narrowed h X f p ≡ true) ⊎ (is_narrowed h Y f p ≡ true) → (first.noted p || second.noted p) ≡ true
+      by p some (inl within) = rw (first.covers p some within) refl
+      by p some (inr within) = or_right (first.noted p) (second.noted p) (second.covers p some within)
 
   -- before the first page
-  pub none_noted : (old : List Note) → AreBelowNoted (holdings_in s trees) (any_of (take 0 places)) old old
-  none_noted old = record {
+  pub none_noted : (places : List Place) (old : List Note) → IsStripNoted h (any_of (take 0 places)) a f old old
+  none_noted places old = record {
     noted = λ q. false;
-    added = none_added (holdings_in s trees) old;
-    covers = λ p held below. absurd (cc (below_empty (holdings_in s trees) lawful (any_of (take 0 places)) (λ q. refl) p, below));
+    added = none_added h old;
+    covers = λ p some within. absurd (cc (not_narrowed h (any_of (take 0 places)) f p (below_empty h l (any_of (take 0 places)) (λ q. refl) p), within));
   }
 
-  module _ (i : ℕ) (d : Place) (within : i < length places) (old now : List Note) (so_far : AreBelowNoted (holdings_in s trees) (any_of (take i places)) old now) where
-    abbrev here : Place
-    here = get_or places i d
+  -- one page more
+  pub one_noted : (places : List Place) (i : ℕ) (d : Place) → i < length places → (old now new : List Note) → IsStripNoted h (any_of (take i places)) a f old now → IsStripNoted h (only (get_or places i d)) a f now new → IsStripNoted h (any_of (take (i + 1) places)) a f old new
+  one_noted places i d within old now new so_far here =
+      let same : either (any_of (take i places)) (only (get_or places i d)) ≡ any_of (take (i + 1) places) = λ j q. sym (ap (λ ps. any_of ps q) (take_more places i d within) ∙ any_more (take i places) (get_or places i d) q) j in
+      subst (λ (set : PlaceSet). IsStripNoted h set a f old new) same (noted_either (any_of (take i places)) (only (get_or places i d)) old now new so_far here)
 
-    -- below one more is below those so far, or below this one
-    below_more : (p : Place) → is_below (holdings_in s trees) (any_of (take (i + 1) places)) p ≡ true → (is_below (holdings_in s trees) (any_of (take i places)) p ≡ true) ⊎ (is_below (holdings_in s trees) (only here) p ≡ true)
-    below_more p below =
-        let same : any_of (take (i + 1) places) ≡ either (any_of (take i places)) (only here) = λ j q. (ap (λ ps. any_of ps q) (take_more places i d within) ∙ any_more (take i places) here q) j in
-        split (any_of (take i places) p) (only here p) (is_under (holdings_in s trees) (any_of (take i places)) p) (is_under (holdings_in s trees) (only here) p)
-        (ap (λ b. (any_of (take i places) p || only here p) || b) (sym (under-either (holdings_in s trees) lawful (any_of (take i places)) (only here) p)) ∙ subst (λ set. is_below (holdings_in s trees) set p ≡ true) same below)
+  -- a page that holds nothing
+  pub unheld_noted : (p : Place) → is_held h p ≡ false → (now : List Note) → IsStripNoted h (only p) a f now now
+  unheld_noted p unheld now = record {
+    noted = λ q. false;
+    added = none_added h now;
+    covers = λ q some within. absurd (cc (not_narrowed h (only p) f q (below_unheld h l p unheld q (loses_held h a q some)), within));
+  }
+
+-- ---- the run of a page
+
+module _ (s : Shards) (trees : List Shape) (sound : AreSound s trees) where
+  pub lawful : IsLawful (holdings_in s trees)
+  lawful = lawful_parts (holdings_in s trees) sound.kept.lawful
+
+  -- each place of a tree is a page of the shards
+  pub places_there : (frame : ℕ) → All (λ o. IsPlace s o.0) (links_in trees frame)
+  places_there frame k d within =
+      let p = place_at (links_in trees frame) k d.0 in
+      let inside = within_from_place (limits_in s trees) p (sound.pruned.within frame p (listed_at (links_in trees frame) k d.0 within)) in
+      subst (IsPlace s) (sym (read (links_in trees frame) k d within)) (record { space = inside.space; page = inside.page })
+    where
+      read : (os : Origins) (k : ℕ) (d : Place × Option Place) → k < length os → (get_or os k d).0 ≡ place_at os k d.0
+      read [] k d within = absurd (omega (arith, within))
+      read (o ∷ os) zero d within = refl
+      read (o ∷ os) (suc k) d within = read os k d (omega (arith, within))
+
+  -- a page without a word is not held
+  pub absent_noted : (a : Rights) (f : Bool) (p : Place) → IsWithin (limits_in s trees) p → entry_at s p ≡ None → (now : List Note) → IsStripNoted (holdings_in s trees) (only p) a f now now
+  absent_noted a f p place none now = unheld_noted (holdings_in s trees) lawful a f p (ap is_some (absent_within (limits_in s trees) s trees p place none)) now
+
+  module _ (a : Rights) (f : Bool) (here : Place) (frame : ℕ) (now new : List Note) (run : IsRunNoted s (links_in trees frame) here a f now new) where
+    abbrev h : Holdings
+    h = holdings_in s trees
+
+    abbrev lost : PlaceSet
+    lost q = in_range (links_in trees frame) (losing_from f run.run.start) run.run.end q && loses_in s a q
+
+    listed : (q : Place) → in_range (links_in trees frame) (losing_from f run.run.start) run.run.end q ≡ true → is_listed trees frame q ≡ true
+    listed q among = let at = among_at (links_in trees frame) (losing_from f run.run.start) run.run.end q here among in subst (λ x. is_listed trees frame x ≡ true) at.4 (listed_at (links_in trees frame) at.0 here at.3)
+
+    holds : (q : Place) → is_listed trees frame q ≡ true → is_held h q ≡ true
+    holds q is = by (entry_at s q) refl (sound.pruned.held frame q is)
       where
-        split : (x y v w : Bool) → ((x || y) || (v || w)) ≡ true → ((x || v) ≡ true) ⊎ ((y || w) ≡ true)
-        split true y v w is = inl refl
-        split false true v w is = inr refl
-        split false false true w is = inl refl
-        split false false false w is = inr is
+        by : (o : Option Entry) → entry_at s q ≡ o → has_frame frame (entry_at s q) ≡ true → is_held h q ≡ true
+        by None none has = absurd (cc (none, has))
+        by (Some e) some has = ap is_some (present_within (limits_in s trees) s trees q (within_from_place (limits_in s trees) q (sound.pruned.within frame q is)) e some)
 
-    -- a page that holds nothing
-    pub page_absent : IsWithin (limits_in s trees) here → entry_at s here ≡ None → AreBelowNoted (holdings_in s trees) (any_of (take (i + 1) places)) old now
-    page_absent place none = record {
-      noted = so_far.noted;
-      added = so_far.added;
-      covers = λ p held below. by p held (below_more p below);
-    }
+    as_held : (q : Place) (b : Bool) → lost q ≡ b → (if b then Some true else None) ≡ (if b then Some (is_held h q) else None)
+    as_held q true is = ap Some (sym (holds q (listed q (and_parts (in_range (links_in trees frame) (losing_from f run.run.start) run.run.end q) (loses_in s a q) is).0)))
+    as_held q false is = refl
+
+    run_has : (p : Place) → is_held h p ≡ true → (o : Option Held) → at h p ≡ o → is_below h (only here) p ≡ true → in_range (links_in trees frame) run.run.start run.run.end p ≡ true
+    run_has p held None none below = absurd (cc (ap is_some none, held))
+    run_has p held (Some m) is below =
+        let e = entry_held s trees (loose_from s trees sound) p m is in
+        sym (below_among s trees (loose_from s trees sound) frame run.run run.whole run.some run.within here run.first p e.1.0 e.0 e.1.1) ∙ below
+
+    -- its word says so
+    word_says : (p : Place) → loses_at h a p ≡ true → loses_in s a p ≡ true
+    word_says p some = by_held (at h p) refl some
       where
-        unheld : is_held (holdings_in s trees) here ≡ false
-        unheld = ap is_some (absent_within (limits_in s trees) s trees here place none)
-
-        by : (p : Place) → is_held (holdings_in s trees) p ≡ true → (is_below (holdings_in s trees) (any_of (take i places)) p ≡ true) ⊎ (is_below (holdings_in s trees) (only here) p ≡ true) → so_far.noted p ≡ true
-        by p held (inl before) = so_far.covers p held before
-        by p held (inr below) = absurd (cc (below_unheld (holdings_in s trees) lawful here unheld p held, below))
-
-    -- a page whose run is noted
-    pub page_noted : (frame : ℕ) (new : List Note) → IsRunNoted (links_in trees frame) here now new → AreBelowNoted (holdings_in s trees) (any_of (take (i + 1) places)) old new
-    page_noted frame new run = record {
-      noted = λ q. so_far.noted q || in_range (links_in trees frame) run.run.start run.run.end q;
-      added = added_more (holdings_in s trees) so_far.noted (in_range (links_in trees frame) run.run.start run.run.end) old now new so_far.added (λ q. run.adds q ∙ ap (option_or (first_note now q)) (as_held q (in_range (links_in trees frame) run.run.start run.run.end q) refl));
-      covers = λ p held below. by p held (below_more p below);
-    }
-      where
-        listed : (q : Place) → in_range (links_in trees frame) run.run.start run.run.end q ≡ true → is_listed trees frame q ≡ true
-        listed q among = let at = among_at (links_in trees frame) run.run.start run.run.end q here among in subst (λ x. is_listed trees frame x ≡ true) at.4 (listed_at (links_in trees frame) at.0 here at.3)
-
-        holds : (q : Place) → is_listed trees frame q ≡ true → is_held (holdings_in s trees) q ≡ true
-        holds q is = by (entry_at s q) refl (sound.pruned.held frame q is)
-          where
-            by : (o : Option Entry) → entry_at s q ≡ o → has_frame frame (entry_at s q) ≡ true → is_held (holdings_in s trees) q ≡ true
-            by None none has = absurd (cc (none, has))
-            by (Some e) some has = ap is_some (present_within (limits_in s trees) s trees q (within_from_place (limits_in s trees) q (sound.pruned.within frame q is)) e some)
-
-        as_held : (q : Place) (b : Bool) → in_range (links_in trees frame) run.run.start run.run.end q ≡ b → (if b then Some true else None) ≡ (if b then Some (is_held (holdings_in s trees) q) else None)
-        as_held q true is = ap Some (sym (holds q (listed q is)))
-        as_held q false is = refl
-
-        run_has : (p : Place) → is_held (holdings_in s trees) p ≡ true → (o : Option Held) → at (holdings_in s trees) p ≡ o → is_below (holdings_in s trees) (only here) p ≡ true → in_range (links_in trees frame) run.run.start run.run.end p ≡ true
-        run_has p held None none below = absurd (cc (ap is_some none, held))
-        run_has p held (Some m) is below =
+        by_held : (o : Option Held) → at h p ≡ o → option_map_or (λ (k : Held). not (is_empty (meet k.rights a))) o false ≡ true → loses_in s a p ≡ true
+        by_held None none some = absurd (cc some)
+        by_held (Some m) is some =
             let e = entry_held s trees (loose_from s trees sound) p m is in
-            sym (below_among s trees (loose_from s trees sound) frame run.run run.whole run.some run.within here run.first p e.1.0 e.0 e.1.1) ∙ below
+            ap (λ o. option_map_or (λ (x : Entry). not (is_empty (meet x.rights a))) o false) e.1.1 ∙ ap (λ (k : Held). not (is_empty (meet k.rights a))) (sym e.1.2) ∙ some
 
-        by : (p : Place) → is_held (holdings_in s trees) p ≡ true → (is_below (holdings_in s trees) (any_of (take i places)) p ≡ true) ⊎ (is_below (holdings_in s trees) (only here) p ≡ true) → (so_far.noted p || in_range (links_in trees frame) run.run.start run.run.end p) ≡ true
-        by p held (inl before) = rw (so_far.covers p held before) refl
-        by p held (inr below) = or_right (so_far.noted p) (in_range (links_in trees frame) run.run.start run.run.end p) (run_has p held (at (holdings_in s trees) p) refl below)
+    -- what is narrowed stands in the run, without a flush behind the first place
+    in_losing : (p : Place) → is_held h p ≡ true → is_narrowed h (only here) f p ≡ true → in_range (links_in trees frame) (losing_from f run.run.start) run.run.end p ≡ true
+    in_losing p held within = by f refl (run_has p held (at h p) refl (below (is_below h (only here) p) refl))
+      where
+        below : (b : Bool) → is_below h (only here) p ≡ b → is_below h (only here) p ≡ true
+        below true is = is
+        below false outside = absurd (cc (not_narrowed h (only here) f p outside, within))
+
+        by : (g : Bool) → f ≡ g → in_range (links_in trees frame) run.run.start run.run.end p ≡ true → in_range (links_in trees frame) (losing_from g run.run.start) run.run.end p ≡ true
+        by true flushes among = among
+        by false spares among = behind (same_or_apart p here)
+          where
+            first : in_range (links_in trees frame) run.run.start run.run.end p ≡ (same_place p here || in_range (links_in trees frame) (run.run.start + 1) run.run.end p)
+            first = range_first (links_in trees frame) run.run.start run.run.end run.some run.within p here ∙ ap (λ q. same_place p q || in_range (links_in trees frame) (run.run.start + 1) run.run.end p) (run.first here)
+
+            behind : (p ≡ here) ⊎ (same_place p here ≡ false) → in_range (links_in trees frame) (run.run.start + 1) run.run.end p ≡ true
+            behind (inl same) = absurd (cc (within, spares, ap (is_under h (only here)) same, under_self h lawful here, ap (only here) same))
+            behind (inr apart) = ap (λ b. b || in_range (links_in trees frame) (run.run.start + 1) run.run.end p) (sym apart) ∙ sym first ∙ among
+
+    -- all that a strip of the page changes is in it
+    pub run_noted : IsStripNoted h (only here) a f now new
+    run_noted = record {
+      noted = lost;
+      added = λ q. run.adds q ∙ ap (option_or (first_note now q)) (as_held q (lost q) refl);
+      covers = λ p some within. and_from (in_range (links_in trees frame) (losing_from f run.run.start) run.run.end p) (loses_in s a p) (in_losing p (loses_held h a p some) within) (word_says p some);
+    }

@@ -9,12 +9,13 @@ ghost use Rattle.holdings.specs.Inner.Planning.{stores_of};
 use crate::holdings::Holdings;
 use crate::link::link_all;
 use crate::making::make_targets;
+use crate::notes::Notes;
 use crate::phase::is_small;
 use crate::transfer::Transfer;
 use crate::transfer_counts::TransferCounts;
 use crate::writes::write_phase;
 use crew::{CrewError, Workers};
-use fpage::Rights;
+use fpage::{ItemKind, Rights};
 use maptree::Tree;
 use pieces::{Store, links};
 use space::{Place, Shards};
@@ -24,13 +25,38 @@ impl Holdings {
     ghost use Rattle.std.specs.Prelude.{IfOk, IsErrOf};
     ghost use Rattle.crew.specs.declared.error.CrewError.TheVariants.{NoWorker};
     ghost use Rattle.holdings.specs.Contents.{AreMapped};
+    ghost use Rattle.holdings.specs.Noting.{NotesFollow};
     ghost use Rattle.holdings.specs.Sending.{ArePlanned, AreReady};
 
     /// Maps pages on: the target of each transfer becomes a new mapping of what its source holds, with these rights as far as
-    /// the source has them; or the mapping there gains them. A transfer whose source is not held is lost.
+    /// the source has them; or the mapping there gains them. A transfer whose source is not held is lost. Notes the targets
+    /// of the others, where notes are asked for.
     ///
     /// Refused, where memory or a worker is: `NoMemory`, `NoWorker`.
     pub fn map<W: Workers>(
+        self,
+        alloc: Global,
+        transfers: &[Transfer],
+        rights: Rights,
+        notes: &mut Notes,
+        workers: &W,
+    ) -> Result<(Self, TransferCounts), CrewError>
+        requires planned { ArePlanned self.limits transfers.now }
+        requires ready { AreReady self.holdings rights transfers.now }
+        ensures mapped { IfOk result (AreMapped self transfers.now rights) }
+        ensures noted { IfOk result (λ r. NotesFollow self.holdings r.0.holdings notes.old notes.new) }
+        ensures needs_no_worker { W.starts_none workers.now → IsErrOf result NoWorker → ⊥ }
+    {
+        self.note_transfers(transfers, ItemKind::Map, notes)?;
+        if is_small(transfers.len(), workers) {
+            let mapped = self.map_alone(alloc, transfers, rights)?;
+            return Ok(mapped);
+        }
+        self.map_in_pieces(alloc, transfers, rights, workers)
+    }
+
+    /// The same as one phase, by pieces.
+    fn map_in_pieces<W: Workers>(
         self,
         alloc: Global,
         transfers: &[Transfer],
@@ -42,10 +68,6 @@ impl Holdings {
         ensures mapped { IfOk result (AreMapped self transfers.now rights) }
         ensures needs_no_worker { W.starts_none workers.now → IsErrOf result NoWorker → ⊥ }
     {
-        if is_small(transfers.len(), workers) {
-            let mapped = self.map_alone(alloc, transfers, rights)?;
-            return Ok(mapped);
-        }
         let Holdings {
             mut shards,
             mut trees,

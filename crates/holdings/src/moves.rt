@@ -8,12 +8,14 @@ ghost use Rattle.holdings.specs.Inner.Planning.{word_pairs};
 
 use crate::holdings::Holdings;
 use crate::making::make_targets;
+use crate::notes::Notes;
 use crate::phase::is_small;
 use crate::renaming::rename_all;
 use crate::transfer::Transfer;
 use crate::transfer_counts::TransferCounts;
 use crate::writes::write_phase;
 use crew::{CrewError, Workers};
+use fpage::ItemKind;
 use maptree::Tree;
 use pieces::{Pair, moves};
 use space::{Place, Shards};
@@ -23,13 +25,38 @@ impl Holdings {
     ghost use Rattle.std.specs.Prelude.{IfOk, IsErrOf};
     ghost use Rattle.crew.specs.declared.error.CrewError.TheVariants.{NoWorker};
     ghost use Rattle.holdings.specs.Contents.{AreMoved};
+    ghost use Rattle.holdings.specs.Noting.{NotesFollow};
     ghost use Rattle.holdings.specs.Sending.{ArePlanned, AllGo, AreFree};
 
     /// Moves pages: what the source of each transfer holds stands at its target instead, without status, and what derives
-    /// from the source derives from the target. A transfer whose source is not held is lost.
+    /// from the source derives from the target. A transfer whose source is not held is lost. Notes the sources and targets
+    /// of the others, where notes are asked for.
     ///
     /// Refused, where memory or a worker is: `NoMemory`, `NoWorker`.
     pub fn rename<W: Workers>(
+        self,
+        alloc: Global,
+        transfers: &[Transfer],
+        notes: &mut Notes,
+        workers: &W,
+    ) -> Result<(Self, TransferCounts), CrewError>
+        requires planned { ArePlanned self.limits transfers.now }
+        requires all_go { AllGo transfers.now }
+        requires free { AreFree self.holdings transfers.now }
+        ensures moved { IfOk result (AreMoved self transfers.now) }
+        ensures noted { IfOk result (λ r. NotesFollow self.holdings r.0.holdings notes.old notes.new) }
+        ensures needs_no_worker { W.starts_none workers.now → IsErrOf result NoWorker → ⊥ }
+    {
+        self.note_transfers(transfers, ItemKind::Grant, notes)?;
+        if is_small(transfers.len(), workers) {
+            let moved = self.rename_alone(alloc, transfers)?;
+            return Ok(moved);
+        }
+        self.rename_in_pieces(alloc, transfers, workers)
+    }
+
+    /// The same as one phase, by pieces.
+    fn rename_in_pieces<W: Workers>(
         self,
         alloc: Global,
         transfers: &[Transfer],
@@ -41,10 +68,6 @@ impl Holdings {
         ensures moved { IfOk result (AreMoved self transfers.now) }
         ensures needs_no_worker { W.starts_none workers.now → IsErrOf result NoWorker → ⊥ }
     {
-        if is_small(transfers.len(), workers) {
-            let moved = self.rename_alone(alloc, transfers)?;
-            return Ok(moved);
-        }
         let Holdings {
             mut shards,
             mut trees,

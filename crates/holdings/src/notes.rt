@@ -1,9 +1,9 @@
-//! The pages that a call may change, as its phases note them.
+//! The pages that a call changes, as its phases note them.
 
 use space::Place;
 use std::alloc::Global;
 
-/// A page that a phase may change.
+/// A page that a phase changes.
 #[derive(Clone, Copy, Debug, PartialEq, Eq)]
 pub struct Note {
     pub place: Place,
@@ -11,7 +11,7 @@ pub struct Note {
     pub was_held: bool,
 }
 
-/// The pages that the phases of a call may change, where they are asked for. A page may come more than once.
+/// The pages that the phases of a call change, where they are asked for. A page may come more than once.
 #[derive(Drop)]
 pub struct Notes {
     /// Whether phases note pages at all.

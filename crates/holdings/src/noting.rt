@@ -1,94 +1,67 @@
-//! What the phases of a call note of the pages that they may change.
+//! What the phases of a call note of the pages that they change.
 
-ghost use Rattle.std.specs.Prelude.{◌≡◌, ◌++◌, ◌∷◌, [], true, OnOk};
+ghost use Rattle.std.specs.Prelude.{◌≡◌, ◌<◌, ◌≤◌, true, ◌++◌, ◌∷◌, [], length, IsFalse, OnOk};
+ghost use Rattle.std.specs.List.{All};
+ghost use Rattle.space.specs.Shards.{IsPlace, is_taken};
 ghost use Rattle.holdings.specs.Inner.Derivation.{stands_in};
-ghost use Rattle.holdings.specs.Inner.Notes.{IsRunNoted};
+ghost use Rattle.holdings.specs.Inner.Notes.{AreLosersNoted, IsLoserNoted, IsRunNoted, NotesAdd, loses_in, losing_from};
 
 use crate::holdings::Holdings;
 use crate::notes::{Note, Notes};
 use crate::transfer::Transfer;
 use fpage::{ItemKind, Rights};
 use maptree::Tree;
-use space::{NoMemory, Place};
-use std::alloc::{AllocError, Global};
+use space::{Place, Shards};
+use std::alloc::AllocError;
+use std::ops::Range;
 
 impl Holdings {
     ghost use Rattle.std.specs.Prelude.{OnOk};
     ghost use Rattle.std.specs.List.{All};
-    ghost use Rattle.holdings.specs.Inner.Notes.{AreBelowNoted};
-    ghost use Rattle.holdings.specs.Noting.{NotesAdd, IsStripNoted, AreAdded, ends_of_transfers, is_end};
+    ghost use Rattle.model.specs.Definitions.Strip.{strip};
+    ghost use Rattle.holdings.specs.Inner.Notes.{AreAdded, AreEndsReady, IsEndReady, NotesAdd, is_end, ends_of};
+    ghost use Rattle.holdings.specs.Noting.{NotesFollow};
     ghost use Rattle.holdings.specs.Places.{IsWithin, any_of};
     ghost use Rattle.holdings.specs.Sending.{IsTransferWithin};
-    ghost use Rattle.space.specs.Place.{same_place};
 
-    /// Notes the pages that a strip of some pages may change: these, and all that derives from them. Where no right is
-    /// revoked these are none.
+    /// Notes the pages that a strip of some pages changes: of all that derives from them, and with `flush` of these pages
+    /// too, those that hold a revoked right.
     ///
-    /// Refused, where memory is: `NoMemory`.
-    pub fn note_strip(
+    /// Refused where memory is.
+    pub(crate) fn note_strip(
         &self,
-        alloc: Global,
         places: &[Place],
         revoked: Rights,
+        flush: bool,
         notes: &mut Notes,
-    ) -> Result<(), NoMemory>
+    ) -> Result<(), AllocError>
         requires { All (IsWithin self.now.limits) places.now }
-        ensures { OnOk result (NotesAdd (IsStripNoted self.now.holdings (any_of places.now) revoked) notes.old notes.new) }
+        ensures { OnOk result (NotesFollow self.now.holdings (strip self.now.holdings (any_of places.now) revoked flush) notes.old notes.new) }
     {
         if !notes.asked {
             return Ok(());
         }
-        if revoked.is_empty() {
-            return Ok(());
-        }
-        self.note_all_below(alloc, places, &mut notes.list)
-    }
-
-    /// Notes some pages that are held, and all that derives from them.
-    fn note_all_below(
-        &self,
-        alloc: Global,
-        places: &[Place],
-        list: &mut Vec<Note>,
-    ) -> Result<(), NoMemory>
-        requires { All (IsWithin self.now.limits) places.now }
-        ensures { OnOk result (AreBelowNoted self.now.holdings (any_of places.now) list.old.items list.new.items) }
-    {
-        // Its contract says that what is held is lawful.
-        let _ = self.limits();
-        if places.len() < 2 || self.are_apart(places) {
-            self.note_below(places, list)?;
-            return Ok(());
-        }
-        let outer = self.outermost(alloc, places)?;
-        self.note_below(&outer, list)?;
-        Ok(())
-    }
-
-    /// The same page by page: what derives from two of them is noted twice.
-    fn note_below(&self, places: &[Place], list: &mut Vec<Note>) -> Result<(), AllocError>
-        requires { All (IsWithin self.now.limits) places.now }
-        ensures { OnOk result (AreBelowNoted self.now.holdings (any_of places.now) list.old.items list.new.items) }
-    {
         for place in places {
             if let Some(entry) = self.shards.get(*place) {
-                note_run(&self.trees[entry.frame as usize], *place, list)?;
+                let tree = &self.trees[entry.frame as usize];
+                note_place(&self.shards, tree, *place, revoked, flush, &mut notes.list)?;
             }
         }
         Ok(())
     }
 
-    /// Notes the pages that transfers may change: their targets, and where they are granted their sources.
+    /// Notes the pages that transfers change whose source is held: their targets, and where they are granted their sources.
     ///
-    /// Refused, where memory is: `NoMemory`.
-    pub fn note_transfers(
+    /// Refused where memory is.
+    pub(crate) fn note_transfers(
         &self,
         transfers: &[Transfer],
         kind: ItemKind,
         notes: &mut Notes,
     ) -> Result<(), AllocError>
-        requires { All (IsTransferWithin self.now.limits) transfers.now }
-        ensures { OnOk result (NotesAdd (AreAdded self.now.holdings (ends_of_transfers kind transfers.now)) notes.old notes.new) }
+        requires within { All (IsTransferWithin self.now.limits) transfers.now }
+        requires ready { AreEndsReady self.now.holdings transfers.now }
+        ensures { OnOk result (NotesAdd (AreAdded self.now.holdings (ends_of self.now.holdings kind transfers.now)) notes.old notes.new) }
     {
         if !notes.asked {
             return Ok(());
@@ -99,46 +72,132 @@ impl Holdings {
         Ok(())
     }
 
-    /// Notes the pages that one transfer may change.
+    /// Notes the pages that one transfer changes.
     fn note_transfer(
         &self,
         transfer: &Transfer,
         kind: ItemKind,
         list: &mut Vec<Note>,
     ) -> Result<(), AllocError>
-        requires { IsTransferWithin self.now.limits transfer.now }
-        ensures { OnOk result (AreAdded self.now.holdings (λ q. is_end kind q transfer.now) list.old.items list.new.items) }
+        requires within { IsTransferWithin self.now.limits transfer.now }
+        requires ready { IsEndReady self.now.holdings transfer.now }
+        ensures { OnOk result (AreAdded self.now.holdings (λ q. is_end self.now.holdings kind q transfer.now) list.old.items list.new.items) }
     {
-        self.note_page(transfer.target, list)?;
+        if self.entry(transfer.source).is_none() {
+            return Ok(());
+        }
+        add_note(list, transfer.target, transfer.extends)?;
         match kind {
             ItemKind::Map => Ok(()),
-            ItemKind::Grant => self.note_page(transfer.source, list),
+            ItemKind::Grant => add_note(list, transfer.source, true),
         }
-    }
-
-    /// Notes a page.
-    fn note_page(&self, place: Place, list: &mut Vec<Note>) -> Result<(), AllocError>
-        requires { IsWithin self.now.limits place }
-        ensures { OnOk result (AreAdded self.now.holdings (λ q. same_place q place) list.old.items list.new.items) }
-    {
-        let was_held = self.entry(place).is_some();
-        add_note(list, place, was_held)
     }
 }
 
-/// Notes a place of a tree and all that derives from it.
-fn note_run(tree: &Tree, place: Place, list: &mut Vec<Note>) -> Result<(), AllocError>
-    requires { stands_in tree.now.links place ≡ true }
-    ensures { OnOk result (IsRunNoted tree.now.links place list.old.items list.new.items) }
+/// Notes those that hold one of the rights of all that derives from a place of a tree, and with `flush` of the place.
+fn note_place(
+    shards: &Shards,
+    tree: &Tree,
+    place: Place,
+    revoked: Rights,
+    flush: bool,
+    list: &mut Vec<Note>,
+) -> Result<(), AllocError>
+    requires present { IsFalse (is_taken shards.now) }
+    requires places { All (λ o. IsPlace shards.now o.0) tree.now.links }
+    requires stands { stands_in tree.now.links place ≡ true }
+    ensures { OnOk result (IsRunNoted shards.now tree.now.links place revoked flush list.old.items list.new.items) }
 {
     let i = tree.find(place).unwrap();
     let run = tree.run_of(i);
+    note_run(shards, tree, &losing(&run, flush), revoked, list)
+}
+
+/// Of a run, where notes are asked for, notes those places that hold one of the rights; the first one with `flush` alone.
+///
+/// Refused where memory is.
+pub fn note_run_if_asked(
+    shards: &Shards,
+    tree: &Tree,
+    run: &Range<usize>,
+    revoked: Rights,
+    flush: bool,
+    notes: &mut Notes,
+) -> Result<(), AllocError>
+    requires present { IsFalse (is_taken shards.now) }
+    requires places { All (λ o. IsPlace shards.now o.0) tree.now.links }
+    requires some { run.now.start < run.now.end }
+    requires within { run.now.end ≤ length tree.now.links }
+    ensures { OnOk result (NotesAdd (AreLosersNoted shards.now tree.now.links (losing_from flush run.now.start) run.now.end revoked) notes.old notes.new) }
+{
+    if !notes.asked {
+        return Ok(());
+    }
+    note_run(shards, tree, &losing(run, flush), revoked, &mut notes.list)
+}
+
+/// The places of a run that lose rights: all of them, or without `flush` all but the first one.
+fn losing(run: &Range<usize>, flush: bool) -> Range<usize>
+    requires { run.now.start < run.now.end }
+    ensures start { result.start ≡ losing_from flush run.now.start }
+    ensures end { result.end ≡ run.now.end }
+    ensures some { result.start ≤ result.end }
+{
+    if flush {
+        run.start..run.end
+    } else {
+        run.start + 1..run.end
+    }
+}
+
+/// Notes those places of a run that hold one of the rights.
+fn note_run(
+    shards: &Shards,
+    tree: &Tree,
+    run: &Range<usize>,
+    revoked: Rights,
+    list: &mut Vec<Note>,
+) -> Result<(), AllocError>
+    requires present { IsFalse (is_taken shards.now) }
+    requires places { All (λ o. IsPlace shards.now o.0) tree.now.links }
+    requires some { run.now.start ≤ run.now.end }
+    requires within { run.now.end ≤ length tree.now.links }
+    ensures { OnOk result (AreLosersNoted shards.now tree.now.links run.now.start run.now.end revoked list.old.items list.new.items) }
+{
     let mut nodes = tree.nodes();
-    list.reserve(run.end.saturating_sub(run.start))?;
     for at in run.start..run.end {
-        add_note(list, nodes.at(at).place, true)?;
+        note_loser(shards, nodes.at(at).place, revoked, list)?;
     }
     Ok(())
+}
+
+/// Notes a page if it holds one of the rights.
+fn note_loser(
+    shards: &Shards,
+    place: Place,
+    revoked: Rights,
+    list: &mut Vec<Note>,
+) -> Result<(), AllocError>
+    requires present { IsFalse (is_taken shards.now) }
+    requires place { IsPlace shards.now place }
+    ensures { OnOk result (IsLoserNoted shards.now place revoked list.old.items list.new.items) }
+{
+    if loses(shards, place, revoked) {
+        add_note(list, place, true)?;
+    }
+    Ok(())
+}
+
+/// Whether a page holds one of the rights.
+fn loses(shards: &Shards, place: Place, revoked: Rights) -> bool
+    requires present { IsFalse (is_taken shards.now) }
+    requires place { IsPlace shards.now place }
+    ensures { result ≡ loses_in shards.now revoked place }
+{
+    match shards.get(place) {
+        None => false,
+        Some(entry) => !entry.rights.meet(revoked).is_empty(),
+    }
 }
 
 /// Notes one page.

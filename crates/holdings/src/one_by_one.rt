@@ -9,8 +9,11 @@ ghost use Rattle.model.specs.Definitions.Strip.{strip, strip_word};
 ghost use Rattle.holdings.specs.Inner.Held.{is_listed, links_in, limits_in, holdings_in};
 ghost use Rattle.holdings.specs.Inner.Sound.{AreSound, AreLoose};
 ghost use Rattle.holdings.specs.Inner.Stripping.{IsLeft};
+ghost use Rattle.holdings.specs.Noting.{NotesFollow};
 
 use crate::holdings::Holdings;
+use crate::notes::Notes;
+use crate::noting::note_run_if_asked;
 use crate::prune::{Left, prune_run};
 use crate::recursion::{take, visit};
 use fpage::Rights;
@@ -32,6 +35,7 @@ impl Holdings {
     ghost use Rattle.std.specs.Prelude.{IfOk};
     ghost use Rattle.std.specs.List.{All};
     ghost use Rattle.holdings.specs.Contents.{IsStripped};
+    ghost use Rattle.holdings.specs.Noting.{NotesFollow};
     ghost use Rattle.holdings.specs.Places.{IsWithin, any_of};
 
     /// The same as `strip`, page by page of those that are still held.
@@ -43,10 +47,12 @@ impl Holdings {
         places: &[Place],
         revoked: Rights,
         flush: bool,
+        notes: &mut Notes,
         order: Order,
     ) -> Result<(Self, Rights), NoMemory>
         requires { All (IsWithin self.limits) places.now }
-        ensures { IfOk result (IsStripped self (any_of places.now) revoked flush) }
+        ensures stripped { IfOk result (IsStripped self (any_of places.now) revoked flush) }
+        ensures noted { IfOk result (λ r. NotesFollow self.holdings r.0.holdings notes.old notes.new) }
     {
         let Holdings {
             mut shards,
@@ -66,6 +72,7 @@ impl Holdings {
                 *place,
                 revoked,
                 flush,
+                notes,
                 order,
             )?;
             status = status.join(gained);
@@ -74,7 +81,7 @@ impl Holdings {
     }
 }
 
-/// Strips a place, takes out of its tree what is gone then, and gives back the status that was gathered.
+/// Strips a place, takes out of its tree what is gone then, and gives back the status that was gathered. Notes what changes.
 fn strip_place(
     alloc: Global,
     shards: &mut Shards,
@@ -83,6 +90,7 @@ fn strip_place(
     place: Place,
     revoked: Rights,
     flush: bool,
+    notes: &mut Notes,
     order: Order,
 ) -> Result<Rights, NoMemory>
     requires sound { AreSound shards.old trees.old }
@@ -93,10 +101,12 @@ fn strip_place(
     ensures sound { OnOk result (AreSound shards.new trees.new) }
     ensures limits { OnOk result (limits_in shards.new trees.new ≡ limits_in shards.old trees.old) }
     ensures layout { OnOk result (IsLaidOutAs shards.old shards.new) }
+    ensures noted { OnOk result (NotesFollow (holdings_in shards.old trees.old) (holdings_in shards.new trees.new) notes.old notes.new) }
 {
     let tree = &trees[frame];
     let i = tree.find(place).unwrap();
     let run = tree.run_of(i);
+    note_run_if_asked(shards, tree, &run, revoked, flush, notes)?;
     let stripped = strip_run(alloc, shards, trees, frame, &run, revoked, flush, order)?;
     prune_run(alloc, shards, &mut trees[frame], run, stripped.left)?;
     Ok(stripped.status)

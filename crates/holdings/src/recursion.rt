@@ -13,6 +13,7 @@ ghost use Rattle.space.specs.Entries.{narrowed, status_of};
 ghost use Rattle.holdings.specs.Inner.Sound.{AreLoose};
 
 use crate::holdings::Holdings;
+use crate::notes::Notes;
 use crate::one_by_one::Order;
 use fpage::Rights;
 use maptree::Tree;
@@ -24,10 +25,11 @@ impl Holdings {
     ghost use Rattle.std.specs.Prelude.{IfOk};
     ghost use Rattle.std.specs.List.{All};
     ghost use Rattle.holdings.specs.Contents.{IsStripped};
+    ghost use Rattle.holdings.specs.Noting.{NotesFollow};
     ghost use Rattle.holdings.specs.Places.{IsWithin, any_of};
 
     /// The same as `strip`, by recursion: page by page of those that are still held, first what derives from the page, and
-    /// then the page itself. It takes longer.
+    /// then the page itself. It takes longer. Notes the pages that lose a right, where notes are asked for.
     ///
     /// Refused, where memory is: `NoMemory`.
     pub fn strip_by_recursion(
@@ -36,11 +38,13 @@ impl Holdings {
         places: &[Place],
         revoked: Rights,
         flush: bool,
+        notes: &mut Notes,
     ) -> Result<(Self, Rights), NoMemory>
         requires { All (IsWithin self.limits) places.now }
-        ensures { IfOk result (IsStripped self (any_of places.now) revoked flush) }
+        ensures stripped { IfOk result (IsStripped self (any_of places.now) revoked flush) }
+        ensures noted { IfOk result (λ r. NotesFollow self.holdings r.0.holdings notes.old notes.new) }
     {
-        self.strip_one_by_one(alloc, places, revoked, flush, Order::Recursion)
+        self.strip_one_by_one(alloc, places, revoked, flush, notes, Order::Recursion)
     }
 }
 

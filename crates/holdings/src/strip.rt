@@ -1,6 +1,7 @@
 //! Rights revoked from pages and from all that derives from them.
 
 use crate::holdings::Holdings;
+use crate::notes::Notes;
 use crate::one_by_one::Order;
 use crate::phase::work_phase_by;
 use crate::planning::{StripPlan, outer_places, plan_strip};
@@ -20,7 +21,7 @@ impl Holdings {
     ghost use Rattle.model.specs.Definitions.Strip.{strip};
     ghost use Rattle.holdings.specs.Contents.{IsStripped};
     ghost use Rattle.holdings.specs.Inner.StripPlans.{StandFor};
-    ghost use Rattle.holdings.specs.Inner.Notes.{AreOuter};
+    ghost use Rattle.holdings.specs.Noting.{NotesFollow};
     ghost use Rattle.holdings.specs.Observing.{IsPhaseOf};
     ghost use Rattle.holdings.specs.Places.{IsWithin, any_of};
 
@@ -28,7 +29,8 @@ impl Holdings {
     /// them is cleared and returned, and what it was is added to that of the page from which they come. A page that has no
     /// rights left is no longer held (L4 X.2, Unmap).
     ///
-    /// Each tree is passed over by the outermost runs of the pages that it has, once each.
+    /// Each tree is passed over by the outermost runs of the pages that it has, once each. Notes the pages that lose a right,
+    /// where notes are asked for.
     ///
     /// Refused, where memory or a worker is: `NoMemory`, `NoWorker`.
     pub fn strip<W: Workers>(
@@ -37,17 +39,19 @@ impl Holdings {
         places: &[Place],
         revoked: Rights,
         flush: bool,
+        notes: &mut Notes,
         workers: &W,
     ) -> Result<(Self, Rights), CrewError>
         requires within { All (IsWithin self.limits) places.now }
         ensures stripped { IfOk result (IsStripped self (any_of places.now) revoked flush) }
+        ensures noted { IfOk result (λ r. NotesFollow self.holdings r.0.holdings notes.old notes.new) }
         ensures needs_no_worker { W.starts_none workers.now → IsErrOf result NoWorker → ⊥ }
     {
         if places.len() < 2 || self.are_apart(places) {
-            return self.strip_apart(alloc, places, revoked, flush, workers);
+            return self.strip_apart(alloc, places, revoked, flush, notes, workers);
         }
         let outer = self.outermost(alloc, places)?;
-        self.strip_apart(alloc, &outer, revoked, flush, workers)
+        self.strip_apart(alloc, &outer, revoked, flush, notes, workers)
     }
 
     /// The same for pages of which none derives from another, one after another or by pieces.
@@ -57,16 +61,20 @@ impl Holdings {
         places: &[Place],
         revoked: Rights,
         flush: bool,
+        notes: &mut Notes,
         workers: &W,
     ) -> Result<(Self, Rights), CrewError>
         requires within { All (IsWithin self.limits) places.now }
         ensures stripped { IfOk result (IsStripped self (any_of places.now) revoked flush) }
+        ensures noted { IfOk result (λ r. NotesFollow self.holdings r.0.holdings notes.old notes.new) }
         ensures needs_no_worker { W.starts_none workers.now → IsErrOf result NoWorker → ⊥ }
     {
         if self.are_stripped_alone(places, workers) {
-            let stripped = self.strip_one_by_one(alloc, places, revoked, flush, Order::List)?;
+            let order = Order::List;
+            let stripped = self.strip_one_by_one(alloc, places, revoked, flush, notes, order)?;
             return Ok(stripped);
         }
+        self.note_strip(places, revoked, flush, notes)?;
         let most = workers.piece_length();
         self.strip_in_pieces(alloc, places, revoked, flush, most, |words, pieces| {
             workers.work(alloc, words, pieces)
@@ -78,7 +86,6 @@ impl Holdings {
         requires { All (IsWithin self.now.limits) places.now }
         ensures within { IfOk result (λ outer. All (IsWithin self.now.limits) outer.items) }
         ensures stand { IfOk result (λ outer. StandFor self.now places.now outer.items) }
-        ensures outer { IfOk result (λ outer. AreOuter self.now.holdings places.now outer.items) }
     {
         outer_places(alloc, &self.shards, &self.trees, places)
     }

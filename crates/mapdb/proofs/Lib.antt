@@ -10,5 +10,4 @@ pub mod WordsTold
 pub mod NamedPlaces
 pub mod WholeSpaces
 pub mod OneItem
-pub mod Following
-pub mod NotedItems
+pub mod ToldNotes

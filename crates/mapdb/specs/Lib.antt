@@ -1,5 +1,6 @@
 pub mod Meaning
 pub mod State
+pub mod Noted
 pub mod Held
 pub mod Calls
 pub mod Answered

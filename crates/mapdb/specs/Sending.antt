@@ -4,7 +4,7 @@ use Rattle.std.specs.List.{list_any}
 use Rattle.fpage.specs.declared.item.ItemKind.{ItemKind}
 use Rattle.fpage.specs.declared.item.ItemKind.TheVariants.{Map, Grant}
 use Rattle.fpage.specs.declared.rights.Rights.{Rights}
-use Rattle.fpage.specs.Rights.{no_rights, all_rights, without}
+use Rattle.fpage.specs.Rights.{all_rights, without}
 use Rattle.space.specs.declared.place.Place.{Place}
 use Rattle.space.specs.Directory.{pages_of}
 use Rattle.space.specs.Place.{same_place}
@@ -102,10 +102,3 @@ pub record IsSent (old : Contents) (left : Holdings) (counts : Counts) (r : Cont
   pub grows : OnlyGrows old.layout r.0.layout
   -- what became of the pages
   pub counted : counts_of r.1 ≡ counts
-
--- ---- notes
-
--- the rights that an item withholds from what derives from its sources: a map withholds none
-abbrev pub withheld_by : ItemKind → Rights → Rights
-withheld_by Map rights = no_rights
-withheld_by Grant rights = without all_rights rights

@@ -22,7 +22,7 @@ use std::mem;
 pub struct Scratch {
     /// For the words of a reply.
     pub(crate) words: Vec<u32>,
-    /// The pages that the last call may have changed.
+    /// The pages that the last call changed; among them may be others that were held before it or are held now.
     pub notes: Notes,
 }
 
@@ -63,7 +63,7 @@ impl Database {
     ghost use Rattle.std.specs.List.{All};
     ghost use Rattle.fpage.specs.Fpage.{IsFpageOf};
     ghost use Rattle.model.specs.Definitions.Calls.{access as access_to, clear};
-    ghost use Rattle.holdings.specs.Noting.{NotesTell};
+    ghost use Rattle.mapdb.specs.Noted.{NotesTell};
     ghost use Rattle.holdings.specs.Places.{IsWithin};
     ghost use Rattle.mapdb.specs.Answered.{IsAnswered, IsUnanswered, IsSendOrAccess};
     ghost use Rattle.mapdb.specs.Calls.{call_of, send_of, unmap_of, AreWordsWithin, IsWithinLimits};
@@ -71,7 +71,8 @@ impl Database {
     ghost use Rattle.mapdb.specs.declared.error.DbError.TheVariants.{NoMemory, NoWorker};
 
     /// Answers a call, as `send`, `access_all`, `unmap` and `clear` do: a call that is refused for what it asks is answered
-    /// by its refusal. Where notes are asked for, they then name every page whose frame or rights the call changed.
+    /// by its refusal. Where notes are asked for, they then name every page whose frame or rights the call
+    /// changed, and none that was held neither before it nor after it.
     ///
     /// Not answered where the database is halted, `Halted`, and where memory or a worker is refused, `NoMemory`,
     /// `NoWorker`: then the database is halted.

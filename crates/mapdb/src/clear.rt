@@ -9,7 +9,7 @@ ghost use Rattle.holdings.specs.Contents.{IsStripped};
 ghost use Rattle.holdings.specs.Noting.{NotesFollow};
 
 use crate::call::UnmapWord;
-use crate::unmap::{note_word, unmap_word, unmap_word_by_recursion};
+use crate::unmap::{unmap_word, unmap_word_by_recursion};
 use crew::{CrewError, Workers};
 use fpage::{Fpage, Rights};
 use holdings::{Holdings, Notes};
@@ -20,7 +20,7 @@ use std::alloc::Global;
 const COMPLETE_SPACE: u32 = 0x17;
 
 /// Takes all rights from the pages of a space, and from all that derives from them. Returns their status. Notes the pages
-/// that this may change.
+/// that this changes.
 ///
 /// Refused, where memory or a worker is: `NoMemory`, `NoWorker`.
 pub fn clear_space<W: Workers>(
@@ -40,8 +40,7 @@ pub fn clear_space<W: Workers>(
         flush: true,
         fpage: complete_space(held.limits().bits),
     };
-    note_word(alloc, &held, &word, notes)?;
-    unmap_word(alloc, held, &word, workers)
+    unmap_word(alloc, held, &word, notes, workers)
 }
 
 /// The same by recursion, on the calling thread.
@@ -62,8 +61,7 @@ pub fn clear_space_by_recursion(
         flush: true,
         fpage: complete_space(held.limits().bits),
     };
-    note_word(alloc, &held, &word, notes)?;
-    unmap_word_by_recursion(alloc, held, &word)
+    unmap_word_by_recursion(alloc, held, &word, notes)
 }
 
 /// The fpage of all pages of a space of `2^bits` bytes, with all rights.

@@ -4,6 +4,7 @@ use crate::clear::{clear_space, clear_space_by_recursion};
 use crate::error::DbError;
 use crate::item::work_items;
 use crate::reply::{Reply, SendReply};
+use crate::told::keep_told;
 use crate::unmap::{
     answer_unmap, put_status, unmap_words, unmap_words_by_recursion, unmap_words_watched,
 };
@@ -49,7 +50,7 @@ impl Database {
     ghost use Rattle.model.specs.Definitions.Answers.{send_answer, in_space, unmap_answer, clear_answer};
     ghost use Rattle.mapdb.specs.Answered.{IsAnswered, IsUnanswered};
     ghost use Rattle.mapdb.specs.Calls.{AreWordsWithin, send_of, unmap_of};
-    ghost use Rattle.holdings.specs.Noting.{NotesFollow, NotesTell};
+    ghost use Rattle.mapdb.specs.Noted.{NotesChange, NotesTell};
     ghost use Rattle.model.specs.Definitions.Calls.{send, clear};
     ghost use Rattle.model.specs.Definitions.Recursion.{recur};
     ghost use Rattle.fpage.specs.Fpage.{IsFpageOf};
@@ -267,7 +268,7 @@ impl Database {
         self.send_noted(alloc, &send, &mut Notes::none(alloc), workers)
     }
 
-    /// The same as `send`. Notes the pages that it may change, if notes are asked for.
+    /// The same as `send`. Notes the pages that it changes, if notes are asked for.
     ///
     /// Refused as `send` is.
     pub(crate) fn send_noted<W: Workers>(
@@ -289,7 +290,7 @@ impl Database {
         ensures left { OnOk result (self.new ≡ laid_out
             (left_with self.old (send_answer send.now.from send.now.to send.now.window send.now.items.now self.old.holdings).left) self.new.layout) }
         ensures grows { OnOk result (OnlyGrows self.old.layout self.new.layout) }
-        ensures noted { OnOk result (NotesFollow self.old.holdings self.new.holdings notes.old notes.new) }
+        ensures noted { OnOk result (NotesChange self.old.holdings self.new.holdings notes.old notes.new) }
     {
         if self.held.is_none() {
             return Err(DbError::Halted);
@@ -306,6 +307,7 @@ impl Database {
         }
         let held = self.held.take().unwrap();
         let (held, reply) = work_items(alloc, held, send, notes, workers)?;
+        keep_told(alloc, &held, notes)?;
         self.held = Some(held);
         Ok(reply)
     }
@@ -376,6 +378,7 @@ impl Database {
         }
         let held = self.held.take().unwrap();
         let held = answer_unmap(alloc, held, unmap, words, scratch, workers)?;
+        keep_told(alloc, &held, &mut scratch.notes)?;
         self.held = Some(held);
         Ok(scratch.reply(alloc))
     }
@@ -397,7 +400,7 @@ impl Database {
         ensures told { OnOk result (record { words = scratch.new.words.items; left = self.new.holdings }
             ≡ unmap_answer unmap.now.space unmap.now.control.flush (zip words.now unmap.now.fpages.now) self.old.holdings) }
         ensures left { OnOk result (self.new ≡ left_with self.old self.new.holdings) }
-        ensures noted { OnOk result (NotesFollow self.old.holdings self.new.holdings scratch.old.notes scratch.new.notes) }
+        ensures noted { OnOk result (NotesChange self.old.holdings self.new.holdings scratch.old.notes scratch.new.notes) }
     {
         let status = self.unmap_plain_noted(alloc, unmap, &mut scratch.notes)?;
         if put_status(words, &status, &mut scratch.words).is_err() {
@@ -476,7 +479,7 @@ impl Database {
         self.unmap_plain_noted(alloc, &unmap, &mut Notes::none(alloc))
     }
 
-    /// The same as `unmap_plain`. Notes the pages that it may change, if notes are asked for.
+    /// The same as `unmap_plain`. Notes the pages that it changes, if notes are asked for.
     ///
     /// Refused as `unmap_plain` is.
     fn unmap_plain_noted(
@@ -497,7 +500,7 @@ impl Database {
             status.items ≡ plain_status unmap.now.space unmap.now.control.flush unmap.now.fpages.now self.old.holdings) }
         ensures recursion_left { OnOk result (self.new ≡
             left_with self.old (plain_left unmap.now.space unmap.now.control.flush unmap.now.fpages.now self.old.holdings)) }
-        ensures noted { OnOk result (NotesFollow self.old.holdings self.new.holdings notes.old notes.new) }
+        ensures noted { OnOk result (NotesChange self.old.holdings self.new.holdings notes.old notes.new) }
     {
         if self.held.is_none() {
             return Err(DbError::Halted);
@@ -507,6 +510,7 @@ impl Database {
         }
         let held = self.held.take().unwrap();
         let (held, status) = unmap_words_by_recursion(alloc, held, unmap, notes)?;
+        keep_told(alloc, &held, notes)?;
         self.held = Some(held);
         Ok(status)
     }
@@ -534,7 +538,7 @@ impl Database {
         self.clear_noted(alloc, space, &mut Notes::none(alloc), workers)
     }
 
-    /// The same as `clear`. Notes the pages that it may change, if notes are asked for.
+    /// The same as `clear`. Notes the pages that it changes, if notes are asked for.
     ///
     /// Refused as `clear` is.
     pub(crate) fn clear_noted<W: Workers>(
@@ -550,7 +554,7 @@ impl Database {
         ensures needs_no_worker { W.starts_none workers.now → IsErrOf result NoWorker → ⊥ }
         ensures status { IfOk result (λ status. status ≡ (clear_answer space self.old.holdings).status) }
         ensures left { OnOk result (self.new ≡ left_with self.old (clear_answer space self.old.holdings).left) }
-        ensures noted { OnOk result (NotesFollow self.old.holdings self.new.holdings notes.old notes.new) }
+        ensures noted { OnOk result (NotesChange self.old.holdings self.new.holdings notes.old notes.new) }
     {
         if self.held.is_none() {
             return Err(DbError::Halted);
@@ -560,6 +564,7 @@ impl Database {
         }
         let held = self.held.take().unwrap();
         let (held, status) = clear_space(alloc, held, space, notes, workers)?;
+        keep_told(alloc, &held, notes)?;
         self.held = Some(held);
         Ok(status)
     }
@@ -582,7 +587,7 @@ impl Database {
         self.clear_plain_noted(alloc, space, &mut Notes::none(alloc))
     }
 
-    /// The same as `clear_plain`. Notes the pages that it may change, if notes are asked for.
+    /// The same as `clear_plain`. Notes the pages that it changes, if notes are asked for.
     ///
     /// Refused as `clear_plain` is.
     pub(crate) fn clear_plain_noted(
@@ -600,7 +605,7 @@ impl Database {
             status ≡ (recur self.old.holdings (in_space space) all_rights true).word) }
         ensures recursion_left { OnOk result (self.new ≡
             left_with self.old (recur self.old.holdings (in_space space) all_rights true).left) }
-        ensures noted { OnOk result (NotesFollow self.old.holdings self.new.holdings notes.old notes.new) }
+        ensures noted { OnOk result (NotesChange self.old.holdings self.new.holdings notes.old notes.new) }
     {
         if self.held.is_none() {
             return Err(DbError::Halted);
@@ -610,6 +615,7 @@ impl Database {
         }
         let held = self.held.take().unwrap();
         let (held, status) = clear_space_by_recursion(alloc, held, space, notes)?;
+        keep_told(alloc, &held, notes)?;
         self.held = Some(held);
         Ok(status)
     }

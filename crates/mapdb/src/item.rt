@@ -1,19 +1,19 @@
 //! The items of a send, one after another, each in phases.
 
-ghost use Rattle.std.specs.Prelude.{◌≡◌, ◌<◌, IfOk, OnOk, IsErrOf, ◌^◌};
+ghost use Rattle.std.specs.Prelude.{◌≡◌, ◌<◌, IfOk, IsErrOf, ◌^◌};
 ghost use Rattle.std.specs.List.{All};
 ghost use Rattle.fpage.specs.Fpage.{IsFpageOf};
 ghost use Rattle.model.specs.Definitions.Answers.{item_answer, send_answer};
 ghost use Rattle.crew.specs.declared.error.CrewError.TheVariants.{NoWorker};
 ghost use Rattle.holdings.specs.Sending.{job_of_pages, AreItemPages};
-ghost use Rattle.mapdb.specs.Sending.{IsSent, counts_before_flush, transfers_of, ends_of, withheld_by};
-ghost use Rattle.holdings.specs.Noting.{NotesAdd, NotesFollow, IsStripNoted};
+ghost use Rattle.mapdb.specs.Sending.{IsSent, counts_before_flush, transfers_of, ends_of};
+ghost use Rattle.holdings.specs.Noting.{NotesFollow};
 ghost use Rattle.model.specs.Laws.SendLaws.{total};
 ghost use Rattle.mapdb.specs.Meaning.{counts_of};
 ghost use Rattle.fpage.specs.declared.item.ItemKind.TheVariants.{Grant};
 ghost use Rattle.space.specs.declared.place.Place.{Place};
 ghost use Rattle.holdings.specs.Contents.{IsConsistent};
-ghost use Rattle.holdings.specs.Places.{any_of, IsWithin};
+ghost use Rattle.holdings.specs.Places.{any_of};
 ghost use Rattle.mapdb.specs.declared.plan.End.TheVariants.{Source, Target};
 
 use crate::call::Sending;
@@ -23,11 +23,11 @@ use crate::reply::SendReply;
 use crew::{CrewError, Workers};
 use fpage::{ItemKind, Rights};
 use holdings::{Holdings, ItemPages, Notes, Transfer};
-use space::{NoMemory, Place};
+use space::Place;
 use std::alloc::Global;
 
 /// Works items from one space to the window of another, one after another, and adds their counts. Notes the pages that
-/// they may change.
+/// they change.
 ///
 /// Refused, where memory or a worker is: `NoMemory`, `NoWorker`.
 pub fn work_items<W: Workers>(
@@ -91,7 +91,7 @@ fn work_item<W: Workers>(
         targets: &targets,
         sources: &sources,
     };
-    work_noted(alloc, held, pages, &phases, notes, workers)
+    work_phases(alloc, held, pages, &phases, notes, workers)
 }
 
 /// The same of an item of one page, without lists.
@@ -119,14 +119,14 @@ fn work_page<W: Workers>(
         sources: &[],
     };
     match transfer_of(outcome, pages.source, pages.target) {
-        None => work_noted(alloc, held, pages, &none, notes, workers),
+        None => work_phases(alloc, held, pages, &none, notes, workers),
         Some(transfer) if transfer.extends => {
             let transfers = [transfer];
             let phases = Phases {
                 transfers: &transfers,
                 ..none
             };
-            work_noted(alloc, held, pages, &phases, notes, workers)
+            work_phases(alloc, held, pages, &phases, notes, workers)
         }
         Some(transfer) => {
             let (transfers, targets, sources) = ([transfer], [transfer.target], [transfer.source]);
@@ -136,7 +136,7 @@ fn work_page<W: Workers>(
                 sources: &sources,
                 ..none
             };
-            work_noted(alloc, held, pages, &phases, notes, workers)
+            work_phases(alloc, held, pages, &phases, notes, workers)
         }
     }
 }
@@ -154,10 +154,11 @@ struct Phases<'a> {
     sources: &'a [Place],
 }
 
-/// Notes the pages that the phases of an item may change, and works them.
+/// Works the phases of an item: the flush of the targets that are replaced; then those pages whose sources are still held (profile) are
+/// mapped, or lose what a grant withholds and move. Each phase notes what it changes.
 ///
 /// Refused, where memory or a worker is: `NoMemory`, `NoWorker`.
-fn work_noted<W: Workers>(
+fn work_phases<W: Workers>(
     alloc: Global,
     held: Holdings,
     pages: &ItemPages,
@@ -176,83 +177,13 @@ fn work_noted<W: Workers>(
     ensures noted { IfOk result (λ r. NotesFollow held.holdings r.0.holdings notes.old notes.new) }
     ensures needs_no_worker { W.starts_none workers.now → IsErrOf result NoWorker → ⊥ }
 {
-    note_item(alloc, &held, pages, phases, notes)?;
-    work_phases(alloc, held, pages, phases, workers)
-}
-
-/// Notes the pages that the phases of an item may change.
-///
-/// Refused, where memory is: `NoMemory`.
-fn note_item(
-    alloc: Global,
-    held: &Holdings,
-    pages: &ItemPages,
-    phases: &Phases<'_>,
-    notes: &mut Notes,
-) -> Result<(), NoMemory>
-    requires pages { AreItemPages held.now.limits pages.now }
-    requires consistent { IsConsistent held.now }
-    requires transfers { phases.now.transfers.now ≡ transfers_of held.now.holdings (job_of_pages pages.now) (job_of_pages pages.now).pairs }
-    requires targets { (p : Place) → any_of phases.now.targets.now p ≡ ends_of Target phases.now.transfers.now p }
-    requires sources { pages.now.kind ≡ Grant → (p : Place) → any_of phases.now.sources.now p ≡ ends_of Source phases.now.transfers.now p }
-    ensures { OnOk result (NotesFollow held.now.holdings (item_answer held.now.holdings (job_of_pages pages.now)).left notes.old notes.new) }
-{
-    held.note_strip(alloc, phases.targets, Rights::all(), notes)?;
-    note_sources(alloc, held, pages, phases, notes)?;
-    held.note_transfers(phases.transfers, pages.kind, notes)?;
-    Ok(())
-}
-
-/// Notes the pages from which an item withholds rights: the sources of a grant, and all that derives from them.
-///
-/// Refused, where memory is: `NoMemory`.
-fn note_sources(
-    alloc: Global,
-    held: &Holdings,
-    pages: &ItemPages,
-    phases: &Phases<'_>,
-    notes: &mut Notes,
-) -> Result<(), NoMemory>
-    requires { pages.now.kind ≡ Grant → All (IsWithin held.now.limits) phases.now.sources.now }
-    ensures { OnOk result (NotesAdd (IsStripNoted held.now.holdings (any_of phases.now.sources.now) (withheld_by pages.now.kind pages.now.rights)) notes.old notes.new) }
-{
-    match pages.kind {
-        ItemKind::Map => Ok(()),
-        ItemKind::Grant => {
-            let withheld = Rights::all().without(pages.rights);
-            held.note_strip(alloc, phases.sources, withheld, notes)
-        }
-    }
-}
-
-/// Works the phases of an item: the flush of the targets that are replaced; then those pages whose sources are still held (profile) are
-/// mapped, or lose what a grant withholds and move.
-///
-/// Refused, where memory or a worker is: `NoMemory`, `NoWorker`.
-fn work_phases<W: Workers>(
-    alloc: Global,
-    held: Holdings,
-    pages: &ItemPages,
-    phases: &Phases<'_>,
-    workers: &W,
-) -> Result<(Holdings, SendReply), CrewError>
-    requires pages { AreItemPages held.limits pages.now }
-    requires consistent { IsConsistent held }
-    requires decided { counts_of phases.now.decided ≡ counts_before_flush held.holdings (job_of_pages pages.now) (job_of_pages pages.now).pairs }
-    requires transfers { phases.now.transfers.now ≡ transfers_of held.holdings (job_of_pages pages.now) (job_of_pages pages.now).pairs }
-    requires targets { (p : Place) → any_of phases.now.targets.now p ≡ ends_of Target phases.now.transfers.now p }
-    requires sources { pages.now.kind ≡ Grant → (p : Place) → any_of phases.now.sources.now p ≡ ends_of Source phases.now.transfers.now p }
-    ensures sent { IfOk result (IsSent held (item_answer held.holdings (job_of_pages pages.now)).left (item_answer held.holdings (job_of_pages pages.now)).counts) }
-    ensures few { IfOk result (λ r. total (counts_of r.1) < 2 ^ 32) }
-    ensures needs_no_worker { W.starts_none workers.now → IsErrOf result NoWorker → ⊥ }
-{
-    let (held, _) = held.strip(alloc, phases.targets, Rights::all(), true, workers)?;
+    let (held, _) = held.strip(alloc, phases.targets, Rights::all(), true, notes, workers)?;
     let (held, worked) = match pages.kind {
-        ItemKind::Map => held.map(alloc, phases.transfers, pages.rights, workers)?,
+        ItemKind::Map => held.map(alloc, phases.transfers, pages.rights, notes, workers)?,
         ItemKind::Grant => {
             let withheld = Rights::all().without(pages.rights);
-            let (held, _) = held.strip(alloc, phases.sources, withheld, true, workers)?;
-            held.rename(alloc, phases.transfers, workers)?
+            let (held, _) = held.strip(alloc, phases.sources, withheld, true, notes, workers)?;
+            held.rename(alloc, phases.transfers, notes, workers)?
         }
     };
     let worked = SendReply::of_transfers(worked);

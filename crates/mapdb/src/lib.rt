@@ -10,6 +10,7 @@ mod item;
 mod item_pages;
 mod plan;
 mod reply;
+mod told;
 mod unmap;
 
 pub use answer::Scratch;

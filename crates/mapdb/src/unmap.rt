@@ -42,13 +42,14 @@ pub fn unmap_words<W: Workers>(
     let mut held = held;
     let flush = unmap.control.is_flush();
     let mut status = Vec::with_capacity(alloc, unmap.fpages.len())?;
+    let mut notes = Notes::none(alloc);
     for fpage in unmap.fpages {
         let word = UnmapWord {
             space: unmap.space,
             flush,
             fpage: *fpage,
         };
-        let (left, told) = unmap_word(alloc, held, &word, workers)?;
+        let (left, told) = unmap_word(alloc, held, &word, &mut notes, workers)?;
         held = left;
         status.push(told).map_err(AllocError::from)?;
     }
@@ -56,7 +57,7 @@ pub fn unmap_words<W: Workers>(
 }
 
 /// Works the words of an unmap one after another, and puts each with what it tells into the words of a reply, in place of
-/// what they had. Notes the pages that the words may change.
+/// what they had. Notes the pages that the words change.
 ///
 /// Refused, where memory or a worker is: `NoMemory`, `NoWorker`.
 pub fn answer_unmap<W: Workers>(
@@ -85,8 +86,7 @@ pub fn answer_unmap<W: Workers>(
             flush,
             fpage: unmap.fpages[i],
         };
-        note_word(alloc, &held, &word, &mut scratch.notes)?;
-        let (left, status) = unmap_word(alloc, held, &word, workers)?;
+        let (left, status) = unmap_word(alloc, held, &word, &mut scratch.notes, workers)?;
         held = left;
         scratch
             .words
@@ -110,7 +110,7 @@ pub fn put_status(words: &[u32], status: &[Rights], reply: &mut Vec<u32>) -> Res
     Ok(())
 }
 
-/// The same as `unmap_words`, each word by recursion, on the calling thread. Notes the pages that the words may change.
+/// The same as `unmap_words`, each word by recursion, on the calling thread. Notes the pages that the words change.
 ///
 /// Refused, where memory is: `NoMemory`.
 pub fn unmap_words_by_recursion(
@@ -134,46 +134,27 @@ pub fn unmap_words_by_recursion(
             flush,
             fpage: *fpage,
         };
-        note_word(alloc, &held, &word, notes)?;
-        let (left, told) = unmap_word_by_recursion(alloc, held, &word)?;
+        let (left, told) = unmap_word_by_recursion(alloc, held, &word, notes)?;
         held = left;
         status.push(told).map_err(AllocError::from)?;
     }
     Ok((held, status))
 }
 
-/// Notes the pages that one word of an unmap may change.
-///
-/// Refused, where memory is: `NoMemory`.
-pub fn note_word(
-    alloc: Global,
-    held: &Holdings,
-    word: &UnmapWord,
-    notes: &mut Notes,
-) -> Result<(), NoMemory>
-    requires space { word.now.space < held.now.limits.spaces }
-    requires fpage { IsFpageOf held.now.limits.bits word.now.fpage }
-    ensures { OnOk result (NotesFollow held.now.holdings (strip held.now.holdings (pages_in word.now.space word.now.fpage) word.now.fpage.rights word.now.flush) notes.old notes.new) }
-{
-    if !notes.asked {
-        return Ok(());
-    }
-    let places = held.held_among(alloc, word.space, word.fpage.pages())?;
-    held.note_strip(alloc, &places, word.fpage.rights(), notes)
-}
-
-/// Works one word of an unmap.
+/// Works one word of an unmap. Notes the pages that it changes.
 ///
 /// Refused, where memory or a worker is: `NoMemory`, `NoWorker`.
 pub fn unmap_word<W: Workers>(
     alloc: Global,
     held: Holdings,
     word: &UnmapWord,
+    notes: &mut Notes,
     workers: &W,
 ) -> Result<(Holdings, Rights), CrewError>
     requires space { word.now.space < held.limits.spaces }
     requires fpage { IsFpageOf held.limits.bits word.now.fpage }
     ensures stripped { IfOk result (IsStripped held (pages_in word.now.space word.now.fpage) word.now.fpage.rights word.now.flush) }
+    ensures noted { IfOk result (λ r. NotesFollow held.holdings r.0.holdings notes.old notes.new) }
     ensures needs_no_worker { W.starts_none workers.now → IsErrOf result NoWorker → ⊥ }
 {
     let pages = word.fpage.pages();
@@ -183,26 +164,42 @@ pub fn unmap_word<W: Workers>(
             space: word.space,
             page: pages.start,
         };
-        return held.strip(alloc, &[place], word.fpage.rights(), word.flush, workers);
+        return held.strip(
+            alloc,
+            &[place],
+            word.fpage.rights(),
+            word.flush,
+            notes,
+            workers,
+        );
     }
     let places = held.held_among(alloc, word.space, pages)?;
-    held.strip(alloc, &places, word.fpage.rights(), word.flush, workers)
+    held.strip(
+        alloc,
+        &places,
+        word.fpage.rights(),
+        word.flush,
+        notes,
+        workers,
+    )
 }
 
-/// Works one word of an unmap by recursion.
+/// Works one word of an unmap by recursion. Notes the pages that it changes.
 ///
 /// Refused, where memory is: `NoMemory`.
 pub fn unmap_word_by_recursion(
     alloc: Global,
     held: Holdings,
     word: &UnmapWord,
+    notes: &mut Notes,
 ) -> Result<(Holdings, Rights), NoMemory>
     requires space { word.now.space < held.limits.spaces }
     requires fpage { IsFpageOf held.limits.bits word.now.fpage }
-    ensures { IfOk result (IsStripped held (pages_in word.now.space word.now.fpage) word.now.fpage.rights word.now.flush) }
+    ensures stripped { IfOk result (IsStripped held (pages_in word.now.space word.now.fpage) word.now.fpage.rights word.now.flush) }
+    ensures noted { IfOk result (λ r. NotesFollow held.holdings r.0.holdings notes.old notes.new) }
 {
     let places = held.held_among(alloc, word.space, word.fpage.pages())?;
-    held.strip_by_recursion(alloc, &places, word.fpage.rights(), word.flush)
+    held.strip_by_recursion(alloc, &places, word.fpage.rights(), word.flush, notes)
 }
 
 /// Works the words of an unmap as `unmap_words` does, while an observer looks at the entries: once for each word of

@@ -1,5 +1,5 @@
 -- The first places of the outermost runs of held pages stand for all of these pages.
-use Rattle.std.proofs.Common.{◌≡◌, ℕ, zero, suc, ◌<◌, true, ◌||◌, List, [], ◌∷◌, ◌++◌, length, get_or, refl, sym, ap, ◌∙◌, subst, arith, append_assoc, append-nil, ◌⊎◌, inl, inr}
+use Rattle.std.proofs.Common.{◌≡◌, ℕ, zero, suc, ◌<◌, true, ◌||◌, List, [], ◌∷◌, ◌++◌, length, get_or, sym, ap, ◌∙◌, subst, arith, append_assoc, append-nil, ◌⊎◌, inl, inr}
 use Rattle.std.specs.List.{All}
 use Rattle.std.proofs.lemmas.Bool.{and_parts, and_from, or_cases, or_left, or_right}
 use Rattle.std.proofs.lemmas.List.Folds.{list_any-append}
@@ -16,7 +16,7 @@ use Rattle.model.proofs.LawfulParts.{IsLawful, lawful_parts}
 use Rattle.model.proofs.Chains.{below_within, in_below}
 use Rattle.holdings.specs.Contents.{Contents, IsStripped, left_with}
 use Rattle.holdings.specs.Places.{IsWithin, any_of}
-use Rattle.holdings.specs.Inner.Held.{contents_of, links_in, is_place, limits_in, holdings_in, has_entry}
+use Rattle.holdings.specs.Inner.Held.{contents_of, links_in, holdings_in, has_entry}
 use Rattle.holdings.specs.Inner.Sound.{AreSound}
 use Rattle.holdings.specs.Inner.Stripping.{any_page, places_in, HasItsFrame, AreHeldPages, firsts}
 use Rattle.holdings.specs.Inner.StripPlans.{AreFrameRuns, AreOuterPlaces, all_firsts}

@@ -1,16 +1,65 @@
--- What is noted of runs of trees.
-use Rattle.std.specs.Prelude.{◌≡◌, ℕ, ◌<◌, ◌≤◌, Bool, true, List, length, Option, Some, None, if◌then◌else◌}
-use Rattle.std.specs.List.{list_any, slice_range}
-use Rattle.std.specs.Option.{option_or}
+-- What the phases of a call note.
+use Rattle.std.specs.Prelude.{◌≡◌, ℕ, ◌+◌, ◌<◌, ◌≤◌, ◌&&◌, ◌||◌, Bool, true, false, not, List, length, Option, Some, None, if◌then◌else◌}
+use Rattle.std.specs.List.{All, list_any, slice_range}
+use Rattle.std.specs.Option.{option_map_or, option_or}
 use Rattle.std.specs.declared.ops.Range.{Range}
-use Rattle.space.specs.declared.place.Place.{Place}
+use Rattle.fpage.specs.Rights.{is_empty, meet}
+use Rattle.fpage.specs.declared.item.ItemKind.{ItemKind}
+use Rattle.fpage.specs.declared.item.ItemKind.TheVariants.{Map, Grant}
+use Rattle.fpage.specs.declared.rights.Rights.{Rights}
 use Rattle.space.specs.Place.{same_place}
+use Rattle.space.specs.Shards.{entry_at}
+use Rattle.space.specs.declared.place.Place.{Place}
+use Rattle.space.specs.declared.shards.Shards.{Shards}
 use Rattle.maptree.specs.Origins.{Origins, IsRun, place_at}
-use Rattle.model.specs.Definitions.Holdings.{Holdings, PlaceSet, is_held}
-use Rattle.model.specs.Definitions.Derived.{is_below}
+use Rattle.model.specs.Definitions.Strip.{is_narrowed}
+use Rattle.model.specs.Definitions.Holdings.{Holdings, PlaceSet, at, is_held}
 use Rattle.holdings.specs.declared.notes.Note.{Note}
-use Rattle.holdings.specs.Noting.{first_note, AreAdded}
-use Rattle.holdings.specs.Places.{any_of}
+use Rattle.holdings.specs.declared.notes.Notes.{Notes}
+use Rattle.holdings.specs.declared.transfer.Transfer.{Transfer}
+use Rattle.holdings.specs.Noting.{first_note}
+
+-- where notes are asked for, such notes were added
+pub record NotesAdd (IsAdded : List Note → List Note → Type 0) (before after : Notes) : Type 0 where
+  pub asked : after.asked ≡ before.asked
+  pub added : before.asked ≡ true → IsAdded before.list.items after.list.items
+
+-- what a set says now: whether each of its pages is held
+abbrev pub noted_now : Holdings → PlaceSet → Place → Option Bool
+noted_now h set p = if set p then Some (is_held h p) else None
+
+-- the pages of a set were noted behind others, as they are held
+abbrev pub AreAdded : Holdings → PlaceSet → List Note → List Note → Type 0
+AreAdded h set old new = (p : Place) → first_note new p ≡ option_or (first_note old p) (noted_now h set p)
+
+-- ---- transfers
+
+-- whether a page is changed by a transfer whose source is held: it is the target, or by a grant the source
+abbrev pub is_end : Holdings → ItemKind → Place → Transfer → Bool
+is_end h Map p t = is_held h t.source && same_place p t.target
+is_end h Grant p t = is_held h t.source && (same_place p t.target || same_place p t.source)
+
+abbrev pub ends_of : Holdings → ItemKind → List Transfer → PlaceSet
+ends_of h kind ts p = list_any (is_end h kind p) ts
+
+-- a target is held just where its transfer extends, if the source is held
+abbrev pub IsEndReady : Holdings → Transfer → Type 0
+IsEndReady h t = is_held h t.source ≡ true → is_held h t.target ≡ t.extends
+
+abbrev pub AreEndsReady : Holdings → List Transfer → Type 0
+AreEndsReady h ts = All (IsEndReady h) ts
+
+-- ---- strips
+
+-- whether a page holds one of these rights
+abbrev pub loses_at : Holdings → Rights → PlaceSet
+loses_at h a p = option_map_or (λ m. not (is_empty (meet m.rights a))) (at h p) false
+
+-- of the pages that a strip narrows, those that hold one of the revoked rights were noted behind others
+pub record IsStripNoted (h : Holdings) (set : PlaceSet) (revoked : Rights) (flush : Bool) (old new : List Note) : Type 0 where
+  pub noted : PlaceSet
+  pub added : AreAdded h noted old new
+  pub covers : (p : Place) → loses_at h revoked p ≡ true → is_narrowed h set flush p ≡ true → noted p ≡ true
 
 -- the places at the positions of a range
 abbrev pub in_range : Origins → ℕ → ℕ → PlaceSet
@@ -20,22 +69,28 @@ in_range os a b p = list_any (λ o. same_place p o.0) (slice_range os a b)
 abbrev pub all_held : PlaceSet → Place → Option Bool
 all_held set p = if set p then Some true else None
 
--- the run of a place was noted behind others
-pub record IsRunNoted (os : Origins) (p : Place) (old new : List Note) : Type 0 where
+-- whether what the word of a place holds has one of these rights
+abbrev pub loses_in : Shards → Rights → PlaceSet
+loses_in s a p = option_map_or (λ e. not (is_empty (meet e.rights a))) (entry_at s p) false
+
+-- a place was noted behind others, if it holds one of the rights
+abbrev pub IsLoserNoted : Shards → Place → Rights → List Note → List Note → Type 0
+IsLoserNoted s p a old new = (q : Place) → first_note new q ≡ option_or (first_note old q) (if same_place q p && loses_in s a p then Some true else None)
+
+-- of the places at some positions those that hold one of the rights were noted behind others
+abbrev pub AreLosersNoted : Shards → Origins → ℕ → ℕ → Rights → List Note → List Note → Type 0
+AreLosersNoted s os a b revoked old new = (q : Place) → first_note new q ≡ option_or (first_note old q) (all_held (λ r. in_range os a b r && loses_in s revoked r) q)
+
+-- from which position of a run on its places lose rights
+abbrev pub losing_from : Bool → ℕ → ℕ
+losing_from true start = start
+losing_from false start = start + 1
+
+-- of the run of a place those that hold one of the rights were noted behind others, the first one with a flush alone
+pub record IsRunNoted (s : Shards) (os : Origins) (p : Place) (a : Rights) (flush : Bool) (old new : List Note) : Type 0 where
   pub run : Range ℕ
   pub whole : IsRun os run
   pub some : run.start < run.end
   pub within : run.end ≤ length os
   pub first : (d : Place) → place_at os run.start d ≡ p
-  pub adds : (q : Place) → first_note new q ≡ option_or (first_note old q) (all_held (in_range os run.start run.end) q)
-
--- all of a set that are held, and all that derives from them, were noted behind others
-pub record AreBelowNoted (h : Holdings) (set : PlaceSet) (old new : List Note) : Type 0 where
-  pub noted : PlaceSet
-  pub added : AreAdded h noted old new
-  pub covers : (p : Place) → is_held h p ≡ true → is_below h set p ≡ true → noted p ≡ true
-
--- some of these places, and all that is held of the others derives from them
-pub record AreOuter (h : Holdings) (places outer : List Place) : Type 0 where
-  pub named : (q : Place) → any_of outer q ≡ true → any_of places q ≡ true
-  pub covers : (q : Place) → is_held h q ≡ true → any_of places q ≡ true → is_below h (any_of outer) q ≡ true
+  pub adds : AreLosersNoted s os (losing_from flush run.start) run.end a old new

@@ -1,8 +1,7 @@
 -- One frame more.
-use Rattle.std.proofs.Common.{◌≡◌, ◌+◌, ◌++◌, ◌∷◌, [], length, take, sym, ap, ◌∙◌, subst}
+use Rattle.std.proofs.Common.{◌++◌, ◌∷◌, [], length, take, sym, ap, ◌∙◌, subst}
 use Rattle.std.proofs.lemmas.List.{take_all, take_more}
 use Rattle.maptree.specs.Origins.{AreRising, Origins}
-use Rattle.holdings.specs.Inner.Held.{links_in}
 use Rattle.holdings.specs.Inner.Stripping.{firsts}
 use Rattle.holdings.specs.Inner.StripPlans.{HaveRuns, all_firsts}
 use Rattle.holdings.proofs.Contents.Holders.{links_read}

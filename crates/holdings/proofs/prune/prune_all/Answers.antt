@@ -1,15 +1,6 @@
 -- One tree more.
-use Rattle.std.proofs.Common.{◌≡◌, ℕ, ◌<◌, List, length, get_or, slice_set, sym, ap, ◌∙◌, subst}
-use Rattle.std.specs.declared.ops.Range.{Range}
-use Rattle.space.specs.declared.shards.Shards.{Shards}
-use Rattle.maptree.specs.Origins.{Shape}
-use Rattle.holdings.specs.declared.planning.FrameRuns.{FrameRuns}
-use Rattle.holdings.specs.Inner.Held.{links_in}
-use Rattle.holdings.specs.Inner.Links.{IsTreeSet}
-use Rattle.holdings.specs.Inner.Stripping.{pruned}
+use Rattle.std.proofs.Common.{get_or}
 use Rattle.holdings.specs.Inner.StripPlans.{CanBePruned}
-use Rattle.holdings.proofs.Contents.Holders.{links_read}
-use Rattle.holdings.proofs.Links.NewMappings.{tree_set}
 use Rattle.holdings.proofs.Planned.PrunedTrees.{can_next, next_set}
 use Rattle.holdings.proofs.Planned.Trees.{one_pruned}
 use Rattle.holdings.proofs.prune.prune_all.Goals as goal

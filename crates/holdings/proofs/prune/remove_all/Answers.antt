@@ -1,19 +1,17 @@
 -- One tree more.
-use Rattle.std.proofs.Common.{◌≡◌, ℕ, ◌+◌, ◌<◌, true, not, List, drop, length, get_or, slice_set, sym, ap, ◌∙◌, subst}
+use Rattle.std.proofs.Common.{◌≡◌, ℕ, ◌+◌, ◌<◌, true, not, List, drop, length, get_or, sym, ap, ◌∙◌, subst}
 use Rattle.std.specs.List.{list_all}
 use Rattle.std.specs.declared.ops.Range.{Range}
 use Rattle.space.specs.declared.shards.Shards.{Shards}
 use Rattle.maptree.specs.Origins.{Shape}
 use Rattle.holdings.specs.declared.planning.FrameRuns.{FrameRuns}
 use Rattle.holdings.specs.Inner.Held.{links_in, has_entry}
-use Rattle.holdings.specs.Inner.Links.{IsTreeSet}
-use Rattle.holdings.specs.Inner.Stripping.{pruned}
 use Rattle.holdings.specs.Inner.StripPlans.{CanBePruned, in_runs, in_frames}
 use Rattle.holdings.proofs.Contents.Holders.{links_read}
 use Rattle.holdings.proofs.Planned.AllKept.{one_gone, others_stay}
 use Rattle.holdings.proofs.Planned.NoneKept.{gone_next, differ_next}
 use Rattle.holdings.proofs.Planned.PrunedTrees.{can_next, next_set}
-use Rattle.holdings.proofs.Planned.Trees.{ArePrunedUpTo, next_tree, one_pruned, none_pruned}
+use Rattle.holdings.proofs.Planned.Trees.{ArePrunedUpTo, next_tree, one_pruned}
 use Rattle.holdings.proofs.prune.remove_all.Goals as goal
 
 can : (c : goal.After-as_slice) → CanBePruned c.args.shards.now (get_or c.loop-frame.trees c.frame-item.result.frame c.index-trees-frame.result).links c.as_slice.result.now

@@ -1,9 +1,7 @@
 -- The complete space names all pages of the space.
-use Rattle.std.proofs.Common.{true, sym, ap, ◌∙◌, subst}
+use Rattle.std.proofs.Common.{sym, ap, ◌∙◌, subst}
 use Rattle.fpage.specs.Fpage.{IsSpaceBits}
-use Rattle.model.specs.Definitions.Answers.{pages_in}
 use Rattle.model.specs.Definitions.Calls.{Limits}
-use Rattle.mapdb.proofs.Following.{follow_stripped}
 use Rattle.mapdb.proofs.WholeSpaces.{complete_of, complete_within, served_bits, whole_stripped}
 use Rattle.mapdb.proofs.clear.clear_space_by_recursion.Goals as goal
 
@@ -19,13 +17,4 @@ unmap_word_by_recursion-requires-clause-fpage c =
 pub returns-clause-stripped : goal.returns-clause-stripped
 returns-clause-stripped c =
     whole_stripped c.args.held c.limits.ensures.consistent c.args.space c.complete_space.result
-    (c.complete_space.ensures ∙ ap complete_of (ap (λ (l : Limits). l.bits) c.limits.ensures.limits)) c.unmap_word_by_recursion.result c.unmap_word_by_recursion.ensures
-
-pub note_word-requires-clause-fpage : goal.note_word-requires-clause-fpage
-note_word-requires-clause-fpage c =
-    complete_within c.args.held.limits.bits c.complete_space.result
-    (c.complete_space.ensures ∙ ap complete_of (ap (λ (l : Limits). l.bits) c.limits.ensures.limits))
-
-pub returns-clause-noted : goal.returns-clause-noted
-returns-clause-noted c =
-    follow_stripped c.args.held (pages_in c.args.space c.complete_space.result) c.complete_space.result.rights true c.args.notes.now c.note_word.new.notes c.in_ok-note_word.ensures c.unmap_word_by_recursion.result c.unmap_word_by_recursion.ensures
+    (c.complete_space.ensures ∙ ap complete_of (ap (λ (l : Limits). l.bits) c.limits.ensures.limits)) c.unmap_word_by_recursion.result c.unmap_word_by_recursion.ensures.stripped

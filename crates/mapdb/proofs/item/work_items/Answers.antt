@@ -10,7 +10,7 @@ use Rattle.holdings.specs.declared.item_pages.ItemPages.{ItemPages}
 use Rattle.holdings.specs.Contents.{Contents}
 use Rattle.holdings.specs.Noting.{NotesFollow}
 use Rattle.holdings.specs.declared.notes.Notes.{Notes}
-use Rattle.mapdb.proofs.Following.{follow_none, follow_both}
+use Rattle.holdings.proofs.NotedPages.{follow_none, follow_both}
 use Rattle.holdings.specs.Sending.{job_of_pages, AreItemPages}
 use Rattle.mapdb.specs.Meaning.{counts_of}
 use Rattle.mapdb.specs.Sending.{FitsIn, IsSent}

@@ -6,6 +6,10 @@ use Rattle.fpage.specs.declared.item.ItemKind.TheVariants.{Map, Grant}
 use Rattle.model.specs.Definitions.Items.{Counts, add_counts}
 use Rattle.model.specs.Laws.SendLaws.{total}
 use Rattle.holdings.specs.Contents.{Contents}
+use Rattle.holdings.specs.Noting.{NotesFollow}
+use Rattle.holdings.specs.declared.notes.Notes.{Notes}
+use Rattle.holdings.specs.declared.transfer_counts.TransferCounts.{TransferCounts}
+use Rattle.holdings.proofs.NotedPages.{follow_both}
 use Rattle.holdings.specs.Meaning as phase
 use Rattle.holdings.specs.Sending.{IsTransferWithin, ArePlanned}
 use Rattle.mapdb.specs.declared.plan.End.TheVariants.{Source, Target}
@@ -119,3 +123,18 @@ pub returns-clause-few : goal.returns-clause-few
 returns-clause-few g c =
     subst (λ (k : Counts). total k < 2 ^ 32) (sym (counted g c))
     (total_then c.args.held c.args.pages.now c.requires.consistent c.requires.pages c.in_ok-held.held (f g c).left c.match-pages.held (phased g c) (counts_of c.args.phases.now.decided) c.requires.decided)
+
+-- what the phases behind the flush note follows what the flush noted
+pub returns-clause-noted : goal.returns-clause-noted
+returns-clause-noted g c =
+    let flushed = c.in_ok-held.held.holdings in
+    follow_both c.args.held.holdings flushed c.match-pages.held.0.holdings c.args.notes.now c.strip.new.notes c.match-pages.notes c.in_ok-held.ensures.noted
+    (elim c.match-pages.branch [
+      | in-Map+in_ok-map-in-Map w ↦
+          subst (λ (m : Notes). NotesFollow flushed c.match-pages.held.0.holdings c.strip.new.notes m) (sym w.notes-is)
+          (subst (λ (r : Contents × TransferCounts). NotesFollow flushed r.0.holdings c.strip.new.notes w.map.new.notes) (sym w.held-is) w.in_ok-map-in-Map.ensures.noted)
+      | in-Grant+in_ok-held-in-Grant+in_ok-held-in-Grant-2 w ↦
+          subst (λ (m : Notes). NotesFollow flushed c.match-pages.held.0.holdings c.strip.new.notes m) (sym w.notes-is)
+          (subst (λ (r : Contents × TransferCounts). NotesFollow flushed r.0.holdings c.strip.new.notes w.rename.new.notes) (sym w.held-is)
+          (follow_both flushed w.in_ok-held-in-Grant.held.holdings w.in_ok-held-in-Grant-2.held.holdings c.strip.new.notes w.strip-in-Grant.new.notes w.rename.new.notes w.in_ok-held-in-Grant.ensures.noted w.in_ok-held-in-Grant-2.ensures.noted))
+    ])

@@ -1,19 +1,16 @@
 -- One word more.
-use Rattle.std.proofs.Common.{◌≡◌, ◌+◌, ◌<◌, ◌++◌, ◌∷◌, [], Bool, length, get_or, sym, ap, subst, arith, rules}
+use Rattle.std.proofs.Common.{◌≡◌, ◌+◌, ◌<◌, ◌++◌, ◌∷◌, [], Bool, length, get_or, sym, subst, arith, rules}
 use Rattle.fpage.specs.Control.{with_status}
 use Rattle.fpage.specs.Fpage.{Flexpage}
 use Rattle.fpage.specs.declared.rights.Rights.{Rights}
 use Rattle.model.specs.Definitions.Answers.{pages_in}
-use Rattle.model.specs.Definitions.Holdings.{Holdings}
 use Rattle.holdings.specs.Contents.{Contents, IsStripped}
-use Rattle.holdings.specs.Noting.{NotesFollow}
-use Rattle.mapdb.proofs.Following.{follow_both}
+use Rattle.holdings.proofs.NotedPages.{follow_both}
 use Rattle.mapdb.proofs.WordByWord.{AreAnsweredUpTo, one_answer}
 use Rattle.mapdb.proofs.unmap.answer_unmap.Goals as goal
 
 pub loop-i-preserved : goal.loop-i-preserved
 loop-i-preserved g c =
-    let after = ap (λ (k : Contents). k.holdings) c.in_ok-left.ensures.stripped.left in
     let words = c.args.words.now in
     let fpages = c.args.unmap.now.fpages.now in
     let space = c.args.unmap.now.space in
@@ -28,6 +25,6 @@ loop-i-preserved g c =
     record {
       answered = subst (AreAnsweredUpTo c.args.held space flush words fpages (i + 1) c.in_ok-left.left) (sym pushed)
           (one_answer c.args.held space flush words fpages i 0 page within c.loop-i-test.true c.loop-i.held c.loop-i.scratch.words.items c.loop-i.invariant.answered one stripped);
-      noted = follow_both c.args.held.holdings c.loop-i.held.holdings c.in_ok-left.left.holdings c.args.scratch.now.notes c.loop-i.scratch.notes c.note_word.new.notes c.loop-i.invariant.noted
-          (subst (λ (h : Holdings). NotesFollow c.loop-i.held.holdings h c.loop-i.scratch.notes c.note_word.new.notes) (sym after) c.in_ok-note_word.ensures);
+      noted = follow_both c.args.held.holdings c.loop-i.held.holdings c.in_ok-left.left.holdings c.args.scratch.now.notes c.loop-i.scratch.notes c.unmap_word.new.notes c.loop-i.invariant.noted
+          c.in_ok-left.ensures.noted;
     }

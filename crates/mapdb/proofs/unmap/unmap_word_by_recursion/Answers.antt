@@ -11,8 +11,8 @@ pub strip_by_recursion-requires : goal.strip_by_recursion-requires
 strip_by_recursion-requires c =
     held_within c.args.held c.args.word.now.space c.args.word.now.fpage c.pages.result c.pages.ensures.start c.pages.ensures.end c.in_ok-places.places.items c.deref.result.now c.deref.ensures.value c.in_ok-places.ensures.held c.requires.space c.requires.fpage
 
-pub returns : goal.returns
-returns c =
+pub returns-clause-stripped : goal.returns-clause-stripped
+returns-clause-stripped c =
     let word = c.args.word.now.fpage in
     named_stripped c.args.held c.args.word.now.space word c.pages.result c.pages.ensures.start c.pages.ensures.end c.in_ok-places.places.items c.deref.result.now c.deref.ensures.value c.in_ok-places.ensures.held c.held_among.ensures.consistent word.rights c.args.word.now.flush c.strip_by_recursion.result
-    (subst (λ (a : Rights). IfOk c.strip_by_recursion.result (IsStripped c.args.held (any_of c.deref.result.now) a c.args.word.now.flush)) c.rights.ensures c.strip_by_recursion.ensures)
+    (subst (λ (a : Rights). IfOk c.strip_by_recursion.result (IsStripped c.args.held (any_of c.deref.result.now) a c.args.word.now.flush)) c.rights.ensures c.strip_by_recursion.ensures.stripped)

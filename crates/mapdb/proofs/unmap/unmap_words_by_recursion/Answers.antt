@@ -1,12 +1,10 @@
 -- One word more.
-use Rattle.std.proofs.Common.{◌≡◌, ◌+◌, ◌++◌, ◌∷◌, [], sym, ap, subst, get_or, rules, Bool}
+use Rattle.std.proofs.Common.{◌≡◌, ◌+◌, ◌++◌, ◌∷◌, [], sym, subst, get_or, rules, Bool}
 use Rattle.fpage.specs.Fpage.{Flexpage}
 use Rattle.fpage.specs.declared.rights.Rights.{Rights}
 use Rattle.model.specs.Definitions.Answers.{pages_in}
-use Rattle.model.specs.Definitions.Holdings.{Holdings}
 use Rattle.holdings.specs.Contents.{Contents, IsStripped}
-use Rattle.holdings.specs.Noting.{NotesFollow}
-use Rattle.mapdb.proofs.Following.{follow_both}
+use Rattle.holdings.proofs.NotedPages.{follow_both}
 use Rattle.mapdb.proofs.WordByWord.{AreWorkedUpTo, one_word}
 use Rattle.mapdb.proofs.unmap.unmap_words_by_recursion.Goals as goal
 
@@ -21,12 +19,11 @@ loop-fpage-preserved c =
     let item : get_or fpages i word ≡ word = search rules in
     let pushed : c.push.new.self.items ≡ c.loop-fpage.status.items ++ c.in_ok-left.told ∷ [] = search rules in
     let one : Contents × Rights = (c.in_ok-left.left, c.in_ok-left.told) in
-    let stripped = subst (λ (f : Bool). IsStripped c.loop-fpage.held (pages_in space word) word.rights f one) c.is_flush-flush.ensures c.in_ok-left.ensures in
-    let after = ap (λ (k : Contents). k.holdings) c.in_ok-left.ensures.left in
+    let stripped = subst (λ (f : Bool). IsStripped c.loop-fpage.held (pages_in space word) word.rights f one) c.is_flush-flush.ensures c.in_ok-left.ensures.stripped in
     record {
       worked = subst (AreWorkedUpTo old space flush fpages (i + 1) c.in_ok-left.left) (sym pushed)
           (one_word old space flush fpages i word c.loop-fpage-test.true c.loop-fpage.held c.loop-fpage.status.items c.loop-fpage.invariant.worked one
           (subst (λ (w : Flexpage). IsStripped c.loop-fpage.held (pages_in space w) w.rights flush one) (sym item) stripped));
-      noted = follow_both old.holdings c.loop-fpage.held.holdings c.in_ok-left.left.holdings c.args.notes.now c.loop-fpage.notes c.note_word.new.notes c.loop-fpage.invariant.noted
-          (subst (λ (h : Holdings). NotesFollow c.loop-fpage.held.holdings h c.loop-fpage.notes c.note_word.new.notes) (sym after) c.in_ok-note_word.ensures);
+      noted = follow_both old.holdings c.loop-fpage.held.holdings c.in_ok-left.left.holdings c.args.notes.now c.loop-fpage.notes c.unmap_word_by_recursion.new.notes c.loop-fpage.invariant.noted
+          c.in_ok-left.ensures.noted;
     }

@@ -2,20 +2,12 @@
 use Rattle.std.proofs.Common.{List, subst}
 use Rattle.std.specs.List.{All}
 use Rattle.std.proofs.lemmas.Result.{IfOk-weaker}
-use Rattle.space.specs.declared.place.Place.{Place}
-use Rattle.space.specs.declared.shards.Shards.{Shards}
 use Rattle.maptree.specs.Origins.{Shape}
 use Rattle.holdings.specs.Contents.{Contents}
 use Rattle.holdings.specs.Places.{IsWithin}
-use Rattle.holdings.specs.Inner.Held.{holdings_in}
-use Rattle.holdings.specs.Inner.Notes.{AreOuter}
 use Rattle.holdings.specs.Inner.StripPlans.{AreOuterPlaces, StandFor}
 use Rattle.holdings.proofs.Planned.Outermost.{outer_stand, among_within}
 use Rattle.holdings.proofs.holdings.Holdings.outermost.Goals as goal
-
--- in terms of what is held
-outer_of : (s : Shards) (trees : List Shape) (places outer : List Place) → AreOuterPlaces s trees places outer → AreOuter (holdings_in s trees) places outer
-outer_of s trees places outer are = record { named = are.named; covers = are.covers }
 
 pub returns-clause-within : goal.returns-clause-within
 returns-clause-within c =
@@ -30,11 +22,3 @@ returns-clause-stand c =
     IfOk-weaker c.outer_places.result (λ outer. AreOuterPlaces d.shards c.deref.result.now places outer.items) (λ outer. StandFor c.args.self.now places outer.items)
     (λ outer are. subst (λ (old : Contents). StandFor old places outer.items) c.self.view_is
     (outer_stand d.shards d.trees.items c.self.invariant places outer.items (subst (λ (ts : List Shape). AreOuterPlaces d.shards ts places outer.items) c.deref.ensures.value are))) c.outer_places.ensures
-
-pub returns-clause-outer : goal.returns-clause-outer
-returns-clause-outer c =
-    let d = c.self.inside in
-    let places = c.args.places.now in
-    IfOk-weaker c.outer_places.result (λ outer. AreOuterPlaces d.shards c.deref.result.now places outer.items) (λ outer. AreOuter c.args.self.now.holdings places outer.items)
-    (λ outer are. subst (λ (old : Contents). AreOuter old.holdings places outer.items) c.self.view_is
-    (outer_of d.shards d.trees.items places outer.items (subst (λ (ts : List Shape). AreOuterPlaces d.shards ts places outer.items) c.deref.ensures.value are))) c.outer_places.ensures

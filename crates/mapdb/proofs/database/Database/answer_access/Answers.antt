@@ -4,7 +4,7 @@ use Rattle.model.specs.Definitions.Holdings.{Holdings}
 use Rattle.model.specs.Definitions.Changes.{tables_of}
 use Rattle.model.proofs.TableChanges.{access_changes_no_table}
 use Rattle.mapdb.specs.State.{State}
-use Rattle.mapdb.proofs.Following.{none_tell}
+use Rattle.mapdb.proofs.ToldNotes.{none_tell}
 use Rattle.mapdb.proofs.database.Database.answer_access.Goals as goal
 
 pub returns-clause-noted : goal.returns-clause-noted

@@ -1,5 +1,5 @@
 -- What is held is lawful, so the recursion and strip give and leave the same.
-use Rattle.std.proofs.Common.{◌≡◌, true, false, Some, sym, ap, ◌∙◌}
+use Rattle.std.proofs.Common.{◌≡◌, true, false, Some, sym, ap, ◌∙◌, subst}
 use Rattle.fpage.specs.Rights.{all_rights}
 use Rattle.model.specs.Definitions.Answers.{in_space}
 use Rattle.model.specs.Definitions.Holdings.{Holdings}
@@ -9,7 +9,9 @@ use Rattle.model.proofs.LawfulParts.{lawful_parts}
 use Rattle.model.proofs.Recursions.{recursion_is_strip}
 use Rattle.holdings.specs.Contents.{Contents}
 use Rattle.holdings.specs.Meaning.{limits_of}
+use Rattle.mapdb.specs.Noted.{NotesChange}
 use Rattle.mapdb.specs.State.{State, state_of}
+use Rattle.mapdb.proofs.ToldNotes.{change_of}
 use Rattle.mapdb.proofs.database.Database.clear_plain_noted.Goals as goal
 
 module _ (c : goal.Joined-self) where
@@ -36,3 +38,8 @@ returns-clause-recursion_left c =
     let left = ap (λ (k : Contents). k.holdings) c.in_ok-held.ensures.stripped.left ∙ ap (λ (h : Holdings). strip h (in_space c.args.space) all_rights true) (held c) ∙ ap (λ (v : Visited). v.left) (sym (same c)) in
     let layout = ap (λ (k : Contents). k.layout) c.in_ok-held.ensures.stripped.left ∙ ap (λ (s : State). s.layout) (seen c) in
     λ i. record { limits = ap (λ (s : State). s.limits) (seen c) i; holdings = left i; layout = layout i; is_halted = sym (running c) i }
+
+pub returns-clause-noted : goal.returns-clause-noted
+returns-clause-noted c =
+    subst (λ (h : Holdings). NotesChange h c.in_ok-held.held.holdings c.args.notes.now c.keep_told.new.notes) (held c)
+    (change_of c.unwrap-held.result.holdings c.in_ok-held.held.holdings c.args.notes.now c.clear_space_by_recursion.new.notes c.keep_told.new.notes c.in_ok-held.ensures.noted c.keep_told.ensures.asked c.in_ok-keep_told.ensures.told)

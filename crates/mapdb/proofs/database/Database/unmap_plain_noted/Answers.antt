@@ -1,10 +1,13 @@
 -- What is held is lawful, so the recursion and strip give and leave the same.
-use Rattle.std.proofs.Common.{◌≡◌, false, Some, sym, ap, ◌∙◌}
+use Rattle.std.proofs.Common.{◌≡◌, false, Some, sym, ap, ◌∙◌, subst}
+use Rattle.model.specs.Definitions.Holdings.{Holdings}
 use Rattle.model.proofs.LawfulParts.{lawful_parts}
 use Rattle.holdings.specs.Contents.{Contents}
 use Rattle.holdings.specs.Meaning.{limits_of}
+use Rattle.mapdb.specs.Noted.{NotesChange}
 use Rattle.mapdb.specs.State.{State, state_of, unmap_status, unmap_left}
 use Rattle.mapdb.proofs.PlainWords.{plain_status_is, plain_left_is}
+use Rattle.mapdb.proofs.ToldNotes.{change_of}
 use Rattle.mapdb.proofs.database.Database.unmap_plain_noted.Goals as goal
 
 module _ (c : goal.Joined-self) where
@@ -29,3 +32,8 @@ returns-clause-recursion_left c =
     ∙ sym (plain_left_is c.args.unmap.now.space c.args.unmap.now.control.flush c.args.unmap.now.fpages.now c.args.self.now.holdings (lawful_parts c.args.self.now.holdings (c.limits.ensures.lawful (running c)))) in
     let layout = ap (λ (k : Contents). k.layout) c.in_ok-held.ensures.left ∙ ap (λ (s : State). s.layout) (seen c) in
     λ i. record { limits = ap (λ (s : State). s.limits) (seen c) i; holdings = left i; layout = layout i; is_halted = sym (running c) i }
+
+pub returns-clause-noted : goal.returns-clause-noted
+returns-clause-noted c =
+    subst (λ (h : Holdings). NotesChange h c.in_ok-held.held.holdings c.args.notes.now c.keep_told.new.notes) (held c)
+    (change_of c.unwrap-held.result.holdings c.in_ok-held.held.holdings c.args.notes.now c.unmap_words_by_recursion.new.notes c.keep_told.new.notes c.in_ok-held.ensures.noted c.keep_told.ensures.asked c.in_ok-keep_told.ensures.told)

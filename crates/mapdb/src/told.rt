@@ -1,0 +1,110 @@
+//! What the notes of a call tell, once it was worked.
+
+ghost use Rattle.std.specs.Prelude.{◌≡◌, Some, filter, IfOk, OnOk};
+ghost use Rattle.std.specs.List.{list_all};
+ghost use Rattle.std.specs.BTreeMap.{get};
+ghost use Rattle.fpage.specs.Fpage.{IsSpaceBits};
+ghost use Rattle.space.specs.Directory.{pages_of};
+ghost use Rattle.space.specs.Place.{place_cmp};
+ghost use Rattle.space.specs.declared.place.Place.{Place};
+ghost use Rattle.model.specs.Definitions.Holdings.{is_held};
+ghost use Rattle.holdings.specs.Noting.{first_note};
+ghost use Rattle.holdings.specs.declared.notes.Note.{Note};
+ghost use Rattle.mapdb.specs.Noted.{is_told, unless_held, Tells};
+
+use holdings::{Holdings, Note, Notes};
+use space::{NoMemory, Place};
+use std::alloc::{AllocError, Global};
+use std::collections::BTreeMap;
+
+/// Takes from the notes of a call the pages that were held neither before it nor after it: what one item of a send
+/// mapped, and a later item took away.
+///
+/// Refused, where memory is: `NoMemory`.
+pub fn keep_told(alloc: Global, held: &Holdings, notes: &mut Notes) -> Result<(), NoMemory>
+    ensures asked { notes.new.asked ≡ notes.old.asked }
+    ensures told { OnOk result (Tells held.now.holdings notes.old.list.items notes.new.list.items) }
+{
+    if are_told(held, &notes.list) {
+        return Ok(());
+    }
+    let firsts = first_notes(alloc, held, &notes.list)?;
+    notes.list = told_notes(alloc, held, &firsts, &notes.list)?;
+    Ok(())
+}
+
+/// Whether each page was held when it was noted, or is held now.
+fn are_told(held: &Holdings, notes: &[Note]) -> bool
+    ensures { result ≡ list_all (λ n. is_told (Some n.was_held) (is_held held.now.holdings n.place)) notes.now }
+{
+    for note in notes {
+        if !is_told(held, Some(note.was_held), note.place) {
+            return false;
+        }
+    }
+    true
+}
+
+/// What the first note says of each page that is held no longer.
+fn first_notes(
+    alloc: Global,
+    held: &Holdings,
+    notes: &[Note],
+) -> Result<BTreeMap<Place, bool>, AllocError>
+    ensures { IfOk result (λ firsts. (p : Place) → get place_cmp firsts p ≡ unless_held (is_held held.now.holdings p) (first_note notes.now p)) }
+{
+    let mut firsts = BTreeMap::new(alloc);
+    // From the last note on, so that an earlier one takes the place of a later one.
+    for i in 0..notes.len() {
+        let note = notes[notes.len() - 1 - i];
+        if !is_held(held, note.place) {
+            firsts.insert(note.place, note.was_held)?;
+        }
+    }
+    Ok(firsts)
+}
+
+/// The notes of pages whose first note says that they were held, or that are held now.
+fn told_notes(
+    alloc: Global,
+    held: &Holdings,
+    firsts: &BTreeMap<Place, bool>,
+    notes: &[Note],
+) -> Result<Vec<Note>, AllocError>
+    ensures { IfOk result (λ told. told.items ≡ filter (λ n. is_told (get place_cmp firsts.now n.place) (is_held held.now.holdings n.place)) notes.now) }
+{
+    let mut told = Vec::with_capacity(alloc, notes.len())?;
+    for note in notes {
+        let first = firsts.get(&note.place).copied();
+        if is_told(held, first, note.place) {
+            told.push(*note)?;
+        }
+    }
+    Ok(told)
+}
+
+/// Whether a page was held before the call, as its first note says, or is held now.
+fn is_told(held: &Holdings, first: Option<bool>, place: Place) -> bool
+    ensures { result ≡ is_told first (is_held held.now.holdings place) }
+{
+    first == Some(true) || is_held(held, place)
+}
+
+/// Whether a page holds something, also one of no space.
+fn is_held(held: &Holdings, place: Place) -> bool
+    ensures { result ≡ is_held held.now.holdings place }
+{
+    let limits = held.limits();
+    if u32::from(place.space) >= limits.spaces || place.page >= pages(limits.bits) {
+        return false;
+    }
+    held.entry(place).is_some()
+}
+
+/// How many pages a space of `2^bits` bytes has.
+fn pages(bits: u32) -> u32
+    requires { IsSpaceBits bits }
+    ensures { result ≡ pages_of bits }
+{
+    1 << (bits - 12)
+}
