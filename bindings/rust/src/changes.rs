@@ -13,7 +13,7 @@ pub struct TableEntry {
     pub rights: Rights,
 }
 
-/// A page whose frame or rights a call may have changed, and what it holds now.
+/// A page that a call noted, and what it holds now.
 #[derive(Clone, Copy, Debug, PartialEq, Eq)]
 pub struct Change {
     /// The page.
@@ -40,7 +40,7 @@ const SOME: usize = 32;
 /// What the last call changed, page by page. It takes no memory but its own.
 ///
 /// ```
-/// use l4map::{Database, Fpage, Item, Limits, Place, Rights, Space, TableEntry};
+/// use l4map::{Database, Fpage, Item, Limits, Page, Place, Rights, Space, TableEntry};
 /// use std::collections::HashMap;
 ///
 /// /// The page tables of a kernel.
@@ -61,12 +61,12 @@ const SOME: usize = 32;
 /// let mut tables = Tables::new();
 /// database.note_changes(true)?;
 ///
-/// let (window, page) = (Fpage::complete(Rights::NONE), Fpage::page(0, Rights::READ));
-/// database.send(Space(0), Space(1), window, &[Item::map(page, 0)])?;
+/// let (window, page) = (Fpage::complete(Rights::NONE), Fpage::page(Page(0), Rights::READ));
+/// database.send(Space(0), Space(1), window, &[Item::map(page, Page(0))])?;
 /// follow(&mut tables, &database)?;
-/// database.send(Space(1), Space(2), window, &[Item::map(page, 4)])?;
+/// database.send(Space(1), Space(2), window, &[Item::map(page, Page(4))])?;
 /// follow(&mut tables, &database)?;
-/// let client = Place { space: Space(2), page: 4 };
+/// let client = Place { space: Space(2), page: Page(4) };
 /// assert_eq!(tables[&client], TableEntry { frame: 0, rights: Rights::READ });
 ///
 /// // The page is taken from space 1, and so from space 2.

@@ -5,7 +5,7 @@ use core::ptr::null_mut;
 use crate::changes::Changes;
 use crate::mappings::Mappings;
 use crate::raw;
-use crate::{Error, Fpage, Item, Place, Rights, Space};
+use crate::{Error, Fpage, Item, Page, Place, Rights, Space};
 
 /// How much a database is for.
 #[derive(Clone, Copy, Debug, PartialEq, Eq)]
@@ -43,19 +43,19 @@ impl Access {
 /// How many pages of a send had which outcome.
 ///
 /// ```
-/// use l4map::{Counts, Database, Fpage, Item, Limits, Rights, Space};
+/// use l4map::{Counts, Database, Fpage, Item, Limits, Page, Rights, Space};
 ///
 /// # fn main() -> Result<(), l4map::Error> {
 /// let mut database = Database::new(Limits { spaces: 2, bits: 18, frames: 3 })?;
 /// let window = Fpage::complete(Rights::NONE);
 ///
 /// // Of the first four pages space 0 holds three.
-/// let read = Item::map(Fpage::pages(0, 4, Rights::READ).unwrap(), 0);
+/// let read = Item::map(Fpage::pages(Page(0), 4, Rights::READ).unwrap(), Page(0));
 /// let counts = database.send(Space(0), Space(1), window, &[read])?;
 /// assert_eq!(counts, Counts { absent: 1, linked: 3, ..Counts::default() });
 ///
 /// // Space 1 has page 0 already, and gets the right to write it too.
-/// let write = Item::map(Fpage::page(0, Rights::WRITE), 0);
+/// let write = Item::map(Fpage::page(Page(0), Rights::WRITE), Page(0));
 /// let counts = database.send(Space(0), Space(1), window, &[write])?;
 /// assert_eq!(counts, Counts { extended: 1, ..Counts::default() });
 /// # Ok(())
@@ -98,14 +98,14 @@ pub struct Entry {
 /// `Sync`. Threads or processors share it under a lock:
 ///
 /// ```
-/// use l4map::{Database, Fpage, Item, Limits, Rights, Space};
+/// use l4map::{Database, Fpage, Item, Limits, Page, Rights, Space};
 /// use std::sync::Mutex;
 /// use std::thread;
 ///
 /// # fn main() -> Result<(), l4map::Error> {
 /// let database = Mutex::new(Database::new(Limits { spaces: 3, bits: 18, frames: 1 })?);
 /// let window = Fpage::complete(Rights::NONE);
-/// let item = Item::map(Fpage::page(0, Rights::READ), 7);
+/// let item = Item::map(Fpage::page(Page(0), Rights::READ), Page(7));
 /// thread::scope(|threads| {
 ///     for space in [Space(1), Space(2)] {
 ///         let database = &database;
@@ -193,12 +193,12 @@ impl Database {
     /// its rights: what was seen of its pages and of all that derives from them. That status is cleared.
     ///
     /// ```
-    /// use l4map::{Access, Database, Fpage, Item, Limits, Rights, Space};
+    /// use l4map::{Access, Database, Fpage, Item, Limits, Page, Rights, Space};
     ///
     /// # fn main() -> Result<(), l4map::Error> {
     /// let mut database = Database::new(Limits { spaces: 2, bits: 18, frames: 1 })?;
-    /// let page = Fpage::page(0, Rights::ALL);
-    /// database.send(Space(0), Space(1), Fpage::complete(Rights::NONE), &[Item::map(page, 0)])?;
+    /// let page = Fpage::page(Page(0), Rights::ALL);
+    /// database.send(Space(0), Space(1), Fpage::complete(Rights::NONE), &[Item::map(page, Page(0))])?;
     /// database.access(Space(1), 0, Access::Write)?;
     ///
     /// let mut fpages = [page.with_rights(Rights::WRITE)];
@@ -261,14 +261,14 @@ impl Database {
     /// these, which also goes to the pages from which they came. The space may be used again.
     ///
     /// ```
-    /// use l4map::{Access, Database, Fpage, Item, Limits, Rights, Space};
+    /// use l4map::{Access, Database, Fpage, Item, Limits, Page, Rights, Space};
     ///
     /// # fn main() -> Result<(), l4map::Error> {
     /// let mut database = Database::new(Limits { spaces: 3, bits: 18, frames: 2 })?;
     /// let window = Fpage::complete(Rights::NONE);
-    /// let pages = Fpage::pages(0, 2, Rights::ALL).unwrap();
-    /// database.send(Space(0), Space(1), window, &[Item::map(pages, 0)])?;
-    /// database.send(Space(1), Space(2), window, &[Item::map(pages, 0)])?;
+    /// let pages = Fpage::pages(Page(0), 2, Rights::ALL).unwrap();
+    /// database.send(Space(0), Space(1), window, &[Item::map(pages, Page(0))])?;
+    /// database.send(Space(1), Space(2), window, &[Item::map(pages, Page(0))])?;
     /// database.access(Space(2), 0x1000, Access::Write)?;
     ///
     /// assert_eq!(database.clear(Space(1))?, Rights::READ | Rights::WRITE);
@@ -312,16 +312,16 @@ impl Database {
     /// What a page holds, if it holds something.
     ///
     /// ```
-    /// use l4map::{Access, Database, Entry, Limits, Place, Rights, Space};
+    /// use l4map::{Access, Database, Entry, Limits, Page, Place, Rights, Space};
     ///
     /// # fn main() -> Result<(), l4map::Error> {
     /// let mut database = Database::new(Limits { spaces: 2, bits: 18, frames: 3 })?;
     /// database.access(Space(0), 0x2abc, Access::Read)?;
     ///
-    /// let page_2 = Place { space: Space(0), page: 2 };
+    /// let page_2 = Place { space: Space(0), page: Page(2) };
     /// let read = Entry { frame: 2, rights: Rights::ALL, status: Rights::READ };
     /// assert_eq!(database.entry(page_2)?, Some(read));
-    /// assert_eq!(database.entry(Place { page: 3, ..page_2 })?, None);
+    /// assert_eq!(database.entry(Place { page: Page(3), ..page_2 })?, None);
     /// # Ok(())
     /// # }
     /// ```
@@ -334,7 +334,7 @@ impl Database {
         // SAFETY: the reply is lent for the call, and no other call runs: this thread makes one at a time, and no other
         // has the database too, since it is not `Sync`.
         Error::check(unsafe {
-            raw::l4map_entry(self.handle.get(), place.space.0, place.page, &mut reply)
+            raw::l4map_entry(self.handle.get(), place.space.0, place.page.0, &mut reply)
         })?;
         Ok((reply.held == 1).then(|| Entry {
             frame: reply.frame,
@@ -346,15 +346,15 @@ impl Database {
     /// From which page a page came, if it is held and came from another.
     ///
     /// ```
-    /// use l4map::{Database, Fpage, Item, Limits, Place, Rights, Space};
+    /// use l4map::{Database, Fpage, Item, Limits, Page, Place, Rights, Space};
     ///
     /// # fn main() -> Result<(), l4map::Error> {
     /// let mut database = Database::new(Limits { spaces: 2, bits: 18, frames: 1 })?;
-    /// let item = Item::map(Fpage::page(0, Rights::ALL), 9);
+    /// let item = Item::map(Fpage::page(Page(0), Rights::ALL), Page(9));
     /// database.send(Space(0), Space(1), Fpage::complete(Rights::NONE), &[item])?;
     ///
-    /// let root = Place { space: Space(0), page: 0 };
-    /// assert_eq!(database.origin(Place { space: Space(1), page: 9 })?, Some(root));
+    /// let root = Place { space: Space(0), page: Page(0) };
+    /// assert_eq!(database.origin(Place { space: Space(1), page: Page(9) })?, Some(root));
     /// assert_eq!(database.origin(root)?, None);
     /// # Ok(())
     /// # }
@@ -367,7 +367,7 @@ impl Database {
         let mut reply = raw::OriginReply::default();
         // SAFETY: as in `entry`.
         Error::check(unsafe {
-            raw::l4map_origin(self.handle.get(), place.space.0, place.page, &mut reply)
+            raw::l4map_origin(self.handle.get(), place.space.0, place.page.0, &mut reply)
         })?;
         Ok((reply.known == 1).then(|| place_of(reply.space, reply.page)))
     }
@@ -385,11 +385,11 @@ impl Database {
     /// next space; past the last space there are no mappings.
     ///
     /// ```
-    /// use l4map::{Database, Limits, Place, Space};
+    /// use l4map::{Database, Limits, Page, Place, Space};
     ///
     /// # fn main() -> Result<(), l4map::Error> {
     /// let database = Database::new(Limits { spaces: 2, bits: 18, frames: 5 })?;
-    /// assert_eq!(database.mappings_from(Place { space: Space(0), page: 3 })?.count(), 2);
+    /// assert_eq!(database.mappings_from(Place { space: Space(0), page: Page(3) })?.count(), 2);
     /// # Ok(())
     /// # }
     /// ```
@@ -399,6 +399,15 @@ impl Database {
     /// [`Error::Halted`].
     pub fn mappings_from(&self, place: Place) -> Result<Mappings<'_>, Error> {
         Mappings::from(self, place)
+    }
+
+    /// Every mapping of a space, by rising page. A space past the last one has none.
+    ///
+    /// # Errors
+    ///
+    /// [`Error::Halted`].
+    pub fn mappings_of(&self, space: Space) -> Result<Mappings<'_>, Error> {
+        Mappings::of(self, space)
     }
 
     /// Says whether calls note which pages they change, from the next call on. At the start they do not. What was noted
@@ -416,7 +425,7 @@ impl Database {
 
     /// What the last send, unmap, clear or access changed, if that was noted: every page whose frame or rights it
     /// changed, in whatever space, with what the page holds now. A page may come more than once, with the same entry,
-    /// and a page that did not change may come too.
+    /// and a page may come that holds what it held before, but none that was held neither before nor after.
     ///
     /// A kernel asks for notes once. It reads the changes after each call that was done, and makes each in its page
     /// tables. After a call that was refused it has nothing to do.
@@ -510,14 +519,14 @@ fn control(n: usize) -> u32 {
 pub(crate) fn place_of(space: u32, page: u32) -> Place {
     Place {
         space: Space(space as u16),
-        page,
+        page: Page(page),
     }
 }
 
 #[cfg(test)]
 mod tests {
     use super::{Access, Counts, Database, Entry, Limits};
-    use crate::{Error, Fpage, Item, Place, Rights, Space};
+    use crate::{Error, Fpage, Item, Page, Place, Rights, Space};
     use std::{thread, vec};
 
     const WINDOW: Fpage = Fpage::complete(Rights::NONE);
@@ -534,7 +543,7 @@ mod tests {
     fn place(space: u16, page: u32) -> Place {
         Place {
             space: Space(space),
-            page,
+            page: Page(page),
         }
     }
 
@@ -578,29 +587,32 @@ mod tests {
     fn outcomes_of_a_send() {
         let mut database = small();
         let (low, high) = (Space(0), Space(1));
-        let pages = |first, pages| Fpage::pages(first, pages, Rights::ALL).unwrap();
+        let pages = |first, pages| Fpage::pages(Page(first), pages, Rights::ALL).unwrap();
         let mut send = |from, to, items: &[Item]| database.send(from, to, WINDOW, items).unwrap();
-        send(low, high, &[Item::map(pages(0, 32), 0)]);
+        send(low, high, &[Item::map(pages(0, 32), Page(0))]);
         send(
             low,
             high,
-            &[Item::map(pages(5, 1), 40), Item::map(pages(7, 1), 41)],
+            &[
+                Item::map(pages(5, 1), Page(40)),
+                Item::map(pages(7, 1), Page(41)),
+            ],
         );
         send(
             high,
             low,
-            &[Item::map(pages(0, 4).with_rights(Rights::READ), 32)],
+            &[Item::map(pages(0, 4).with_rights(Rights::READ), Page(32))],
         );
         let counts = send(
             high,
             low,
             &[
-                Item::map(pages(48, 16), 0),
-                Item::map(pages(8, 8).with_rights(Rights::NONE), 0),
-                Item::map(pages(0, 2), 0),
-                Item::map(pages(40, 2), 4),
-                Item::map(pages(0, 4), 32),
-                Item::map(pages(16, 16), 48),
+                Item::map(pages(48, 16), Page(0)),
+                Item::map(pages(8, 8).with_rights(Rights::NONE), Page(0)),
+                Item::map(pages(0, 2), Page(0)),
+                Item::map(pages(40, 2), Page(4)),
+                Item::map(pages(0, 4), Page(32)),
+                Item::map(pages(16, 16), Page(48)),
             ],
         );
         let wanted = Counts {
@@ -619,9 +631,9 @@ mod tests {
     #[test]
     fn a_grant_moves_the_page() {
         let mut database = small();
-        let page = Fpage::page(3, Rights::READ);
+        let page = Fpage::page(Page(3), Rights::READ);
         let counts = database
-            .send(Space(0), Space(2), WINDOW, &[Item::grant(page, 9)])
+            .send(Space(0), Space(2), WINDOW, &[Item::grant(page, Page(9))])
             .unwrap();
         assert_eq!(counts.linked, 1);
         let granted = Entry {
@@ -636,7 +648,7 @@ mod tests {
     #[test]
     fn refusals_of_a_send() {
         let mut database = small();
-        let good = Item::map(Fpage::page(0, Rights::ALL), 0);
+        let good = Item::map(Fpage::page(Page(0), Rights::ALL), Page(0));
         let item = |fpage| Item::from_words([8, fpage]);
         for (from, to, window, items, why) in [
             (9, 9, 0xb7, vec![], Error::BadCall),
@@ -666,13 +678,16 @@ mod tests {
     #[test]
     fn an_unmap_reports_and_a_flush_takes() {
         let mut database = small();
-        let (page, all) = (Fpage::page(0, Rights::ALL), Space(0));
+        let (page, all) = (Fpage::page(Page(0), Rights::ALL), Space(0));
         database
-            .send(all, Space(1), WINDOW, &[Item::map(page, 6)])
+            .send(all, Space(1), WINDOW, &[Item::map(page, Page(6))])
             .unwrap();
         assert_eq!(database.access(Space(1), 0x6fff, Access::Execute), Ok(true));
         assert_eq!(database.access(Space(1), 0x7000, Access::Read), Ok(false));
-        let mut fpages = [page.with_rights(Rights::NONE), Fpage::page(1, Rights::NONE)];
+        let mut fpages = [
+            page.with_rights(Rights::NONE),
+            Fpage::page(Page(1), Rights::NONE),
+        ];
         database.unmap(all, &mut fpages).unwrap();
         assert_eq!(fpages.map(Fpage::word), [0xc5, 0x10c0]);
         assert_eq!(
@@ -721,7 +736,7 @@ mod tests {
     fn a_clear_takes_all_pages_from_a_space() {
         let mut database = small();
         for (from, page) in [(0, 5), (1, 0)] {
-            let item = Item::map(Fpage::page(page, Rights::ALL), 0);
+            let item = Item::map(Fpage::page(Page(page), Rights::ALL), Page(0));
             database
                 .send(Space(from), Space(from + 1), WINDOW, &[item])
                 .unwrap();
@@ -778,7 +793,7 @@ mod tests {
         assert_eq!(database.entry(place(1, 1_048_576)), Err(Error::OutOfSpace));
         let held: vec::Vec<_> = database.mappings().unwrap().map(|m| m.place).collect();
         assert_eq!((held.len(), held[15]), (16, last));
-        let all = Fpage::pages(0, 1_048_576, Rights::WRITE).unwrap();
+        let all = Fpage::pages(Page(0), 1_048_576, Rights::WRITE).unwrap();
         assert_eq!(database.unmap_page(Space(0), all), Ok(rights));
         assert_eq!(database.entry(last).unwrap().unwrap().rights, Rights::READ);
         let past = Fpage::from_word(0x217);
@@ -787,12 +802,12 @@ mod tests {
 
     #[test]
     fn a_database_goes_to_another_thread_and_back() {
-        let (mut database, page) = (small(), Fpage::page(4, Rights::READ));
-        let item = Item::map(page, 6);
+        let (mut database, page) = (small(), Fpage::page(Page(4), Rights::READ));
+        let item = Item::map(page, Page(6));
         database.send(Space(0), Space(1), WINDOW, &[item]).unwrap();
         let there = thread::spawn(move || {
             assert_eq!(database.access(Space(1), 0x6000, Access::Read), Ok(true));
-            let item = Item::map(Fpage::page(6, Rights::READ), 8);
+            let item = Item::map(Fpage::page(Page(6), Rights::READ), Page(8));
             database.send(Space(1), Space(2), WINDOW, &[item]).unwrap();
             database
         });

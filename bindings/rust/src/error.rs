@@ -3,11 +3,11 @@ use core::fmt;
 /// Why a call was refused. A refused call changes nothing, but the one that answers [`Error::Halted`] first.
 ///
 /// ```
-/// use l4map::{Database, Error, Fpage, Item, Limits, Rights, Space};
+/// use l4map::{Database, Error, Fpage, Item, Limits, Page, Rights, Space};
 ///
 /// # fn main() -> Result<(), l4map::Error> {
 /// let mut database = Database::new(Limits { spaces: 2, bits: 18, frames: 1 })?;
-/// let (window, item) = (Fpage::complete(Rights::NONE), Item::map(Fpage::page(0, Rights::ALL), 0));
+/// let (window, item) = (Fpage::complete(Rights::NONE), Item::map(Fpage::page(Page(0), Rights::ALL), Page(0)));
 ///
 /// let refused = database.send(Space(0), Space(2), window, &[item]).unwrap_err();
 /// assert_eq!(refused, Error::NoSuchSpace);

@@ -5,7 +5,7 @@
 //! client has lost it too:
 //!
 //! ```
-//! use l4map::{Access, Database, Fpage, Item, Limits, Rights, Space};
+//! use l4map::{Access, Database, Fpage, Item, Limits, Page, Rights, Space};
 //!
 //! const SIGMA0: Space = Space(0);
 //! const PAGER: Space = Space(1);
@@ -14,12 +14,12 @@
 //! # fn main() -> Result<(), l4map::Error> {
 //! let mut database = Database::new(Limits { spaces: 3, bits: 18, frames: 2 })?;
 //! let window = Fpage::complete(Rights::NONE);
-//! let page = Fpage::page(0, Rights::ALL);
+//! let page = Fpage::page(Page(0), Rights::ALL);
 //!
-//! let counts = database.send(SIGMA0, PAGER, window, &[Item::map(page, 0)])?;
+//! let counts = database.send(SIGMA0, PAGER, window, &[Item::map(page, Page(0))])?;
 //! assert_eq!(counts.linked, 1);
 //! let to_read = page.with_rights(Rights::READ | Rights::EXECUTE);
-//! database.send(PAGER, CLIENT, window, &[Item::map(to_read, 4)])?;
+//! database.send(PAGER, CLIENT, window, &[Item::map(to_read, Page(4))])?;
 //!
 //! assert!(database.access(CLIENT, 0x4abc, Access::Read)?);
 //! assert!(!database.access(CLIENT, 0x4abc, Access::Write)?);
@@ -59,4 +59,4 @@ pub use database::{version, Access, Counts, Database, Entry, Limits};
 pub use error::Error;
 pub use mappings::{Mapping, Mappings};
 pub use rights::Rights;
-pub use words::{Fpage, Item, Place, Space};
+pub use words::{Fpage, Item, Page, Place, Space};

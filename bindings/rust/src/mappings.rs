@@ -2,7 +2,7 @@ use core::fmt;
 
 use crate::database::place_of;
 use crate::raw;
-use crate::{Database, Error, Place, Rights};
+use crate::{Database, Error, Page, Place, Rights, Space};
 
 /// What a page holds, and from which page it came.
 #[derive(Clone, Copy, Debug, PartialEq, Eq)]
@@ -43,7 +43,7 @@ const SOME: usize = 16;
 /// let database = Database::new(Limits { spaces: 2, bits: 18, frames: 2 })?;
 /// for mapping in database.mappings()? {
 ///     assert_eq!(mapping.rights, Rights::ALL);
-///     assert_eq!(mapping.place.page, mapping.frame);
+///     assert_eq!(mapping.place.page.0, mapping.frame);
 ///     assert_eq!(mapping.origin, None);
 /// }
 /// # Ok(())
@@ -54,19 +54,33 @@ pub struct Mappings<'a> {
     some: [raw::Mapping; SOME],
     count: usize,
     given: usize,
+    /// The space of all of them, if they are those of one.
+    only: Option<Space>,
 }
 
 impl<'a> Mappings<'a> {
     /// Those of a database at or behind a page.
     pub(crate) fn from(database: &'a Database, place: Place) -> Result<Mappings<'a>, Error> {
         let mut some = [raw::Mapping::default(); SOME];
-        let count = database.read_mappings(place.space.0, place.page, &mut some)?;
+        let count = database.read_mappings(place.space.0, place.page.0, &mut some)?;
         Ok(Mappings {
             database,
             some,
             count,
             given: 0,
+            only: None,
         })
+    }
+
+    /// Those of one space.
+    pub(crate) fn of(database: &'a Database, space: Space) -> Result<Mappings<'a>, Error> {
+        let first = Place {
+            space,
+            page: Page(0),
+        };
+        let mut mappings = Mappings::from(database, first)?;
+        mappings.only = Some(space);
+        Ok(mappings)
     }
 
     /// Asks for those behind the last one, if there may be more.
@@ -90,9 +104,15 @@ impl Iterator for Mappings<'_> {
         if self.given == self.count {
             self.go_on();
         }
-        let mapping = self.some[..self.count].get(self.given)?;
+        let mapping = Mapping::from(self.some[..self.count].get(self.given)?);
+        if self.only.is_some_and(|space| space != mapping.place.space) {
+            // All others are behind the space, so the end stays the end.
+            self.given = 0;
+            self.count = 0;
+            return None;
+        }
         self.given += 1;
-        Some(mapping.into())
+        Some(mapping)
     }
 }
 
@@ -105,7 +125,7 @@ impl fmt::Debug for Mappings<'_> {
 #[cfg(test)]
 mod tests {
     use super::Mapping;
-    use crate::{Access, Database, Fpage, Item, Limits, Place, Rights, Space};
+    use crate::{Access, Database, Fpage, Item, Limits, Page, Place, Rights, Space};
     use std::vec::Vec;
 
     /// The pages 0 to 32 of space 0, of which so many are held, and the same in space 1.
@@ -117,11 +137,11 @@ mod tests {
         };
         let mut database = Database::new(limits).unwrap();
         let (all, some) = (Fpage::complete(Rights::ALL), Rights::READ | Rights::EXECUTE);
-        let item = Item::map(all.with_rights(some), 0);
+        let item = Item::map(all.with_rights(some), Page(0));
         database.send(Space(0), Space(1), all, &[item]).unwrap();
         let place = |space, page| Place {
             space: Space(space),
-            page,
+            page: Page(page),
         };
         let root = |page| Mapping {
             place: place(0, page),
@@ -167,10 +187,23 @@ mod tests {
         ] {
             let start = Place {
                 space: Space(space),
-                page,
+                page: Page(page),
             };
             let told: Vec<_> = database.mappings_from(start).unwrap().collect();
             assert_eq!(told, wanted[before..], "{start}");
+        }
+    }
+
+    #[test]
+    fn mappings_of_one_space() {
+        for frames in [1, 8, 9, 32, 64] {
+            let (database, wanted) = held_twice(frames);
+            let half = frames as usize;
+            for (space, of) in [(0, &wanted[..half]), (1, &wanted[half..]), (2, &[])] {
+                let mut mappings = database.mappings_of(Space(space)).unwrap();
+                assert_eq!(mappings.by_ref().collect::<Vec<_>>(), of);
+                assert_eq!(mappings.next(), None);
+            }
         }
     }
 

@@ -8,27 +8,53 @@ const PAGE_BYTES: u32 = 1 << PAGE_BITS;
 /// How many pages a space has at most: those of all addresses of 32 bits.
 const PAGES: u32 = 1 << (u32::BITS - PAGE_BITS);
 
-/// The first address of a page.
-///
-/// # Panics
-///
-/// If the page has no address of 32 bits.
-const fn address(page: u32) -> u32 {
-    assert!(page < PAGES, "pages are 0 to 1,048,575");
-    page * PAGE_BYTES
-}
-
 /// An address space, by its number from 0.
 #[derive(Clone, Copy, Debug, PartialEq, Eq, PartialOrd, Ord, Hash)]
 pub struct Space(pub u16);
 
-/// A page of a space, by its number from 0: page `i` has the addresses from `4096 * i` on.
+/// A page of a space, by its number from 0: page `i` has the addresses from `4096 * i` on. The largest space has the
+/// pages 0 to 1,048,575.
+///
+/// ```
+/// use l4map::Page;
+///
+/// assert_eq!(Page::at(0x5abc), Page(5));
+/// assert_eq!(Page(5).address(), 0x5000);
+/// ```
+#[derive(Clone, Copy, Debug, PartialEq, Eq, PartialOrd, Ord, Hash)]
+pub struct Page(pub u32);
+
+impl Page {
+    /// The page that has an address.
+    pub const fn at(address: u32) -> Page {
+        Page(address / PAGE_BYTES)
+    }
+
+    /// The first address of the page.
+    ///
+    /// # Panics
+    ///
+    /// If the page is not below 2^20: the addresses of the largest space have 32 bits.
+    pub const fn address(self) -> u32 {
+        assert!(self.0 < PAGES, "pages are 0 to 1,048,575");
+        self.0 * PAGE_BYTES
+    }
+}
+
+/// The number.
+impl fmt::Display for Page {
+    fn fmt(&self, f: &mut fmt::Formatter<'_>) -> fmt::Result {
+        self.0.fmt(f)
+    }
+}
+
+/// A page of one of the spaces.
 #[derive(Clone, Copy, Debug, PartialEq, Eq, PartialOrd, Ord, Hash)]
 pub struct Place {
     /// The space.
     pub space: Space,
     /// The page of the space.
-    pub page: u32,
+    pub page: Page,
 }
 
 /// The space and the page, as `2:4`.
@@ -42,11 +68,11 @@ impl fmt::Display for Place {
 /// a multiple of that number.
 ///
 /// ```
-/// use l4map::{Fpage, Rights};
+/// use l4map::{Fpage, Page, Rights};
 ///
-/// let fpage = Fpage::pages(4, 4, Rights::ALL).unwrap();
+/// let fpage = Fpage::pages(Page(4), 4, Rights::ALL).unwrap();
 /// assert_eq!(fpage.word(), 0x40e7);
-/// assert_eq!(Fpage::page(5, Rights::READ | Rights::WRITE).word(), 0x50c6);
+/// assert_eq!(Fpage::page(Page(5), Rights::READ | Rights::WRITE).word(), 0x50c6);
 /// assert_eq!(Fpage::complete(Rights::READ).word(), 0x14);
 /// ```
 #[repr(transparent)]
@@ -62,17 +88,17 @@ impl Fpage {
     /// # Panics
     ///
     /// If the page is not below 2^20: the addresses of the largest space have 32 bits.
-    pub const fn page(page: u32, rights: Rights) -> Fpage {
-        Fpage(address(page) + (PAGE_BITS << 4) + rights.bits())
+    pub const fn page(page: Page, rights: Rights) -> Fpage {
+        Fpage(page.address() + (PAGE_BITS << 4) + rights.bits())
     }
 
     /// So many pages from a first one on, if that is an fpage of the largest space, which has 2^20 pages.
-    pub const fn pages(first: u32, pages: u32, rights: Rights) -> Option<Fpage> {
-        if !pages.is_power_of_two() || first % pages != 0 || pages > PAGES || first >= PAGES {
+    pub const fn pages(first: Page, pages: u32, rights: Rights) -> Option<Fpage> {
+        if !pages.is_power_of_two() || first.0 % pages != 0 || pages > PAGES || first.0 >= PAGES {
             return None;
         }
         let size = PAGE_BITS + pages.trailing_zeros();
-        Some(Fpage(address(first) + (size << 4) + rights.bits()))
+        Some(Fpage(first.address() + (size << 4) + rights.bits()))
     }
 
     /// All pages of the space.
@@ -104,24 +130,24 @@ impl Fpage {
 /// What a send sends, as two words: an fpage of the sender, and where it goes in the receiver's window.
 ///
 /// ```
-/// use l4map::{Fpage, Item, Rights};
+/// use l4map::{Fpage, Item, Page, Rights};
 ///
-/// let fpage = Fpage::page(5, Rights::READ | Rights::WRITE);
-/// assert_eq!(Item::map(fpage, 9).words(), [0x9008, 0x50c6]);
-/// assert_eq!(Item::grant(fpage, 0).words(), [0xa, 0x50c6]);
+/// let fpage = Fpage::page(Page(5), Rights::READ | Rights::WRITE);
+/// assert_eq!(Item::map(fpage, Page(9)).words(), [0x9008, 0x50c6]);
+/// assert_eq!(Item::grant(fpage, Page(0)).words(), [0xa, 0x50c6]);
 /// ```
 #[repr(transparent)]
 #[derive(Clone, Copy, Debug, PartialEq, Eq, Hash)]
 pub struct Item([u32; 2]);
 
 impl Item {
-    /// Maps the fpage to page `base` of the receiver, or where that page lies in the larger of fpage and window.
+    /// Maps the fpage to the page `base` of the receiver, or where that page lies in the larger of fpage and window.
     ///
     /// # Panics
     ///
     /// If `base` is not below 2^20.
-    pub const fn map(fpage: Fpage, base: u32) -> Item {
-        Item([address(base) + 8, fpage.word()])
+    pub const fn map(fpage: Fpage, base: Page) -> Item {
+        Item([base.address() + 8, fpage.word()])
     }
 
     /// Grants the fpage: the sender holds it no longer.
@@ -129,8 +155,8 @@ impl Item {
     /// # Panics
     ///
     /// If `base` is not below 2^20.
-    pub const fn grant(fpage: Fpage, base: u32) -> Item {
-        Item([address(base) + 10, fpage.word()])
+    pub const fn grant(fpage: Fpage, base: Page) -> Item {
+        Item([base.address() + 10, fpage.word()])
     }
 
     /// Any two words; a send refuses those that are no item.
@@ -146,7 +172,7 @@ impl Item {
 
 #[cfg(test)]
 mod tests {
-    use super::{Fpage, Item, Place, Space};
+    use super::{Fpage, Item, Page, Place, Space};
     use crate::Rights;
     use std::string::ToString;
 
@@ -155,16 +181,19 @@ mod tests {
         for (fpage, word) in [
             (Some(Fpage::NIL), 0),
             (Some(Fpage::complete(Rights::ALL)), 0x17),
-            (Some(Fpage::page(0, Rights::ALL)), 0xc7),
-            (Some(Fpage::page(4095, Rights::NONE)), 0xfff0c0),
-            (Some(Fpage::page(1_048_575, Rights::ALL)), 0xfffff0c7),
-            (Fpage::pages(0, 1, Rights::READ), 0xc4),
-            (Fpage::pages(0, 2, Rights::ALL), 0xd7),
-            (Fpage::pages(0, 32, Rights::ALL), 0x117),
-            (Fpage::pages(2048, 2048, Rights::WRITE), 0x800172),
-            (Fpage::pages(1_048_575, 1, Rights::NONE), 0xfffff0c0),
-            (Fpage::pages(524_288, 524_288, Rights::WRITE), 0x800001f2),
-            (Fpage::pages(0, 1_048_576, Rights::READ), 0x204),
+            (Some(Fpage::page(Page(0), Rights::ALL)), 0xc7),
+            (Some(Fpage::page(Page(4095), Rights::NONE)), 0xfff0c0),
+            (Some(Fpage::page(Page(1_048_575), Rights::ALL)), 0xfffff0c7),
+            (Fpage::pages(Page(0), 1, Rights::READ), 0xc4),
+            (Fpage::pages(Page(0), 2, Rights::ALL), 0xd7),
+            (Fpage::pages(Page(0), 32, Rights::ALL), 0x117),
+            (Fpage::pages(Page(2048), 2048, Rights::WRITE), 0x800172),
+            (Fpage::pages(Page(1_048_575), 1, Rights::NONE), 0xfffff0c0),
+            (
+                Fpage::pages(Page(524_288), 524_288, Rights::WRITE),
+                0x800001f2,
+            ),
+            (Fpage::pages(Page(0), 1_048_576, Rights::READ), 0x204),
         ] {
             assert_eq!(fpage.map(Fpage::word), Some(word));
         }
@@ -172,13 +201,13 @@ mod tests {
 
     #[test]
     fn no_fpages() {
-        assert_eq!(Fpage::pages(0, 0, Rights::ALL), None);
-        assert_eq!(Fpage::pages(0, 3, Rights::ALL), None);
-        assert_eq!(Fpage::pages(2, 4, Rights::ALL), None);
-        assert_eq!(Fpage::pages(1_048_576, 1, Rights::ALL), None);
-        assert_eq!(Fpage::pages(1_048_576, 1_048_576, Rights::ALL), None);
-        assert_eq!(Fpage::pages(0, 2_097_152, Rights::ALL), None);
-        assert_eq!(Fpage::pages(1 << 31, 1 << 31, Rights::ALL), None);
+        assert_eq!(Fpage::pages(Page(0), 0, Rights::ALL), None);
+        assert_eq!(Fpage::pages(Page(0), 3, Rights::ALL), None);
+        assert_eq!(Fpage::pages(Page(2), 4, Rights::ALL), None);
+        assert_eq!(Fpage::pages(Page(1_048_576), 1, Rights::ALL), None);
+        assert_eq!(Fpage::pages(Page(1_048_576), 1_048_576, Rights::ALL), None);
+        assert_eq!(Fpage::pages(Page(0), 2_097_152, Rights::ALL), None);
+        assert_eq!(Fpage::pages(Page(1 << 31), 1 << 31, Rights::ALL), None);
     }
 
     #[test]
@@ -190,44 +219,50 @@ mod tests {
 
     #[test]
     fn words_of_items() {
-        let fpage = Fpage::page(1, Rights::READ);
-        assert_eq!(Item::map(fpage, 4095).words(), [0xfff008, 0x10c4]);
-        assert_eq!(Item::map(fpage, 1_048_575).words(), [0xfffff008, 0x10c4]);
-        assert_eq!(Item::grant(fpage, 3).words(), [0x300a, 0x10c4]);
-        assert_eq!(Item::grant(fpage, 1_048_575).words(), [0xfffff00a, 0x10c4]);
+        let fpage = Fpage::page(Page(1), Rights::READ);
+        assert_eq!(Item::map(fpage, Page(4095)).words(), [0xfff008, 0x10c4]);
+        assert_eq!(
+            Item::map(fpage, Page(1_048_575)).words(),
+            [0xfffff008, 0x10c4]
+        );
+        assert_eq!(Item::grant(fpage, Page(3)).words(), [0x300a, 0x10c4]);
+        assert_eq!(
+            Item::grant(fpage, Page(1_048_575)).words(),
+            [0xfffff00a, 0x10c4]
+        );
         assert_eq!(Item::from_words([4, 5]).words(), [4, 5]);
     }
 
     #[test]
     #[should_panic(expected = "pages are 0 to 1,048,575")]
     fn no_page_without_an_address() {
-        let _ = Fpage::page(1_048_576, Rights::ALL);
+        let _ = Fpage::page(Page(1_048_576), Rights::ALL);
     }
 
     #[test]
     #[should_panic(expected = "pages are 0 to 1,048,575")]
     fn no_page_to_map_to_without_an_address() {
-        let _ = Item::map(Fpage::NIL, 1_048_576);
+        let _ = Item::map(Fpage::NIL, Page(1_048_576));
     }
 
     #[test]
     #[should_panic(expected = "pages are 0 to 1,048,575")]
     fn no_page_to_grant_to_without_an_address() {
-        let _ = Item::grant(Fpage::NIL, u32::MAX);
+        let _ = Item::grant(Fpage::NIL, Page(u32::MAX));
     }
 
     #[test]
     fn places_are_told_by_space_and_page() {
         let place = Place {
             space: Space(2),
-            page: 4,
+            page: Page(4),
         };
         assert_eq!(place.to_string(), "2:4");
         assert!(
             place
                 > Place {
                     space: Space(1),
-                    page: 5
+                    page: Page(5)
                 }
         );
     }

@@ -4,7 +4,7 @@
 use std::collections::BTreeMap;
 
 use l4map::{
-    Access, Change, Database, Error, Fpage, Item, Limits, Place, Rights, Space, TableEntry,
+    Access, Change, Database, Error, Fpage, Item, Limits, Page, Place, Rights, Space, TableEntry,
 };
 
 const WINDOW: Fpage = Fpage::complete(Rights::NONE);
@@ -26,7 +26,7 @@ fn noting() -> Database {
 fn place(space: u16, page: u32) -> Place {
     Place {
         space: Space(space),
-        page,
+        page: Page(page),
     }
 }
 
@@ -46,7 +46,7 @@ fn gone(space: u16, page: u32) -> Change {
 
 /// Maps a page of a space to a page of the next space.
 fn map(database: &mut Database, from: u16, page: u32, to_page: u32, rights: Rights) {
-    let item = Item::map(Fpage::page(page, rights), to_page);
+    let item = Item::map(Fpage::page(Page(page), rights), Page(to_page));
     let counts = database.send(Space(from), Space(from + 1), WINDOW, &[item]);
     assert_eq!(counts.unwrap().linked, 1);
 }
@@ -72,7 +72,7 @@ fn a_send_tells_the_page_with_frame_and_rights() {
 #[test]
 fn a_grant_tells_both_pages() {
     let mut database = noting();
-    let item = Item::grant(Fpage::page(5, Rights::ALL), 8);
+    let item = Item::grant(Fpage::page(Page(5), Rights::ALL), Page(8));
     database.send(Space(0), Space(2), WINDOW, &[item]).unwrap();
     assert_eq!(told(&database), [gone(0, 5), held(2, 8, 5, Rights::ALL)]);
 }
@@ -82,7 +82,7 @@ fn a_chain_that_loses_its_page_is_told() {
     let mut database = noting();
     map(&mut database, 0, 3, 9, Rights::ALL);
     map(&mut database, 1, 9, 40, Rights::READ);
-    let page = Fpage::page(3, Rights::ALL);
+    let page = Fpage::page(Page(3), Rights::ALL);
     database.flush_page(Space(0), page).unwrap();
     assert_eq!(told(&database), [gone(0, 3), gone(1, 9), gone(2, 40)]);
 }
@@ -99,11 +99,11 @@ fn a_clear_tells_what_derives_from_the_space() {
 /// The changes are read 32 at once.
 #[test]
 fn all_changes_are_told_at_and_beside_the_length_of_a_part() {
-    let one = Item::map(Fpage::page(7, Rights::READ), 63);
+    let one = Item::map(Fpage::page(Page(7), Rights::READ), Page(63));
     for (pages, more) in [(1, 0), (16, 1), (32, 0), (32, 1), (64, 0)] {
         let mut database = noting();
-        let run = Fpage::pages(0, pages, Rights::READ).unwrap();
-        let items = [Item::map(run, 0), one];
+        let run = Fpage::pages(Page(0), pages, Rights::READ).unwrap();
+        let items = [Item::map(run, Page(0)), one];
         let sent = database.send(Space(0), Space(1), WINDOW, &items[..1 + more]);
         assert_eq!(sent.unwrap().linked, pages + more as u32);
         let mut wanted: Vec<_> = (0..pages).map(|p| held(1, p, p, Rights::READ)).collect();
@@ -115,7 +115,7 @@ fn all_changes_are_told_at_and_beside_the_length_of_a_part() {
 #[test]
 fn the_end_stays_the_end() {
     let mut database = noting();
-    let all = Item::map(Fpage::pages(0, 32, Rights::ALL).unwrap(), 0);
+    let all = Item::map(Fpage::pages(Page(0), 32, Rights::ALL).unwrap(), Page(0));
     database.send(Space(0), Space(1), WINDOW, &[all]).unwrap();
     let mut changes = database.changes().unwrap();
     assert_eq!(changes.by_ref().count(), 32);
@@ -150,7 +150,7 @@ fn an_access_changes_no_table() {
 #[test]
 fn a_refused_call_tells_nothing_new() {
     let mut database = noting();
-    let item = Item::map(Fpage::page(3, Rights::ALL), 9);
+    let item = Item::map(Fpage::page(Page(3), Rights::ALL), Page(9));
     for (from, to, window, why) in [
         (1, 1, WINDOW, Error::SameSpace),
         (0, 1, Fpage::from_word(0xb7), Error::BadSize),
@@ -191,14 +191,14 @@ impl Chance {
     fn fpage(&mut self) -> Fpage {
         let pages = 1 << self.below(4);
         let first = self.below(PAGES / pages) * pages;
-        Fpage::pages(first, pages, Rights::from_bits(self.below(8))).unwrap()
+        Fpage::pages(Page(first), pages, Rights::from_bits(self.below(8))).unwrap()
     }
 
     fn item(&mut self) -> Item {
         let (fpage, base) = (self.fpage(), self.below(PAGES));
         match self.below(4) {
-            0 => Item::grant(fpage, base),
-            _ => Item::map(fpage, base),
+            0 => Item::grant(fpage, Page(base)),
+            _ => Item::map(fpage, Page(base)),
         }
     }
 
@@ -222,7 +222,8 @@ impl Chance {
     }
 }
 
-/// A table that the changes alone keep is that of what is held, after each of 50 calls of 40 databases.
+/// A table that the changes alone keep is that of what is held, after each of 50 calls of 40 databases; and no page is told
+/// that is in neither of two tables.
 #[test]
 fn tables_follow_the_changes() {
     let (mut chance, mut most) = (Chance(2_463_534_242), 0);
@@ -239,8 +240,11 @@ fn tables_follow_the_changes() {
         };
         let mut table: BTreeMap<_, _> = (0..PAGES).map(root).collect();
         for _ in 0..50 {
+            let before = table.clone();
             chance.call(&mut database).unwrap();
             for change in database.changes().unwrap() {
+                let held = before.contains_key(&change.place) || change.entry.is_some();
+                assert!(held, "{} came and went", change.place);
                 match change.entry {
                     Some(entry) => table.insert(change.place, entry),
                     None => table.remove(&change.place),

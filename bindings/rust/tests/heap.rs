@@ -5,7 +5,7 @@
 use std::alloc::{GlobalAlloc, Layout, System};
 use std::cell::Cell;
 
-use l4map::{Access, Database, Error, Fpage, Item, Limits, Rights, Space};
+use l4map::{Access, Database, Error, Fpage, Item, Limits, Page, Rights, Space};
 
 thread_local! {
     /// How many bytes this thread has taken and not given back.
@@ -60,11 +60,14 @@ fn work() -> Result<Rights, Error> {
     };
     let mut database = Database::new(limits)?;
     database.note_changes(true)?;
-    let (window, page) = (Fpage::complete(Rights::NONE), Fpage::page(5, Rights::ALL));
-    let all = Item::map(Fpage::complete(Rights::ALL), 0);
+    let (window, page) = (
+        Fpage::complete(Rights::NONE),
+        Fpage::page(Page(5), Rights::ALL),
+    );
+    let all = Item::map(Fpage::complete(Rights::ALL), Page(0));
     database.send(Space(0), Space(1), window, &[all])?;
     for target in 0..40 {
-        database.send(Space(1), Space(2), window, &[Item::map(page, target)])?;
+        database.send(Space(1), Space(2), window, &[Item::map(page, Page(target))])?;
     }
     database.access(Space(2), 0, Access::Write)?;
     let status = database.flush_page(Space(1), page)?;
@@ -81,7 +84,7 @@ fn a_halted_database_tells_nothing() {
         frames: 64,
     };
     let mut database = Database::new(limits).unwrap();
-    let all = Item::map(Fpage::complete(Rights::ALL), 0);
+    let all = Item::map(Fpage::complete(Rights::ALL), Page(0));
     UNTIL_REFUSED.set(0);
     let sent = database.send(Space(0), Space(1), Fpage::complete(Rights::NONE), &[all]);
     UNTIL_REFUSED.set(usize::MAX);

@@ -2,7 +2,7 @@
 //!
 //! These are the calls of examples/first-six-records.csv, and what is printed are the lines of its answer.
 
-use l4map::{Access, Counts, Database, Error, Fpage, Item, Limits, Mapping, Rights, Space};
+use l4map::{Access, Counts, Database, Error, Fpage, Item, Limits, Mapping, Page, Rights, Space};
 
 const SIGMA0: Space = Space(0); // which holds all memory at the start
 const PAGER: Space = Space(1);
@@ -16,8 +16,8 @@ struct Pager {
 
 impl Pager {
     /// Maps page 0 of a space, with some of its rights, to a page of another space.
-    fn map(&mut self, from: Space, to: Space, page: u32, rights: Rights) -> Result<(), Error> {
-        let item = Item::map(Fpage::page(0, rights), page);
+    fn map(&mut self, from: Space, to: Space, page: Page, rights: Rights) -> Result<(), Error> {
+        let item = Item::map(Fpage::page(Page(0), rights), page);
         let window = Fpage::complete(Rights::NONE);
         let Counts {
             absent,
@@ -41,7 +41,7 @@ impl Pager {
 
     /// Takes rights from all who have page 0 through a space.
     fn unmap(&mut self, space: Space, rights: Rights) -> Result<(), Error> {
-        let mut fpages = [Fpage::page(0, rights)];
+        let mut fpages = [Fpage::page(Page(0), rights)];
         self.database.unmap(space, &mut fpages)?;
         self.tell(format_args!("unmap {:08x}", fpages[0].word()));
         Ok(())
@@ -49,7 +49,7 @@ impl Pager {
 
     /// Takes rights from a space too.
     fn flush(&mut self, space: Space, rights: Rights) -> Result<(), Error> {
-        let mut fpages = [Fpage::page(0, rights)];
+        let mut fpages = [Fpage::page(Page(0), rights)];
         self.database.flush(space, &mut fpages)?;
         self.tell(format_args!("unmap {:08x}", fpages[0].word()));
         Ok(())
@@ -92,8 +92,8 @@ fn main() -> Result<(), Error> {
         database: Database::new(limits)?,
         calls: 0,
     };
-    pager.map(SIGMA0, PAGER, 0, Rights::ALL)?; // the pager is given page 0
-    pager.map(PAGER, CLIENT, 4, Rights::READ | Rights::EXECUTE)?; // its client gets it as page 4, not to write
+    pager.map(SIGMA0, PAGER, Page(0), Rights::ALL)?; // the pager is given page 0
+    pager.map(PAGER, CLIENT, Page(4), Rights::READ | Rights::EXECUTE)?; // its client gets it as page 4, not to write
     pager.access(CLIENT, 0x4abc, Access::Read)?; // the client may read
     pager.access(CLIENT, 0x4abc, Access::Write)?; // and not write: a fault
     pager.unmap(SIGMA0, Rights::EXECUTE)?; // none of them may execute it: the page was read
