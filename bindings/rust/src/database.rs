@@ -424,8 +424,8 @@ impl Database {
     }
 
     /// What the last send, unmap, clear or access changed, if that was noted: every page whose frame or rights it
-    /// changed, in whatever space, with what the page holds now. A page may come more than once, with the same entry,
-    /// and a page may come that holds what it held before, but none that was held neither before nor after.
+    /// changed, in whatever space, with what the page holds now. Each page that comes was held before the call or is held
+    /// now. It may hold what it held before, and may come more than once, with the same entry.
     ///
     /// A kernel asks for notes once. It reads the changes after each call that was done, and makes each in its page
     /// tables. After a call that was refused it has nothing to do.

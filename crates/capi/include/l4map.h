@@ -194,10 +194,10 @@ uint32_t l4map_note_changes(struct l4map *db, uint32_t on);
 
 /* Writes what the last send, unmap, clear or access changed, if it was done and was noted: the entries from number `from`
  * on, n of them or fewer, where there are fewer, to `changes`, and how many they are to *count. Every page whose frame
- * or rights that call changed is among them, in whatever space, and none that was held neither before it nor after it. A
- * page among them may hold what it held before, and it may come more than once, with the same entry. After a call that
- * was refused nothing has changed, and what is written is of no use. What l4map_new() makes is not told. It takes no
- * memory and changes nothing else.
+ * or rights that call changed is among them, in whatever space. Each page among them was held before the call or is held
+ * now. It may hold what it held before, and it may come more than once, with the same entry. After a call that was refused
+ * nothing has changed, and what is written is of no use. What l4map_new() makes is not told. It takes no memory and
+ * changes nothing else.
  *
  * L4MAP_EMPTY, L4MAP_HALTED, the first that fits: `changes` and *count are as they were. */
 uint32_t l4map_changes(struct l4map *db, size_t from, struct l4map_change *changes, size_t n, size_t *count);
