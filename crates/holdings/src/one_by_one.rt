@@ -1,26 +1,30 @@
 //! Pages that are stripped one after another, each with all that derives from it, on the words and trees themselves.
 
-ghost use Rattle.std.specs.Prelude.{◌≡◌, ◌<◌, ◌≤◌, true, length, IfOk, OnOk};
+ghost use Rattle.std.specs.Prelude.{◌≡◌, ℕ, ◌+◌, ◌-◌, ◌<◌, ◌≤◌, true, length, slice_index, IfOk, OnOk};
 ghost use Rattle.space.specs.declared.place.Place.{Place};
-ghost use Rattle.space.specs.Shards.{IsPlace, IsLaidOutAs};
+ghost use Rattle.space.specs.Shards.{IsLaidOutAs, index_of};
 ghost use Rattle.maptree.specs.Origins.{place_at, IsRun};
 ghost use Rattle.model.specs.Definitions.Holdings.{only};
 ghost use Rattle.model.specs.Definitions.Strip.{strip, strip_word};
 ghost use Rattle.holdings.specs.Inner.Held.{is_listed, links_in, limits_in, holdings_in};
 ghost use Rattle.holdings.specs.Inner.Sound.{AreSound, AreLoose};
 ghost use Rattle.holdings.specs.Inner.Stripping.{IsLeft};
+ghost use Rattle.holdings.specs.Inner.Words.{IsThere};
 ghost use Rattle.holdings.specs.Noting.{NotesFollow};
 
 use crate::holdings::Holdings;
 use crate::notes::Notes;
 use crate::noting::note_run_if_asked;
 use crate::prune::{Left, prune_run};
-use crate::recursion::{take, visit};
+use crate::recursion::visit;
 use fpage::Rights;
-use maptree::Tree;
-use space::{NoMemory, Place, Shards, Status};
+use maptree::{Nodes, Tree};
+use space::{NoMemory, Place, Shards};
 use std::alloc::{AllocError, Global};
 use std::ops::Range;
+
+/// How many words a walk finds before it changes them, so that their loads go on side by side.
+const FOUND_AT_ONCE: usize = 32;
 
 /// The order in which a page and all that derives from it lose their rights.
 #[derive(Clone, Copy, Debug, PartialEq, Eq)]
@@ -175,19 +179,47 @@ fn walk(
     ensures run_left { IsLeft shards.new (links_in trees.now frame) run.now result.left }
 {
     let tree = &trees[frame];
+    tree.learn_places_are_distinct();
     let mut nodes = tree.nodes();
     let first = nodes.at(run.start).place;
-    let mut status = Status::none();
-    let mut left = Left::of_none(run.start);
-    for i in run.start..run.end {
-        let node = nodes.at(i);
-        let narrowed = take(shards, node.place, first, revoked, flush);
-        status = status.join(narrowed.status);
-        left = left.with_next(i, narrowed.held);
+    let narrowed = shards.narrow(first, revoked, flush);
+    let mut status = narrowed.status;
+    let mut left = Left::of_none(run.start).with_next(run.start, narrowed.held);
+    let mut from = run.start + 1;
+    while from < run.end {
+        let to = from + FOUND_AT_ONCE.min(run.end - from);
+        let found = find_words(shards, &mut nodes, from, to);
+        for i in from..to {
+            let narrowed = shards.narrow_at(found[i - from], revoked, true);
+            status = status.join(narrowed.status);
+            left = left.with_next(i, narrowed.held);
+        }
+        from = to;
     }
     let status = status.rights();
     if let Some(origin) = tree.origin_of(run.start) {
         shards.add_status(nodes.at(origin).place, status);
     }
     Stripped { status, left }
+}
+
+/// The indexes of the words of the nodes from a position up to another, which are 32 at most.
+fn find_words(
+    shards: &Shards,
+    nodes: &mut Nodes<'_>,
+    from: usize,
+    to: usize,
+) -> [usize; FOUND_AT_ONCE]
+    requires order { from ≤ to }
+    requires few { to ≤ from + 32 }
+    requires within { to ≤ length nodes.old }
+    requires words { (j : ℕ) (d : Place) → j < length nodes.old → IsThere shards.now (place_at nodes.old j d) }
+    ensures found { (j : ℕ) (d : Place) → from ≤ j → j < to → slice_index result (j - from) ≡ index_of shards.now (place_at nodes.old j d) }
+    ensures same { nodes.new ≡ nodes.old }
+{
+    let mut found = [0; FOUND_AT_ONCE];
+    for j in from..to {
+        found[j - from] = shards.index(nodes.at(j).place);
+    }
+    found
 }

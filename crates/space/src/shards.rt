@@ -413,7 +413,19 @@ impl Shards {
         ensures present { IsFalse (is_taken self.new) }
         ensures layout { IsLaidOutAs self.old self.new }
     {
-        let index = self.find(place);
+        self.narrow_at(self.find(place), revoked, flush)
+    }
+
+    /// The same of the page whose word has an index. With the indexes of several pages at hand, their words are loaded
+    /// side by side.
+    pub fn narrow_at(&mut self, index: usize, revoked: Rights, flush: bool) -> Narrowed
+        requires present { IsFalse (is_taken self.old) }
+        ensures status { (p : Place) → index_of self.old p ≡ index → result.status ≡ status_of (entry_at self.old p) }
+        ensures held { (p : Place) → IsPlace self.old p → index_of self.old p ≡ index → result.held ≡ is_some (entry_at self.new p) }
+        ensures set { (p : Place) → IsPlace self.old p → index_of self.old p ≡ index → IsSetAt self.old self.new p (option_and_then (narrowed flush revoked) (entry_at self.old p)) }
+        ensures present { IsFalse (is_taken self.new) }
+        ensures layout { IsLaidOutAs self.old self.new }
+    {
         let Some(word) = self.word(index) else {
             return Narrowed {
                 status: Status::none(),

@@ -1,10 +1,10 @@
 -- A walk over a run strips its first place.
 use Rattle.std.proofs.Common.{◌≡◌, ℕ, zero, suc, ◌+◌, ◌-◌, ◌<◌, ◌≤◌, true, false, Bool, ◌&&◌, ◌||◌, not, List, [], ◌∷◌, length, drop, take, Option, Some, None, refl, sym, ap, ◌∙◌, subst, arith, ◌⊎◌, inl, inr, if◌then◌else◌}
 use Rattle.std.specs.Prelude.{IsFalse}
-use Rattle.std.specs.List.{list_any}
+use Rattle.std.specs.List.{list_any, list_all}
 use Rattle.std.specs.Option.{option_and_then, option_map, option_map_or}
 use Rattle.std.specs.declared.ops.Range.{Range}
-use Rattle.std.proofs.lemmas.Bool.{or_cases, or_left, or_right, false_from_ne_true}
+use Rattle.std.proofs.lemmas.Bool.{and_parts, or_cases, or_left, or_right, false_from_ne_true}
 use Rattle.fpage.specs.Rights.{no_rights, is_empty, join, has}
 use Rattle.fpage.specs.declared.rights.Rights.{Rights}
 use Rattle.fpage.specs.declared.rights.Access.{Access}
@@ -15,7 +15,7 @@ use Rattle.space.specs.declared.shards.Shards.{Shards}
 use Rattle.space.specs.Place.{same_place}
 use Rattle.space.specs.Shards.{spaces_of, bits_of, IsPlace, IsSetAt, IsLaidOutAs, entry_at, is_taken}
 use Rattle.space.proofs.Places.{same_is, same_self, same_or_apart, apart_back}
-use Rattle.maptree.specs.Origins.{Origins, Shape, origin_in, place_at, IsRun}
+use Rattle.maptree.specs.Origins.{Origins, Shape, are_once, origin_in, place_at, IsRun}
 use Rattle.model.specs.Definitions.Holdings.{Held, Holdings, PlaceSet, only, at, is_held, origin_at, each}
 use Rattle.model.specs.Definitions.Derived.{is_under, is_below}
 use Rattle.model.specs.Definitions.Strip.{rights_left, left_of, status_over, strip_word, strip, is_narrowed}
@@ -412,6 +412,27 @@ pub place_any : (os : Origins) (i : ℕ) (d e : Place) → i < length os → pla
 place_any [] i d e within = absurd (omega (arith, within))
 place_any (o ∷ os) zero d e within = refl
 place_any (o ∷ os) (suc i) d e within = place_any os i d e (omega (arith, within))
+
+-- the place at a position of a tree
+abbrev pub stands_at : List Shape → ℕ → ℕ → Place
+stands_at trees frame i = place_at (links_in trees frame) i (record { space = 0; page = 0 })
+
+-- a place that stands before others is none of them
+none_behind : (p : Place) (os : Origins) (i : ℕ) (d : Place) → list_all (λ q. not (same_place p q.0)) os ≡ true → i < length os → p ≡ place_at os i d → ⊥
+none_behind p [] i d none within is = absurd (omega (arith, within))
+none_behind p (o ∷ os) zero d none within is = let parts = and_parts (not (same_place p o.0)) (list_all (λ q. not (same_place p q.0)) os) none in cc (parts.0, ap not (subst (λ q. same_place p q ≡ true) is (same_self p)))
+none_behind p (o ∷ os) (suc i) d none within is = let parts = and_parts (not (same_place p o.0)) (list_all (λ q. not (same_place p q.0)) os) none in none_behind p os i d parts.1 (omega (arith, within)) is
+
+-- no place stands at two positions
+pub stands_once : (os : Origins) → are_once os ≡ true → (i j : ℕ) (d : Place) → i < length os → j < length os → place_at os j d ≡ place_at os i d → j ≡ i
+stands_once [] once i j d i_within j_within same = absurd (omega (arith, i_within))
+stands_once (o ∷ os) once zero zero d i_within j_within same = refl
+stands_once (o ∷ os) once zero (suc j) d i_within j_within same =
+    let parts = and_parts (list_all (λ q. not (same_place o.0 q.0)) os) (are_once os) once in absurd (none_behind o.0 os j d parts.0 (omega (arith, j_within)) (sym same))
+stands_once (o ∷ os) once (suc i) zero d i_within j_within same =
+    let parts = and_parts (list_all (λ q. not (same_place o.0 q.0)) os) (are_once os) once in absurd (none_behind o.0 os i d parts.0 (omega (arith, i_within)) same)
+stands_once (o ∷ os) once (suc i) (suc j) d i_within j_within same =
+    let parts = and_parts (list_all (λ q. not (same_place o.0 q.0)) os) (are_once os) once in ap suc (stands_once os parts.1 i j d (omega (arith, i_within)) (omega (arith, j_within)) same)
 
 -- a place that stands in a tree is one
 pub standing_place : (shards : Shards) (trees : List Shape) (frame : ℕ) → AreLoose shards trees → (p : Place) → is_listed trees frame p ≡ true → IsPlace shards p

@@ -1,13 +1,25 @@
 -- The walk so far, and what it saw.
-use Rattle.std.proofs.Common.{◌≡◌}
+use Rattle.std.proofs.Common.{◌≡◌, ◌-◌, ◌<◌, ◌≤◌}
 use Rattle.holdings.specs.Inner.Held.{links_in}
-use Rattle.holdings.proofs.Stripping.Walks.{IsWalked}
+use Rattle.holdings.proofs.Stripping.Walks.{IsWalked, stands_at}
 use Rattle.holdings.proofs.Stripping.LeftOfRuns.{IsSeen}
 use Rattle.holdings.proofs.one_by_one.walk.Given as goal
 
+abbrev pub invariant-loop-from : goal.invariant-loop-from
+invariant-loop-from l = record {
+  nodes : l.nodes ≡ links_in l.trees l.frame;
+  behind : l.run.start < l.from;
+  upto : l.from ≤ l.run.end;
+  walked : IsWalked l.fn.shards l.trees l.frame l.run.start (stands_at l.trees l.frame l.run.start) l.revoked l.flush l.from l.shards l.status;
+  seen : IsSeen l.left l.shards (links_in l.trees l.frame) l.run.start l.from;
+}
+
+abbrev pub decreases-loop-from : goal.decreases-loop-from
+decreases-loop-from l = l.run.end - l.from
+
+-- the same, with the words of the next places found
 abbrev pub invariant-loop-i : goal.invariant-loop-i
 invariant-loop-i l = record {
-  nodes : l.nodes ≡ links_in l.trees l.frame;
-  walked : IsWalked l.fn.shards l.trees l.frame l.run.start l.first l.revoked l.flush l.i l.shards l.status;
+  walked : IsWalked l.fn.shards l.trees l.frame l.run.start (stands_at l.trees l.frame l.run.start) l.revoked l.flush l.i l.shards l.status;
   seen : IsSeen l.left l.shards (links_in l.trees l.frame) l.run.start l.i;
 }
