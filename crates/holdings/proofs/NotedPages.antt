@@ -27,7 +27,7 @@ use Rattle.holdings.specs.declared.notes.Notes.{Notes}
 use Rattle.holdings.specs.Noting.{first_note, AreNoted, NotesFollow}
 use Rattle.holdings.specs.Inner.Held.{links_in, is_listed, has_frame, limits_in, holdings_in}
 use Rattle.holdings.specs.Inner.Sound.{AreSound}
-use Rattle.holdings.specs.Inner.Notes.{NotesAdd, AreAdded, noted_now, IsStripNoted, IsRunNoted, in_range, all_held, loses_at, loses_in, losing_from}
+use Rattle.holdings.specs.Inner.Notes.{NotesAdd, AreAdded, noted_now, IsNotedIf, IsStripNoted, IsRunNoted, in_range, all_held, loses_at, loses_in, losing_from}
 use Rattle.holdings.specs.Places.{IsWithin, any_of}
 use Rattle.holdings.proofs.Contents.Holders.{absent_within, present_within}
 use Rattle.holdings.proofs.Contents.Listing.{within_from_place}
@@ -126,6 +126,21 @@ run_more os lose a i p d least within place old now new is so_far q =
         here true false = refl
         here false true = refl
         here false false = refl
+
+-- its first place, noted if it loses a right and is to
+pub run_first : (os : Origins) (lose : PlaceSet) (f : Bool) (start : ℕ) (p d : Place) → start < length os → p ≡ place_at os start d → (old new : List Note)
+    → IsNotedIf (f && lose p) p old new
+    → (q : Place) → first_note new q ≡ option_or (first_note old q) (all_held (λ r. in_range os (losing_from f start) (start + 1) r && lose r) q)
+run_first os lose true start p d within place old new is q = run_more os lose start start p d (omega arith) within place old old new is (run_begins os lose start start (omega arith) old) q
+run_first os lose false start p d within place old new is q = is q ∙ ap (option_or (first_note old q)) (never (same_place q p)) ∙ none (first_note old q) ∙ run_begins os lose (start + 1) (start + 1) (omega arith) old q
+  where
+    never : (b : Bool) → (if b && false then Some true else None) ≡ None
+    never true = refl
+    never false = refl
+
+    none : (o : Option Bool) → option_or o None ≡ o
+    none None = refl
+    none (Some b) = refl
 
 -- its first place, and the others
 range_first : (os : Origins) (a b : ℕ) → a < b → b ≤ length os → (p d : Place) → in_range os a b p ≡ (same_place p (place_at os a d) || in_range os (a + 1) b p)

@@ -3,14 +3,15 @@
 ghost use Rattle.std.specs.Prelude.{◌≡◌, ◌<◌, ◌≤◌, true, ◌++◌, ◌∷◌, [], length, IsFalse, OnOk};
 ghost use Rattle.std.specs.List.{All};
 ghost use Rattle.space.specs.Shards.{IsPlace, is_taken};
+ghost use Rattle.maptree.specs.Origins.{place_at};
 ghost use Rattle.holdings.specs.Inner.Derivation.{stands_in};
-ghost use Rattle.holdings.specs.Inner.Notes.{AreLosersNoted, IsLoserNoted, IsRunNoted, NotesAdd, loses_in, losing_from};
+ghost use Rattle.holdings.specs.Inner.Notes.{AreLosersNoted, IsLoserNoted, IsNotedIf, IsRunNoted, NotesAdd, loses_in, losing_from};
 
 use crate::holdings::Holdings;
 use crate::notes::{Note, Notes};
 use crate::transfer::Transfer;
 use fpage::{ItemKind, Rights};
-use maptree::Tree;
+use maptree::{Nodes, Tree};
 use space::{Place, Shards};
 use std::alloc::AllocError;
 use std::ops::Range;
@@ -167,6 +168,25 @@ fn note_run(
     let mut nodes = tree.nodes();
     for at in run.start..run.end {
         note_loser(shards, nodes.at(at).place, revoked, list)?;
+    }
+    Ok(())
+}
+
+/// Notes the place at a position of a tree, where notes are asked for, if it lost a right.
+///
+/// Refused where memory is.
+pub fn note_lost(
+    nodes: &mut Nodes<'_>,
+    i: usize,
+    lost: bool,
+    notes: &mut Notes,
+) -> Result<(), AllocError>
+    requires { i < length nodes.old }
+    ensures same { OnOk result (nodes.new ≡ nodes.old) }
+    ensures noted { OnOk result ((d : Place) → NotesAdd (IsNotedIf lost (place_at nodes.old i d)) notes.old notes.new) }
+{
+    if notes.asked && lost {
+        add_note(&mut notes.list, nodes.at(i).place, true)?;
     }
     Ok(())
 }

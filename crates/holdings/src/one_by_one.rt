@@ -7,6 +7,7 @@ ghost use Rattle.maptree.specs.Origins.{place_at, IsRun};
 ghost use Rattle.model.specs.Definitions.Holdings.{only};
 ghost use Rattle.model.specs.Definitions.Strip.{strip, strip_word};
 ghost use Rattle.holdings.specs.Inner.Held.{is_listed, links_in, limits_in, holdings_in};
+ghost use Rattle.holdings.specs.Inner.Notes.{AreLosersNoted, NotesAdd, losing_from};
 ghost use Rattle.holdings.specs.Inner.Sound.{AreSound, AreLoose};
 ghost use Rattle.holdings.specs.Inner.Stripping.{IsLeft};
 ghost use Rattle.holdings.specs.Inner.Words.{IsThere};
@@ -14,7 +15,7 @@ ghost use Rattle.holdings.specs.Noting.{NotesFollow};
 
 use crate::holdings::Holdings;
 use crate::notes::Notes;
-use crate::noting::note_run_if_asked;
+use crate::noting::{note_lost, note_run_if_asked};
 use crate::prune::{Left, prune_run};
 use crate::recursion::visit;
 use fpage::Rights;
@@ -110,8 +111,9 @@ fn strip_place(
     let tree = &trees[frame];
     let i = tree.find(place).unwrap();
     let run = tree.run_of(i);
-    note_run_if_asked(shards, tree, &run, revoked, flush, notes)?;
-    let stripped = strip_run(alloc, shards, trees, frame, &run, revoked, flush, order)?;
+    let stripped = strip_run(
+        alloc, shards, trees, frame, &run, revoked, flush, notes, order,
+    )?;
     prune_run(alloc, shards, &mut trees[frame], run, stripped.left)?;
     Ok(stripped.status)
 }
@@ -125,6 +127,7 @@ struct Stripped {
 }
 
 /// Strips the first place of a run in one order or the other. The tree stays: it may then list places that hold nothing.
+/// Notes the places that lose a right.
 fn strip_run(
     alloc: Global,
     shards: &mut Shards,
@@ -133,6 +136,7 @@ fn strip_run(
     run: &Range<usize>,
     revoked: Rights,
     flush: bool,
+    notes: &mut Notes,
     order: Order,
 ) -> Result<Stripped, AllocError>
     requires loose { AreLoose shards.old trees.now }
@@ -145,20 +149,23 @@ fn strip_run(
     ensures loose { OnOk result (AreLoose shards.new trees.now) }
     ensures layout { OnOk result (IsLaidOutAs shards.old shards.new) }
     ensures run_left { IfOk result (λ stripped. IsLeft shards.new (links_in trees.now frame) run.now stripped.left) }
+    ensures noted { OnOk result (NotesAdd (AreLosersNoted shards.old (links_in trees.now frame) (losing_from flush run.now.start) run.now.end revoked) notes.old notes.new) }
 {
     match order {
         Order::Recursion => {
+            note_run_if_asked(shards, &trees[frame], run, revoked, flush, notes)?;
             let status = visit(alloc, shards, trees, frame, run, revoked, flush)?;
             // The recursion keeps no account of what it leaves.
             let left = Left::unknown(run.start);
             Ok(Stripped { status, left })
         }
-        Order::List => Ok(walk(shards, trees, frame, run, revoked, flush)),
+        Order::List => walk(shards, trees, frame, run, revoked, flush, notes),
     }
 }
 
 /// Passes over a run: each of its places loses the rights, the first one if it is to, and its status is taken. What was
-/// taken is added to the status of the origin of the run. Gives back what was taken, and what is left of the places.
+/// taken is added to the status of the origin of the run. Gives back what was taken, and what is left of the places. Notes
+/// the places that lose a right.
 fn walk(
     shards: &mut Shards,
     trees: &[Tree],
@@ -166,23 +173,26 @@ fn walk(
     run: &Range<usize>,
     revoked: Rights,
     flush: bool,
-) -> Stripped
+    notes: &mut Notes,
+) -> Result<Stripped, AllocError>
     requires loose { AreLoose shards.old trees.now }
     requires frame { frame < length trees.now }
     requires run { IsRun (links_in trees.now frame) run.now }
     requires some { run.now.start < run.now.end }
     requires within { run.now.end ≤ length (links_in trees.now frame) }
-    ensures status { (d : Place) → result.status ≡ strip_word (holdings_in shards.old trees.now) (only (place_at (links_in trees.now frame) run.now.start d)) }
-    ensures left { (d : Place) → holdings_in shards.new trees.now ≡ strip (holdings_in shards.old trees.now) (only (place_at (links_in trees.now frame) run.now.start d)) revoked flush }
-    ensures loose { AreLoose shards.new trees.now }
-    ensures layout { IsLaidOutAs shards.old shards.new }
-    ensures run_left { IsLeft shards.new (links_in trees.now frame) run.now result.left }
+    ensures status { IfOk result (λ stripped. (d : Place) → stripped.status ≡ strip_word (holdings_in shards.old trees.now) (only (place_at (links_in trees.now frame) run.now.start d))) }
+    ensures left { OnOk result ((d : Place) → holdings_in shards.new trees.now ≡ strip (holdings_in shards.old trees.now) (only (place_at (links_in trees.now frame) run.now.start d)) revoked flush) }
+    ensures loose { OnOk result (AreLoose shards.new trees.now) }
+    ensures layout { OnOk result (IsLaidOutAs shards.old shards.new) }
+    ensures run_left { IfOk result (λ stripped. IsLeft shards.new (links_in trees.now frame) run.now stripped.left) }
+    ensures noted { OnOk result (NotesAdd (AreLosersNoted shards.old (links_in trees.now frame) (losing_from flush run.now.start) run.now.end revoked) notes.old notes.new) }
 {
     let tree = &trees[frame];
     tree.learn_places_are_distinct();
     let mut nodes = tree.nodes();
     let first = nodes.at(run.start).place;
     let narrowed = shards.narrow(first, revoked, flush);
+    note_lost(&mut nodes, run.start, flush && narrowed.lost, notes)?;
     let mut status = narrowed.status;
     let mut left = Left::of_none(run.start).with_next(run.start, narrowed.held);
     let mut from = run.start + 1;
@@ -191,6 +201,7 @@ fn walk(
         let found = find_words(shards, &mut nodes, from, to);
         for i in from..to {
             let narrowed = shards.narrow_at(found[i - from], revoked, true);
+            note_lost(&mut nodes, i, narrowed.lost, notes)?;
             status = status.join(narrowed.status);
             left = left.with_next(i, narrowed.held);
         }
@@ -200,7 +211,7 @@ fn walk(
     if let Some(origin) = tree.origin_of(run.start) {
         shards.add_status(nodes.at(origin).place, status);
     }
-    Stripped { status, left }
+    Ok(Stripped { status, left })
 }
 
 /// The indexes of the words of the nodes from a position up to another, which are 32 at most.

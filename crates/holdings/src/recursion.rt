@@ -115,13 +115,7 @@ fn pop_from(begun: &mut Vec<Node>, depth: usize) -> Option<Node>
 
 /// Ends the visit of a place: what it holds loses the rights, unless it is the first place of the recursion and is to keep
 /// them, and its status is cleared. Gives back that status, and whether the place still holds anything.
-pub fn take(
-    shards: &mut Shards,
-    place: Place,
-    first: Place,
-    revoked: Rights,
-    flush: bool,
-) -> Narrowed
+fn take(shards: &mut Shards, place: Place, first: Place, revoked: Rights, flush: bool) -> Narrowed
     requires place { IsPlace shards.old place }
     requires present { IsFalse (is_taken shards.old) }
     ensures status { result.status ≡ status_of (entry_at shards.old place) }

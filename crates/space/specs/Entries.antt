@@ -1,13 +1,17 @@
 -- What becomes of one entry when a page loses rights, gains status or rights, or is accessed.
-use Rattle.std.specs.Prelude.{Bool, ◌&&◌, Option, Some, None, if◌then◌else◌}
+use Rattle.std.specs.Prelude.{Bool, false, not, ◌&&◌, Option, Some, None, if◌then◌else◌}
 use Rattle.std.specs.Option.{option_map_or}
-use Rattle.fpage.specs.Rights.{no_rights, is_empty, join, without}
+use Rattle.fpage.specs.Rights.{no_rights, is_empty, join, meet, without}
 use Rattle.fpage.specs.declared.rights.Rights.{Rights}
 use Rattle.space.specs.declared.place.Entry.{Entry}
 
 -- the status of what stands at a place
 abbrev pub status_of : Option Entry → Rights
 status_of entry = option_map_or (λ e. e.status) entry no_rights
+
+-- whether what stands at a place has one of some rights
+abbrev pub has_any : Rights → Option Entry → Bool
+has_any a entry = option_map_or (λ e. not (is_empty (meet e.rights a))) entry false
 
 -- the rights that are left, if these are withheld
 abbrev pub rights_left : Bool → Rights → Rights → Rights

@@ -188,12 +188,15 @@ impl Directory {
             let run = shard / LEAF_SHARDS;
             let start = run * LEAF_SHARDS;
             let run_end = (start + LEAF_SHARDS).min(end);
-            let first = shard.max(start + usize::from(self.firsts[run]));
-            let behind = run_end.min(start + usize::from(self.lasts[run]) + 1);
-            if first < behind {
-                let found = self.next_in_run(first, behind);
-                if found < behind {
-                    return found;
+            let (first, last) = (self.firsts[run], self.lasts[run]);
+            if first <= last {
+                let first = shard.max(start + usize::from(first));
+                let behind = run_end.min(start + usize::from(last) + 1);
+                if first < behind {
+                    let found = self.next_in_run(first, behind);
+                    if found < behind {
+                        return found;
+                    }
                 }
             }
             shard = run_end;

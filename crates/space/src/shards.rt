@@ -1,4 +1,4 @@
-ghost use Rattle.std.specs.Prelude.{◌≡◌, ◌*◌, ◌+◌, ◌/◌, ◌^◌, ◌<◌, ◌≤◌, ◌++◌, length, replicate, vec_capacity};
+ghost use Rattle.std.specs.Prelude.{◌≡◌, ℕ, ◌*◌, ◌+◌, ◌/◌, ◌^◌, ◌<◌, ◌≤◌, ◌++◌, length, replicate, slice_index, vec_capacity};
 ghost use Rattle.std.specs.Option.{ForSome};
 ghost use Rattle.space.specs.Directory.{AreLimits, AreWords, offset_of, shards_of};
 ghost use Rattle.space.specs.Positions.{most_of, count_of};
@@ -7,7 +7,7 @@ use crate::directory::Directory;
 use crate::error::NoMemory;
 use crate::place::{Entry, Place};
 use crate::status::Status;
-use crate::word::{narrowed_word, pack, unpack, word_bits};
+use crate::word::{has_any, narrowed_word, pack, unpack, word_bits};
 use fpage::Rights;
 use std::alloc::Global;
 use std::ops::Range;
@@ -26,6 +26,8 @@ const LINE_WORDS: usize = 8;
 pub struct Narrowed {
     /// The status that it had.
     pub status: Status,
+    /// Whether it had one of these rights.
+    pub lost: bool,
     /// Whether it still holds anything.
     pub held: bool,
 }
@@ -54,7 +56,7 @@ impl Shards {
     ghost use Rattle.space.specs.declared.place.Place.{Place};
     ghost use Rattle.space.specs.Word.{word_of, entry_of, is_pack, FrameFits};
     ghost use Rattle.space.specs.Directory.{AreLimits, pages_of, shard_of};
-    ghost use Rattle.space.specs.Entries.{narrowed, status_of, with_status, extended};
+    ghost use Rattle.space.specs.Entries.{has_any, narrowed, status_of, with_status, extended};
     ghost use Rattle.space.specs.Positions.{most_of};
     ghost use Rattle.space.specs.Shards.{spaces_of, bits_of, IsPlace, HasWord, word_count, index_of, is_taken, words_of, entry_at, IsLaidOutAs, IsMade, AreOnlyMade, IsSetAt, are_beside};
 
@@ -265,8 +267,13 @@ impl Shards {
         let words = self.words.as_ref().unwrap();
         let before = self.find(place) - offset(place);
         let space = place.space;
-        for page in place.page..end {
-            if words[before + offset(Place { space, page })] != 0 {
+        let mut page = place.page;
+        while page < end {
+            let at = before + offset(Place { space, page });
+            let to = (before + SHARD_PAGES).min(at + (end - page) as usize);
+            let absent = zeros(words, at, to);
+            page += absent as u32;
+            if at + absent < to {
                 return page;
             }
         }
@@ -408,6 +415,7 @@ impl Shards {
         requires place { IsPlace self.old place }
         requires present { IsFalse (is_taken self.old) }
         ensures status { result.status ≡ status_of (entry_at self.old place) }
+        ensures lost { result.lost ≡ has_any revoked (entry_at self.old place) }
         ensures held { result.held ≡ is_some (entry_at self.new place) }
         ensures set { IsSetAt self.old self.new place (option_and_then (narrowed flush revoked) (entry_at self.old place)) }
         ensures present { IsFalse (is_taken self.new) }
@@ -421,6 +429,7 @@ impl Shards {
     pub fn narrow_at(&mut self, index: usize, revoked: Rights, flush: bool) -> Narrowed
         requires present { IsFalse (is_taken self.old) }
         ensures status { (p : Place) → index_of self.old p ≡ index → result.status ≡ status_of (entry_at self.old p) }
+        ensures lost { (p : Place) → index_of self.old p ≡ index → result.lost ≡ has_any revoked (entry_at self.old p) }
         ensures held { (p : Place) → IsPlace self.old p → index_of self.old p ≡ index → result.held ≡ is_some (entry_at self.new p) }
         ensures set { (p : Place) → IsPlace self.old p → index_of self.old p ≡ index → IsSetAt self.old self.new p (option_and_then (narrowed flush revoked) (entry_at self.old p)) }
         ensures present { IsFalse (is_taken self.new) }
@@ -429,6 +438,7 @@ impl Shards {
         let Some(word) = self.word(index) else {
             return Narrowed {
                 status: Status::none(),
+                lost: false,
                 held: false,
             };
         };
@@ -436,6 +446,7 @@ impl Shards {
         self.put(index, left);
         Narrowed {
             status: Status::of_word(word),
+            lost: has_any(word, revoked),
             held: left != 0,
         }
     }
@@ -522,4 +533,20 @@ fn add_absent(words: &mut Vec<u64>)
 {
     let added = words.resize(words.len() + SHARD_PAGES, 0);
     prove!(added.is_ok());
+}
+
+/// How many words from one on, and before an end, are 0.
+fn zeros(words: &[u64], from: usize, end: usize) -> usize
+    requires order { from ≤ end }
+    requires within { end ≤ length words.now }
+    ensures upto { from + result ≤ end }
+    ensures zeros { (i : ℕ) → from ≤ i → i < from + result → slice_index words.now i ≡ 0 }
+    ensures held { from + result < end → slice_index words.now (from + result) ≡ 0 → ⊥ }
+{
+    for i in from..end {
+        if words[i] != 0 {
+            return i - from;
+        }
+    }
+    end - from
 }

@@ -2,7 +2,7 @@ ghost use Rattle.std.specs.Prelude.{◌≡◌, ◌*◌, ◌%◌, ◌^◌, IsTrue
 ghost use Rattle.std.specs.Option.{option_and_then};
 ghost use Rattle.fpage.specs.Rights.{number, of_bits, without};
 ghost use Rattle.space.specs.Word.{word_of, entry_of, is_pack, FrameFits};
-ghost use Rattle.space.specs.Entries.{narrowed, status_of};
+ghost use Rattle.space.specs.Entries.{has_any, narrowed, status_of};
 
 use crate::place::Entry;
 use fpage::Rights;
@@ -65,6 +65,14 @@ pub fn rights_left(word: u64, revoked: Rights) -> u64
     ensures { result ≡ number (without (of_bits (word % 8)) revoked) }
 {
     word % 8 & u64::from(7 - revoked.number())
+}
+
+/// Whether what a word says has one of these rights.
+pub fn has_any(word: u64, rights: Rights) -> bool
+    requires { IsTrue (is_pack word) }
+    ensures { result ≡ has_any rights (entry_of word) }
+{
+    word % 8 & u64::from(rights.number()) != 0
 }
 
 /// The status of what a word says.

@@ -1,7 +1,7 @@
 -- A walk over a run strips its first place.
-use Rattle.std.proofs.Common.{◌≡◌, ℕ, zero, suc, ◌+◌, ◌-◌, ◌<◌, ◌≤◌, true, false, Bool, ◌&&◌, ◌||◌, not, List, [], ◌∷◌, length, drop, take, Option, Some, None, refl, sym, ap, ◌∙◌, subst, arith, ◌⊎◌, inl, inr, if◌then◌else◌}
+use Rattle.std.proofs.Common.{◌≡◌, ℕ, zero, suc, ◌+◌, ◌-◌, ◌<◌, ◌≤◌, true, false, Bool, ◌&&◌, ◌||◌, not, List, [], ◌∷◌, length, drop, take, get_or, Option, Some, None, refl, sym, ap, ◌∙◌, subst, arith, ◌⊎◌, inl, inr, if◌then◌else◌}
 use Rattle.std.specs.Prelude.{IsFalse}
-use Rattle.std.specs.List.{list_any, list_all}
+use Rattle.std.specs.List.{All, list_any, list_all}
 use Rattle.std.specs.Option.{option_and_then, option_map, option_map_or}
 use Rattle.std.specs.declared.ops.Range.{Range}
 use Rattle.std.proofs.lemmas.Bool.{and_parts, or_cases, or_left, or_right, false_from_ne_true}
@@ -437,6 +437,17 @@ stands_once (o ∷ os) once (suc i) (suc j) d i_within j_within same =
 -- a place that stands in a tree is one
 pub standing_place : (shards : Shards) (trees : List Shape) (frame : ℕ) → AreLoose shards trees → (p : Place) → is_listed trees frame p ≡ true → IsPlace shards p
 standing_place shards trees frame loose p stands = let inside = within_from_place (limits_in shards trees) p (loose.within frame p stands) in record { space = inside.space; page = inside.page }
+
+-- the place of a link
+link_place : (os : Origins) (k : ℕ) (d : Place × Option Place) → k < length os → (get_or os k d).0 ≡ place_at os k d.0
+link_place [] k d within = absurd (omega (arith, within))
+link_place (o ∷ os) zero d within = refl
+link_place (o ∷ os) (suc k) d within = link_place os k d (omega (arith, within))
+
+-- so are all places of a tree
+pub standing_places : (shards : Shards) (trees : List Shape) (frame : ℕ) → AreLoose shards trees → All (λ o. IsPlace shards o.0) (links_in trees frame)
+standing_places shards trees frame loose k d within =
+    subst (IsPlace shards) (sym (link_place (links_in trees frame) k d within)) (standing_place shards trees frame loose (place_at (links_in trees frame) k d.0) (listed_at (links_in trees frame) k d.0 within))
 
 -- and its shard is there
 pub standing_there : (shards : Shards) (trees : List Shape) (frame : ℕ) → AreLoose shards trees → (p : Place) → is_listed trees frame p ≡ true → IsThere shards p

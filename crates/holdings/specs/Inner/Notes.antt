@@ -73,9 +73,13 @@ all_held set p = if set p then Some true else None
 abbrev pub loses_in : Shards → Rights → PlaceSet
 loses_in s a p = option_map_or (λ e. not (is_empty (meet e.rights a))) (entry_at s p) false
 
--- a place was noted behind others, if it holds one of the rights
+-- a place was noted behind others, if this is so
+abbrev pub IsNotedIf : Bool → Place → List Note → List Note → Type 0
+IsNotedIf lost p old new = (q : Place) → first_note new q ≡ option_or (first_note old q) (if same_place q p && lost then Some true else None)
+
+-- the same, if it holds one of the rights
 abbrev pub IsLoserNoted : Shards → Place → Rights → List Note → List Note → Type 0
-IsLoserNoted s p a old new = (q : Place) → first_note new q ≡ option_or (first_note old q) (if same_place q p && loses_in s a p then Some true else None)
+IsLoserNoted s p a old new = IsNotedIf (loses_in s a p) p old new
 
 -- of the places at some positions those that hold one of the rights were noted behind others
 abbrev pub AreLosersNoted : Shards → Origins → ℕ → ℕ → Rights → List Note → List Note → Type 0

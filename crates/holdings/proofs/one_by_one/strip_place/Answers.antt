@@ -1,5 +1,5 @@
 -- The place's run is its tree's outermost run of that place alone.
-use Rattle.std.proofs.Common.{◌≡◌, ◌≤◌, true, [], ◌∷◌, length, get_or, slice_set, subst, sym, ap, ◌∙◌}
+use Rattle.std.proofs.Common.{◌≡◌, true, [], ◌∷◌, length, get_or, slice_set, subst, sym, ap, ◌∙◌}
 use Rattle.std.specs.Prelude.{is_some}
 use Rattle.std.specs.List.{All, list_all}
 use Rattle.space.specs.Place.{same_place}
@@ -11,9 +11,8 @@ use Rattle.holdings.specs.Inner.Derivation.{stands_in}
 use Rattle.holdings.specs.Inner.Stripping.{AreOfFrame, firsts, pruned, OriginsHaveEntries, IsLeft}
 use Rattle.model.specs.Definitions.Holdings.{Holdings, only}
 use Rattle.model.proofs.LawfulParts.{lawful_parts}
-use Rattle.holdings.specs.Inner.Notes.{AreLosersNoted, losing_from}
 use Rattle.holdings.specs.Noting.{NotesFollow}
-use Rattle.holdings.proofs.NotedPages.{lawful, places_there, run_noted, strip_follow}
+use Rattle.holdings.proofs.NotedPages.{lawful, run_noted, strip_follow}
 use Rattle.holdings.proofs.Contents.Holders.{links_read}
 use Rattle.holdings.specs.Inner.Links.{IsTreeSet}
 use Rattle.holdings.proofs.Links.NewMappings.{tree_set}
@@ -34,35 +33,11 @@ unwrap-i-requires c =
     ap is_some c.find.ensures ∙ some_found (λ o. same_place c.args.place o.0) links (ap (λ (os : Origins). stands_in os c.args.place) (sym (read c)) ∙ c.requires.listed)
 
 -- the run is the place's
-run_begun : (c : goal.After-run-2-1) → IsRunOf (links_in c.args.trees.now c.args.frame) c.args.place c.run_of-run.result
+run_begun : (c : goal.After-strip_run-arg-2-1) → IsRunOf (links_in c.args.trees.now c.args.frame) c.args.place c.run_of-run.result
 run_begun c =
     let read = links_read c.args.trees.now c.args.frame c.index-trees-frame.result c.requires.frame c.index-trees-frame.is ∙ ap (λ (t : Shape). t.links) c.index-trees-frame.is in
     subst (λ os. IsRunOf os c.args.place c.run_of-run.result) (sym read)
     (run_found (get_or c.args.trees.now c.args.frame c.index-trees-frame.result).links c.args.place c.unwrap-i.result c.run_of-run.result (sym c.find.ensures ∙ c.unwrap-i.ensures) c.run_of-run.ensures.start c.run_of-run.ensures.end c.run_of-run.ensures.run)
-
-pub note_run_if_asked-requires-clause-present : goal.note_run_if_asked-requires-clause-present
-note_run_if_asked-requires-clause-present c = c.requires.sound.kept.fits.present
-
-pub note_run_if_asked-requires-clause-places : goal.note_run_if_asked-requires-clause-places
-note_run_if_asked-requires-clause-places c =
-    let read = links_read c.args.trees.now c.args.frame c.index-trees-frame.result c.requires.frame c.index-trees-frame.is ∙ ap (λ (t : Shape). t.links) c.index-trees-frame.is in
-    subst (λ (os : Origins). All (λ o. IsPlace c.args.shards.now o.0) os) read (places_there c.args.shards.now c.args.trees.now c.requires.sound c.args.frame)
-
-pub note_run_if_asked-requires-clause-some : goal.note_run_if_asked-requires-clause-some
-note_run_if_asked-requires-clause-some c =
-    let read = links_read c.args.trees.now c.args.frame c.index-trees-frame.result c.requires.frame c.index-trees-frame.is ∙ ap (λ (t : Shape). t.links) c.index-trees-frame.is in
-    let run : IsRunOf (links_in c.args.trees.now c.args.frame) c.args.place c.run_of-run.result =
-    subst (λ os. IsRunOf os c.args.place c.run_of-run.result) (sym read)
-    (run_found (get_or c.args.trees.now c.args.frame c.index-trees-frame.result).links c.args.place c.unwrap-i.result c.run_of-run.result (sym c.find.ensures ∙ c.unwrap-i.ensures) c.run_of-run.ensures.start c.run_of-run.ensures.end c.run_of-run.ensures.run) in
-    run.some
-
-pub note_run_if_asked-requires-clause-within : goal.note_run_if_asked-requires-clause-within
-note_run_if_asked-requires-clause-within c =
-    let read = links_read c.args.trees.now c.args.frame c.index-trees-frame.result c.requires.frame c.index-trees-frame.is ∙ ap (λ (t : Shape). t.links) c.index-trees-frame.is in
-    let run : IsRunOf (links_in c.args.trees.now c.args.frame) c.args.place c.run_of-run.result =
-    subst (λ os. IsRunOf os c.args.place c.run_of-run.result) (sym read)
-    (run_found (get_or c.args.trees.now c.args.frame c.index-trees-frame.result).links c.args.place c.unwrap-i.result c.run_of-run.result (sym c.find.ensures ∙ c.unwrap-i.ensures) c.run_of-run.ensures.start c.run_of-run.ensures.end c.run_of-run.ensures.run) in
-    subst (λ (os : Origins). c.run_of-run.result.end ≤ length os) read run.within
 
 pub strip_run-requires-clause-loose : goal.strip_run-requires-clause-loose
 strip_run-requires-clause-loose c = loose_from c.args.shards.now c.args.trees.now c.requires.sound
@@ -167,8 +142,8 @@ returns-clause-noted c =
     subst (λ os. IsRunOf os c.args.place c.run_of-run.result) (sym read)
     (run_found (get_or t c.args.frame c.index-trees-frame.result).links c.args.place c.unwrap-i.result c.run_of-run.result (sym c.find.ensures ∙ c.unwrap-i.ensures) c.run_of-run.ensures.start c.run_of-run.ensures.end c.run_of-run.ensures.run) in
     let old = c.args.notes.now in
-    let new = c.note_run_if_asked.new.notes in
-    let added = c.in_ok-note_run_if_asked.ensures in
+    let new = c.strip_run.new.notes in
+    let added = c.in_ok-stripped.ensures.noted in
     subst (λ (h : Holdings). NotesFollow (holdings_in s t) h old new) (sym (returns-clause-left c))
     (strip_follow (holdings_in s t) (lawful s t c.requires.sound) (only c.args.place) c.args.revoked c.args.flush old new
     (record {
@@ -181,6 +156,6 @@ returns-clause-noted c =
             some = run.some;
             within = run.within;
             first = run.first;
-            adds = subst (λ (os : Origins). AreLosersNoted s os (losing_from c.args.flush c.run_of-run.result.start) c.run_of-run.result.end c.args.revoked old.list.items new.list.items) (sym read) (added.added is);
+            adds = added.added is;
           });
     }))

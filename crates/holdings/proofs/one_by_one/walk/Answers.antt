@@ -1,5 +1,5 @@
 -- Each page of the run is taken once, by its position, and the origin gains.
-use Rattle.std.proofs.Common.{List, ◌≡◌, ℕ, ◌<◌, ◌≤◌, ◌+◌, ◌-◌, ◌||◌, false, true, Bool, not, length, slice_index, Some, None, option_map, refl, sym, ap, ◌∙◌, subst, arith}
+use Rattle.std.proofs.Common.{List, ◌≡◌, ℕ, ◌<◌, ◌≤◌, ◌+◌, ◌-◌, ◌||◌, ◌&&◌, false, true, Bool, not, length, slice_index, Some, None, option_map, refl, sym, ap, ◌∙◌, subst, arith}
 use Rattle.std.proofs.Math.Bool.{or-false}
 use Rattle.std.proofs.lemmas.Bool.{false_from_ne_true}
 use Rattle.fpage.specs.Rights.{no_rights}
@@ -7,17 +7,20 @@ use Rattle.fpage.specs.declared.rights.Rights.{Rights}
 use Rattle.space.specs.declared.place.Place.{Place}
 use Rattle.space.specs.declared.shards.Shards.{Shards}
 use Rattle.space.specs.Place.{same_place}
-use Rattle.space.specs.Shards.{IsPlace, index_of}
+use Rattle.space.specs.Entries.{has_any}
+use Rattle.space.specs.Shards.{IsPlace, entry_at, index_of}
 use Rattle.space.proofs.Places.{same_is, same_self}
 use Rattle.maptree.specs.Origins.{Shape, origin_in, place_at, are_once}
 use Rattle.maptree.proofs.Listed.{listed_at}
 use Rattle.holdings.specs.Inner.Held.{links_in}
 use Rattle.holdings.specs.Inner.Stripping.{with_next}
+use Rattle.holdings.specs.Inner.Notes.{AreLosersNoted, NotesAdd, IsNotedIf, loses_in, losing_from}
 use Rattle.holdings.specs.Inner.Words.{IsThere}
 use Rattle.holdings.proofs.Contents.Holders.{links_read}
-use Rattle.holdings.proofs.Stripping.Walks.{IsWalked, IsStripped, walk_begins, walk_goes, place_any, listed_place, run_without_origin, run_with_origin, stands_at, stands_once, standing_there}
+use Rattle.holdings.proofs.NotedPages.{run_first, run_more}
+use Rattle.holdings.proofs.Stripping.Walks.{IsWalked, IsStripped, walk_begins, walk_goes, place_any, listed_place, run_without_origin, run_with_origin, stands_at, stands_once, standing_there, not_among, walked}
 use Rattle.holdings.proofs.Stripping.LeftOfRuns.{IsSeen, places_now, seen_more, seen_kept, run_left, none_seen}
-use Rattle.holdings.proofs.one_by_one.walk.Goals.{After-add_status, In_default}
+use Rattle.holdings.proofs.one_by_one.walk.Goals.{After-add_status, In_default, then-flush, else-flush}
 use Rattle.holdings.proofs.Contents.WordChanges.{place_kept, word_kept}
 use Rattle.holdings.proofs.one_by_one.walk.Goals as goal
 
@@ -59,8 +62,18 @@ loop-from-init c =
     sym (ap (λ p. c.args.flush || not (same_place q p)) first ∙ ap (λ b. c.args.flush || not b) (same_self q) ∙ or-false c.args.flush) in
     let narrowed = c.narrow-narrowed in
     let places = places_now s trees frame c.requires.loose s (record { spaces = refl; bits = refl; count = refl; index = λ p. refl }) in
+    let d : Place = record { space = 0; page = 0 } in
+    let lost : c.if-flush.note_lost ≡ (c.args.flush && loses_in s c.args.revoked q) =
+    elim c.if-flush.branch [
+      | then-flush w ↦ w.note_lost-is ∙ narrowed.ensures.lost ∙ sym (ap (λ b. b && loses_in s c.args.revoked q) w.if-flush.true)
+      | else-flush w ↦ w.note_lost-is ∙ w.if-flush.false ∙ sym (ap (λ b. b && loses_in s c.args.revoked q) w.if-flush.false)
+    ] in
+    let note = c.in_ok-note_lost.ensures in
+    let old = c.args.notes.now.list.items in
+    let new = c.note_lost.new.notes.list.items in
+    let read : place_at c.at.new.self start d ≡ q = ap (λ os. place_at os start d) c.at.ensures.same ∙ sym (c.at.ensures.place d) in
     record {
-      nodes = c.at.ensures.same ∙ c.nodes-nodes.ensures ∙ sym links;
+      nodes = note.same ∙ c.at.ensures.same ∙ c.nodes-nodes.ensures ∙ sym links;
       behind = omega arith;
       upto = omega (arith, c.requires.some);
       walked =
@@ -70,6 +83,12 @@ loop-from-init c =
       seen = subst (λ l. IsSeen l narrowed.new.self (links_in trees frame) start (start + 1)) (sym (c.with_next-left.ensures))
           (subst (λ l. IsSeen (with_next l start narrowed.result.held) narrowed.new.self (links_in trees frame) start (start + 1)) (sym c.of_none.ensures)
           (seen_more (links_in trees frame) start start s narrowed.new.self q _ narrowed.ensures.set places within there only_there (record { held_to = start; rest_gone = true }) narrowed.result.held narrowed.ensures.held (none_seen s (links_in trees frame) start)));
+      noted = record {
+        asked = (note.noted d).asked;
+        added = λ asked.
+            run_first (links_in trees frame) (loses_in s c.args.revoked) c.args.flush start q d within (sym (there d)) old new
+            (subst (λ p. IsNotedIf (c.args.flush && loses_in s c.args.revoked q) p old new) read (subst (λ b. IsNotedIf b (place_at c.at.new.self start d) old new) lost ((note.noted d).added asked)));
+      };
     }
 
 pub find_words-found-requires-clause-within : goal.find_words-found-requires-clause-within
@@ -95,6 +114,11 @@ apart : (trees : List Shape) (frame : ℕ) → are_once (links_in trees frame) �
 apart trees frame once start i behind within =
     let d : Place = record { space = 0; page = 0 } in
     false_from_ne_true _ (λ same. absurd (omega (arith, behind, stands_once (links_in trees frame) once i start d within (omega (arith, behind, within)) (sym (same_is (stands_at trees frame i) (stands_at trees frame start) same)))))
+
+-- the places of a run that lose rights begin before one behind the first
+losing_upto : (f : Bool) (start i : ℕ) → start < i → losing_from f start ≤ i
+losing_upto true start i behind = omega (arith, behind)
+losing_upto false start i behind = omega (arith, behind)
 
 or_true : (b : Bool) → (b || true) ≡ true
 or_true true = refl
@@ -128,6 +152,13 @@ loop-i-preserved c =
     let found : index_of now q ≡ slice_index c.find_words-found.result (i - from) =
     c.loop-i.invariant.walked.layout.index q ∙ sym (c.loop-from.invariant.walked.layout.index q)
     ∙ sym (c.find_words-found.ensures.found i d least c.loop-i-test.true ∙ ap (λ os. index_of c.loop-from.shards (place_at os i d)) c.loop-from.invariant.nodes) in
+    let stood : entry_at now q ≡ entry_at s q =
+    c.loop-i.invariant.walked.entries q (listed_place s trees frame c.requires.loose i q within there)
+    ∙ ap (λ b. walked b (c.args.flush || not (same_place q (stands_at trees frame start))) c.args.revoked (entry_at s q)) (not_among links start i q only_there) in
+    let lost : narrowed.result.lost ≡ loses_in s c.args.revoked q = narrowed.ensures.lost q found ∙ ap (has_any c.args.revoked) stood in
+    let note = c.in_ok-note_lost-2.ensures in
+    let old = c.loop-i.notes.list.items in
+    let new = c.note_lost-in-loop-i.new.notes.list.items in
     record {
       walked =
           subst (IsWalked s trees frame start (stands_at trees frame start) c.args.revoked c.args.flush (i + 1) narrowed.new.self) (sym c.join-status.ensures)
@@ -135,6 +166,15 @@ loop-i-preserved c =
           (omega (arith, behind)) within there only_there loses (narrowed.ensures.status q found) (narrowed.ensures.set q place found) narrowed.ensures.present narrowed.ensures.layout);
       seen = subst (λ l. IsSeen l narrowed.new.self links start (i + 1)) (sym c.with_next-left-in-loop-i.ensures)
           (seen_more links start i now narrowed.new.self q _ (narrowed.ensures.set q place found) places within there only_there c.loop-i.left narrowed.result.held (narrowed.ensures.held q place found) c.loop-i.invariant.seen);
+      nodes = note.same ∙ c.loop-i.invariant.nodes;
+      noted = record {
+        asked = (note.noted d).asked ∙ c.loop-i.invariant.noted.asked;
+        added = λ asked.
+            run_more links (loses_in s c.args.revoked) (losing_from c.args.flush start) i q d (losing_upto c.args.flush start i behind) within (sym (there d)) c.args.notes.now.list.items old new
+            (subst (λ p. IsNotedIf (loses_in s c.args.revoked q) p old new) (ap (λ os. place_at os i d) c.loop-i.invariant.nodes)
+            (subst (λ b. IsNotedIf b (place_at c.loop-i.nodes i d) old new) lost ((note.noted d).added (c.loop-i.invariant.noted.asked ∙ asked))))
+            (c.loop-i.invariant.noted.added asked);
+      };
     }
 
 pub loop-from-preserved : goal.loop-from-preserved
@@ -145,13 +185,14 @@ loop-from-preserved c =
     let start = c.args.run.now.start in
     let upto = c.loop-from.invariant.upto in
     let begun = c.loop-from.invariant.behind in
-    let end : c.loop-i.i ≡ c.loop-from.from + c.min.result = omega (arith, c.loop-i-test.false, c.loop-i.auto) in
+    let end : c.loop-i.i ≡ c.loop-from.from + c.min.result = omega (arith, c.loop-i-test.false, c.loop-i.auto.i, c.loop-i.auto.i-end) in
     record {
-      nodes = c.find_words-found.ensures.same ∙ c.loop-from.invariant.nodes;
+      nodes = c.loop-i.invariant.nodes;
       behind = omega (arith, begun);
       upto = omega (arith, c.min.ensures, upto);
       walked = subst (λ i. IsWalked s trees frame start (stands_at trees frame start) c.args.revoked c.args.flush i c.loop-i.shards c.loop-i.status) end c.loop-i.invariant.walked;
       seen = subst (IsSeen c.loop-i.left c.loop-i.shards (links_in trees frame) start) end c.loop-i.invariant.seen;
+      noted = subst (λ i. NotesAdd (AreLosersNoted s (links_in trees frame) (losing_from c.args.flush start) i c.args.revoked) c.args.notes.now c.loop-i.notes) end c.loop-i.invariant.noted;
     }
 
 pub origin_of-requires : goal.origin_of-requires
@@ -261,3 +302,17 @@ returns-in_default-clause-run_left c =
     let links = links_in c.args.trees.now c.args.frame in
     let end : c.loop-from.from ≡ c.args.run.now.end = omega (arith, c.loop-from-test.false, c.loop-from.invariant.upto) in
     run_left c.loop-from.shards links c.args.run.now c.loop-from.left (subst (IsSeen c.loop-from.left c.loop-from.shards links c.args.run.now.start) end c.loop-from.invariant.seen)
+
+pub returns-in-Some-clause-noted : goal.returns-in-Some-clause-noted
+returns-in-Some-clause-noted c =
+    let upto = c.loop-from.invariant.upto in
+    let end : c.loop-from.from ≡ c.args.run.now.end = omega (arith, c.loop-from-test.false, upto) in
+    subst (λ i. NotesAdd (AreLosersNoted c.args.shards.now (links_in c.args.trees.now c.args.frame) (losing_from c.args.flush c.args.run.now.start) i c.args.revoked) c.args.notes.now c.loop-from.notes) end
+    c.loop-from.invariant.noted
+
+pub returns-in_default-clause-noted : goal.returns-in_default-clause-noted
+returns-in_default-clause-noted c =
+    let upto = c.loop-from.invariant.upto in
+    let end : c.loop-from.from ≡ c.args.run.now.end = omega (arith, c.loop-from-test.false, upto) in
+    subst (λ i. NotesAdd (AreLosersNoted c.args.shards.now (links_in c.args.trees.now c.args.frame) (losing_from c.args.flush c.args.run.now.start) i c.args.revoked) c.args.notes.now c.loop-from.notes) end
+    c.loop-from.invariant.noted
