@@ -6,7 +6,7 @@
 #include <stdlib.h>
 #include <time.h>
 
-enum { RUNS = 5, SPACES = 40, WORDS = 64, ITEMS = 31 };
+enum { RUNS = 5, SPACES = 40, WORDS = 64, ITEMS = 31, FAN = 65536 };
 
 static const uint32_t ALL = 0x10 + 7, FLUSH = 64;
 
@@ -126,6 +126,33 @@ static void unmap_words(struct l4map *db) {
     done(l4map_unmap(db, 0, WORDS - 1, words, WORDS));
 }
 
+/* Page 0 of space 0 goes to all pages of space 1, one by one. */
+static void fan(struct l4map *db) {
+    struct l4map_send_reply reply;
+    for (uint32_t page = 0; page < FAN; page++) {
+        uint32_t item[2] = {l4map_map_item(page), l4map_fpage(0, 0, 7)};
+        done(l4map_send(db, 0, 1, ALL, item, 2, &reply));
+    }
+}
+
+static void list_all(struct l4map *db) {
+    struct l4map_mapping some[WORDS], last = {0};
+    size_t n = WORDS;
+    for (uint32_t behind = 0; n == WORDS; behind = 1) {
+        done(l4map_mappings(db, (uint16_t)last.space, last.page + behind, some, WORDS, &n));
+        last = n ? some[n - 1] : last;
+    }
+}
+
+static void list_below(struct l4map *db) {
+    struct l4map_mapping some[WORDS], last = {0};
+    size_t n = WORDS;
+    for (uint32_t behind = 0; n == WORDS; behind = 1) {
+        done(l4map_below(db, 0, 0, (uint16_t)last.space, last.page + behind, some, WORDS, &n));
+        last = n ? some[n - 1] : last;
+    }
+}
+
 static void clear_first(struct l4map *db) {
     uint32_t status;
     done(l4map_clear(db, 1, &status));
@@ -146,6 +173,9 @@ static const struct call CALLS[] = {
     {"a clear of such a space", 24, 4096, chain_of_two, clear_first},
     {"a send of 31 items of 2,048 pages", 28, 65536, nothing, send_items},
     {"64 words, each all of 1,048,576 pages", 32, 1048576, nothing, unmap_words},
+    {"a listing of 131,072 mappings, in chains of 32", 24, 4096, chain_of_31, list_all},
+    {"a listing of 65,537 mappings of one frame", 28, 1, fan, list_all},
+    {"of 131,072 mappings the 32 below a page", 24, 4096, chain_of_31, list_below},
 };
 
 /* The least time of a call, over some runs. What it told and the largest block are those of the last run. */

@@ -447,7 +447,7 @@ def main():
             put_in_place(tree, archive)
             cases.check(f"what the archive asks for, {archive.backend}", fault_in_symbols(archive))
             cases.check(f"the archive has no variables, {archive.backend}", fault_in_variables(archive))
-            for name in ("look", "words", "calls", "changes", "refused", "large", "readme"):
+            for name in ("look", "words", "calls", "changes", "listings", "refused", "large", "readme"):
                 check_program(cases, room, archive, name)
             check_bare(cases, room, archive)
             check_cpp(cases, room, archive)

@@ -24,7 +24,7 @@ struct held {
     struct l4map_mapping mappings[PLACES];
 };
 
-/* How many blocks were asked for by entries, origins and mappings. */
+/* How many blocks were asked for by entries, origins and listings. */
 static uint32_t asked_by_looks;
 
 static void look(struct l4map *db, struct held *held) {
@@ -105,22 +105,55 @@ static void page(struct l4map *db, uint16_t space, uint32_t page) {
            e.status, o.known, o.space, o.page);
 }
 
-static void mappings(struct l4map *db, uint16_t space, uint32_t page, size_t n) {
-    struct l4map_mapping some[4], nines[4];
-    size_t count = 9, i;
-    uint32_t code, asked = arena_asked;
-    memset(some, 9, sizeof some);
-    memset(nines, 9, sizeof nines);
-    code = l4map_mappings(db, space, page, some, n, &count);
+/* What a listing wrote over nines, of which there are four. */
+struct listing {
+    struct l4map_mapping some[4];
+    size_t count;
+};
+
+static struct listing nines(void) {
+    struct listing listing;
+    memset(listing.some, 9, sizeof listing.some);
+    listing.count = 9;
+    return listing;
+}
+
+static void end_listing(uint32_t code, struct listing *told, uint32_t asked) {
+    struct listing untouched = nines();
+    size_t i;
     asked_by_looks += arena_asked - asked;
-    printf("mappings %u:%x %zu = %u | %zu", space, page, n, code, count);
-    for (i = 0; code == L4MAP_DONE && i < count && i < 4; i++) {
-        const struct l4map_mapping *m = &some[i];
+    printf(" = %u | %zu", code, told->count);
+    for (i = 0; code == L4MAP_DONE && i < told->count && i < 4; i++) {
+        const struct l4map_mapping *m = &told->some[i];
         printf(" | %u:%u %u %u %u %u %u:%u", m->space, m->page, m->frame, m->rights, m->status, m->has_origin,
                m->origin_space, m->origin_page);
-        memset(&some[i], 9, sizeof some[i]);
+        memset(&told->some[i], 9, sizeof told->some[i]);
     }
-    puts(memcmp(some, nines, sizeof some) ? " | more was written" : "");
+    puts(memcmp(told->some, untouched.some, sizeof told->some) ? " | more was written" : "");
+}
+
+static void mappings(struct l4map *db, uint16_t space, uint32_t page, size_t n) {
+    struct listing told = nines();
+    uint32_t asked = arena_asked;
+    uint32_t code = l4map_mappings(db, space, page, told.some, n, &told.count);
+    printf("mappings %u:%x %zu", space, page, n);
+    end_listing(code, &told, asked);
+}
+
+static void space_mappings(struct l4map *db, uint16_t space, uint32_t page, size_t n) {
+    struct listing told = nines();
+    uint32_t asked = arena_asked;
+    uint32_t code = l4map_space_mappings(db, space, page, told.some, n, &told.count);
+    printf("of space %u:%x %zu", space, page, n);
+    end_listing(code, &told, asked);
+}
+
+static void below(struct l4map *db, uint16_t space, uint32_t page, uint16_t from_space, uint32_t from_page, size_t n) {
+    struct listing told = nines();
+    uint32_t asked = arena_asked;
+    uint32_t code = l4map_below(db, space, page, from_space, from_page, told.some, n, &told.count);
+    printf("below %u:%x from %u:%x %zu", space, page, from_space, from_page, n);
+    end_listing(code, &told, asked);
 }
 
 static void call_without_database(void) {
@@ -130,6 +163,8 @@ static void call_without_database(void) {
     clear(&db, 9);
     access(&db, 9, 0x40000, 3);
     mappings(&db, 9, 0, 2);
+    space_mappings(&db, 9, 0, 2);
+    below(&db, 9, 64, 0, 0, 2);
     page(&db, 9, 64);
 }
 
@@ -207,6 +242,36 @@ static void call_mappings(struct l4map *db) {
     mappings(db, 2, 1, 4);
     mappings(db, 3, 0, 4);
     mappings(db, 65535, 0xffffffff, 4);
+}
+
+static void call_space_mappings(struct l4map *db) {
+    space_mappings(db, 0, 62, 4);
+    space_mappings(db, 0, 62, 1);
+    space_mappings(db, 0, 64, 4);
+    space_mappings(db, 0, 0xffffffff, 4);
+    space_mappings(db, 1, 31, 4);
+    space_mappings(db, 2, 0, 0);
+    space_mappings(db, 2, 0, 4);
+    space_mappings(db, 3, 0, 4);
+    space_mappings(db, 65535, 0xffffffff, 4);
+}
+
+/* Page 1:31 came from 0:31, and 0:63 from 1:31; page 1:0 came from 0:0, and 0:32 and 2:0 from 1:0. */
+static void call_below(struct l4map *db) {
+    below(db, 0, 31, 0, 0, 4);
+    below(db, 0, 31, 0, 0, 1);
+    below(db, 0, 31, 0, 32, 1);
+    below(db, 0, 31, 0, 64, 4);
+    below(db, 1, 31, 0, 0, 4);
+    below(db, 0, 63, 0, 0, 4);
+    below(db, 0, 0, 0, 0, 4);
+    below(db, 0, 0, 1, 1, 4);
+    below(db, 0, 0, 2, 1, 4);
+    below(db, 0, 0, 3, 0, 4);
+    below(db, 0, 0, 0, 0, 0);
+    below(db, 2, 1, 0, 0, 4);
+    below(db, 2, 64, 0, 0, 4);
+    below(db, 3, 64, 0, 0, 4);
 }
 
 /* Each refusal of a send beside those that come after it. */
@@ -306,6 +371,8 @@ int main(void) {
     call_unmaps(&db);
     call_with_many_words(&db);
     call_mappings(&db);
+    call_space_mappings(&db);
+    call_below(&db);
     refuse_sends(&db);
     refuse_unmaps(&db);
     refuse_accesses(&db);

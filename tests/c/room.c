@@ -148,6 +148,9 @@ static void tell_mappings(void) {
     static struct l4map_mapping mappings[16384];
     size_t count;
     must(l4map_mappings(&db, 0, 0, mappings, 16384, &count), "mappings");
+    must(l4map_space_mappings(&db, 511, 0, mappings, 16384, &count), "the mappings of a space");
+    must(l4map_below(&db, 0, 0, 0, 0, mappings, 16384, &count), "the mappings below a page");
+    must(l4map_below(&db, 0, 0, 0, 0, mappings, 1, &count), "one mapping below a page");
 }
 
 static void tell_changes(void) {

@@ -3,7 +3,7 @@ use core::fmt;
 use core::ptr::null_mut;
 
 use crate::changes::Changes;
-use crate::mappings::Mappings;
+use crate::mappings::{Mappings, Which};
 use crate::raw;
 use crate::{Error, Fpage, Item, Page, Place, Rights, Space};
 
@@ -398,16 +398,40 @@ impl Database {
     ///
     /// [`Error::Halted`].
     pub fn mappings_from(&self, place: Place) -> Result<Mappings<'_>, Error> {
-        Mappings::from(self, place)
+        Mappings::from(self, Which::All, place)
     }
 
-    /// Every mapping of a space, by rising page. A space past the last one has none.
+    /// Every mapping of a space, by rising page.
     ///
     /// # Errors
     ///
-    /// [`Error::Halted`].
+    /// [`Error::Halted`]; [`Error::NoSuchSpace`].
     pub fn mappings_of(&self, space: Space) -> Result<Mappings<'_>, Error> {
-        Mappings::of(self, space)
+        let page = Page(0);
+        Mappings::from(self, Which::OfSpace, Place { space, page })
+    }
+
+    /// The mapping of a page, if it is held, and every one that derives from it, in whatever space, by rising place:
+    /// those that came from the page, and those that came from such a page in turn.
+    ///
+    /// ```
+    /// use l4map::{Database, Fpage, Item, Limits, Page, Place, Rights, Space};
+    ///
+    /// # fn main() -> Result<(), l4map::Error> {
+    /// let mut database = Database::new(Limits { spaces: 2, bits: 18, frames: 2 })?;
+    /// let all = Fpage::complete(Rights::ALL);
+    /// database.send(Space(0), Space(1), all, &[Item::map(all, Page(0))])?;
+    /// let root = Place { space: Space(0), page: Page(1) };
+    /// assert_eq!(database.mappings_below(root)?.count(), 2);
+    /// # Ok(())
+    /// # }
+    /// ```
+    ///
+    /// # Errors
+    ///
+    /// [`Error::Halted`]; [`Error::NoSuchSpace`] and [`Error::OutOfSpace`], where there is no such page.
+    pub fn mappings_below(&self, place: Place) -> Result<Mappings<'_>, Error> {
+        Mappings::from(self, Which::Below(place), place_of(0, 0))
     }
 
     /// Says whether calls note which pages they change, from the next call on. At the start they do not. What was noted
@@ -457,24 +481,26 @@ impl Database {
         Ok(count)
     }
 
-    /// Writes the first mappings at or behind a page to `some`, and tells how many they are.
+    /// Writes the first mappings of these at or behind a page to `some`, and tells how many they are.
     pub(crate) fn read_mappings(
         &self,
-        space: u16,
-        page: u32,
+        which: Which,
+        from: Place,
         some: &mut [raw::Mapping],
     ) -> Result<usize, Error> {
+        let (db, space, page) = (self.handle.get(), from.space.0, from.page.0);
+        let (at, n) = (some.as_mut_ptr(), some.len());
         let mut count = 0;
         // SAFETY: both are lent for the call, and apart from one another; the rest as in `entry`.
         Error::check(unsafe {
-            raw::l4map_mappings(
-                self.handle.get(),
-                space,
-                page,
-                some.as_mut_ptr(),
-                some.len(),
-                &mut count,
-            )
+            match which {
+                Which::All => raw::l4map_mappings(db, space, page, at, n, &mut count),
+                Which::OfSpace => raw::l4map_space_mappings(db, space, page, at, n, &mut count),
+                Which::Below(above) => {
+                    let (above_space, above_page) = (above.space.0, above.page.0);
+                    raw::l4map_below(db, above_space, above_page, space, page, at, n, &mut count)
+                }
+            }
         })?;
         Ok(count)
     }
@@ -493,10 +519,10 @@ impl fmt::Debug for Database {
     }
 }
 
-/// The version of the interface of the archive that was linked. This package is written for version 2.
+/// The version of the interface of the archive that was linked. This package is written for version 3.
 ///
 /// ```
-/// assert_eq!(l4map::version(), 2);
+/// assert_eq!(l4map::version(), 3);
 /// ```
 pub fn version() -> u32 {
     // SAFETY: nothing is lent for the call.

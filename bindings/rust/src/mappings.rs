@@ -2,7 +2,7 @@ use core::fmt;
 
 use crate::database::place_of;
 use crate::raw;
-use crate::{Database, Error, Page, Place, Rights, Space};
+use crate::{Database, Error, Place, Rights};
 
 /// What a page holds, and from which page it came.
 #[derive(Clone, Copy, Debug, PartialEq, Eq)]
@@ -54,43 +54,46 @@ pub struct Mappings<'a> {
     some: [raw::Mapping; SOME],
     count: usize,
     given: usize,
-    /// The space of all of them, if they are those of one.
-    only: Option<Space>,
+    which: Which,
+}
+
+/// Which mappings are told.
+#[derive(Clone, Copy)]
+pub(crate) enum Which {
+    All,
+    /// Those of the space where the listing starts.
+    OfSpace,
+    /// That of a page, and those that derive from it.
+    Below(Place),
 }
 
 impl<'a> Mappings<'a> {
     /// Those of a database at or behind a page.
-    pub(crate) fn from(database: &'a Database, place: Place) -> Result<Mappings<'a>, Error> {
+    pub(crate) fn from(
+        database: &'a Database,
+        which: Which,
+        place: Place,
+    ) -> Result<Mappings<'a>, Error> {
         let mut some = [raw::Mapping::default(); SOME];
-        let count = database.read_mappings(place.space.0, place.page.0, &mut some)?;
+        let count = database.read_mappings(which, place, &mut some)?;
         Ok(Mappings {
             database,
             some,
             count,
             given: 0,
-            only: None,
+            which,
         })
-    }
-
-    /// Those of one space.
-    pub(crate) fn of(database: &'a Database, space: Space) -> Result<Mappings<'a>, Error> {
-        let first = Place {
-            space,
-            page: Page(0),
-        };
-        let mut mappings = Mappings::from(database, first)?;
-        mappings.only = Some(space);
-        Ok(mappings)
     }
 
     /// Asks for those behind the last one, if there may be more.
     fn go_on(&mut self) {
         if self.count == SOME {
             let last = self.some[SOME - 1];
+            let behind = place_of(last.space, last.page + 1);
             // It is not refused: the database is lent, so that nothing can have halted it.
-            let more =
-                self.database
-                    .read_mappings(last.space as u16, last.page + 1, &mut self.some);
+            let more = self
+                .database
+                .read_mappings(self.which, behind, &mut self.some);
             self.count = more.unwrap_or(0);
             self.given = 0;
         }
@@ -105,12 +108,6 @@ impl Iterator for Mappings<'_> {
             self.go_on();
         }
         let mapping = Mapping::from(self.some[..self.count].get(self.given)?);
-        if self.only.is_some_and(|space| space != mapping.place.space) {
-            // All others are behind the space, so the end stays the end.
-            self.given = 0;
-            self.count = 0;
-            return None;
-        }
         self.given += 1;
         Some(mapping)
     }
@@ -125,7 +122,7 @@ impl fmt::Debug for Mappings<'_> {
 #[cfg(test)]
 mod tests {
     use super::Mapping;
-    use crate::{Access, Database, Fpage, Item, Limits, Page, Place, Rights, Space};
+    use crate::{Access, Database, Error, Fpage, Item, Limits, Page, Place, Rights, Space};
     use std::vec::Vec;
 
     /// The pages 0 to 32 of space 0, of which so many are held, and the same in space 1.
@@ -196,15 +193,55 @@ mod tests {
 
     #[test]
     fn mappings_of_one_space() {
-        for frames in [1, 8, 9, 32, 64] {
+        for frames in [1, 8, 9, 16, 32, 64] {
             let (database, wanted) = held_twice(frames);
             let half = frames as usize;
-            for (space, of) in [(0, &wanted[..half]), (1, &wanted[half..]), (2, &[])] {
+            for (space, of) in [(0, &wanted[..half]), (1, &wanted[half..])] {
                 let mut mappings = database.mappings_of(Space(space)).unwrap();
                 assert_eq!(mappings.by_ref().collect::<Vec<_>>(), of);
                 assert_eq!(mappings.next(), None);
             }
+            let refused = database.mappings_of(Space(2)).map(|_| ());
+            assert_eq!(refused, Err(Error::NoSuchSpace));
         }
+    }
+
+    #[test]
+    fn mappings_below_a_page() {
+        let (mut database, wanted) = held_twice(3);
+        let (all, place) = (Fpage::complete(Rights::ALL), |mapping: usize| {
+            wanted[mapping].place
+        });
+        let below = |database: &Database, place| {
+            let mappings = database.mappings_below(place).unwrap();
+            mappings.map(|m| m.place).collect::<Vec<_>>()
+        };
+        // Page 1 of space 0 gives to page 1 of space 1, and that to pages 40 to 59 of space 0, one by one.
+        for page in 40..60 {
+            let item = Item::map(Fpage::page(Page(1), Rights::READ), Page(page));
+            database.send(Space(1), Space(0), all, &[item]).unwrap();
+        }
+        let further = (40..60).map(|page| Place {
+            space: Space(0),
+            page: Page(page),
+        });
+        let further: Vec<_> = further.collect();
+        assert_eq!(
+            below(&database, place(4)),
+            [further.clone(), [place(4)].to_vec()].concat()
+        );
+        assert_eq!(
+            below(&database, place(1)),
+            [[place(1)].to_vec(), further.clone(), [place(4)].to_vec()].concat()
+        );
+        assert_eq!(below(&database, place(0)), [place(0), place(3)]);
+        assert_eq!(below(&database, further[0]), [further[0]]);
+        let past = Place {
+            space: Space(1),
+            page: Page(64),
+        };
+        let refused = database.mappings_below(past).map(|_| ());
+        assert_eq!(refused, Err(Error::OutOfSpace));
     }
 
     #[test]

@@ -89,6 +89,24 @@ extern "C" {
         n: usize,
         count: *mut usize,
     ) -> u32;
+    pub fn l4map_space_mappings(
+        db: *mut Handle,
+        space: u16,
+        page: u32,
+        mappings: *mut Mapping,
+        n: usize,
+        count: *mut usize,
+    ) -> u32;
+    pub fn l4map_below(
+        db: *mut Handle,
+        space: u16,
+        page: u32,
+        from_space: u16,
+        from_page: u32,
+        mappings: *mut Mapping,
+        n: usize,
+        count: *mut usize,
+    ) -> u32;
     pub fn l4map_note_changes(db: *mut Handle, on: u32) -> u32;
     pub fn l4map_changes(
         db: *mut Handle,

@@ -170,7 +170,7 @@ fn a_refused_call_tells_nothing_new() {
 /// The package is written for this version of the header.
 #[test]
 fn the_version_of_the_archive() {
-    assert_eq!(l4map::version(), 2);
+    assert_eq!(l4map::version(), 3);
 }
 
 /// Numbers that look random: xorshift.

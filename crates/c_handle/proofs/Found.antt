@@ -1,21 +1,33 @@
 -- The mappings of the pages of a space, and of the spaces, one after another.
-use Rattle.std.proofs.Common.{◌≡◌, ◌⊎◌, inl, inr, nat_le, true, false, ℕ, zero, suc, refl, ◌+◌, ◌-◌, ◌<◌, ◌≤◌, List, [], ◌∷◌, ◌++◌, map, set, filter, length, Option, Some, None, sym, ap, ◌∙◌, subst, arith, append_assoc, append-nil}
+use Rattle.std.proofs.Common.{Bool, if◌then◌else◌, ◌≡◌, ◌⊎◌, inl, inr, nat_le, true, false, ◌&&◌, ℕ, zero, suc, refl, ◌+◌, ◌-◌, ◌<◌, ◌≤◌, List, [], ◌∷◌, ◌++◌, map, set, filter, length, Option, Some, None, sym, ap, ◌∙◌, subst, arith, append_assoc, append-nil}
 use Rattle.std.proofs.lemmas.List.{map-append}
 use Rattle.std.proofs.lemmas.Bool.Decides.{leb_tells}
+use Rattle.std.proofs.Math.Bool.{and-true}
 use Rattle.std.specs.Option.{option_map}
 use Rattle.space.specs.declared.place.Place.{Place}
 use Rattle.space.specs.Directory.{pages_of}
 use Rattle.model.specs.Definitions.Calls.{Limits}
-use Rattle.model.specs.Definitions.Holdings.{Held, Holdings, keep, at}
-use Rattle.mapdb.specs.Held.{pages_from, spaces_from, listed, listing}
-use Rattle.c_handle.specs.Listed.{mapping_told, mappings_at, mappings_from, from_page, WritesBehind}
+use Rattle.model.specs.Definitions.Holdings.{Held, Holdings, PlaceSet, keep, at, only}
+use Rattle.model.specs.Definitions.Derived.{is_below}
+use Rattle.mapdb.specs.Held.{AreAbsentFrom, from_page, pages_from, spaces_from, listed, listing}
+use Rattle.c_handle.specs.Listed.{chosen, end_of, first_of, in_space_from, is_chosen, mapping_told, mappings_at, mappings_of, places_to, WritesBehind}
+use Rattle.c_handle.specs.declared.mappings.Listing.{Listing}
+use Rattle.c_handle.specs.declared.mappings.Listing.TheVariants.{From, OfSpace, Below}
 use Rattle.c_handle.specs.declared.mappings.MappingReply.{MappingReply}
 use Rattle.c_handle.proofs.Buffers.{writes_none, writes_more, writes_full, writes_both}
-use Rattle.c_handle.proofs.Listings.{pages_more, pages_and, spaces_more, listed_and, listed_of_set, places_behind, none_behind}
+use Rattle.c_handle.proofs.Listings.{pages_more, pages_and, spaces_more, listed_and, listed_chosen, places_behind, places_in, none_behind, none_in}
 
 -- the mappings at places in two parts
 pub mappings_and : (held : Place → Option Held) (ps qs : List Place) → mappings_at held (ps ++ qs) ≡ mappings_at held ps ++ mappings_at held qs
 mappings_and held ps qs = ap (map mapping_told) (listed_and held ps qs) ∙ map-append mapping_told (listed held ps) (listed held qs)
+
+-- a page that holds nothing has no mapping that is asked for
+pub unchosen : (l : Listing) (h : Holdings) (space from to : ℕ) → AreAbsentFrom h space from to → (p : Place) → p.space ≡ space → from ≤ p.page → p.page < to → chosen l h p ≡ None
+unchosen l h space from to absent p same after before = by (is_chosen l h p) (at h p) (absent p same after before)
+  where
+    by : (b : Bool) (m : Option Held) → m ≡ None → (if b then m else None) ≡ None
+    by true m none = none
+    by false m none = refl
 
 -- no mapping is at pages that hold nothing
 none_listed : (held : Place → Option Held) (space page n : ℕ) → ((j : ℕ) → page ≤ j → j < page + n → held (record { space = space; page = j }) ≡ None) → listed held (pages_from space page n) ≡ []
@@ -108,10 +120,6 @@ module _ (held : Place → Option Held) (space first : ℕ) (before : List Mappi
 
 -- ---- the spaces behind
 
--- the places from a page on, in the rest of its space and in the spaces behind it up to one
-abbrev pub places_to : ℕ → ℕ → ℕ → ℕ → List Place
-places_to pages space page next = pages_from space page (pages - page) ++ spaces_from pages (space + 1) (next - (space + 1))
-
 module _ (held : Place → Option Held) (pages space page : ℕ) (before : List MappingReply) (count : ℕ) where
   -- only the rest of the space
   pub spaces_start : (after : List MappingReply) (told : ℕ) → WritesBehind before count (mappings_at held (pages_from space page (pages - page))) after told
@@ -139,21 +147,47 @@ module _ (held : Place → Option Held) (pages space page : ℕ) (before : List 
       subst (λ l. WritesBehind before count l last end) (sym parts)
       (writes_both before count (mappings_at held (places_to pages space page next)) after told so_far (mappings_at held (pages_from next 0 (pages - 0))) last end one)
 
--- ---- all that is held from a page on
+-- ---- all that a listing asks for
 
--- of a space that there is
-pub found_behind : (limits : Limits) (h : Holdings) → h ≡ listing limits (at h) → (space page : ℕ) → space < limits.spaces
-    → mappings_from space page h ≡ mappings_at (at h) (places_to (pages_of limits.bits) space page limits.spaces)
-unfolding listing
-found_behind limits h is space page there =
-    let m = pages_of limits.bits in
-    ap (λ k. map mapping_told (filter (λ e. from_page space page e.0) k)) is
-    ∙ ap (map mapping_told) (listed_of_set (from_page space page) (at h) (spaces_from m 0 limits.spaces) ∙ ap (listed (at h)) (places_behind space page m limits.spaces there))
+-- it ends behind the space where it begins
+pub ends_behind : (l : Listing) (spaces : ℕ) → (first_of l).space < spaces → (first_of l).space + 1 ≤ end_of l spaces
+ends_behind (From first) spaces there = omega (arith, there)
+ends_behind (OfSpace first) spaces there = omega arith
+ends_behind (Below above first) spaces there = omega (arith, there)
 
--- of one that there is not
-pub none_found : (limits : Limits) (h : Holdings) → h ≡ listing limits (at h) → (space page : ℕ) → limits.spaces ≤ space → mappings_from space page h ≡ []
-unfolding listing
-none_found limits h is space page past =
-    let m = pages_of limits.bits in
-    ap (λ k. map mapping_told (filter (λ e. from_page space page e.0) k)) is
-    ∙ ap (map mapping_told) (listed_of_set (from_page space page) (at h) (spaces_from m 0 limits.spaces) ∙ ap (listed (at h)) (none_behind space page m limits.spaces past))
+module _ (limits : Limits) (h : Holdings) (is : h ≡ listing limits (at h)) where
+  abbrev everywhere : List Place
+  everywhere = spaces_from (pages_of limits.bits) 0 limits.spaces
+
+  -- those of a set at or behind a page
+  pub behind : (also : PlaceSet) (space page : ℕ) → map mapping_told (filter (λ e. from_page space page e.0 && also e.0) h) ≡ mappings_at (λ p. if also p then at h p else None) (filter (from_page space page) everywhere)
+  unfolding listing
+  behind also space page = ap (λ k. map mapping_told (filter (λ e. from_page space page e.0 && also e.0) k)) is ∙ ap (map mapping_told) (listed_chosen (from_page space page) also (at h) everywhere)
+
+  within_space : (space page : ℕ) → map mapping_told (filter (λ e. in_space_from space page e.0) h) ≡ mappings_at (at h) (filter (in_space_from space page) everywhere)
+  unfolding listing
+  within_space space page =
+      (λ i. map mapping_told (filter (λ e. sym (and-true (in_space_from space page e.0)) i) h))
+      ∙ ap (λ k. map mapping_told (filter (λ e. in_space_from space page e.0 && true) k)) is ∙ ap (map mapping_told) (listed_chosen (in_space_from space page) (λ p. true) (at h) everywhere)
+
+  -- from a page of a space that there is
+  pub found_behind : (l : Listing) → (first_of l).space < limits.spaces → mappings_of l h ≡ mappings_at (chosen l h) (places_to (pages_of limits.bits) (first_of l).space (first_of l).page (end_of l limits.spaces))
+  found_behind (From first) there =
+      (λ i. map mapping_told (filter (λ e. sym (and-true (from_page first.space first.page e.0)) i) h)) ∙ behind (λ p. true) first.space first.page
+      ∙ ap (mappings_at (at h)) (places_behind first.space first.page (pages_of limits.bits) limits.spaces there)
+  found_behind (OfSpace first) there =
+      let m = pages_of limits.bits in
+      let none : first.space + 1 - (first.space + 1) ≡ 0 = omega arith in
+      let last = ap (λ n. pages_from first.space first.page (m - first.page) ++ spaces_from m (first.space + 1) n) none ∙ append-nil (pages_from first.space first.page (m - first.page)) in
+      within_space first.space first.page ∙ ap (mappings_at (at h)) (places_in first.space first.page m limits.spaces there ∙ sym last)
+  found_behind (Below above first) there =
+      behind (is_below h (only above)) first.space first.page ∙ ap (mappings_at (chosen (Below above first) h)) (places_behind first.space first.page (pages_of limits.bits) limits.spaces there)
+
+  -- from one of a space that there is not
+  pub none_found : (l : Listing) → limits.spaces ≤ (first_of l).space → mappings_of l h ≡ []
+  none_found (From first) past =
+      (λ i. map mapping_told (filter (λ e. sym (and-true (from_page first.space first.page e.0)) i) h)) ∙ behind (λ p. true) first.space first.page
+      ∙ ap (mappings_at (at h)) (none_behind first.space first.page (pages_of limits.bits) limits.spaces past)
+  none_found (OfSpace first) past = within_space first.space first.page ∙ ap (mappings_at (at h)) (none_in first.space first.page (pages_of limits.bits) limits.spaces past)
+  none_found (Below above first) past =
+      behind (is_below h (only above)) first.space first.page ∙ ap (mappings_at (chosen (Below above first) h)) (none_behind first.space first.page (pages_of limits.bits) limits.spaces past)

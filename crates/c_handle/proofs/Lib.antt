@@ -5,6 +5,7 @@ mod Ending
 mod Sendings
 mod Listings
 mod Found
+mod FoundBelow
 mod Pages
 mod Requests
 mod Served

@@ -1,11 +1,11 @@
 -- The mappings at or behind a page are those of the rest of its space and of the spaces behind it.
-use Rattle.std.proofs.Common.{◌≡◌, ◌⊎◌, inl, inr, ℕ, zero, suc, ◌+◌, ◌-◌, ◌<◌, ◌≤◌, nat_le, ◌==◌, ◌&&◌, ◌||◌, Bool, true, false, cond, List, [], ◌∷◌, ◌++◌, filter, Option, Some, None, refl, sym, ap, ◌∙◌, arith, append_assoc, append-nil, eq-or-lt_of_le}
+use Rattle.std.proofs.Common.{◌≡◌, ◌⊎◌, inl, inr, ℕ, zero, suc, ◌+◌, ◌-◌, ◌<◌, ◌≤◌, nat_le, ◌==◌, ◌&&◌, ◌||◌, Bool, true, false, cond, if◌then◌else◌, List, [], ◌∷◌, ◌++◌, filter, Option, Some, None, refl, sym, ap, ◌∙◌, arith, append_assoc, append-nil, eq-or-lt_of_le}
 use Rattle.std.proofs.lemmas.Bool.{lt-ltb, le-ltb, le-leb, lt-leb, eq-eqb, ne_eqb}
 use Rattle.std.proofs.lemmas.List.Elements.{filter-append}
 use Rattle.space.specs.declared.place.Place.{Place}
 use Rattle.model.specs.Definitions.Holdings.{Held, Holdings, PlaceSet, keep}
-use Rattle.mapdb.specs.Held.{pages_from, spaces_from, listed}
-use Rattle.c_handle.specs.Listed.{from_page}
+use Rattle.mapdb.specs.Held.{from_page, pages_from, spaces_from, listed}
+use Rattle.c_handle.specs.Listed.{in_space_from}
 
 abbrev place : ℕ → ℕ → Place
 place x i = record { space = x; page = i }
@@ -49,19 +49,34 @@ pub listed_and : (held : Place → Option Held) (ps qs : List Place) → listed 
 listed_and held [] qs = refl
 listed_and held (p ∷ ps) qs = ap (keep p (held p)) (listed_and held ps qs) ∙ keep_and p (held p) (listed held ps) (listed held qs)
 
--- what is held at the places of a set
-pub listed_of_set : (set : PlaceSet) (held : Place → Option Held) (ps : List Place) → filter (λ e. set e.0) (listed held ps) ≡ listed held (filter set ps)
-listed_of_set set held [] = refl
-listed_of_set set held (p ∷ ps) = by (held p) refl (set p) refl (listed_of_set set held ps)
+-- what is held at the places of a set that are in another one too
+pub listed_chosen : (set also : PlaceSet) (held : Place → Option Held) (ps : List Place)
+    → filter (λ e. set e.0 && also e.0) (listed held ps) ≡ listed (λ p. if also p then held p else None) (filter set ps)
+listed_chosen set also held [] = refl
+listed_chosen set also held (p ∷ ps) = by (held p) refl (set p) refl (also p) refl (listed_chosen set also held ps)
   where
-    among : Holdings
-    among = filter (λ e. set e.0) (listed held ps)
+    wanted : Place → Option Held
+    wanted q = if also q then held q else None
 
-    by : (m : Option Held) → held p ≡ m → (b : Bool) → set p ≡ b → among ≡ listed held (filter set ps) → filter (λ e. set e.0) (keep p m (listed held ps)) ≡ listed held (cond b (p ∷ filter set ps) (filter set ps))
-    by None is true one rest = rest ∙ ap (λ m. keep p m (listed held (filter set ps))) (sym is)
-    by None is false one rest = rest
-    by (Some m) is true one rest = ap (λ b. cond b ((p, m) ∷ among) among) one ∙ ap (λ l. (p, m) ∷ l) rest ∙ ap (λ m. keep p m (listed held (filter set ps))) (sym is)
-    by (Some m) is false one rest = ap (λ b. cond b ((p, m) ∷ among) among) one ∙ rest
+    among : Holdings
+    among = filter (λ e. set e.0 && also e.0) (listed held ps)
+
+    others : Holdings
+    others = listed wanted (filter set ps)
+
+    nothing : (c : Bool) (m : Option Held) → None ≡ m → None ≡ (if c then m else None)
+    nothing true m is = is
+    nothing false m is = refl
+
+    by : (m : Option Held) → held p ≡ m → (b : Bool) → set p ≡ b → (c : Bool) → also p ≡ c → among ≡ others
+        → filter (λ e. set e.0 && also e.0) (keep p m (listed held ps)) ≡ listed wanted (cond b (p ∷ filter set ps) (filter set ps))
+    by None is true one c two rest = rest ∙ ap (λ m. keep p m others) (nothing (also p) (held p) (sym is))
+    by None is false one c two rest = rest
+    by (Some m) is true one true two rest =
+        (λ i. cond (one i && two i) ((p, m) ∷ among) among) ∙ ap (λ l. (p, m) ∷ l) rest ∙ (λ i. keep p (if sym two i then sym is i else None) others)
+    by (Some m) is true one false two rest =
+        (λ i. cond (one i && two i) ((p, m) ∷ among) among) ∙ rest ∙ (λ i. keep p (if sym two i then held p else None) others)
+    by (Some m) is false one c two rest = (λ i. cond (one i && also p) ((p, m) ∷ among) among) ∙ rest
 
 -- ---- the places of a set
 
@@ -99,11 +114,11 @@ spaces_all set m x (suc k) is =
     filter-append set (pages_from x 0 m) (spaces_from m (x + 1) k)
     ∙ (λ j. pages_all set x 0 m (λ i h. is x i (omega arith)) j ++ spaces_all set m (x + 1) k (λ y i h. is y i (omega (arith, h))) j)
 
-spaces_none : (set : PlaceSet) (m x k : ℕ) → ((y i : ℕ) → y < x + k → set (place y i) ≡ false) → filter set (spaces_from m x k) ≡ []
+spaces_none : (set : PlaceSet) (m x k : ℕ) → ((y i : ℕ) → x ≤ y → y < x + k → set (place y i) ≡ false) → filter set (spaces_from m x k) ≡ []
 spaces_none set m x zero is_not = refl
 spaces_none set m x (suc k) is_not =
     filter-append set (pages_from x 0 m) (spaces_from m (x + 1) k)
-    ∙ (λ j. pages_none set x 0 m (λ i. is_not x i (omega arith)) j ++ spaces_none set m (x + 1) k (λ y i h. is_not y i (omega (arith, h))) j)
+    ∙ (λ j. pages_none set x 0 m (λ i. is_not x i (omega arith) (omega arith)) j ++ spaces_none set m (x + 1) k (λ y i from h. is_not y i (omega (arith, from)) (omega (arith, h))) j)
 
 -- ---- the places at or behind a page
 
@@ -129,7 +144,7 @@ module _ (space page : ℕ) where
       let first : 0 + space ≡ space = omega arith in
       let here = pages_behind set space page behind_page before_page 0 m (omega arith) in
       let rest = spaces_all set m (space + 1) others (λ y i h. behind_space y i (omega (arith, h))) in
-      let front = spaces_none set m 0 space (λ y i h. before_space y i (omega (arith, h))) in
+      let front = spaces_none set m 0 space (λ y i from h. before_space y i (omega (arith, h))) in
       let more : (0 + m) - page ≡ m - page = omega arith in
       ap (λ n. filter set (spaces_from m 0 n)) split ∙ ap (filter set) (spaces_and m 0 space (suc others) ∙ ap (λ y. spaces_from m 0 space ++ spaces_from m y (suc others)) first)
       ∙ filter-append set (spaces_from m 0 space) (spaces_from m space (suc others))
@@ -139,4 +154,31 @@ module _ (space page : ℕ) where
 
   -- of one that there is not
   pub none_behind : (m spaces : ℕ) → spaces ≤ space → filter (from_page space page) (spaces_from m 0 spaces) ≡ []
-  none_behind m spaces past = spaces_none (from_page space page) m 0 spaces (λ y i h. before_space y i (omega (arith, h, past)))
+  none_behind m spaces past = spaces_none (from_page space page) m 0 spaces (λ y i from h. before_space y i (omega (arith, h, past)))
+
+-- ---- those of one space
+
+module _ (space page : ℕ) where
+  other_space : (y i : ℕ) → (y ≡ space → ⊥) → in_space_from space page (place y i) ≡ false
+  other_space y i differ = ap (λ b. b && nat_le page i) (ne_eqb y space differ)
+
+  pub places_in : (m spaces : ℕ) → space < spaces → filter (in_space_from space page) (spaces_from m 0 spaces) ≡ pages_from space page (m - page)
+  places_in m spaces there =
+      let set = in_space_from space page in
+      let others = spaces - (space + 1) in
+      let split : spaces ≡ space + suc others = omega (arith, there) in
+      let first : 0 + space ≡ space = omega arith in
+      let more : (0 + m) - page ≡ m - page = omega arith in
+      let here =
+      pages_behind set space page (λ i h. (λ j. eq-eqb space space refl j && le-leb page i h j)) (λ i h. (λ j. eq-eqb space space refl j && lt-leb page i h j)) 0 m (omega arith)
+      ∙ ap (pages_from space page) more in
+      let front = spaces_none set m 0 space (λ y i from h. other_space y i (λ e. omega (arith, e, h))) in
+      let rest = spaces_none set m (space + 1) others (λ y i from h. other_space y i (λ e. omega (arith, e, from))) in
+      ap (λ n. filter set (spaces_from m 0 n)) split ∙ ap (filter set) (spaces_and m 0 space (suc others) ∙ ap (λ y. spaces_from m 0 space ++ spaces_from m y (suc others)) first)
+      ∙ filter-append set (spaces_from m 0 space) (spaces_from m space (suc others))
+      ∙ ap (λ l. l ++ filter set (spaces_from m space (suc others))) front
+      ∙ filter-append set (pages_from space 0 m) (spaces_from m (space + 1) others)
+      ∙ (λ j. here j ++ rest j) ∙ append-nil (pages_from space page (m - page))
+
+  pub none_in : (m spaces : ℕ) → spaces ≤ space → filter (in_space_from space page) (spaces_from m 0 spaces) ≡ []
+  none_in m spaces past = spaces_none (in_space_from space page) m 0 spaces (λ y i from h. other_space y i (λ e. omega (arith, e, h, past)))

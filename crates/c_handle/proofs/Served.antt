@@ -1,5 +1,5 @@
 -- What limits that are served say in numbers.
-use Rattle.std.proofs.Common.{◌≡◌, ℕ, ◌≤◌, nat_le, ◌&&◌, true, arith}
+use Rattle.std.proofs.Common.{◌≡◌, ℕ, ◌-◌, ◌^◌, ◌≤◌, nat_le, ◌&&◌, true, arith, pow_mono}
 use Rattle.std.proofs.lemmas.Bool.Decides.{nat_tests}
 use Rattle.space.specs.Directory.{pages_of}
 use Rattle.model.specs.Definitions.Calls.{Limits}
@@ -17,3 +17,7 @@ served l are =
   where
     three : (s b f n : ℕ) → (nat_le 2 s && nat_le s 512 && nat_le 18 b && nat_le b 32 && nat_le 1 f && nat_le f n) ≡ true → (s ≤ 512) × (18 ≤ b) × (b ≤ 32)
     three s b f n is = grind (arith, nat_tests)
+
+-- a space has not many pages
+pub few : (l : Limits) → are_limits l ≡ true → pages_of l.bits ≤ 2 ^ 20
+few l are = let high = (served l are).high in let most : l.bits - 12 ≤ 20 = omega (arith, high) in pow_mono most

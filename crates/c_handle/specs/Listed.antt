@@ -1,13 +1,17 @@
--- The mappings at or behind a place, in numbers.
-use Rattle.std.specs.Prelude.{◌≡◌, ℕ, Option, Some, None, if◌then◌else◌, nat_lt, nat_le, ◌==◌, ◌&&◌, ◌||◌, List, map, filter, length, take, drop, ◌++◌}
+-- The mappings that a listing asks for, in numbers.
+use Rattle.std.specs.Prelude.{◌≡◌, ℕ, ◌+◌, ◌-◌, true, Option, Some, None, if◌then◌else◌, nat_lt, nat_le, ◌==◌, ◌&&◌, ◌||◌, List, map, filter, length, take, drop, ◌++◌}
 use Rattle.fpage.specs.Rights.{number}
 use Rattle.space.specs.declared.place.Place.{Place}
-use Rattle.model.specs.Definitions.Holdings.{Held, Holdings, PlaceSet}
-use Rattle.mapdb.specs.Held.{listed}
+use Rattle.model.specs.Definitions.Calls.{Limits}
+use Rattle.model.specs.Definitions.Derived.{is_below}
+use Rattle.model.specs.Definitions.Holdings.{Held, Holdings, PlaceSet, at, only}
+use Rattle.mapdb.specs.Held.{IsWithin, from_page, listed, pages_from, spaces_from}
 use Rattle.mapdb.specs.State.{State}
 use Rattle.c_handle.specs.Codes.{done, is_empty, is_halted_code}
-use Rattle.c_handle.specs.Look.{origin_told}
+use Rattle.c_handle.specs.Look.{origin_told, place_code, space_code}
 use Rattle.c_handle.specs.declared.look.OriginReply.{OriginReply}
+use Rattle.c_handle.specs.declared.mappings.Listing.{Listing}
+use Rattle.c_handle.specs.declared.mappings.Listing.TheVariants.{From, OfSpace, Below}
 use Rattle.c_handle.specs.declared.mappings.MappingReply.{MappingReply}
 
 -- a mapping in numbers
@@ -26,13 +30,25 @@ mapping_with origin p m = record {
 abbrev pub mapping_told : Place × Held → MappingReply
 mapping_told e = mapping_with (origin_told e.1.origin) e.0 e.1
 
--- the places at or behind a page of a space
-abbrev pub from_page : ℕ → ℕ → PlaceSet
-from_page space page p = nat_lt space p.space || ((p.space == space) && nat_le page p.page)
+-- the places at or behind a page, in its space alone
+abbrev pub in_space_from : ℕ → ℕ → PlaceSet
+in_space_from space page p = (p.space == space) && nat_le page p.page
 
--- the mappings there, by rising place
-abbrev pub mappings_from : ℕ → ℕ → Holdings → List MappingReply
-mappings_from space page h = map mapping_told (filter (λ e. from_page space page e.0) h)
+-- whether a listing asks for the mapping of a page: all at or behind a page, those of its space, or those below another page
+abbrev pub is_listed : Listing → Holdings → PlaceSet
+is_listed (From first) h p = from_page first.space first.page p
+is_listed (OfSpace first) h p = in_space_from first.space first.page p
+is_listed (Below above first) h p = from_page first.space first.page p && is_below h (only above) p
+
+-- the mappings that a listing asks for, by rising place
+abbrev pub mappings_of : Listing → Holdings → List MappingReply
+mappings_of listing h = map mapping_told (filter (λ e. is_listed listing h e.0) h)
+
+-- how a listing is answered: the first that fits
+abbrev pub listing_code : Listing → State → ℕ
+listing_code (From first) s = if s.is_halted then is_halted_code else done
+listing_code (OfSpace first) s = space_code s first.space
+listing_code (Below above first) s = place_code s above.space above.page
 
 -- the mappings at some places, in their order
 abbrev pub mappings_at : (Place → Option Held) → List Place → List MappingReply
@@ -58,10 +74,45 @@ pub record AfterListing : Type 0 where
   pub mappings : List MappingReply
   pub count : ℕ
 
--- nothing is written but where the handle holds a database that is not halted
-abbrev pub listed_of : Option State → ℕ → ℕ → List MappingReply → ℕ → AfterListing
-listed_of None space page old count = record { code = is_empty; held = None; mappings = old; count = count }
-listed_of (Some s) space page old count =
-    let found = mappings_from space page s.holdings in
-    if s.is_halted then record { code = is_halted_code; held = Some s; mappings = old; count = count }
-    else record { code = done; held = Some s; mappings = over found old; count = length (take (length old) found) }
+-- nothing is written but where the listing is done
+abbrev pub listed_of : Option State → Listing → List MappingReply → ℕ → AfterListing
+listed_of None listing old count = record { code = is_empty; held = None; mappings = old; count = count }
+listed_of (Some s) listing old count =
+    let code = listing_code listing s in
+    let found = mappings_of listing s.holdings in
+    if code == done then record { code = code; held = Some s; mappings = over found old; count = length (take (length old) found) }
+    else record { code = code; held = Some s; mappings = old; count = count }
+
+-- ---- how a listing is made
+
+-- whether a listing asks for the mapping of a page, if it lies at or behind the first page
+abbrev pub is_chosen : Listing → Holdings → PlaceSet
+is_chosen (From first) h p = true
+is_chosen (OfSpace first) h p = true
+is_chosen (Below above first) h p = is_below h (only above) p
+
+-- a page that others are below is one that there is
+abbrev pub IsListingOf : Limits → Listing → Type 0
+IsListingOf limits (From first) = Unit {0}
+IsListingOf limits (OfSpace first) = Unit {0}
+IsListingOf limits (Below above first) = IsWithin limits above
+
+-- where a listing begins
+abbrev pub first_of : Listing → Place
+first_of (From first) = first
+first_of (OfSpace first) = first
+first_of (Below above first) = first
+
+-- at which space it ends, of so many
+abbrev pub end_of : Listing → ℕ → ℕ
+end_of (From first) spaces = spaces
+end_of (OfSpace first) spaces = first.space + 1
+end_of (Below above first) spaces = spaces
+
+-- what the pages hold whose mappings it asks for
+abbrev pub chosen : Listing → Holdings → Place → Option Held
+chosen listing h p = if is_chosen listing h p then at h p else None
+
+-- the places from a page on, in the rest of its space and in the spaces behind it up to one
+abbrev pub places_to : ℕ → ℕ → ℕ → ℕ → List Place
+places_to pages space page end = pages_from space page (pages - page) ++ spaces_from pages (space + 1) (end - (space + 1))

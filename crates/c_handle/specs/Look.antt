@@ -9,7 +9,14 @@ use Rattle.c_handle.specs.Codes.{done, is_empty, is_halted_code, no_such_space, 
 use Rattle.c_handle.specs.declared.look.EntryReply.{EntryReply}
 use Rattle.c_handle.specs.declared.look.OriginReply.{OriginReply}
 
--- how a question about a page is answered by a database: the first that fits
+-- how a question about a space is answered by a database: the first that fits
+abbrev pub space_code : State → ℕ → ℕ
+space_code s space =
+    if s.is_halted then is_halted_code
+    else if not (nat_lt space s.limits.spaces) then no_such_space
+    else done
+
+-- how one about a page is answered
 abbrev pub place_code : State → ℕ → ℕ → ℕ
 place_code s space page =
     if s.is_halted then is_halted_code

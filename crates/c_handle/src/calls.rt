@@ -13,7 +13,7 @@ use crate::error::result_code;
 use crate::handle::Handle;
 use crate::kept::Kept;
 use crate::look::{EntryReply, OriginReply, entry, origin};
-use crate::mappings::{MappingReply, list};
+use crate::mappings::{Listing, MappingReply, list};
 use crate::raw_box::RawBox;
 use crate::send::{SendReply, send};
 use crate::unmap::unmap;
@@ -170,26 +170,26 @@ impl Handle {
         code
     }
 
-    /// Writes the first mappings at or behind a page of a space to `mappings`, as many as there is room for, by rising place, and
-    /// how many they are to `count`. A place that there is not is no error.
+    /// Writes the first mappings that a listing asks for to `mappings`, as many as there is room for, by rising place, and how
+    /// many they are to `count`. A first page that there is not is no error.
     ///
-    /// Refused: `EMPTY`, `HALTED`.
-    pub fn mappings(
+    /// Refused, the first that fits: `EMPTY`, `HALTED`, `NO_SUCH_SPACE` where that space alone is asked for, and for the page
+    /// that others are below `NO_SUCH_SPACE`, `OUT_OF_SPACE`.
+    pub fn list(
         &mut self,
         alloc: Global,
-        space: u16,
-        page: u32,
+        listing: Listing,
         mappings: &mut [MappingReply],
         count: &mut usize,
     ) -> u32
         ensures listed { record { code = result; held = held_of self.new.kept; mappings = mappings.new; count = count.new }
-            ≡ listed_of (held_of self.old.kept) space page mappings.old count.old }
+            ≡ listed_of (held_of self.old.kept) listing mappings.old count.old }
         ensures kept { self.new.kept ≡ self.old.kept }
     {
         let Some(whole) = take(self, alloc) else {
             return EMPTY;
         };
-        let code = list(&whole.database, space, page, mappings, count);
+        let code = list(&whole.database, listing, mappings, count);
         put(self, alloc, whole);
         code
     }

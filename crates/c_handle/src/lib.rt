@@ -21,5 +21,5 @@ pub use asked::{AccessAsked, SendAsked, UnmapAsked};
 pub use changes::ChangeReply;
 pub use handle::Handle;
 pub use look::{EntryReply, OriginReply};
-pub use mappings::MappingReply;
+pub use mappings::{Listing, MappingReply};
 pub use send::SendReply;

@@ -3,7 +3,7 @@
 ghost use Rattle.std.specs.Prelude.{◌≡◌, option_map};
 ghost use Rattle.mapdb.specs.Held.{entry_of};
 ghost use Rattle.c_handle.specs.Told.{entry_numbers};
-ghost use Rattle.c_handle.specs.Look.{place_code, entry_left, origin_left, origin_told};
+ghost use Rattle.c_handle.specs.Look.{space_code, place_code, entry_left, origin_left, origin_told};
 ghost use Rattle.fpage.specs.Fpage.{IsSpaceBits};
 ghost use Rattle.space.specs.Directory.{pages_of};
 
@@ -72,8 +72,21 @@ pub fn origin_numbers(origin: Option<Place>) -> OriginReply
     }
 }
 
+/// Whether a space can be asked about: `DONE`, or the code of the first refusal that fits.
+pub fn space_code(database: &Database, space: u16) -> u32
+    ensures { result ≡ space_code database.now space }
+{
+    if database.is_halted() {
+        return HALTED;
+    }
+    if u32::from(space) >= database.limits().spaces {
+        return NO_SUCH_SPACE;
+    }
+    DONE
+}
+
 /// Whether a page can be asked for: `DONE`, or the code of the first refusal that fits.
-fn place_code(database: &Database, space: u16, page: u32) -> u32
+pub fn place_code(database: &Database, space: u16, page: u32) -> u32
     ensures { result ≡ place_code database.now space page }
 {
     if database.is_halted() {

@@ -32,8 +32,9 @@ extern "C" {
 #endif
 
 /* The version of this interface, which l4map_version() returns. A later version has all that an earlier one has: a program
- * compiled with version n runs with any library of version n or above. Version 2 added the changes of a call. */
-#define L4MAP_VERSION 2u
+ * compiled with version n runs with any library of version n or above. Version 2 added the changes of a call, version 3
+ * l4map_space_mappings() and l4map_below(). */
+#define L4MAP_VERSION 3u
 
 /* What a function answers. A refused call changes nothing of what is held, and writes nothing to what is lent to it, but
  * for what is lost by the call that answers L4MAP_HALTED first. */
@@ -182,6 +183,22 @@ uint32_t l4map_origin(struct l4map *db, uint16_t space, uint32_t page, struct l4
  * L4MAP_EMPTY, L4MAP_HALTED, the first that fits: `mappings` and *count are as they were. */
 uint32_t l4map_mappings(struct l4map *db, uint16_t space, uint32_t page, struct l4map_mapping *mappings, size_t n,
                         size_t *count);
+
+/* Writes mappings as l4map_mappings() does, but those of that space alone: to see all of them, start at page 0.
+ *
+ * L4MAP_EMPTY, L4MAP_HALTED, L4MAP_NO_SUCH_SPACE, the first that fits: `mappings` and *count are as they were. */
+uint32_t l4map_space_mappings(struct l4map *db, uint16_t space, uint32_t page, struct l4map_mapping *mappings, size_t n,
+                              size_t *count);
+
+/* Writes mappings as l4map_mappings() does, from a page of `from_space` on, but only that of the page `page` of `space`, if
+ * it is held, and those that derive from it: the pages that came from it, and those that came from such a page in turn,
+ * in whatever space. These are the pages that lose rights where an unmap with flush names the page. To see all of them,
+ * start at page 0 of space 0.
+ *
+ * L4MAP_EMPTY, L4MAP_HALTED, and for the page that they are below L4MAP_NO_SUCH_SPACE, L4MAP_OUT_OF_SPACE, the first that
+ * fits: `mappings` and *count are as they were. */
+uint32_t l4map_below(struct l4map *db, uint16_t space, uint32_t page, uint16_t from_space, uint32_t from_page,
+                     struct l4map_mapping *mappings, size_t n, size_t *count);
 
 /* Says whether calls note which pages they change (`on` is not 0), from the next call on, or do not, as at the start. What
  * was noted is forgotten. A call that notes asks for memory for that, 12 bytes for each page that a word or an item

@@ -8,22 +8,24 @@ ghost use Rattle.c_handle.specs.Called.{IsCalledOf};
 ghost use Rattle.c_handle.specs.Replied.{words_told, made_told, status_told};
 ghost use Rattle.c_handle.specs.Sent.{IsSentOf};
 ghost use Rattle.c_handle.specs.Listed.{listed_of};
+ghost use Rattle.c_handle.specs.declared.mappings.Listing.TheVariants.{From, OfSpace, Below};
 ghost use Rattle.c_handle.specs.Held.{held_of};
 ghost use Rattle.c_handle.specs.Changed.{IsTold, IsAsked, changes_of};
 
 use c_handle::{
-    AccessAsked, ChangeReply, EntryReply, Handle, MappingReply, OriginReply, SendAsked, SendReply,
-    UnmapAsked,
+    AccessAsked, ChangeReply, EntryReply, Handle, Listing, MappingReply, OriginReply, SendAsked,
+    SendReply, UnmapAsked,
 };
+use space::Place;
 use std::alloc::Global;
 
 /// The version of the interface.
-const VERSION: u32 = 2;
+const VERSION: u32 = 3;
 
-/// The version of the interface: 2.
+/// The version of the interface: 3.
 #[unsafe(no_mangle)]
 pub extern "C" fn l4map_version() -> u32
-    ensures { result ≡ 2 }
+    ensures { result ≡ 3 }
 {
     VERSION
 }
@@ -165,10 +167,59 @@ pub extern "C" fn l4map_mappings(
     count: &mut usize,
 ) -> u32
     ensures listed { record { code = result; held = held_of db.new.kept; mappings = mappings.new; count = count.new }
-        ≡ listed_of (held_of db.old.kept) space page mappings.old count.old }
+        ≡ listed_of (held_of db.old.kept) (From (record { space = space; page = page })) mappings.old count.old }
     ensures kept { db.new.kept ≡ db.old.kept }
 {
-    db.mappings(alloc, space, page, mappings, count)
+    db.list(alloc, Listing::From(Place { space, page }), mappings, count)
+}
+
+/// The first mappings of a space at or behind a page of it.
+#[unsafe(no_mangle)]
+pub extern "C" fn l4map_space_mappings(
+    alloc: Global,
+    db: &mut Handle,
+    space: u16,
+    page: u32,
+    mappings: &mut [MappingReply],
+    count: &mut usize,
+) -> u32
+    ensures listed { record { code = result; held = held_of db.new.kept; mappings = mappings.new; count = count.new }
+        ≡ listed_of (held_of db.old.kept) (OfSpace (record { space = space; page = page })) mappings.old count.old }
+    ensures kept { db.new.kept ≡ db.old.kept }
+{
+    db.list(
+        alloc,
+        Listing::OfSpace(Place { space, page }),
+        mappings,
+        count,
+    )
+}
+
+/// The first mappings at or behind a page of those of another page and of all that derives from it.
+#[unsafe(no_mangle)]
+pub extern "C" fn l4map_below(
+    alloc: Global,
+    db: &mut Handle,
+    space: u16,
+    page: u32,
+    from_space: u16,
+    from_page: u32,
+    mappings: &mut [MappingReply],
+    count: &mut usize,
+) -> u32
+    ensures listed { record { code = result; held = held_of db.new.kept; mappings = mappings.new; count = count.new }
+        ≡ listed_of (held_of db.old.kept) (Below (record { space = space; page = page }) (record { space = from_space; page = from_page }))
+        mappings.old count.old }
+    ensures kept { db.new.kept ≡ db.old.kept }
+{
+    let listing = Listing::Below {
+        above: Place { space, page },
+        first: Place {
+            space: from_space,
+            page: from_page,
+        },
+    };
+    db.list(alloc, listing, mappings, count)
 }
 
 /// Whether calls note what they change.

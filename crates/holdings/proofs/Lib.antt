@@ -5,6 +5,7 @@ pub mod Trees
 pub mod Stripping
 pub mod Recursions
 pub mod Outcomes
+pub mod FirstBelow
 pub mod Links
 pub mod Maps
 pub mod Renamings

@@ -2,3 +2,4 @@
 pub mod Positions
 pub mod Chains
 pub mod Pruning
+pub mod Under

@@ -16,5 +16,6 @@ pub mod Renamings
 pub mod OriginWords
 pub mod WordOrigins
 pub mod Faults
+pub mod FirstFrom
 pub mod NextHeld
 pub mod Notes

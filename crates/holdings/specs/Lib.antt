@@ -1,5 +1,6 @@
 pub mod Meaning
 pub mod Places
+pub mod Below
 pub mod Layout
 pub mod Contents
 pub mod Observing

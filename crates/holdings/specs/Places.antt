@@ -1,6 +1,6 @@
 -- Places within the limits, as a set and in order.
 use Rattle.std.specs.List.{list_any}
-use Rattle.std.specs.Prelude.{ℕ, ◌+◌, ◌<◌, List, Option, zero, suc, [], ◌∷◌, ◌++◌}
+use Rattle.std.specs.Prelude.{ℕ, ◌+◌, ◌<◌, nat_lt, nat_le, ◌==◌, ◌&&◌, ◌||◌, List, Option, zero, suc, [], ◌∷◌, ◌++◌}
 use Rattle.space.specs.Directory.{pages_of}
 use Rattle.space.specs.Place.{same_place}
 use Rattle.space.specs.declared.place.Place.{Place}
@@ -11,6 +11,10 @@ use Rattle.model.specs.Definitions.Holdings.{Held, Holdings, keep, PlaceSet}
 pub record IsWithin (limits : Limits) (p : Place) : Type 0 where
   pub space : p.space < limits.spaces
   pub page : p.page < pages_of limits.bits
+
+-- the places at or behind a page, by space and page
+abbrev pub from_page : ℕ → ℕ → PlaceSet
+from_page space page p = nat_lt space p.space || ((p.space == space) && nat_le page p.page)
 
 -- the set of some places
 abbrev pub any_of : List Place → PlaceSet

@@ -3,6 +3,7 @@
 #![tactic(auto)]
 
 mod access;
+mod below;
 mod extent;
 mod group;
 mod holdings;

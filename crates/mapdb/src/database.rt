@@ -41,11 +41,12 @@ impl Model for Database {
 
 impl Database {
     ghost use Rattle.std.specs.Prelude.{◌≡◌, ◌≤◌, ◌↔◌, ◌⊎◌, true, false, map, option_map};
-    ghost use Rattle.std.specs.Prelude.{ℕ, ◌<◌, ◌+◌, List, length, take, IfOk, OnOk, IfErr, OnErr, IsErrOf, MatchOption};
+    ghost use Rattle.std.specs.Prelude.{ℕ, ◌<◌, ◌+◌, List, length, take, IfOk, IfSome, OnOk, IfErr, OnErr, IsErrOf, MatchOption};
     ghost use Rattle.pieces.specs.declared.piece.Piece.{Piece};
     ghost use Rattle.holdings.specs.Observing.{IsPhaseOf};
     ghost use Rattle.std.specs.List.{All, zip};
-    ghost use Rattle.model.specs.Definitions.Holdings.{at, origin_at};
+    ghost use Rattle.model.specs.Definitions.Holdings.{at, only, origin_at};
+    ghost use Rattle.model.specs.Definitions.Derived.{is_below};
     ghost use Rattle.model.specs.Definitions.Records.{are_limits};
     ghost use Rattle.model.specs.Definitions.Answers.{send_answer, in_space, unmap_answer, clear_answer};
     ghost use Rattle.mapdb.specs.Answered.{IsAnswered, IsUnanswered};
@@ -58,6 +59,7 @@ impl Database {
     ghost use Rattle.model.specs.Definitions.Lawful.{is_lawful};
     ghost use Rattle.holdings.specs.Meaning.{limits_of};
     ghost use Rattle.holdings.specs.Layout.{IsLayoutOf, OnlyGrows, index_in};
+    ghost use Rattle.holdings.specs.Below.{IsNoneBelow, IsNextBelow};
     ghost use Rattle.holdings.specs.Places.{IsWithin, listing};
     ghost use Rattle.holdings.specs.Mappings.{mapped_of, AreAbsentFrom, IsNextHeldOf};
     ghost use Rattle.space.specs.Directory.{pages_of};
@@ -138,6 +140,49 @@ impl Database {
             return Err(DbError::Halted);
         };
         Ok(held.origin(place))
+    }
+
+    /// Whether a page derives from another, at any distance, or is that page.
+    ///
+    /// Refused where the database is halted, `Halted`. Takes no memory.
+    pub fn is_below(&self, place: Place, above: Place) -> Result<bool, DbError>
+        requires place { IsWithin self.now.limits place }
+        requires above { IsWithin self.now.limits above }
+        ensures { result ≡ unless_halted self.now (is_below self.now.holdings (only above) place) }
+    {
+        let Some(held) = &self.held else {
+            return Err(DbError::Halted);
+        };
+        Ok(held.is_below(place, above))
+    }
+
+    /// The first page at or behind a place, by space and page, that is held and derives from a page, at any distance, or is
+    /// that page. It looks at all that derives from the page.
+    ///
+    /// Refused where the database is halted, `Halted`. Takes no memory.
+    pub fn next_below(&self, above: Place, from: Place) -> Result<Option<Place>, DbError>
+        requires { IsWithin self.now.limits above }
+        ensures halted { IsErrOf result Halted ↔ (self.now.is_halted ≡ true) }
+        ensures errors { IfErr result (λ e. e ≡ Halted) }
+        ensures next { IfOk result (λ found. MatchOption found
+            (IsNoneBelow self.now.holdings above from)
+            (IsNextBelow self.now.holdings above from)) }
+        ensures within { IfOk result (λ found. IfSome found (IsWithin self.now.limits)) }
+    {
+        let Some(held) = &self.held else {
+            return Err(DbError::Halted);
+        };
+        Ok(held.next_below(above, from))
+    }
+
+    /// Whether so many calls of `next_below` take less time than a look at all that is held. No clause speaks of it.
+    pub fn is_next_below_fast(&self, above: Place, calls: usize) -> bool
+        requires { IsWithin self.now.limits above }
+    {
+        match &self.held {
+            Some(held) => held.is_next_below_fast(above, calls),
+            None => true,
+        }
     }
 
     /// The first page of a space, from one on, that holds something; none where no page from there on does. Its time

@@ -129,7 +129,7 @@ word_in_use s p e stands = by (index_of s p) stands
 
 module _ (s : Shards) (trees : List Shape) (sound : AreSound s trees) where
   -- what stands in the tree of a frame holds that frame
-  frame_of : (frame : ℕ) (p : Place) → is_listed trees frame p ≡ true → (e : Entry) × (entry_at s p ≡ Some e) × (e.frame ≡ frame)
+  pub frame_of : (frame : ℕ) (p : Place) → is_listed trees frame p ≡ true → (e : Entry) × (entry_at s p ≡ Some e) × (e.frame ≡ frame)
   frame_of frame p listed = by (entry_at s p) refl (sound.pruned.held frame p listed)
     where
       by : (o : Option Entry) → entry_at s p ≡ o → has_frame frame o ≡ true → (e : Entry) × (entry_at s p ≡ Some e) × (e.frame ≡ frame)

@@ -30,19 +30,12 @@ use Rattle.holdings.specs.declared.outcome.Outcome.TheVariants as outcome
 use Rattle.maptree.proofs.Found.{found_at}
 use Rattle.holdings.proofs.Contents.Holders.{absent_within, present_within, origin_within}
 use Rattle.holdings.proofs.Trees.Chains.{chains_agree}
+use Rattle.holdings.proofs.Trees.Under.{same_frame, leads_there, leads_back}
 use Rattle.holdings.proofs.Stripping.Frames.{loose_from}
 
 -- ---- in one tree
 
 module _ (os : Origins) (kind : ItemKind) (source target : Place) where
-  -- what two positions decide, the places decide
-  pub decided_by : (i j : ℕ) (b : Bool) → position (λ o. same_place source o.0) os ≡ Some i → position (λ o. same_place target o.0) os ≡ Some j
-      → ((d : Place) → Decides b (LeadsTo os 1 (place_at os i d) (place_at os j d))) → Decides b (LeadsTo os 1 source target)
-  decided_by i j b found_source found_target decides =
-      let s = found_at os source i found_source in
-      let t = found_at os target j found_target in
-      subst (λ p. Decides b (LeadsTo os 1 p target)) (s.place source) (subst (λ q. Decides b (LeadsTo os 1 (place_at os i source) q)) (t.place source) (decides source))
-
   abbrev widens : Bool
   widens = is_map kind && option_map_or (same_place source) (origin_in os target) false
 
@@ -93,14 +86,6 @@ module _ (shards : Shards) (trees : List Shape) (sound : AreSound shards trees) 
           goes_from (ap (λ m. is_some m && is_under (holdings_in shards trees) (only target) source) free) (ap (λ m. option_map_or (same_place source) (option_and_then (λ m. m.origin) m) false) free)
 
       module _ (k : Entry) (replaced : entry_at shards target ≡ Some k) where
-        -- a chain of origins keeps the frame
-        same_frame : LeadsInto (holdings_in shards trees) 1 (only target) source → k.frame ≡ e.frame
-        same_frame to =
-            let agree = chains_agree shards trees (loose_from shards trees sound) to.origins source e source_within stood in
-            let last = agree.1 to.into to.leads in
-            let one = same_Some k last.0 (sym replaced ∙ ap (entry_at shards) (same_is target to.into to.within) ∙ last.1) in
-            ap (λ (x : Entry). x.frame) one ∙ last.2
-
         origin_frame : has_origin (holdings_in shards trees) target source ≡ true → e.frame ≡ k.frame
         origin_frame is = by (origin_at (holdings_in shards trees) target) refl is
           where
@@ -114,7 +99,7 @@ module _ (shards : Shards) (trees : List Shape) (sound : AreSound shards trees) 
         pub other_frame : (k.frame ≡ e.frame → ⊥) → goes ≡ the_fate
         other_frame differ =
             let under = under_is_a_chain (holdings_in shards trees) sound.kept.lawful (only target) source in
-            let not_under : is_under (holdings_in shards trees) (only target) source ≡ false = false_from_ne_true _ (λ is. differ (same_frame (under.0 is))) in
+            let not_under : is_under (holdings_in shards trees) (only target) source ≡ false = false_from_ne_true _ (λ is. differ (same_frame shards trees sound source target source_within e stood k replaced (under.0 is))) in
             goes_from (rw not_under (and-false (is_held (holdings_in shards trees) target))) (false_from_ne_true _ (λ is. differ (sym (origin_frame is))))
 
         -- with one frame the tree tells
@@ -126,25 +111,15 @@ module _ (shards : Shards) (trees : List Shape) (sound : AreSound shards trees) 
             ap (λ x. option_map_or (same_place source) x false) (origin_within (limits_in shards trees) shards trees target target_within k replaced ∙ ap (λ f. origin_in (links_in trees f) target) same) in
             by (is_under h (only target) source) (under_is_a_chain h sound.kept.lawful (only target) source) refl (option_map_or (same_place source) (origin_in (links_in trees e.frame) target) false) refl held from
           where
-            leads_there : LeadsInto (holdings_in shards trees) 1 (only target) source → LeadsTo (links_in trees e.frame) 1 source target
-            leads_there to =
-                let agree = chains_agree shards trees (loose_from shards trees sound) to.origins source e source_within stood in
-                record { origins = to.origins; enough = to.enough; leads = sym agree.0 ∙ to.leads ∙ ap Some (sym (same_is target to.into to.within)) }
-
-            leads_back : LeadsTo (links_in trees e.frame) 1 source target → LeadsInto (holdings_in shards trees) 1 (only target) source
-            leads_back to =
-                let agree = chains_agree shards trees (loose_from shards trees sound) to.origins source e source_within stood in
-                record { origins = to.origins; enough = to.enough; into = target; leads = agree.0 ∙ to.leads; within = same_self target }
-
             not_both : false ≡ true → ⊥
             not_both same = cc same
 
             by : (under : Bool) → Decides under (LeadsInto (holdings_in shards trees) 1 (only target) source) → is_under (holdings_in shards trees) (only target) source ≡ under
                 → (widens : Bool) → option_map_or (same_place source) (origin_in (links_in trees e.frame) target) false ≡ widens
                 → is_held (holdings_in shards trees) target ≡ true → has_origin (holdings_in shards trees) target source ≡ option_map_or (same_place source) (origin_in (links_in trees e.frame) target) false → fate_of_outcome o ≡ the_fate
-            by true decides under widens wide held from = ap fate_of_outcome (is.origin (leads_there (decides.0 refl))) ∙ sym (held_fate ∙ rw (some, held, under) refl)
+            by true decides under widens wide held from = ap fate_of_outcome (is.origin (leads_there shards trees sound source target source_within e stood (decides.0 refl))) ∙ sym (held_fate ∙ rw (some, held, under) refl)
             by false decides under widens wide held from =
-                let none = λ (to : LeadsTo (links_in trees e.frame) 1 source target). not_both (decides.1 (leads_back to)) in
+                let none = λ (to : LeadsTo (links_in trees e.frame) 1 source target). not_both (decides.1 (leads_back shards trees sound source target source_within e stood to)) in
                 next (is_map kind && option_map_or (same_place source) (origin_in (links_in trees e.frame) target) false) refl none
               where
                 next : (b : Bool) → (is_map kind && option_map_or (same_place source) (origin_in (links_in trees e.frame) target) false) ≡ b → (LeadsTo (links_in trees e.frame) 1 source target → ⊥) → fate_of_outcome o ≡ the_fate

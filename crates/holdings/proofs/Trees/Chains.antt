@@ -28,7 +28,7 @@ use Rattle.holdings.proofs.Contents.Listing.{listed_within}
 use Rattle.holdings.proofs.Contents.Holders.{present_within, origin_within}
 
 -- tests that decide facts of which each gives the other are one
-same_decision : {P Q : Type 0} (a b : Bool) → Decides a P → Decides b Q → (P → Q) → (Q → P) → a ≡ b
+pub same_decision : {P Q : Type 0} (a b : Bool) → Decides a P → Decides b Q → (P → Q) → (Q → P) → a ≡ b
 same_decision true true p q there back = refl
 same_decision true false p q there back = sym (q.1 (there (p.0 refl)))
 same_decision false true p q there back = p.1 (back (q.0 refl))

@@ -3,11 +3,8 @@ use Rattle.std.proofs.Common.{◌≡◌, ◌-◌, ◌^◌, ◌≤◌, Err, true,
 use Rattle.space.specs.Directory.{pages_of}
 use Rattle.model.specs.Definitions.Calls.{Limits}
 use Rattle.model.specs.Definitions.Records.{are_limits}
-use Rattle.c_handle.proofs.Served.{served}
+use Rattle.c_handle.proofs.Served.{few}
 use Rattle.c_handle.proofs.mappings.next_page.Goals as goal
-
-few : (l : Limits) → are_limits l ≡ true → pages_of l.bits ≤ 2 ^ 20
-few l are = let high = (served l are).high in let most : l.bits - 12 ≤ 20 = omega (arith, high) in pow_mono most
 
 pub returns-in-Err-clause-next : goal.returns-in-Err-clause-next
 returns-in-Err-clause-next c = λ p same after before. absurd (cc (c.in-Err.ensures.halted.0 (ap Err c.in-Err.ensures.errors), c.requires.running))
