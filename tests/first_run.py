@@ -37,6 +37,9 @@ BUILDER = b"; ./build.sh builds the program, which has no such limit\n"
 TOO_LONG = b"./run.sh: without proofs no more than 1 MiB can be written, and this trace has more" + BUILDER
 TOO_SLOW = b"./run.sh: without proofs a run may take a minute, and this trace takes more" + BUILDER
 
+# The seconds that a run without proofs may take where the machine is slow.
+PATIENCE = 400
+
 # 14 spaces that all hold 4,096 pages, so more than 1 MiB of audit.
 LONG = b"l4map,1,14,24,4096\n" + b"".join(b"send,0,%d,10,8,17\n" % space for space in range(1, 14))
 
@@ -147,8 +150,8 @@ def unbuilt_copy(room, name):
 def check_quick_way(cases, copy, other):
     """Without the program run.sh says so in one line, and ends as the program does, or says what it cannot do."""
     with ThreadPoolExecutor() as pool:
-        long = pool.submit(run, ["./run.sh", "-"], LONG, cwd=other)
-        closed = run(["./run.sh", "-"], TRACE, stdout=None, preexec_fn=lambda: os.close(1), cwd=copy)
+        long = pool.submit(run, ["./run.sh", "-"], LONG, PATIENCE, cwd=other)
+        closed = run(["./run.sh", "-"], TRACE, PATIENCE, stdout=None, preexec_fn=lambda: os.close(1), cwd=copy)
     wanted = Ended(4, b"", NOTICE + b"l4map: WriteFailed\n")
     cases.compare("without the program: closed standard output", wanted, closed)
     wanted = Ended(125, b"", NOTICE + TOO_LONG)
