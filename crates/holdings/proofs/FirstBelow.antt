@@ -1,6 +1,6 @@
 -- The first place of a run at or behind another is the first page below the first place of the run.
 use Rattle.std.proofs.Common.{◌≡◌, ◌⊎◌, inl, inr, ℕ, suc, ◌+◌, ◌<◌, ◌≤◌, true, false, Bool, if◌then◌else◌, nat_le, nat_lt, ◌==◌, ◌&&◌, ◌||◌, Option, Some, None, refl, sym, ap, ◌∙◌, subst, arith, eq-or-lt_of_le}
-use Rattle.std.proofs.lemmas.Bool.{lt-ltb, le-ltb, le-leb, eq-eqb, ne_eqb}
+use Rattle.std.proofs.lemmas.Bool.{lt-ltb, le-ltb, le-leb, eq-eqb}
 use Rattle.std.proofs.lemmas.Bool.Decides.{leb_tells, eqb_tells}
 use Rattle.std.specs.Prelude.{MatchOption, IfSome, is_some, List, length}
 use Rattle.std.specs.declared.ops.Range.{Range}
@@ -12,7 +12,7 @@ use Rattle.space.proofs.Places.{same_is}
 use Rattle.maptree.specs.Origins.{Origins, Shape, place_at, IsRun}
 use Rattle.maptree.proofs.Listed.{listed_at}
 use Rattle.model.specs.Definitions.Derived.{is_below}
-use Rattle.model.specs.Definitions.Holdings.{Held, Holdings, at, is_held, only}
+use Rattle.model.specs.Definitions.Holdings.{Held, Holdings, at, only}
 use Rattle.model.proofs.Derivations.{below_is_a_chain}
 use Rattle.holdings.specs.Below.{held_below, IsNoneBelow, IsNextBelow}
 use Rattle.holdings.specs.Places.{IsWithin}

@@ -1,5 +1,5 @@
--- Notes follow a map or a move that changes nothing but the ends of transfers whose source is held.
-use Rattle.std.proofs.Common.{◌≡◌, ℕ, ◌+◌, ◌<◌, true, false, Bool, ◌&&◌, ◌||◌, if◌then◌else◌, List, [], ◌∷◌, length, take, get_or, Option, Some, None, is_some, refl, sym, ap, ◌∙◌, subst, ◌⊎◌, inl, inr}
+-- Notes follow a map or a move that changes nothing but the ends of transfers.
+use Rattle.std.proofs.Common.{◌≡◌, ℕ, ◌+◌, ◌<◌, true, false, Bool, ◌&&◌, ◌||◌, not, if◌then◌else◌, List, [], ◌∷◌, length, take, get_or, Option, Some, None, is_some, refl, sym, ap, ◌∙◌, subst, ◌⊎◌, inl, inr}
 use Rattle.std.specs.Option.{option_map}
 use Rattle.std.proofs.lemmas.Bool.{or_parts}
 use Rattle.std.proofs.lemmas.List.{take_more}
@@ -21,7 +21,7 @@ use Rattle.model.proofs.Puts.{apart_places, put_here, put_elsewhere}
 use Rattle.model.proofs.Lookups.{first_held}
 use Rattle.model.proofs.Renames.{moved_cases}
 use Rattle.holdings.specs.Contents.{Contents, AreMapped, AreMoved}
-use Rattle.holdings.specs.Inner.Notes.{NotesAdd, AreAdded, AreEndsReady, IsEndReady, is_end, ends_of}
+use Rattle.holdings.specs.Inner.Notes.{NotesAdd, AreAdded, AreEndsReady, IsEndReady, has_ends, is_end, ends_of}
 use Rattle.holdings.specs.Noting.{NotesFollow}
 use Rattle.holdings.specs.Sending.{AllGo, AreFree, AreReady, IsReady, fate_in, map_transfers, moving_of, pair_of}
 use Rattle.holdings.specs.declared.notes.Note.{Note}
@@ -38,13 +38,13 @@ transfer_more h kind ts i d within p =
     ap (λ b. ends_of h kind (take i ts) p || b) (sym (or-false (is_end h kind p (get_or ts i d))))
     ∙ sym (list_any-append (is_end h kind p) (take i ts) (get_or ts i d ∷ [])) ∙ ap (λ xs. ends_of h kind xs p) (sym (take_more ts i d within))
 
--- a transfer whose source is not held is lost
-pub lost_noted : (h : Holdings) (kind : ItemKind) (t : Transfer) → is_held h t.source ≡ false → (list : List Note) → AreAdded h (λ q. is_end h kind q t) list list
-lost_noted h kind t lost list = added_same h (λ q. false) (λ q. is_end h kind q t) list list (λ q. by kind q) (none_added h list)
+-- a transfer that is not noted
+pub lost_noted : (h : Holdings) (kind : ItemKind) (t : Transfer) → has_ends h kind t ≡ false → (list : List Note) → AreAdded h (λ q. is_end h kind q t) list list
+lost_noted h kind t lost list = added_same h (λ q. false) (λ q. is_end h kind q t) list list (λ q. by kind lost q) (none_added h list)
   where
-    by : (k : ItemKind) (q : Place) → false ≡ is_end h k q t
-    by Map q = sym (ap (λ b. b && same_place q t.target) lost)
-    by Grant q = sym (ap (λ b. b && (same_place q t.target || same_place q t.source)) lost)
+    by : (k : ItemKind) → has_ends h k t ≡ false → (q : Place) → false ≡ is_end h k q t
+    by Map lost q = sym (ap (λ b. b && same_place q t.target) lost)
+    by Grant lost q = sym (ap (λ b. b && (same_place q t.target || same_place q t.source)) lost)
 
 -- ---- who is ready
 
@@ -52,35 +52,40 @@ pub ready_to_map : (h : Holdings) (rights : Rights) (ts : List Transfer) → Are
 ready_to_map h rights ts ready i d within = by (get_or ts i d) (ready i d within)
   where
     by : (t : Transfer) → IsReady h rights t → IsEndReady h t
-    by t ready held = choose t.extends refl (at h t.source) refl
+    by t ready kind noted = choose t.extends refl (at h t.source) refl
       where
+        -- where it extends, its source is held
+        held : (k : ItemKind) → has_ends h k t ≡ true → t.extends ≡ true → is_held h t.source ≡ true
+        held Map noted is = sym (ap (λ b. not b || is_held h t.source) is) ∙ noted
+        held Grant noted is = noted
+
         choose : (e : Bool) → t.extends ≡ e → (o : Option Held) → at h t.source ≡ o → is_held h t.target ≡ t.extends
-        choose e is None none = absurd (cc (ap is_some none, held))
+        choose false is o source = ap is_some (ready.free is) ∙ sym is
+        choose true is None none = absurd (cc (ap is_some none, held kind noted is))
         choose true is (Some m) some = let k = ready.derived m is some in ap is_some k.1 ∙ sym is
-        choose false is (Some m) some = ap is_some (ready.free is) ∙ sym is
 
 pub ready_to_move : (h : Holdings) (ts : List Transfer) → AllGo ts → AreFree h ts → AreEndsReady h ts
-ready_to_move h ts all_go free i d within held = ap is_some (free i d within) ∙ sym (all_go i d within)
+ready_to_move h ts all_go free i d within kind noted = ap is_some (free i d within) ∙ sym (all_go i d within)
 
 -- ---- what is changed
 
 -- no target is among the pairs that are mapped
 module _ (h : Holdings) (job : Job) (p : Place) where
-  one_kept : (t : Transfer) → (is_held h t.source && same_place p t.target) ≡ false → (acc : Holdings) → at (map_pair h job (pair_of t) (fate_in t) acc) p ≡ at acc p
-  one_kept t none acc = choose t.extends
+  one_kept : (t : Transfer) → (has_ends h Map t && same_place p t.target) ≡ false → (acc : Holdings) → at (map_pair h job (pair_of t) (fate_in t) acc) p ≡ at acc p
+  one_kept t none acc = choose t.extends none
     where
-      by_link : (o : Option Held) → (is_some o && same_place p t.target) ≡ false → at (link job (pair_of t) o acc) p ≡ at acc p
-      by_link None none = refl
-      by_link (Some m) none = put_elsewhere p t.target (linked job t.source m) acc none
+      by_link : (o : Option Held) → same_place p t.target ≡ false → at (link job (pair_of t) o acc) p ≡ at acc p
+      by_link None apart = refl
+      by_link (Some m) apart = put_elsewhere p t.target (linked job t.source m) acc apart
 
       by_extend : (o k : Option Held) → (is_some o && same_place p t.target) ≡ false → at (extend job (pair_of t) o k acc) p ≡ at acc p
       by_extend None k none = refl
       by_extend (Some m) None none = refl
       by_extend (Some m) (Some k) none = put_elsewhere p t.target (extended job m k) acc none
 
-      choose : (e : Bool) → at (map_pair h job (pair_of t) (if e then extends else goes) acc) p ≡ at acc p
-      choose true = by_extend (at h t.source) (at h t.target) none
-      choose false = by_link (at h t.source) none
+      choose : (e : Bool) → ((not e || is_held h t.source) && same_place p t.target) ≡ false → at (map_pair h job (pair_of t) (if e then extends else goes) acc) p ≡ at acc p
+      choose true none = by_extend (at h t.source) (at h t.target) none
+      choose false apart = by_link (at h t.source) apart
 
   all_kept : (ts : List Transfer) → ends_of h Map ts p ≡ false → (acc : Holdings) → at (map_transfers h job ts acc) p ≡ at acc p
   all_kept [] none acc = refl

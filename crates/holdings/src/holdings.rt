@@ -7,6 +7,7 @@ use maptree::Tree;
 use space::{Entry, NoMemory, Place, Shards};
 use std::alloc::Global;
 use std::marker::Model;
+use std::ops::Range;
 
 /// What is held: which page holds which frame, with which rights and status, and from which page it came. A contract sees
 /// the limits, the holdings of the definitions, and the layout: which places have a word, and at which index.
@@ -34,9 +35,10 @@ impl Model for Holdings {
 }
 
 impl Holdings {
-    ghost use Rattle.std.specs.Prelude.{◌≡◌, ◌<◌, true, IfOk, MatchOption, option_map};
+    ghost use Rattle.std.specs.Prelude.{◌≡◌, ◌<◌, ◌≤◌, true, IfOk, MatchOption, option_map};
+    ghost use Rattle.space.specs.declared.place.Place.{Place};
     ghost use Rattle.space.specs.Directory.{pages_of};
-    ghost use Rattle.model.specs.Definitions.Holdings.{at, origin_at};
+    ghost use Rattle.model.specs.Definitions.Holdings.{at, is_held, origin_at};
     ghost use Rattle.model.specs.Definitions.Records.{are_limits};
     ghost use Rattle.model.specs.Definitions.Touch.{can_touch, touch};
     ghost use Rattle.holdings.specs.Meaning.{limits_of};
@@ -87,6 +89,22 @@ impl Holdings {
     {
         let (place, _) = next_held(&self.shards, Place { space, page })?;
         Some(place)
+    }
+
+    /// The pages of a space from one on, side by side, of which each holds something; none where that one does not. Behind
+    /// them others may hold something too. Takes no memory.
+    pub fn held_run(&self, place: Place) -> Range<u32>
+        requires { IsWithin self.now.limits place }
+        ensures start { result.start ≡ place.page }
+        ensures held { (p : Place) → p.space ≡ place.space → result.start ≤ p.page → p.page < result.end → is_held self.now.holdings p ≡ true }
+        ensures some { is_held self.now.holdings place ≡ true → place.page < result.end }
+    {
+        let start = place.page;
+        if self.shards.get(place).is_none() {
+            return start..start;
+        }
+        let pages = 1 << (self.shards.bits() - 12);
+        start..self.shards.next_run(place, pages).end
     }
 
     /// The page from which a page came; none for a root, and where nothing is held.

@@ -1,11 +1,14 @@
 //! Those of some pages of a space that are held.
 
-ghost use Rattle.std.specs.Prelude.{◌≡◌, ◌-◌, ◌++◌, OnOk};
+ghost use Rattle.std.specs.Prelude.{◌≡◌, ◌+◌, ◌-◌, ◌*◌, ◌/◌, ◌≤◌, ◌++◌, filter, IsFalse, OnOk};
+ghost use Rattle.space.specs.Directory.{pages_of};
+ghost use Rattle.space.specs.Shards.{HasWord, IsPlace, bits_of, is_taken};
 ghost use Rattle.holdings.specs.Places.{pages_from};
+ghost use Rattle.holdings.specs.Inner.Held.{has_entry};
 
 use crate::holdings::Holdings;
 use crate::shard::SHARD_PAGES;
-use space::Place;
+use space::{Place, Shards, page_behind_shard};
 use std::alloc::{AllocError, Global};
 use std::ops::Range;
 
@@ -37,20 +40,40 @@ impl Holdings {
         let mut places = Vec::with_capacity(alloc, named.min(SHARD_PAGES) as usize)?;
         let mut page = pages.start;
         while page < pages.end {
-            let run = shards.next_run(Place { space, page }, pages.end);
-            page = run.end;
-            add_pages(space, run, &mut places)?;
+            let first = shards.first_from(Place { space, page }, pages.end);
+            if first == pages.end {
+                return Ok(places);
+            }
+            page = page_behind_shard(first).min(pages.end);
+            add_held(shards, Place { space, page: first }, page, &mut places)?;
         }
         Ok(places)
     }
 }
 
-/// Adds some pages of a space.
-fn add_pages(space: u16, pages: Range<u32>, places: &mut Vec<Place>) -> Result<(), AllocError>
-    ensures { OnOk result (places.new.items ≡ places.old.items ++ pages_from space pages.start (pages.end - pages.start)) }
+/// Adds those pages of one shard that is there which are held, from a page on and before an end.
+fn add_held(
+    shards: &Shards,
+    first: Place,
+    end: u32,
+    places: &mut Vec<Place>,
+) -> Result<(), AllocError>
+    requires place { IsPlace shards.now first }
+    requires from { first.page ≤ end }
+    requires end { end ≤ (first.page / 64 + 1) * 64 }
+    requires within { end ≤ pages_of (bits_of shards.now) }
+    requires present { IsFalse (is_taken shards.now) }
+    requires has { HasWord shards.now first }
+    ensures { OnOk result (places.new.items ≡ places.old.items ++ filter (has_entry shards.now) (pages_from first.space first.page (end - first.page))) }
 {
-    for page in pages.start..pages.end {
-        places.push(Place { space, page })?;
+    let space = first.space;
+    let mut page = first.page;
+    while page < end {
+        page = shards.first_held_of_shard(first, page, end);
+        if page < end {
+            places.push(Place { space, page })?;
+            page += 1;
+        }
     }
     Ok(())
 }

@@ -20,7 +20,7 @@ impl Holdings {
     ghost use Rattle.std.specs.Prelude.{OnOk};
     ghost use Rattle.std.specs.List.{All};
     ghost use Rattle.model.specs.Definitions.Strip.{strip};
-    ghost use Rattle.holdings.specs.Inner.Notes.{AreAdded, AreEndsReady, IsEndReady, NotesAdd, is_end, ends_of};
+    ghost use Rattle.holdings.specs.Inner.Notes.{AreAdded, AreEndsReady, IsEndReady, NotesAdd, has_ends, is_end, ends_of};
     ghost use Rattle.holdings.specs.Noting.{NotesFollow};
     ghost use Rattle.holdings.specs.Places.{IsWithin, any_of};
     ghost use Rattle.holdings.specs.Sending.{IsTransferWithin};
@@ -52,6 +52,7 @@ impl Holdings {
     }
 
     /// Notes the pages that transfers change whose source is held: their targets, and where they are granted their sources.
+    /// A free target of a map is noted without a look at its source.
     ///
     /// Refused where memory is.
     pub(crate) fn note_transfers(
@@ -84,13 +85,24 @@ impl Holdings {
         requires ready { IsEndReady self.now.holdings transfer.now }
         ensures { OnOk result (AreAdded self.now.holdings (λ q. is_end self.now.holdings kind q transfer.now) list.old.items list.new.items) }
     {
-        if self.entry(transfer.source).is_none() {
+        if !self.has_ends(transfer, kind) {
             return Ok(());
         }
         add_note(list, transfer.target, transfer.extends)?;
         match kind {
             ItemKind::Map => Ok(()),
             ItemKind::Grant => add_note(list, transfer.source, true),
+        }
+    }
+
+    /// Whether the pages of a transfer are noted: if its source is held, and a free target of a map always.
+    fn has_ends(&self, transfer: &Transfer, kind: ItemKind) -> bool
+        requires { IsTransferWithin self.now.limits transfer.now }
+        ensures { result ≡ has_ends self.now.holdings kind transfer.now }
+    {
+        match kind {
+            ItemKind::Map if !transfer.extends => true,
+            _ => self.entry(transfer.source).is_some(),
         }
     }
 }

@@ -6,7 +6,7 @@ ghost use Rattle.space.specs.Shards.{IsPlace, is_taken};
 ghost use Rattle.maptree.specs.Origins.{IsRun, AreRising};
 ghost use Rattle.space.specs.Slices.{nodes_of};
 ghost use Rattle.maptree.specs.Cuts.{outside, kept_of, count_of};
-ghost use Rattle.holdings.specs.Inner.Held.{has_entry};
+ghost use Rattle.holdings.specs.Inner.Held.{has_as, has_entry};
 ghost use Rattle.holdings.specs.Inner.Stripping.{pruned, OriginsHaveEntries, IsLeft};
 ghost use Rattle.holdings.specs.Inner.StripPlans.{AllCanBePruned, ArePruned, AreKeptNodes, count_in_runs, count_in_frames, in_frames};
 
@@ -35,10 +35,10 @@ pub fn prune(
     ensures { OnOk result (tree.new.links ≡ pruned shards.now tree.old.links) }
 {
     // Most calls take no page away, or all: a cut and a splice copy what is kept, and may copy the whole list of the tree.
-    if are_held(shards, tree, runs) {
+    if are_all(shards, tree, runs, true) {
         return Ok(());
     }
-    if are_gone(shards, tree, runs) {
+    if are_all(shards, tree, runs, false) {
         tree.remove(runs);
         return Ok(());
     }
@@ -244,62 +244,31 @@ fn count_in_runs(runs: &[Range<usize>]) -> Option<usize>
     Some(count)
 }
 
-/// Whether each place of these runs has an entry.
-fn are_held(shards: &Shards, tree: &Tree, runs: &[Range<usize>]) -> bool
+/// Whether each place of these runs has an entry; without `held`, whether none has.
+fn are_all(shards: &Shards, tree: &Tree, runs: &[Range<usize>], held: bool) -> bool
     requires present { IsFalse (is_taken shards.now) }
     requires places { All (λ o. IsPlace shards.now o.0) tree.now.links }
     requires within { All (λ run. run.end ≤ length tree.now.links) runs.now }
-    ensures { result ≡ list_all (λ run. list_all (λ o. has_entry shards.now o.0) (slice_range tree.now.links run.start run.end)) runs.now }
+    ensures { result ≡ list_all (λ run. list_all (λ o. has_as held shards.now o.0) (slice_range tree.now.links run.start run.end)) runs.now }
 {
     for run in runs {
-        if !is_held(shards, tree, run) {
+        if !is_all(shards, tree, run, held) {
             return false;
         }
     }
     true
 }
 
-/// Whether each place of a run has an entry.
-fn is_held(shards: &Shards, tree: &Tree, run: &Range<usize>) -> bool
+/// The same of one run.
+fn is_all(shards: &Shards, tree: &Tree, run: &Range<usize>, held: bool) -> bool
     requires present { IsFalse (is_taken shards.now) }
     requires places { All (λ o. IsPlace shards.now o.0) tree.now.links }
     requires within { run.now.end ≤ length tree.now.links }
-    ensures { result ≡ list_all (λ o. has_entry shards.now o.0) (slice_range tree.now.links run.now.start run.now.end) }
+    ensures { result ≡ list_all (λ o. has_as held shards.now o.0) (slice_range tree.now.links run.now.start run.now.end) }
 {
     let mut nodes = tree.nodes();
     for i in run.start..run.end {
-        if shards.get(nodes.at(i).place).is_none() {
-            return false;
-        }
-    }
-    true
-}
-
-/// Whether no place of these runs has an entry.
-fn are_gone(shards: &Shards, tree: &Tree, runs: &[Range<usize>]) -> bool
-    requires present { IsFalse (is_taken shards.now) }
-    requires places { All (λ o. IsPlace shards.now o.0) tree.now.links }
-    requires within { All (λ run. run.end ≤ length tree.now.links) runs.now }
-    ensures { result ≡ list_all (λ run. list_all (λ o. not (has_entry shards.now o.0)) (slice_range tree.now.links run.start run.end)) runs.now }
-{
-    for run in runs {
-        if !is_gone(shards, tree, run) {
-            return false;
-        }
-    }
-    true
-}
-
-/// Whether no place of a run has an entry.
-fn is_gone(shards: &Shards, tree: &Tree, run: &Range<usize>) -> bool
-    requires present { IsFalse (is_taken shards.now) }
-    requires places { All (λ o. IsPlace shards.now o.0) tree.now.links }
-    requires within { run.now.end ≤ length tree.now.links }
-    ensures { result ≡ list_all (λ o. not (has_entry shards.now o.0)) (slice_range tree.now.links run.now.start run.now.end) }
-{
-    let mut nodes = tree.nodes();
-    for i in run.start..run.end {
-        if shards.get(nodes.at(i).place).is_some() {
+        if shards.get(nodes.at(i).place).is_some() != held {
             return false;
         }
     }

@@ -1,11 +1,12 @@
 -- What the notes of a call tell.
-use Rattle.std.specs.Prelude.{◌≡◌, Bool, true, false, List, map, Option, Some, None}
+use Rattle.std.specs.Prelude.{◌≡◌, ◌<◌, ◌≤◌, Bool, true, false, List, map, Option, Some, None}
 use Rattle.space.specs.declared.place.Place.{Place}
 use Rattle.model.specs.Definitions.Changes.{AreChanged}
 use Rattle.model.specs.Definitions.Holdings.{Holdings}
 use Rattle.holdings.specs.Noting.{AreNoted}
 use Rattle.holdings.specs.declared.notes.Note.{Note}
 use Rattle.holdings.specs.declared.notes.Notes.{Notes}
+use Rattle.mapdb.specs.declared.told.HeldRun.{HeldRun}
 
 -- the pages that are noted
 abbrev pub noted_places : List Note → List Place
@@ -16,6 +17,12 @@ abbrev pub is_told : Option Bool → Bool → Bool
 is_told (Some true) held = true
 is_told (Some false) held = held
 is_told None held = held
+
+-- a page is one of a run
+pub record IsInRun (run : HeldRun) (p : Place) : Type 0 where
+  pub space : p.space ≡ run.space
+  pub from : run.start ≤ p.page
+  pub before : p.page < run.end
 
 -- what a note says of a page that is not held
 abbrev pub unless_held : Bool → Option Bool → Option Bool

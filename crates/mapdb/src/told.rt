@@ -1,6 +1,6 @@
 //! What the notes of a call tell, once it was worked.
 
-ghost use Rattle.std.specs.Prelude.{◌≡◌, Some, filter, IfOk, OnOk};
+ghost use Rattle.std.specs.Prelude.{◌≡◌, true, false, Some, filter, IfOk, OnOk};
 ghost use Rattle.std.specs.List.{list_all};
 ghost use Rattle.std.specs.BTreeMap.{get};
 ghost use Rattle.fpage.specs.Fpage.{IsSpaceBits};
@@ -10,7 +10,8 @@ ghost use Rattle.space.specs.declared.place.Place.{Place};
 ghost use Rattle.model.specs.Definitions.Holdings.{is_held};
 ghost use Rattle.holdings.specs.Noting.{first_note};
 ghost use Rattle.holdings.specs.declared.notes.Note.{Note};
-ghost use Rattle.mapdb.specs.Noted.{is_told, unless_held, Tells};
+ghost use Rattle.holdings.specs.Places.{IsWithin};
+ghost use Rattle.mapdb.specs.Noted.{is_told, unless_held, IsInRun, Tells};
 
 use holdings::{Holdings, Note, Notes};
 use space::{NoMemory, Place};
@@ -33,16 +34,65 @@ pub fn keep_told(alloc: Global, held: &Holdings, notes: &mut Notes) -> Result<()
     Ok(())
 }
 
-/// Whether each page was held when it was noted, or is held now.
+/// Whether each page was held when it was noted, or is held now. Pages of one run are looked at together.
 fn are_told(held: &Holdings, notes: &[Note]) -> bool
     ensures { result ≡ list_all (λ n. is_told (Some n.was_held) (is_held held.now.holdings n.place)) notes.now }
 {
+    let mut run = HeldRun {
+        space: 0,
+        start: 0,
+        end: 0,
+    };
     for note in notes {
-        if !is_told(held, Some(note.was_held), note.place) {
-            return false;
+        if !note.was_held && !run.has(note.place) {
+            run = held_run(held, note.place);
+            if !run.has(note.place) {
+                return false;
+            }
         }
     }
     true
+}
+
+/// Pages of a space, side by side, each of which is held.
+#[derive(Clone, Copy)]
+struct HeldRun {
+    space: u16,
+    start: u32,
+    end: u32,
+}
+
+impl HeldRun {
+    ghost use Rattle.std.specs.Prelude.{IsTrue, ◌↔◌};
+    ghost use Rattle.mapdb.specs.Noted.{IsInRun};
+
+    /// Whether a page is one of them.
+    fn has(&self, place: Place) -> bool
+        ensures { IsTrue result ↔ IsInRun self.now place }
+    {
+        place.space == self.space && self.start <= place.page && place.page < self.end
+    }
+}
+
+/// The run of held pages that begins with a page; an empty one where it is not held.
+fn held_run(held: &Holdings, place: Place) -> HeldRun
+    ensures held { (p : Place) → IsInRun result p → is_held held.now.holdings p ≡ true }
+    ensures some { is_held held.now.holdings place ≡ true → IsInRun result place }
+{
+    let space = place.space;
+    if !is_within(held, place) {
+        return HeldRun {
+            space,
+            start: 0,
+            end: 0,
+        };
+    }
+    let pages = held.held_run(place);
+    HeldRun {
+        space,
+        start: pages.start,
+        end: pages.end,
+    }
 }
 
 /// What the first note says of each page that is held no longer.
@@ -94,11 +144,22 @@ fn is_told(held: &Holdings, first: Option<bool>, place: Place) -> bool
 fn is_held(held: &Holdings, place: Place) -> bool
     ensures { result ≡ is_held held.now.holdings place }
 {
+    is_within(held, place) && held.entry(place).is_some()
+}
+
+/// Whether a page is one of a space; any other holds nothing.
+fn is_within(held: &Holdings, place: Place) -> bool
+    ensures within { result ≡ true → IsWithin held.now.limits place }
+    ensures outside { result ≡ false → is_held held.now.holdings place ≡ false }
+{
     let limits = held.limits();
-    if u32::from(place.space) >= limits.spaces || place.page >= pages(limits.bits) {
+    if u32::from(place.space) >= limits.spaces {
         return false;
     }
-    held.entry(place).is_some()
+    if place.page >= pages(limits.bits) {
+        return false;
+    }
+    true
 }
 
 /// How many pages a space of `2^bits` bytes has.

@@ -185,21 +185,37 @@ impl Directory {
     {
         let mut shard = from;
         while shard < end {
-            let run = shard / LEAF_SHARDS;
+            let run = self.next_filled(shard / LEAF_SHARDS, end.div_ceil(LEAF_SHARDS));
             let start = run * LEAF_SHARDS;
+            if start >= end {
+                return end;
+            }
             let run_end = (start + LEAF_SHARDS).min(end);
-            let (first, last) = (self.firsts[run], self.lasts[run]);
-            if first <= last {
-                let first = shard.max(start + usize::from(first));
-                let behind = run_end.min(start + usize::from(last) + 1);
-                if first < behind {
-                    let found = self.next_in_run(first, behind);
-                    if found < behind {
-                        return found;
-                    }
+            let first = shard.max(start + usize::from(self.firsts[run]));
+            let behind = run_end.min(start + usize::from(self.lasts[run]) + 1);
+            if first < behind {
+                let found = self.next_in_run(first, behind);
+                if found < behind {
+                    return found;
                 }
             }
             shard = run_end;
+        }
+        end
+    }
+
+    /// The first run of 128 from one on, and before an end, of which a shard is there; the end where there is none.
+    fn next_filled(&self, from: usize, end: usize) -> usize
+        requires from { from ≤ end }
+        requires end { end ≤ length self.now.firsts.items }
+        ensures from { from ≤ result }
+        ensures end { result ≤ end }
+        ensures skipped { (shard : ℕ) → from ≤ shard / 128 → shard / 128 < result → position_in self.now shard ≡ nowhere }
+    {
+        for run in from..end {
+            if self.firsts[run] <= self.lasts[run] {
+                return run;
+            }
         }
         end
     }

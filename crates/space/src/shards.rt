@@ -1,4 +1,4 @@
-ghost use Rattle.std.specs.Prelude.{◌≡◌, ℕ, ◌*◌, ◌+◌, ◌/◌, ◌^◌, ◌<◌, ◌≤◌, ◌++◌, length, replicate, slice_index, vec_capacity};
+ghost use Rattle.std.specs.Prelude.{◌≡◌, ℕ, ◌*◌, ◌+◌, ◌/◌, ◌^◌, ◌<◌, ◌≤◌, ◌++◌, true, length, replicate, slice_index, vec_capacity};
 ghost use Rattle.std.specs.Option.{ForSome};
 ghost use Rattle.space.specs.Directory.{AreLimits, AreWords, offset_of, shards_of};
 ghost use Rattle.space.specs.Positions.{most_of, count_of};
@@ -243,7 +243,7 @@ impl Shards {
                 break;
             }
             let behind = page_behind_shard(first).min(end);
-            let found = self.first_held_of_shard(Place { space, page: first }, behind);
+            let found = self.first_held_of_shard(Place { space, page: first }, first, behind);
             if found < behind {
                 return found;
             }
@@ -252,22 +252,24 @@ impl Shards {
         end
     }
 
-    /// The same of pages of one shard that is there.
-    fn first_held_of_shard(&self, place: Place, end: u32) -> u32
+    /// The same of pages of one shard that is there: that of a page, from another page of it on.
+    pub fn first_held_of_shard(&self, place: Place, from: u32, end: u32) -> u32
         requires place { IsPlace self.now place }
-        requires from { place.page ≤ end }
+        requires on { place.page ≤ from }
+        requires from { from ≤ end }
         requires end { end ≤ (place.page / 64 + 1) * 64 }
+        requires within { end ≤ pages_of (bits_of self.now) }
         requires present { IsFalse (is_taken self.now) }
         requires has { HasWord self.now place }
-        ensures from { place.page ≤ result }
+        ensures from { from ≤ result }
         ensures end { result ≤ end }
         ensures held { result < end → IsTrue (is_some (entry_at self.now (record { space = place.space; page = result }))) }
-        ensures absent { (p : Place) → p.space ≡ place.space → place.page ≤ p.page → p.page < result → entry_at self.now p ≡ None }
+        ensures absent { (p : Place) → p.space ≡ place.space → from ≤ p.page → p.page < result → entry_at self.now p ≡ None }
     {
         let words = self.words.as_ref().unwrap();
         let before = self.find(place) - offset(place);
         let space = place.space;
-        let mut page = place.page;
+        let mut page = from;
         while page < end {
             let at = before + offset(Place { space, page });
             let to = (before + SHARD_PAGES).min(at + (end - page) as usize);
@@ -510,7 +512,7 @@ impl Shards {
 }
 
 /// The first page behind the shard of a page.
-fn page_behind_shard(page: u32) -> u32
+pub fn page_behind_shard(page: u32) -> u32
     requires { page < 2 ^ 20 }
     ensures { result ≡ (page / 64 + 1) * 64 }
 {
@@ -535,7 +537,7 @@ fn add_absent(words: &mut Vec<u64>)
     prove!(added.is_ok());
 }
 
-/// How many words from one on, and before an end, are 0.
+/// How many words from one on, and before an end, are 0. It looks at eight at once.
 fn zeros(words: &[u64], from: usize, end: usize) -> usize
     requires order { from ≤ end }
     requires within { end ≤ length words.now }
@@ -543,10 +545,27 @@ fn zeros(words: &[u64], from: usize, end: usize) -> usize
     ensures zeros { (i : ℕ) → from ≤ i → i < from + result → slice_index words.now i ≡ 0 }
     ensures held { from + result < end → slice_index words.now (from + result) ≡ 0 → ⊥ }
 {
-    for i in from..end {
-        if words[i] != 0 {
-            return i - from;
-        }
+    let mut at = from;
+    while end - at >= 8 && are_zero(words, at) {
+        at += 8;
     }
-    end - from
+    while at < end && words[at] == 0 {
+        at += 1;
+    }
+    at - from
+}
+
+/// Whether eight words from one on are 0.
+fn are_zero(words: &[u64], at: usize) -> bool
+    requires { at + 8 ≤ length words.now }
+    ensures { result ≡ true → (i : ℕ) → at ≤ i → i < at + 8 → slice_index words.now i ≡ 0 }
+{
+    (words[at] == 0)
+        & (words[at + 1] == 0)
+        & (words[at + 2] == 0)
+        & (words[at + 3] == 0)
+        & (words[at + 4] == 0)
+        & (words[at + 5] == 0)
+        & (words[at + 6] == 0)
+        & (words[at + 7] == 0)
 }

@@ -130,6 +130,13 @@ next_page space page end less = ap (pages_from space page) (one page end less)
 
 -- ---- those that are held
 
+module _ (shards : Shards) (space page n : ℕ) where
+  pub none_there : ((k : ℕ) → k < n → entry_at shards (record { space = space; page = page + k }) ≡ None) → filter (has_entry shards) (pages_from space page n) ≡ []
+  none_there absent = filter_none (has_entry shards) (pages_from space page n) (each_page (λ p. has_entry shards p ≡ false) space page n (λ k on. ap is_some (absent k on)))
+
+  pub all_there : ((k : ℕ) → k < n → IsTrue (has_entry shards (record { space = space; page = page + k }))) → filter (has_entry shards) (pages_from space page n) ≡ pages_from space page n
+  all_there there = filter_every (has_entry shards) (pages_from space page n) (each_page (λ p. has_entry shards p ≡ true) space page n there)
+
 module _ (shards : Shards) (trees : List Shape) (space page n : ℕ) (less : space < (limits_in shards trees).spaces) (most : page + n ≤ pages_of (limits_in shards trees).bits) where
   -- each that has an entry is held, and no other
   pub entries_held : filter (has_entry shards) (pages_from space page n) ≡ filter (is_held (holdings_in shards trees)) (pages_from space page n)
@@ -144,8 +151,4 @@ module _ (shards : Shards) (trees : List Shape) (space page n : ℕ) (less : spa
 
   -- where none has an entry, none is held
   pub none_held : ((k : ℕ) → k < n → entry_at shards (record { space = space; page = page + k }) ≡ None) → filter (is_held (holdings_in shards trees)) (pages_from space page n) ≡ []
-  none_held absent = sym entries_held ∙ filter_none (has_entry shards) (pages_from space page n) (each_page (λ p. has_entry shards p ≡ false) space page n (λ k on. ap is_some (absent k on)))
-
-  -- where each has an entry, each is held
-  pub all_held : ((k : ℕ) → k < n → IsTrue (has_entry shards (record { space = space; page = page + k }))) → filter (is_held (holdings_in shards trees)) (pages_from space page n) ≡ pages_from space page n
-  all_held there = sym entries_held ∙ filter_every (has_entry shards) (pages_from space page n) (each_page (λ p. has_entry shards p ≡ true) space page n there)
+  none_held absent = sym entries_held ∙ none_there shards space page n absent

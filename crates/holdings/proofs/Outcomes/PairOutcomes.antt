@@ -1,6 +1,6 @@
 -- The outcome of a pair, from words and trees.
-use Rattle.std.proofs.Common.{◌≡◌, ℕ, List, true, false, Bool, ◌&&◌, [], Option, Some, None, refl, sym, ap, ◌∙◌, subst, if◌then◌else◌}
-use Rattle.std.specs.Prelude.{Decides, position}
+use Rattle.std.proofs.Common.{◌≡◌, List, true, false, Bool, ◌&&◌, [], Option, Some, None, refl, sym, ap, ◌∙◌, if◌then◌else◌}
+use Rattle.std.specs.Prelude.{Decides}
 use Rattle.std.specs.Option.{option_and_then, option_map_or, is_some}
 use Rattle.std.proofs.lemmas.Bool.{false_from_ne_true}
 use Rattle.std.proofs.lemmas.Option.{same_Some}
@@ -13,8 +13,8 @@ use Rattle.space.specs.declared.place.Entry.{Entry}
 use Rattle.space.specs.declared.shards.Shards.{Shards}
 use Rattle.space.specs.Place.{same_place}
 use Rattle.space.specs.Shards.{entry_at}
-use Rattle.space.proofs.Places.{same_is, same_self}
-use Rattle.maptree.specs.Origins.{Origins, Shape, origin_in, place_at, LeadsTo}
+use Rattle.space.proofs.Places.{same_is}
+use Rattle.maptree.specs.Origins.{Origins, Shape, origin_in, LeadsTo}
 use Rattle.model.specs.Definitions.Holdings.{only, is_held, origin_at}
 use Rattle.model.specs.Definitions.Derived.{is_under}
 use Rattle.model.specs.Laws.DerivationLaws.{LeadsInto}
@@ -27,7 +27,6 @@ use Rattle.holdings.specs.Sending.{fate_of_outcome}
 use Rattle.holdings.specs.Inner.Outcomes.{IsOutcomeIn}
 use Rattle.holdings.specs.declared.outcome.Outcome.{Outcome}
 use Rattle.holdings.specs.declared.outcome.Outcome.TheVariants as outcome
-use Rattle.maptree.proofs.Found.{found_at}
 use Rattle.holdings.proofs.Contents.Holders.{absent_within, present_within, origin_within}
 use Rattle.holdings.proofs.Trees.Chains.{chains_agree}
 use Rattle.holdings.proofs.Trees.Under.{same_frame, leads_there, leads_back}

@@ -34,17 +34,22 @@ AreAdded h set old new = (p : Place) → first_note new p ≡ option_or (first_n
 
 -- ---- transfers
 
--- whether a page is changed by a transfer whose source is held: it is the target, or by a grant the source
+-- whether the pages of a transfer are noted: where its source is held, and a free target of a map always
+abbrev pub has_ends : Holdings → ItemKind → Transfer → Bool
+has_ends h Map t = not t.extends || is_held h t.source
+has_ends h Grant t = is_held h t.source
+
+-- whether a page is noted of a transfer: it is the target, or by a grant the source
 abbrev pub is_end : Holdings → ItemKind → Place → Transfer → Bool
-is_end h Map p t = is_held h t.source && same_place p t.target
-is_end h Grant p t = is_held h t.source && (same_place p t.target || same_place p t.source)
+is_end h Map p t = has_ends h Map t && same_place p t.target
+is_end h Grant p t = has_ends h Grant t && (same_place p t.target || same_place p t.source)
 
 abbrev pub ends_of : Holdings → ItemKind → List Transfer → PlaceSet
 ends_of h kind ts p = list_any (is_end h kind p) ts
 
--- a target is held just where its transfer extends, if the source is held
+-- a target is free where its transfer does not extend; where it does, it is held if the source is
 abbrev pub IsEndReady : Holdings → Transfer → Type 0
-IsEndReady h t = is_held h t.source ≡ true → is_held h t.target ≡ t.extends
+IsEndReady h t = (kind : ItemKind) → has_ends h kind t ≡ true → is_held h t.target ≡ t.extends
 
 abbrev pub AreEndsReady : Holdings → List Transfer → Type 0
 AreEndsReady h ts = All (IsEndReady h) ts

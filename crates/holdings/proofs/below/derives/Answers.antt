@@ -1,5 +1,5 @@
 -- Both places are found.
-use Rattle.std.proofs.Common.{◌≡◌, sym, ap, ◌∙◌}
+use Rattle.std.proofs.Common.{sym, ap, ◌∙◌}
 use Rattle.std.specs.Prelude.{is_some}
 use Rattle.space.specs.Place.{same_place}
 use Rattle.maptree.proofs.Found.{some_found}

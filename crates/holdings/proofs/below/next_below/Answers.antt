@@ -1,8 +1,7 @@
 -- What derives from a page stands in its run.
-use Rattle.std.proofs.Common.{◌≡◌, ◌≤◌, ◌<◌, true, length, None, sym, ap, ◌∙◌, subst, arith}
+use Rattle.std.proofs.Common.{◌≡◌, ◌<◌, length, sym, ap, ◌∙◌, subst, arith}
 use Rattle.std.specs.Prelude.{is_some, MatchOption, IfSome}
 use Rattle.space.specs.Place.{same_place}
-use Rattle.space.specs.declared.place.Place.{Place}
 use Rattle.maptree.specs.Origins.{Origins}
 use Rattle.maptree.proofs.Found.{some_found}
 use Rattle.maptree.proofs.OneRun.{IsRunOf, run_found}

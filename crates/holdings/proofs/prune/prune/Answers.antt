@@ -9,20 +9,20 @@ use Rattle.holdings.proofs.Trees.Pruning.{all_pieces_of, all_parts, all_firsts, 
 use Rattle.holdings.proofs.Stripping.Sequences.{rising_at}
 use Rattle.holdings.proofs.prune.prune.Goals as goal
 
-pub are_held-requires-clause-within : goal.are_held-requires-clause-within
-are_held-requires-clause-within c = λ k d less. (rising_at 0 c.args.runs.now (length c.args.tree.now.links) k d c.requires.rising less).1
+pub are_all-requires-clause-within : goal.are_all-requires-clause-within
+are_all-requires-clause-within c = λ k d less. (rising_at 0 c.args.runs.now (length c.args.tree.now.links) k d c.requires.rising less).1
 
-pub returns-then-are_held : goal.returns-then-are_held
-returns-then-are_held c =
-    let inside = sym c.are_held.ensures ∙ c.if-are_held.true in
+pub returns-then-are_all : goal.returns-then-are_all
+returns-then-are_all c =
+    let inside = sym c.are_all.ensures ∙ c.if-are_all.true in
     sym (all_pass (λ o. has_entry c.args.shards.now o.0) c.args.tree.now.links (none_gone (has_entry c.args.shards.now) c.args.tree.now.links 0 c.args.runs.now c.requires.rising inside c.requires.outside))
 
-pub are_gone-requires-clause-within : goal.are_gone-requires-clause-within
-are_gone-requires-clause-within c = λ k d less. (rising_at 0 c.args.runs.now (length c.args.tree.now.links) k d c.requires.rising less).1
+pub are_all-requires-2-clause-within : goal.are_all-requires-2-clause-within
+are_all-requires-2-clause-within c = λ k d less. (rising_at 0 c.args.runs.now (length c.args.tree.now.links) k d c.requires.rising less).1
 
-pub returns-then-are_gone : goal.returns-then-are_gone
-returns-then-are_gone c =
-    let inside = sym c.are_gone.ensures ∙ c.if-are_gone.true in
+pub returns-then-are_all-2 : goal.returns-then-are_all-2
+returns-then-are_all-2 c =
+    let inside = sym c.are_all-2.ensures ∙ c.if-are_all-2.true in
     c.remove.ensures.links ∙ sym (all_gone (has_entry c.args.shards.now) c.args.tree.now.links 0 c.args.runs.now c.requires.rising inside c.requires.outside)
 
 pub held_parts-requires-clause-places : goal.held_parts-requires-clause-places

@@ -1,6 +1,15 @@
 -- The words so far are 0.
-use Rattle.std.proofs.Common.{◌≡◌, ℕ, ◌<◌, ◌≤◌, slice_index}
+use Rattle.std.proofs.Common.{◌≡◌, ℕ, ◌-◌, ◌<◌, ◌≤◌, slice_index}
 use Rattle.space.proofs.shards.zeros.Given as goal
 
-abbrev pub invariant-loop-i : goal.invariant-loop-i
-invariant-loop-i l = (k : ℕ) → l.from ≤ k → k < l.i → slice_index l.words k ≡ 0
+abbrev pub invariant-loop-at : goal.invariant-loop-at
+invariant-loop-at l = record { from : l.from ≤ l.at; upto : l.at ≤ l.end; zeros : (k : ℕ) → l.from ≤ k → k < l.at → slice_index l.words k ≡ 0 }
+
+abbrev pub decreases-loop-at : goal.decreases-loop-at
+decreases-loop-at l = l.end - l.at
+
+abbrev pub invariant-loop-at-2 : goal.invariant-loop-at-2
+invariant-loop-at-2 l = record { from : l.from ≤ l.at; upto : l.at ≤ l.end; zeros : (k : ℕ) → l.from ≤ k → k < l.at → slice_index l.words k ≡ 0 }
+
+abbrev pub decreases-loop-at-2 : goal.decreases-loop-at-2
+decreases-loop-at-2 l = l.end - l.at

@@ -6,9 +6,9 @@ use Rattle.space.proofs.shards.Shards.first_held_of_shard.Given as goal
 
 abbrev pub invariant-loop-page : goal.invariant-loop-page
 invariant-loop-page l = record {
-  from : l.fn.place.page ≤ l.page;
+  from : l.fn.from ≤ l.page;
   upto : l.page ≤ l.end;
-  absent : (p : Place) → p.space ≡ l.space → l.fn.place.page ≤ p.page → p.page < l.page → entry_at l.self p ≡ None;
+  absent : (p : Place) → p.space ≡ l.space → l.fn.from ≤ p.page → p.page < l.page → entry_at l.self p ≡ None;
 }
 
 abbrev pub decreases-loop-page : goal.decreases-loop-page

@@ -1,8 +1,0 @@
--- The places of the runs so far have none.
-use Rattle.std.proofs.Common.{◌≡◌, true, not, take}
-use Rattle.std.specs.List.{list_all, slice_range}
-use Rattle.holdings.specs.Inner.Held.{has_entry}
-use Rattle.holdings.proofs.prune.are_gone.Given as goal
-
-abbrev pub invariant-loop-run : goal.invariant-loop-run
-invariant-loop-run l = list_all (λ r. list_all (λ o. not (has_entry l.shards o.0)) (slice_range l.tree.links r.start r.end)) (take l.run-index l.runs) ≡ true
