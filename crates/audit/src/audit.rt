@@ -76,7 +76,8 @@ pub fn report(
     Ok(text)
 }
 
-/// Returns the text of every mapping, by rising place: that of some spaces after another, for which there is room.
+/// Returns the text of every mapping, by rising place: where they are many, that of some spaces after another, for which
+/// there is room.
 fn text_of(
     rt: &(impl Threads + Sync),
     alloc: Global,
@@ -84,8 +85,12 @@ fn text_of(
 ) -> Result<Vec<u8>, AllocError>
     ensures { IfOk result (λ text. text.items ≡ audit_lines mappings.now.holdings) }
 {
-    let spaces = held_spaces(alloc, mappings)?;
     let mut text = String::with_capacity(alloc, mappings.len().saturating_mul(LINE))?;
+    if mappings.len() < FEW {
+        push_in_turn(&mut text, mappings)?;
+        return Ok(text.into_bytes());
+    }
+    let spaces = held_spaces(alloc, mappings)?;
     let mut left = spaces.as_slice();
     while !left.is_empty() {
         let (some, others) = left.split_at(at_once(mappings, left));
@@ -93,6 +98,17 @@ fn text_of(
         left = others;
     }
     Ok(text.into_bytes())
+}
+
+/// Appends the text of every mapping, by rising place, one line after another.
+fn push_in_turn(text: &mut String, mappings: &Mappings<'_>) -> Result<(), AllocError>
+    ensures { OnOk result (string_bytes text.new ≡ string_bytes text.old ++ audit_lines mappings.now.holdings) }
+{
+    let limits = mappings.limits();
+    for space in 0..limits.spaces as u16 {
+        push_space(text, mappings, space)?;
+    }
+    Ok(())
 }
 
 /// How many of the first of these spaces have their text made at once. It is one at least, and that one is not made beside
@@ -145,7 +161,7 @@ fn push_spaces(
     Ok(())
 }
 
-/// The text of the mappings of each space, side by side if there are enough to pay for threads.
+/// The text of the mappings of each space, side by side.
 fn space_texts(
     rt: &(impl Threads + Sync),
     alloc: Global,
@@ -154,11 +170,6 @@ fn space_texts(
 ) -> Result<Vec<Result<String, AllocError>>, AllocError>
     ensures { IfOk result (λ texts. AllZip (λ space text. IsTextOf (held_from mappings.now space 0) text) spaces.now texts.items) }
 {
-    let least = if mappings.len() < FEW {
-        spaces.len()
-    } else {
-        1
-    };
     spaces
         .par_iter()
         .map(
@@ -166,7 +177,7 @@ fn space_texts(
                 ensures { IsTextOf (held_from mappings.entry.now space.now 0) result }
             { space_text(alloc, mappings, *space) },
         )
-        .with_min_len(least.max(1))
+        .with_min_len(1)
         .collect(rt, alloc)
 }
 
