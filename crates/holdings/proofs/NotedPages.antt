@@ -169,6 +169,10 @@ held_same g h p same = sym (seen (at g p)) ∙ ap is_some same ∙ seen (at h p)
 pub follow_none : (h : Holdings) (n : Notes) → NotesFollow h h n n
 follow_none h n = record { asked = refl; noted = λ is start noted. noted }
 
+-- room changes nothing
+pub follow_same : (h : Holdings) (n m : Notes) → m.asked ≡ n.asked → m.list.items ≡ n.list.items → NotesFollow h h n m
+follow_same h n m asked list = record { asked = asked; noted = λ is start noted. subst (AreNoted start h) (sym list) noted }
+
 pub follow_both : (a b c : Holdings) (n m k : Notes) → NotesFollow a b n m → NotesFollow b c m k → NotesFollow a c n k
 follow_both a b c n m k first second = record { asked = second.asked ∙ first.asked; noted = λ is start noted. second.noted (first.asked ∙ is) start (first.noted is start noted) }
 

@@ -1,7 +1,7 @@
 //! The pages that a call changes, as its phases note them.
 
 use space::Place;
-use std::alloc::Global;
+use std::alloc::{AllocError, Global};
 
 /// A page that a phase changes.
 #[derive(Clone, Copy, Debug, PartialEq, Eq)]
@@ -40,6 +40,19 @@ impl Notes {
     {
         self.asked = asked;
         self.list.clear();
+    }
+
+    /// Room for so many more notes, where they are asked for.
+    ///
+    /// Refused where memory is.
+    pub(crate) fn make_room(&mut self, n: usize) -> Result<(), AllocError>
+        ensures asked { self.new.asked ≡ self.old.asked }
+        ensures list { self.new.list.items ≡ self.old.list.items }
+    {
+        if self.asked {
+            self.list.reserve(n)?;
+        }
+        Ok(())
     }
 
     /// Forgets what was noted.

@@ -68,6 +68,7 @@ impl Holdings {
         if !notes.asked {
             return Ok(());
         }
+        notes.make_room(transfers.len())?;
         for transfer in transfers {
             self.note_transfer(transfer, kind, &mut notes.list)?;
         }

@@ -25,7 +25,10 @@ use std::alloc::{AllocError, Global};
 use std::ops::Range;
 
 /// How many words a walk finds before it changes them, so that their loads go on side by side.
-const FOUND_AT_ONCE: usize = 32;
+const FOUND_AT_ONCE: usize = 16;
+
+/// For how many notes there is room at once, so that few do not take memory time and again.
+const FIRST_NOTES: usize = 32;
 
 /// The order in which a page and all that derives from it lose their rights.
 #[derive(Clone, Copy, Debug, PartialEq, Eq)]
@@ -63,6 +66,7 @@ impl Holdings {
             mut shards,
             mut trees,
         } = self;
+        notes.make_room(FIRST_NOTES)?;
         let mut status = Rights::none();
         for place in places {
             let Some(entry) = shards.get(*place) else {
@@ -214,7 +218,7 @@ fn walk(
     Ok(Stripped { status, left })
 }
 
-/// The indexes of the words of the nodes from a position up to another, which are 32 at most.
+/// The indexes of the words of the nodes from a position up to another, which are 16 at most.
 fn find_words(
     shards: &Shards,
     nodes: &mut Nodes<'_>,
@@ -222,7 +226,7 @@ fn find_words(
     to: usize,
 ) -> [usize; FOUND_AT_ONCE]
     requires order { from ≤ to }
-    requires few { to ≤ from + 32 }
+    requires few { to ≤ from + 16 }
     requires within { to ≤ length nodes.old }
     requires words { (j : ℕ) (d : Place) → j < length nodes.old → IsThere shards.now (place_at nodes.old j d) }
     ensures found { (j : ℕ) (d : Place) → from ≤ j → j < to → slice_index result (j - from) ≡ index_of shards.now (place_at nodes.old j d) }

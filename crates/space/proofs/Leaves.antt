@@ -307,36 +307,36 @@ module _ (most count : ℕ) (leaves positions : List ℕ) (found : IsDirectory m
               ]
         ]
 
--- ---- the first and the last of each run
+-- ---- the first of each run, and the end
 
 -- of a directory without shards
-pub no_spans : (most : ℕ) (leaves positions firsts lasts : List ℕ) → IsDirectory most 0 leaves positions → length firsts ≡ length leaves → length lasts ≡ length leaves → AreSpans leaves positions firsts lasts
-no_spans most leaves positions firsts lasts found firsts_count lasts_count = record {
+pub no_spans : (most : ℕ) (leaves positions firsts ends : List ℕ) → IsDirectory most 0 leaves positions → length firsts ≡ length leaves → length ends ≡ length leaves → AreSpans leaves positions firsts ends
+no_spans most leaves positions firsts ends found firsts_count ends_count = record {
   firsts_count = firsts_count;
-  lasts_count = lasts_count;
+  ends_count = ends_count;
   from_first = λ shard there. let low = found.placed shard there in absurd (omega (arith, low));
-  to_last = λ shard there. let low = found.placed shard there in absurd (omega (arith, low));
+  to_end = λ shard there. let low = found.placed shard there in absurd (omega (arith, low));
 }
 
 -- where each shard is where it was
-pub same_spans : (leaves positions after more firsts lasts : List ℕ) → AreSpans leaves positions firsts lasts → length after ≡ length leaves
-    → ((shard : ℕ) → position_at after more shard ≡ position_at leaves positions shard) → AreSpans after more firsts lasts
-same_spans leaves positions after more firsts lasts spans count same = record {
+pub same_spans : (leaves positions after more firsts ends : List ℕ) → AreSpans leaves positions firsts ends → length after ≡ length leaves
+    → ((shard : ℕ) → position_at after more shard ≡ position_at leaves positions shard) → AreSpans after more firsts ends
+same_spans leaves positions after more firsts ends spans count same = record {
   firsts_count = spans.firsts_count ∙ sym count;
-  lasts_count = spans.lasts_count ∙ sym count;
+  ends_count = spans.ends_count ∙ sym count;
   from_first = λ shard there. spans.from_first shard (λ is. there (same shard ∙ is));
-  to_last = λ shard there. spans.to_last shard (λ is. there (same shard ∙ is));
+  to_end = λ shard there. spans.to_end shard (λ is. there (same shard ∙ is));
 }
 
 -- where a shard is added
-module _ (leaves positions after firsts lasts : List ℕ) (spans : AreSpans leaves positions firsts lasts) (shard first last : ℕ) (within : shard / 128 < length leaves)
+module _ (leaves positions after firsts ends : List ℕ) (spans : AreSpans leaves positions firsts ends) (shard first end : ℕ) (within : shard / 128 < length leaves)
     (elsewhere : (other : ℕ) → (other ≡ shard → ⊥) → position_at leaves after other ≡ position_at leaves positions other)
-    (first_low : first ≤ slice_index firsts (shard / 128)) (first_here : first ≤ shard % 128) (last_high : slice_index lasts (shard / 128) ≤ last) (last_here : shard % 128 ≤ last) where
+    (first_low : first ≤ slice_index firsts (shard / 128)) (first_here : first ≤ shard % 128) (end_high : slice_index ends (shard / 128) ≤ end) (end_here : shard % 128 < end) where
   first_now : slice_index (slice_set firsts (shard / 128) first) (shard / 128) ≡ first
   first_now = get_or-set_same firsts (shard / 128) first 0 (omega (arith, within, spans.firsts_count))
 
-  last_now : slice_index (slice_set lasts (shard / 128) last) (shard / 128) ≡ last
-  last_now = get_or-set_same lasts (shard / 128) last 0 (omega (arith, within, spans.lasts_count))
+  end_now : slice_index (slice_set ends (shard / 128) end) (shard / 128) ≡ end
+  end_now = get_or-set_same ends (shard / 128) end 0 (omega (arith, within, spans.ends_count))
 
   first_of : (other : ℕ) → (position_at leaves after other ≡ nowhere → ⊥) → slice_index (slice_set firsts (shard / 128) first) (other / 128) ≤ other % 128
   first_of other there = elim (same_or_not other shard) as (λ _. slice_index (slice_set firsts (shard / 128) first) (other / 128) ≤ other % 128) [
@@ -352,24 +352,31 @@ module _ (leaves positions after firsts lasts : List ℕ) (spans : AreSpans leav
         ]
   ]
 
-  last_of : (other : ℕ) → (position_at leaves after other ≡ nowhere → ⊥) → other % 128 ≤ slice_index (slice_set lasts (shard / 128) last) (other / 128)
-  last_of other there = elim (same_or_not other shard) as (λ _. other % 128 ≤ slice_index (slice_set lasts (shard / 128) last) (other / 128)) [
-    | inl same ↦ let now = ap (λ n. slice_index (slice_set lasts (shard / 128) last) (n / 128)) same ∙ last_now in omega (arith, now, last_here, same)
+  end_of : (other : ℕ) → (position_at leaves after other ≡ nowhere → ⊥) → other % 128 < slice_index (slice_set ends (shard / 128) end) (other / 128)
+  end_of other there = elim (same_or_not other shard) as (λ _. other % 128 < slice_index (slice_set ends (shard / 128) end) (other / 128)) [
+    | inl same ↦ let now = ap (λ n. slice_index (slice_set ends (shard / 128) end) (n / 128)) same ∙ end_now in omega (arith, now, end_here, same)
     | inr differ ↦
-        let before = spans.to_last other (λ is. there (elsewhere other differ ∙ is)) in
-        elim (same_or_not (other / 128) (shard / 128)) as (λ _. other % 128 ≤ slice_index (slice_set lasts (shard / 128) last) (other / 128)) [
+        let before = spans.to_end other (λ is. there (elsewhere other differ ∙ is)) in
+        elim (same_or_not (other / 128) (shard / 128)) as (λ _. other % 128 < slice_index (slice_set ends (shard / 128) end) (other / 128)) [
           | inl same ↦
-              let now = ap (slice_index (slice_set lasts (shard / 128) last)) same ∙ last_now in
-              let was = ap (slice_index lasts) same in
-              omega (arith, now, was, last_high, before)
-          | inr apart ↦ let now = get_or-set_other lasts (shard / 128) (other / 128) last 0 (λ same. apart same) in omega (arith, now, before)
+              let now = ap (slice_index (slice_set ends (shard / 128) end)) same ∙ end_now in
+              let was = ap (slice_index ends) same in
+              omega (arith, now, was, end_high, before)
+          | inr apart ↦ let now = get_or-set_other ends (shard / 128) (other / 128) end 0 (λ same. apart same) in omega (arith, now, before)
         ]
   ]
 
-  pub more_spans : AreSpans leaves after (slice_set firsts (shard / 128) first) (slice_set lasts (shard / 128) last)
+  pub more_spans : AreSpans leaves after (slice_set firsts (shard / 128) first) (slice_set ends (shard / 128) end)
   more_spans = record {
     firsts_count = length-set firsts (shard / 128) first ∙ spans.firsts_count;
-    lasts_count = length-set lasts (shard / 128) last ∙ spans.lasts_count;
+    ends_count = length-set ends (shard / 128) end ∙ spans.ends_count;
     from_first = first_of;
-    to_last = last_of;
+    to_end = end_of;
   }
+
+-- of a run whose end is 0 no shard is there
+pub none_of_run : (leaves positions firsts ends : List ℕ) → AreSpans leaves positions firsts ends → (shard : ℕ) → slice_index ends (shard / 128) ≡ 0 → position_at leaves positions shard ≡ nowhere
+none_of_run leaves positions firsts ends spans shard empty = elim (same_or_not (position_at leaves positions shard) nowhere) as (λ _. position_at leaves positions shard ≡ nowhere) [
+  | inl same ↦ same
+  | inr differ ↦ let before = spans.to_end shard differ in absurd (omega (arith, before, empty))
+]

@@ -48,9 +48,9 @@ pub record IsDirectory (most count : ℕ) (leaves positions : List ℕ) : Type 0
   pub placed : (shard : ℕ) → (position_at leaves positions shard ≡ nowhere → ⊥) → position_at leaves positions shard < count
   pub apart : (j k : ℕ) → position_at leaves positions j < count → position_at leaves positions j ≡ position_at leaves positions k → j ≡ k
 
--- each shard that is there is neither before the first of its run nor behind the last
-pub record AreSpans (leaves positions firsts lasts : List ℕ) : Type 0 where
+-- each shard that is there is not before the first of its run, and before the end
+pub record AreSpans (leaves positions firsts ends : List ℕ) : Type 0 where
   pub firsts_count : length firsts ≡ length leaves
-  pub lasts_count : length lasts ≡ length leaves
+  pub ends_count : length ends ≡ length leaves
   pub from_first : (shard : ℕ) → (position_at leaves positions shard ≡ nowhere → ⊥) → slice_index firsts (shard / 128) ≤ shard % 128
-  pub to_last : (shard : ℕ) → (position_at leaves positions shard ≡ nowhere → ⊥) → shard % 128 ≤ slice_index lasts (shard / 128)
+  pub to_end : (shard : ℕ) → (position_at leaves positions shard ≡ nowhere → ⊥) → shard % 128 < slice_index ends (shard / 128)

@@ -1,8 +1,9 @@
 //! Where the words of each shard stand.
 
-ghost use Rattle.std.specs.Prelude.{◌≡◌, ◌≤◌, ◌^◌, length, IsTrue, IfOk, ℕ, ◌<◌, slice_index};
+ghost use Rattle.std.specs.Prelude.{◌≡◌, ◌+◌, ◌≤◌, ◌^◌, true, length, IsTrue, IfOk, ℕ, ◌<◌, slice_index};
 ghost use Rattle.space.specs.Leaves.{nowhere, IsDirectory, AreInOrder, AreSpans};
 
+use crate::room::make_room;
 use std::alloc::{AllocError, Global};
 
 /// How many shards one leaf finds.
@@ -34,11 +35,12 @@ pub struct Directory {
     leaves: Vec<u32>,
     /// The positions of the shards of each leaf, leaf behind leaf.
     positions: Vec<u32>,
-    /// The first and the last shard of each run of 128 that are there, within the run; 127 and 0 where none is.
+    /// Of the shards of each run of 128 that are there, within the run: the first, and the end of the last; 127 and 0
+    /// where none is.
     firsts: Vec<u8>,
-    lasts: Vec<u8>,
+    ends: Vec<u8>,
     ghost found: { IsDirectory most count leaves.items positions.items },
-    ghost spans: { AreSpans leaves.items positions.items firsts.items lasts.items },
+    ghost spans: { AreSpans leaves.items positions.items firsts.items ends.items },
     ghost dense: { IsTrue is_dense → AreInOrder leaves.items },
 }
 
@@ -73,7 +75,7 @@ impl Directory {
         let leaves = leaves_in_order(alloc, runs)?;
         let positions = vec![in alloc; NOWHERE; (runs + 1) * LEAF_SHARDS]?;
         let firsts = vec![in alloc; LAST_OF_LEAF; runs]?;
-        let lasts = vec![in alloc; 0; runs]?;
+        let ends = vec![in alloc; 0; runs]?;
         Ok(Directory {
             most,
             count: 0,
@@ -81,7 +83,7 @@ impl Directory {
             leaves,
             positions,
             firsts,
-            lasts,
+            ends,
         })
     }
 
@@ -96,7 +98,7 @@ impl Directory {
         let leaves = vec![in alloc; 0; runs]?;
         let positions = vec![in alloc; NOWHERE; LEAF_SHARDS]?;
         let firsts = vec![in alloc; LAST_OF_LEAF; runs]?;
-        let lasts = vec![in alloc; 0; runs]?;
+        let ends = vec![in alloc; 0; runs]?;
         Ok(Directory {
             most,
             count: 0,
@@ -104,7 +106,7 @@ impl Directory {
             leaves,
             positions,
             firsts,
-            lasts,
+            ends,
         })
     }
 
@@ -152,6 +154,7 @@ impl Directory {
             return Ok(());
         }
         let len = self.positions.len();
+        make_room(&mut self.positions, LEAF_SHARDS)?;
         self.positions.resize(len + LEAF_SHARDS, NOWHERE)?;
         self.leaves[run] = (len / LEAF_SHARDS) as u32;
         Ok(())
@@ -170,7 +173,7 @@ impl Directory {
         self.positions[leaf * LEAF_SHARDS + at] = self.count;
         self.count += 1;
         self.firsts[run] = self.firsts[run].min(at as u8);
-        self.lasts[run] = self.lasts[run].max(at as u8);
+        self.ends[run] = self.ends[run].max(at as u8 + 1);
     }
 
     /// The first shard from one on that is there, or the end of those that are asked for. Of each run of 128 those before
@@ -192,7 +195,7 @@ impl Directory {
             }
             let run_end = (start + LEAF_SHARDS).min(end);
             let first = shard.max(start + usize::from(self.firsts[run]));
-            let behind = run_end.min(start + usize::from(self.lasts[run]) + 1);
+            let behind = run_end.min(start + usize::from(self.ends[run]));
             if first < behind {
                 let found = self.next_in_run(first, behind);
                 if found < behind {
@@ -204,20 +207,23 @@ impl Directory {
         end
     }
 
-    /// The first run of 128 from one on, and before an end, of which a shard is there; the end where there is none.
+    /// The first run of 128 from one on, and before an end, of which a shard is there; the end where there is none. It
+    /// looks at sixteen at once.
     fn next_filled(&self, from: usize, end: usize) -> usize
         requires from { from ≤ end }
-        requires end { end ≤ length self.now.firsts.items }
+        requires end { end ≤ length self.now.ends.items }
         ensures from { from ≤ result }
         ensures end { result ≤ end }
         ensures skipped { (shard : ℕ) → from ≤ shard / 128 → shard / 128 < result → position_in self.now shard ≡ nowhere }
     {
-        for run in from..end {
-            if self.firsts[run] <= self.lasts[run] {
-                return run;
-            }
+        let mut run = from;
+        while end - run >= 16 && are_empty(&self.ends, run) {
+            run += 16;
         }
-        end
+        while run < end && self.ends[run] == 0 {
+            run += 1;
+        }
+        run
     }
 
     /// The same of shards of one run of 128.
@@ -234,6 +240,29 @@ impl Directory {
         let first = leaf * LEAF_SHARDS + from % LEAF_SHARDS;
         from + first_there(&self.positions[first..first + (end - from)])
     }
+}
+
+/// Whether no shard is there of sixteen runs from one on, whose ends these are.
+fn are_empty(ends: &[u8], run: usize) -> bool
+    requires { run + 16 ≤ length ends.now }
+    ensures { result ≡ true → (k : ℕ) → run ≤ k → k < run + 16 → slice_index ends.now k ≡ 0 }
+{
+    are_eight_empty(ends, run) & are_eight_empty(ends, run + 8)
+}
+
+/// The same of eight.
+fn are_eight_empty(ends: &[u8], run: usize) -> bool
+    requires { run + 8 ≤ length ends.now }
+    ensures { result ≡ true → (k : ℕ) → run ≤ k → k < run + 8 → slice_index ends.now k ≡ 0 }
+{
+    (ends[run] == 0)
+        & (ends[run + 1] == 0)
+        & (ends[run + 2] == 0)
+        & (ends[run + 3] == 0)
+        & (ends[run + 4] == 0)
+        & (ends[run + 5] == 0)
+        & (ends[run + 6] == 0)
+        & (ends[run + 7] == 0)
 }
 
 /// The first of some positions at which a shard is; how many they are where none is.

@@ -6,6 +6,7 @@ ghost use Rattle.space.specs.Positions.{most_of, count_of};
 use crate::directory::Directory;
 use crate::error::NoMemory;
 use crate::place::{Entry, Place};
+use crate::room::make_room;
 use crate::status::Status;
 use crate::word::{has_any, narrowed_word, pack, unpack, word_bits};
 use fpage::Rights;
@@ -183,7 +184,7 @@ impl Shards {
     {
         let shard = self.shard(place);
         let words = self.words.as_mut().unwrap();
-        words.reserve(SHARD_PAGES)?;
+        make_room(words, SHARD_PAGES)?;
         self.directory.add(shard)?;
         add_absent(words);
         Ok(())
@@ -461,6 +462,9 @@ impl Shards {
         ensures present { IsFalse (is_taken self.new) }
         ensures layout { IsLaidOutAs self.old self.new }
     {
+        if status.is_empty() {
+            return;
+        }
         let index = self.find(place);
         let Some(word) = self.word(index) else {
             return;

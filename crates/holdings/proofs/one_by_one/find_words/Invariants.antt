@@ -8,6 +8,6 @@ use Rattle.holdings.proofs.one_by_one.find_words.Given as goal
 abbrev pub invariant-loop-j : goal.invariant-loop-j
 invariant-loop-j l = record {
   nodes : l.nodes ≡ l.fn.nodes;
-  many : length l.found ≡ 32;
+  many : length l.found ≡ 16;
   found : (k : ℕ) → k < l.j → (d : Place) → l.from ≤ k → slice_index l.found (k - l.from) ≡ index_of l.shards (place_at l.fn.nodes k d);
 }

@@ -1,5 +1,5 @@
 -- The ends of one transfer more.
-use Rattle.std.proofs.Common.{◌+◌, ◌||◌, false, List, take, get_or, refl, subst}
+use Rattle.std.proofs.Common.{◌+◌, ◌||◌, false, List, take, get_or, sym, subst}
 use Rattle.space.proofs.Lists.{take_all}
 use Rattle.model.specs.Definitions.Holdings.{PlaceSet}
 use Rattle.holdings.specs.Inner.Notes.{AreAdded, ends_of, is_end}
@@ -13,7 +13,13 @@ abbrev none : Transfer
 none = record { source = record { space = 0; page = 0 }; target = record { space = 0; page = 0 }; extends = false }
 
 pub loop-transfer-init : goal.loop-transfer-init
-loop-transfer-init c = record { asked = refl; added = none_added c.args.self.now.holdings c.args.notes.now.list.items }
+loop-transfer-init c =
+    let h = c.args.self.now.holdings in
+    let old = c.args.notes.now.list.items in
+    record {
+      asked = c.make_room.ensures.asked;
+      added = subst (AreAdded h (λ q. false) old) (sym c.make_room.ensures.list) (none_added h old);
+    }
 
 pub loop-transfer-preserved : goal.loop-transfer-preserved
 loop-transfer-preserved c =

@@ -12,7 +12,7 @@ use Rattle.holdings.specs.Inner.Held.{contents_of, is_listed, limits_in, holding
 use Rattle.holdings.specs.Places.{IsWithin, any_of}
 use Rattle.holdings.specs.Inner.Sound.{AreSound}
 use Rattle.holdings.specs.Noting.{NotesFollow}
-use Rattle.holdings.proofs.NotedPages.{follow_none, follow_both}
+use Rattle.holdings.proofs.NotedPages.{follow_same, follow_both}
 use Rattle.holdings.proofs.Contents.Layouts.{same_layout}
 use Rattle.holdings.proofs.Recursions.PlaceByPlace.{AreVisitedUpTo, none_visited, one_visited, none_there, all_visited}
 use Rattle.holdings.proofs.holdings.Holdings.strip_one_by_one.Goals as goal
@@ -25,7 +25,7 @@ pub loop-place-init : goal.loop-place-init
 loop-place-init c = record {
   visited = subst (AreVisitedUpTo c.self.inside.shards c.self.inside.trees.items c.args.places.now 0 c.args.revoked c.args.flush c.self.inside.shards c.self.inside.trees.items) (sym c.none-status.ensures)
       (none_visited c.self.inside.shards c.self.inside.trees.items c.self.invariant c.args.places.now c.args.revoked c.args.flush);
-  noted = follow_none (holdings_in c.self.inside.shards c.self.inside.trees.items) c.args.notes.now;
+  noted = follow_same (holdings_in c.self.inside.shards c.self.inside.trees.items) c.args.notes.now c.make_room.new.self c.make_room.ensures.asked c.make_room.ensures.list;
 }
 
 pub get-requires-clause-place : goal.get-requires-clause-place

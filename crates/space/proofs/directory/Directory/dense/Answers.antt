@@ -14,8 +14,8 @@ invariant_of-result c =
     let runs : length c.in_ok-leaves.leaves.items ≡ c.div_ceil-runs.result = c.in_ok-leaves.ensures.count in
     record {
       found = found;
-      spans = no_spans c.args.most c.in_ok-leaves.leaves.items c.in_ok-positions.positions.items c.in_ok-firsts.firsts.items c.in_ok-lasts.lasts.items found
+      spans = no_spans c.args.most c.in_ok-leaves.leaves.items c.in_ok-positions.positions.items c.in_ok-firsts.firsts.items c.in_ok-ends.ends.items found
           (ap length (c.in_ok-firsts.ensures.items_if_clones_equal (λ y is. is)) ∙ length-replicate {A = ℕ} c.div_ceil-runs.result 127 ∙ sym runs)
-          (ap length (c.in_ok-lasts.ensures.items_if_clones_equal (λ y is. is)) ∙ length-replicate {A = ℕ} c.div_ceil-runs.result 0 ∙ sym runs);
+          (ap length (c.in_ok-ends.ensures.items_if_clones_equal (λ y is. is)) ∙ length-replicate {A = ℕ} c.div_ceil-runs.result 0 ∙ sym runs);
       dense = λ _. c.in_ok-leaves.ensures.order;
     }

@@ -16,13 +16,13 @@ invariant_of-self c =
     let leaf = c.index.ensures ∙ get_or_default d.leaves.items (c.args.shard / 128) c.index.result.now 0 (run_within d.most d.count d.leaves.items d.positions.items d.found c.args.shard c.requires.within) in
     let within = run_within d.most d.count d.leaves.items d.positions.items d.found c.args.shard c.requires.within in
     let first = c.index-2.ensures ∙ get_or_default d.firsts.items (c.args.shard / 128) c.index-2.result.now 0 (omega (arith, within, d.spans.firsts_count)) in
-    let last = c.index-3.ensures ∙ get_or_default d.lasts.items (c.args.shard / 128) c.index-3.result.now 0 (omega (arith, within, d.spans.lasts_count)) in
+    let last = c.index-3.ensures ∙ get_or_default d.ends.items (c.args.shard / 128) c.index-3.result.now 0 (omega (arith, within, d.spans.ends_count)) in
     record {
       found =
           shard_added d.most d.count d.leaves.items d.positions.items d.found c.args.shard c.requires.within c.requires.absent c.requires.leaf _
           (ap (λ n. slice_set d.positions.items (n * 128 + c.args.shard % 128) d.count) leaf);
       spans =
-          more_spans d.leaves.items d.positions.items _ d.firsts.items d.lasts.items d.spans c.args.shard c.min.result c.max.result within
+          more_spans d.leaves.items d.positions.items _ d.firsts.items d.ends.items d.spans c.args.shard c.min.result c.max.result within
           (shards_elsewhere d.most d.count d.leaves.items d.positions.items d.found c.args.shard c.requires.within c.requires.absent c.requires.leaf _
           (ap (λ n. slice_set d.positions.items (n * 128 + c.args.shard % 128) d.count) leaf))
           (omega (arith, c.min.ensures, first)) (omega (arith, c.min.ensures)) (omega (arith, c.max.ensures, last)) (omega (arith, c.max.ensures));

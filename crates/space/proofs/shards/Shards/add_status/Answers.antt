@@ -1,6 +1,9 @@
--- "Or" adds the status to the word.
-use Rattle.std.proofs.Common.{◌≡◌, ◌∙◌, sym, ap, subst, slice_index, bit_or, IsTrue}
+-- "Or" adds the status to the word. Nothing is added by none.
+use Rattle.std.proofs.Common.{◌≡◌, ◌∙◌, Bool, true, false, ◌||◌, not, Option, Some, None, refl, sym, ap, subst, arith, slice_index, bit_or, IsTrue}
 use Rattle.std.specs.Option.{option_map}
+use Rattle.fpage.specs.declared.rights.Rights.{Rights}
+use Rattle.fpage.specs.Rights.{is_empty, join}
+use Rattle.space.specs.declared.place.Entry.{Entry}
 use Rattle.space.specs.Word.{entry_of, is_pack}
 use Rattle.space.specs.Entries.{with_status}
 use Rattle.space.specs.Shards.{IsSetAt, entry_at, words_of}
@@ -20,3 +23,29 @@ returns-clause-set c =
     let gains = pack_gains_status word c.args.status c.in-Some.ensures.pack c.if-word-eq0.false in
     let says = ap (λ bits. entry_of (bit_or word bits)) c.word_bits.ensures ∙ gains.2 ∙ ap (option_map (with_status c.args.status)) stood in
     subst (IsSetAt s c.put.new.self c.args.place) says (c.put.ensures.set c.args.place (record { space = place.space; page = place.page }) (sym c.find-index.ensures))
+
+-- no status changes nothing
+join_none : (r s : Rights) → is_empty s ≡ true → join r s ≡ r
+join_none r s none = λ i. record { read = one r.read s.read (no_read s.read s.write s.execute none) i; write = one r.write s.write (no_write s.read s.write s.execute none) i; execute = one r.execute s.execute (no_execute s.read s.write s.execute none) i }
+  where
+    one : (x y : Bool) → y ≡ false → (x || y) ≡ x
+    one x y none = grind (arith, none)
+
+    no_read : (x y z : Bool) → not (x || y || z) ≡ true → x ≡ false
+    no_read x y z none = grind (arith, none)
+
+    no_write : (x y z : Bool) → not (x || y || z) ≡ true → y ≡ false
+    no_write x y z none = grind (arith, none)
+
+    no_execute : (x y z : Bool) → not (x || y || z) ≡ true → z ≡ false
+    no_execute x y z none = grind (arith, none)
+
+none_added : (o : Option Entry) (s : Rights) → is_empty s ≡ true → o ≡ option_map (with_status s) o
+none_added None s none = refl
+none_added (Some e) s none = sym (ap (λ status. Some (record e { status = status })) (join_none e.status s none))
+
+pub returns-then-is_empty-clause-set : goal.returns-then-is_empty-clause-set
+returns-then-is_empty-clause-set c = record {
+  there = none_added (entry_at c.args.self.now c.args.place) c.args.status (sym c.is_empty.ensures ∙ c.if-is_empty.true);
+  elsewhere = λ q place differ. refl;
+}
