@@ -158,12 +158,21 @@ static void clear_first(struct l4map *db) {
     done(l4map_clear(db, 1, &status));
 }
 
+/* Another database, with the largest limits, begins and ends. */
+static void start(struct l4map *db) {
+    (void)db;
+    struct l4map other = L4MAP_NOTHING;
+    done(l4map_new(&other, 512, 32, 1048576));
+    l4map_free(&other);
+}
+
 static void access_page(struct l4map *db) {
     uint32_t made;
     done(l4map_access(db, 0, 0x1000, 4, &made));
 }
 
 static const struct call CALLS[] = {
+    {"a start with the largest limits, and its end", 24, 4096, nothing, start},
     {"an access", 24, 4096, nothing, access_page},
     {"a send of one page", 24, 4096, nothing, send_page},
     {"an unmap of one page that went through 31 spaces", 24, 4096, chain_of_31, unmap_page},
