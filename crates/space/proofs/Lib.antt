@@ -3,6 +3,7 @@ pub mod Words
 pub mod RightsLeft
 pub mod Leaves
 pub mod Directories
+pub mod Eights
 pub mod ShardWords
 pub mod Made
 pub mod Lists

@@ -3,7 +3,6 @@
 ghost use Rattle.std.specs.Prelude.{◌≡◌, ◌+◌, ◌≤◌, ◌^◌, true, length, IsTrue, IfOk, ℕ, ◌<◌, slice_index};
 ghost use Rattle.space.specs.Leaves.{nowhere, IsDirectory, AreInOrder, AreSpans};
 
-use crate::room::make_room;
 use std::alloc::{AllocError, Global};
 
 /// How many shards one leaf finds.
@@ -154,7 +153,6 @@ impl Directory {
             return Ok(());
         }
         let len = self.positions.len();
-        make_room(&mut self.positions, LEAF_SHARDS)?;
         self.positions.resize(len + LEAF_SHARDS, NOWHERE)?;
         self.leaves[run] = (len / LEAF_SHARDS) as u32;
         Ok(())
@@ -220,6 +218,9 @@ impl Directory {
         while end - run >= 16 && are_empty(&self.ends, run) {
             run += 16;
         }
+        if end - run >= 8 && are_eight_empty(&self.ends, run) {
+            run += 8;
+        }
         while run < end && self.ends[run] == 0 {
             run += 1;
         }
@@ -255,14 +256,9 @@ fn are_eight_empty(ends: &[u8], run: usize) -> bool
     requires { run + 8 ≤ length ends.now }
     ensures { result ≡ true → (k : ℕ) → run ≤ k → k < run + 8 → slice_index ends.now k ≡ 0 }
 {
-    (ends[run] == 0)
-        & (ends[run + 1] == 0)
-        & (ends[run + 2] == 0)
-        & (ends[run + 3] == 0)
-        & (ends[run + 4] == 0)
-        & (ends[run + 5] == 0)
-        & (ends[run + 6] == 0)
-        & (ends[run + 7] == 0)
+    let front = ends[run] | ends[run + 1] | ends[run + 2] | ends[run + 3];
+    let behind = ends[run + 4] | ends[run + 5] | ends[run + 6] | ends[run + 7];
+    front | behind == 0
 }
 
 /// The first of some positions at which a shard is; how many they are where none is.

@@ -7,7 +7,6 @@ mod error;
 mod laws;
 mod node;
 mod place;
-mod room;
 mod shards;
 mod slice;
 mod status;

@@ -6,7 +6,6 @@ ghost use Rattle.space.specs.Positions.{most_of, count_of};
 use crate::directory::Directory;
 use crate::error::NoMemory;
 use crate::place::{Entry, Place};
-use crate::room::make_room;
 use crate::status::Status;
 use crate::word::{has_any, narrowed_word, pack, unpack, word_bits};
 use fpage::Rights;
@@ -184,7 +183,7 @@ impl Shards {
     {
         let shard = self.shard(place);
         let words = self.words.as_mut().unwrap();
-        make_room(words, SHARD_PAGES)?;
+        words.reserve(SHARD_PAGES)?;
         self.directory.add(shard)?;
         add_absent(words);
         Ok(())
@@ -564,12 +563,7 @@ fn are_zero(words: &[u64], at: usize) -> bool
     requires { at + 8 ≤ length words.now }
     ensures { result ≡ true → (i : ℕ) → at ≤ i → i < at + 8 → slice_index words.now i ≡ 0 }
 {
-    (words[at] == 0)
-        & (words[at + 1] == 0)
-        & (words[at + 2] == 0)
-        & (words[at + 3] == 0)
-        & (words[at + 4] == 0)
-        & (words[at + 5] == 0)
-        & (words[at + 6] == 0)
-        & (words[at + 7] == 0)
+    let front = words[at] | words[at + 1] | words[at + 2] | words[at + 3];
+    let behind = words[at + 4] | words[at + 5] | words[at + 6] | words[at + 7];
+    front | behind == 0
 }

@@ -17,7 +17,7 @@ invariant_of-self-2-clause-packed c words is =
     let old = c.unwrap-words.result.now in
     let held = sym c.as_mut.ensures.value ∙ ap option_copied_mut c.unwrap-words.ensures in
     let are = s.packed old held in
-    let after = c.add_absent.ensures ∙ ap (λ xs. xs ++ replicate 64 0) c.make_room.ensures.items in
+    let after = c.add_absent.ensures ∙ ap (λ xs. xs ++ replicate 64 0) c.reserve.ensures.items in
     let longer = length-append old.items (replicate 64 0) in
     let more = length-replicate {A = ℕ} 64 0 in
     let added : count_of c.add.new.self ≡ count_of s.directory + 1 = c.in_ok-add.ensures.ok.count in
@@ -33,7 +33,7 @@ returns-clause-made c =
     let words = c.unwrap-words.result.now in
     let held = sym c.as_mut.ensures.value ∙ ap option_copied_mut c.unwrap-words.ensures in
     let added = subst (IsAdded s.directory c.add.new.self) c.shard-shard.ensures.shard c.in_ok-add.ensures.ok in
-    let after = c.add_absent.ensures ∙ ap (λ xs. xs ++ replicate 64 0) c.make_room.ensures.items in
+    let after = c.add_absent.ensures ∙ ap (λ xs. xs ++ replicate 64 0) c.reserve.ensures.items in
     record {
       spaces = refl;
       bits = refl;
@@ -48,5 +48,5 @@ returns-clause-only c =
     let words = c.unwrap-words.result.now in
     let held = sym c.as_mut.ensures.value ∙ ap option_copied_mut c.unwrap-words.ensures in
     let added = subst (IsAdded s.directory c.add.new.self) c.shard-shard.ensures.shard c.in_ok-add.ensures.ok in
-    let after = c.add_absent.ensures ∙ ap (λ xs. xs ++ replicate 64 0) c.make_room.ensures.items in
+    let after = c.add_absent.ensures ∙ ap (λ xs. xs ++ replicate 64 0) c.reserve.ensures.items in
     record { each = λ p place has. only_added s words held c.args.place c.requires.absent c.add.new.self added c.add_absent.new.words.items after c.requires.place p (record { space = place.space; page = place.page }) has }
