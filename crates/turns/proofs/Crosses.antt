@@ -57,7 +57,7 @@ pub work_send : IsSend work.the_row
 work_send = variants_send work.enum ((strip_send, tt), ((link_send, (search sendable, tt)), ((move_send, (search sendable, tt)), ((touch_work_send, tt), tt))))
 
 inside_send : IsSend inside.the_row
-inside_send = declared_send inside.the_type (post_send, (work_send, (search sendable, tt)))
+inside_send = declared_send inside.the_type (post_send, (search (work_send, sendable, crosses) depth 20, (search sendable, tt)))
 
 pub turn_send : IsSend turn.the_row
 turn_send = search (inside_send, view_send)

@@ -24,7 +24,8 @@ pub enum Progress {
 #[derive(Drop)]
 pub struct Turn {
     post: Post,
-    work: Work,
+    /// Boxed, since turns are moved from list to list.
+    work: Box<Work>,
     of: Snapshot<Piece>,
 }
 
@@ -37,7 +38,7 @@ impl Model for Turn {
 
     ghost view = { λ t. t.post };
 
-    ghost invariant = { λ t. IsTurn t.post t.work t.of.value };
+    ghost invariant = { λ t. IsTurn t.post t.work.value t.of.value };
 }
 
 impl Turn {
@@ -63,7 +64,7 @@ impl Turn {
         ensures { IfOk result (λ t. t ≡ record { shared = shared.now; number = number; steps = 0 }) }
     {
         let of = Snapshot::of(&piece);
-        let work = Work::new(alloc, piece, hint)?;
+        let work = Box::new(alloc, Work::new(alloc, piece, hint)?)?;
         let post = Post::new(shared, seat, number);
         Ok(Turn { post, work, of })
     }
@@ -131,7 +132,7 @@ impl Turn {
         if !ended {
             return (seat, None);
         }
-        let (kept, status, answers, indexes) = work.into_found(alloc);
+        let (kept, status, answers, indexes) = Box::into_inner(work).into_found(alloc);
         let done = Done::new(number, kept, status, answers, of, shared.opening());
         (seat, Some(done.with_indexes(indexes)))
     }
