@@ -1,13 +1,10 @@
 -- The mappings below a page, one after another.
-use Rattle.std.proofs.Common.{◌≡◌, ◌⊎◌, inl, inr, ℕ, suc, ◌+◌, ◌-◌, ◌<◌, ◌≤◌, true, false, Bool, nat_lt, nat_le, ◌==◌, ◌&&◌, ◌||◌, cond, if◌then◌else◌, List, [], ◌∷◌, ◌++◌, map, filter, length, Option, Some, None, refl, sym, ap, ◌∙◌, subst, arith, length-append}
+use Rattle.std.proofs.Common.{◌≡◌, ℕ, suc, ◌+◌, ◌-◌, ◌<◌, true, false, Bool, nat_lt, nat_le, ◌==◌, ◌&&◌, ◌||◌, cond, if◌then◌else◌, List, [], ◌∷◌, ◌++◌, map, filter, length, Option, Some, None, refl, sym, ap, ◌∙◌, arith}
 use Rattle.std.proofs.lemmas.Bool.Decides.{nat_tests}
 use Rattle.std.specs.Prelude.{is_some}
 use Rattle.space.specs.declared.place.Place.{Place}
-use Rattle.space.specs.Directory.{pages_of}
-use Rattle.model.specs.Definitions.Calls.{Limits}
-use Rattle.model.specs.Definitions.Derived.{is_below}
-use Rattle.model.specs.Definitions.Holdings.{Held, Holdings, at, is_held, keep, only}
-use Rattle.mapdb.specs.Held.{from_page, held_below, listed, listing, pages_from, spaces_from, IsNextBelow, IsNoneBelow, IsWithin}
+use Rattle.model.specs.Definitions.Holdings.{Held, Holdings, at, keep}
+use Rattle.mapdb.specs.Held.{from_page, held_below, listed, pages_from, spaces_from, IsNextBelow}
 use Rattle.c_handle.specs.Listed.{mapping_told, mappings_at}
 use Rattle.c_handle.specs.declared.mappings.MappingReply.{MappingReply}
 use Rattle.c_handle.proofs.Listings.{places_behind}

@@ -2,7 +2,7 @@
 use Rattle.std.specs.Prelude.{◌≡◌, ⊤, ℕ, Bool, Option, Some, None, if◌then◌else◌, List, map, length, take, drop}
 use Rattle.std.specs.Option.{option_map}
 use Rattle.space.specs.declared.place.Place.{Place}
-use Rattle.mapdb.specs.Held.{Note, NotesTell}
+use Rattle.mapdb.specs.Held.{NoteContent, NotesTell}
 use Rattle.mapdb.specs.State.{State}
 use Rattle.c_handle.specs.Codes.{done, is_empty, is_halted_code}
 use Rattle.c_handle.specs.Held.{held_of}
@@ -21,7 +21,7 @@ abbrev pub change_at : State → Place → ChangeReply
 change_at s p = change_with p (entry_left s p.space p.page (record { held = 0; frame = 0; rights = 0; status = 0 }))
 
 -- pages that were noted
-abbrev pub changes_from : State → List Note → List ChangeReply
+abbrev pub changes_from : State → List NoteContent → List ChangeReply
 changes_from s notes = map (λ n. change_at s n.place) notes
 
 -- what stands after the changes of a handle were asked for: its code, the buffer, and how many were written

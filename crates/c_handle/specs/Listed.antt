@@ -1,5 +1,5 @@
 -- The mappings that a listing asks for, in numbers.
-use Rattle.std.specs.Prelude.{◌≡◌, ℕ, ◌+◌, ◌-◌, true, Option, Some, None, if◌then◌else◌, nat_lt, nat_le, ◌==◌, ◌&&◌, ◌||◌, List, map, filter, length, take, drop, ◌++◌}
+use Rattle.std.specs.Prelude.{◌≡◌, ℕ, ◌+◌, ◌-◌, true, Option, Some, None, if◌then◌else◌, nat_le, ◌==◌, ◌&&◌, List, map, filter, length, take, drop, ◌++◌}
 use Rattle.fpage.specs.Rights.{number}
 use Rattle.space.specs.declared.place.Place.{Place}
 use Rattle.model.specs.Definitions.Calls.{Limits}

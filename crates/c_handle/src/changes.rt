@@ -52,7 +52,7 @@ fn write_changes(database: &Database, notes: &[Note], changes: &mut [ChangeReply
 {
     let count = changes.len().min(notes.len());
     for i in 0..count {
-        changes[i] = change_at(database, notes[i].place);
+        changes[i] = change_at(database, notes[i].place());
     }
     count
 }

@@ -22,7 +22,7 @@ use Rattle.model.proofs.Lookups.{at_each, changed}
 use Rattle.model.proofs.StripAt.{stripping}
 use Rattle.model.proofs.Narrowings.{either, not_narrowed, under-either}
 use Rattle.model.proofs.Chains.{below_unheld, below_empty, under_self}
-use Rattle.holdings.specs.declared.notes.Note.{Note}
+use Rattle.holdings.specs.NoteContents.{NoteContent}
 use Rattle.holdings.specs.declared.notes.Notes.{Notes}
 use Rattle.holdings.specs.Noting.{first_note, AreNoted, NotesFollow}
 use Rattle.holdings.specs.Inner.Held.{links_in, is_listed, has_frame, limits_in, holdings_in}
@@ -40,7 +40,7 @@ use Rattle.maptree.proofs.Listed.{listed_at}
 -- ---- lists of notes
 
 -- notes behind others
-pub first_append : (xs ys : List Note) (p : Place) → first_note (xs ++ ys) p ≡ option_or (first_note xs p) (first_note ys p)
+pub first_append : (xs ys : List NoteContent) (p : Place) → first_note (xs ++ ys) p ≡ option_or (first_note xs p) (first_note ys p)
 first_append [] ys p = refl
 first_append (n ∷ xs) ys p = by (same_place p n.place) (first_append xs ys p)
   where
@@ -49,7 +49,7 @@ first_append (n ∷ xs) ys p = by (same_place p n.place) (first_append xs ys p)
     by false rest = rest
 
 -- one note behind others
-pub first_more : (xs : List Note) (n : Note) (p : Place) → first_note (xs ++ n ∷ []) p ≡ option_or (first_note xs p) (if same_place p n.place then Some n.was_held else None)
+pub first_more : (xs : List NoteContent) (n : NoteContent) (p : Place) → first_note (xs ++ n ∷ []) p ≡ option_or (first_note xs p) (if same_place p n.place then Some n.was_held else None)
 first_more xs n p = first_append xs (n ∷ []) p
 
 -- three in a row
@@ -66,12 +66,12 @@ now_either h X Y p = by (X p) (Y p)
     by false y = refl
 
 -- a set noted behind another
-pub added_more : (h : Holdings) (X Y : PlaceSet) (old now new : List Note) → AreAdded h X old now → AreAdded h Y now new → AreAdded h (λ q. X q || Y q) old new
+pub added_more : (h : Holdings) (X Y : PlaceSet) (old now new : List NoteContent) → AreAdded h X old now → AreAdded h Y now new → AreAdded h (λ q. X q || Y q) old new
 added_more h X Y old now new first second p =
     second p ∙ ap (λ o. option_or o (noted_now h Y p)) (first p) ∙ or_assoc (first_note old p) (noted_now h X p) (noted_now h Y p) ∙ ap (option_or (first_note old p)) (now_either h X Y p)
 
 -- nothing noted
-pub none_added : (h : Holdings) (old : List Note) → AreAdded h (λ q. false) old old
+pub none_added : (h : Holdings) (old : List NoteContent) → AreAdded h (λ q. false) old old
 none_added h old p = by (first_note old p)
   where
     by : (o : Option Bool) → o ≡ option_or o None
@@ -79,11 +79,11 @@ none_added h old p = by (first_note old p)
     by (Some b) = refl
 
 -- sets of the same pages
-pub added_same : (h : Holdings) (X Y : PlaceSet) (old new : List Note) → ((p : Place) → X p ≡ Y p) → AreAdded h X old new → AreAdded h Y old new
+pub added_same : (h : Holdings) (X Y : PlaceSet) (old new : List NoteContent) → ((p : Place) → X p ≡ Y p) → AreAdded h X old new → AreAdded h Y old new
 added_same h X Y old new same added p = added p ∙ ap (λ b. option_or (first_note old p) (if b then Some (is_held h p) else None)) (same p)
 
 -- one page noted
-pub page_added : (h : Holdings) (p : Place) (b : Bool) → b ≡ is_held h p → (old new : List Note) → new ≡ old ++ (record { place = p; was_held = b }) ∷ [] → AreAdded h (λ q. same_place q p) old new
+pub page_added : (h : Holdings) (p : Place) (b : Bool) → b ≡ is_held h p → (old new : List NoteContent) → new ≡ old ++ (record { place = p; was_held = b }) ∷ [] → AreAdded h (λ q. same_place q p) old new
 page_added h p b is old new more q = ap (λ ns. first_note ns q) more ∙ first_more old (record { place = p; was_held = b }) q ∙ ap (option_or (first_note old q)) (by (same_place q p) refl)
   where
     by : (x : Bool) → same_place q p ≡ x → (if x then Some b else None) ≡ (if x then Some (is_held h q) else None)
@@ -93,7 +93,7 @@ page_added h p b is old new more q = ap (λ ns. first_note ns q) more ∙ first_
 -- ---- a run
 
 -- before its first place
-pub run_begins : (os : Origins) (lose : PlaceSet) (a b : ℕ) → b ≤ a → (old : List Note) → (q : Place) → first_note old q ≡ option_or (first_note old q) (all_held (λ r. in_range os a b r && lose r) q)
+pub run_begins : (os : Origins) (lose : PlaceSet) (a b : ℕ) → b ≤ a → (old : List NoteContent) → (q : Place) → first_note old q ≡ option_or (first_note old q) (all_held (λ r. in_range os a b r && lose r) q)
 run_begins os lose a b least old q =
     let zero : b - a ≡ 0 = omega (arith, least) in
     nothing (first_note old q) ∙ ap (λ n. option_or (first_note old q) (if list_any (λ o. same_place q o.0) (take n (drop a os)) && lose q then Some true else None)) (sym zero)
@@ -103,7 +103,7 @@ run_begins os lose a b least old q =
     nothing (Some b) = refl
 
 -- one place more, noted where it is to be
-pub run_more : (os : Origins) (lose : PlaceSet) (a i : ℕ) (p d : Place) → a ≤ i → i < length os → p ≡ place_at os i d → (old now new : List Note)
+pub run_more : (os : Origins) (lose : PlaceSet) (a i : ℕ) (p d : Place) → a ≤ i → i < length os → p ≡ place_at os i d → (old now new : List NoteContent)
     → ((q : Place) → first_note new q ≡ option_or (first_note now q) (if same_place q p && lose p then Some true else None))
     → ((q : Place) → first_note now q ≡ option_or (first_note old q) (all_held (λ r. in_range os a i r && lose r) q))
     → (q : Place) → first_note new q ≡ option_or (first_note old q) (all_held (λ r. in_range os a (i + 1) r && lose r) q)
@@ -128,7 +128,7 @@ run_more os lose a i p d least within place old now new is so_far q =
         here false false = refl
 
 -- its first place, noted if it loses a right and is to
-pub run_first : (os : Origins) (lose : PlaceSet) (f : Bool) (start : ℕ) (p d : Place) → start < length os → p ≡ place_at os start d → (old new : List Note)
+pub run_first : (os : Origins) (lose : PlaceSet) (f : Bool) (start : ℕ) (p d : Place) → start < length os → p ≡ place_at os start d → (old new : List NoteContent)
     → IsNotedIf (f && lose p) p old new
     → (q : Place) → first_note new q ≡ option_or (first_note old q) (all_held (λ r. in_range os (losing_from f start) (start + 1) r && lose r) q)
 run_first os lose true start p d within place old new is q = run_more os lose start start p d (omega arith) within place old old new is (run_begins os lose start start (omega arith) old) q
@@ -177,7 +177,7 @@ pub follow_both : (a b c : Holdings) (n m k : Notes) → NotesFollow a b n m →
 follow_both a b c n m k first second = record { asked = second.asked ∙ first.asked; noted = λ is start noted. second.noted (first.asked ∙ is) start (first.noted is start noted) }
 
 -- a set was noted, and nothing changed but pages of it
-pub follow_set : (old new : Holdings) (set : PlaceSet) (before after : List Note) → AreAdded old set before after → ((p : Place) → set p ≡ false → tables_of new p ≡ tables_of old p)
+pub follow_set : (old new : Holdings) (set : PlaceSet) (before after : List NoteContent) → AreAdded old set before after → ((p : Place) → set p ≡ false → tables_of new p ≡ tables_of old p)
     → (start : Holdings) → AreNoted start old before → AreNoted start new after
 follow_set old new set before after added same start noted = record {
   others = λ p none. unnoted p (first_note before p) refl (set p) refl (sym (added p) ∙ none);
@@ -238,7 +238,7 @@ strip_kept h l set a f p none = ap (option_map entry_for) (at_each (stripping h 
         stays false = refl
 
 -- pages were noted before a strip of them
-pub follow_strip : (h : Holdings) → IsLawful h → (set : PlaceSet) (a : Rights) (f : Bool) (before after : List Note) → IsStripNoted h set a f before after
+pub follow_strip : (h : Holdings) → IsLawful h → (set : PlaceSet) (a : Rights) (f : Bool) (before after : List NoteContent) → IsStripNoted h set a f before after
     → (start : Holdings) → AreNoted start h before → AreNoted start (strip h set a f) after
 follow_strip h l set a f before after noted = follow_set h (strip h set a f) noted.noted before after noted.added same
   where
@@ -281,7 +281,7 @@ module _ (h : Holdings) (l : IsLawful h) (a : Rights) (f : Bool) where
       split false y false false true is = inr is
 
   -- notes of one set and of another
-  noted_either : (X Y : PlaceSet) (old now new : List Note) → IsStripNoted h X a f old now → IsStripNoted h Y a f now new → IsStripNoted h (either X Y) a f old new
+  noted_either : (X Y : PlaceSet) (old now new : List NoteContent) → IsStripNoted h X a f old now → IsStripNoted h Y a f now new → IsStripNoted h (either X Y) a f old new
   noted_either X Y old now new first second = record {
     noted = λ q. first.noted q || second.noted q;
     added = added_more h first.noted second.noted old now new first.added second.added;
@@ -293,7 +293,7 @@ module _ (h : Holdings) (l : IsLawful h) (a : Rights) (f : Bool) where
       by p some (inr within) = or_right (first.noted p) (second.noted p) (second.covers p some within)
 
   -- before the first page
-  pub none_noted : (places : List Place) (old : List Note) → IsStripNoted h (any_of (take 0 places)) a f old old
+  pub none_noted : (places : List Place) (old : List NoteContent) → IsStripNoted h (any_of (take 0 places)) a f old old
   none_noted places old = record {
     noted = λ q. false;
     added = none_added h old;
@@ -301,13 +301,13 @@ module _ (h : Holdings) (l : IsLawful h) (a : Rights) (f : Bool) where
   }
 
   -- one page more
-  pub one_noted : (places : List Place) (i : ℕ) (d : Place) → i < length places → (old now new : List Note) → IsStripNoted h (any_of (take i places)) a f old now → IsStripNoted h (only (get_or places i d)) a f now new → IsStripNoted h (any_of (take (i + 1) places)) a f old new
+  pub one_noted : (places : List Place) (i : ℕ) (d : Place) → i < length places → (old now new : List NoteContent) → IsStripNoted h (any_of (take i places)) a f old now → IsStripNoted h (only (get_or places i d)) a f now new → IsStripNoted h (any_of (take (i + 1) places)) a f old new
   one_noted places i d within old now new so_far here =
       let same : either (any_of (take i places)) (only (get_or places i d)) ≡ any_of (take (i + 1) places) = λ j q. sym (ap (λ ps. any_of ps q) (take_more places i d within) ∙ any_more (take i places) (get_or places i d) q) j in
       subst (λ (set : PlaceSet). IsStripNoted h set a f old new) same (noted_either (any_of (take i places)) (only (get_or places i d)) old now new so_far here)
 
   -- a page that holds nothing
-  pub unheld_noted : (p : Place) → is_held h p ≡ false → (now : List Note) → IsStripNoted h (only p) a f now now
+  pub unheld_noted : (p : Place) → is_held h p ≡ false → (now : List NoteContent) → IsStripNoted h (only p) a f now now
   unheld_noted p unheld now = record {
     noted = λ q. false;
     added = none_added h now;
@@ -333,10 +333,10 @@ module _ (s : Shards) (trees : List Shape) (sound : AreSound s trees) where
       read (o ∷ os) (suc k) d within = read os k d (omega (arith, within))
 
   -- a page without a word is not held
-  pub absent_noted : (a : Rights) (f : Bool) (p : Place) → IsWithin (limits_in s trees) p → entry_at s p ≡ None → (now : List Note) → IsStripNoted (holdings_in s trees) (only p) a f now now
+  pub absent_noted : (a : Rights) (f : Bool) (p : Place) → IsWithin (limits_in s trees) p → entry_at s p ≡ None → (now : List NoteContent) → IsStripNoted (holdings_in s trees) (only p) a f now now
   absent_noted a f p place none now = unheld_noted (holdings_in s trees) lawful a f p (ap is_some (absent_within (limits_in s trees) s trees p place none)) now
 
-  module _ (a : Rights) (f : Bool) (here : Place) (frame : ℕ) (now new : List Note) (run : IsRunNoted s (links_in trees frame) here a f now new) where
+  module _ (a : Rights) (f : Bool) (here : Place) (frame : ℕ) (now new : List NoteContent) (run : IsRunNoted s (links_in trees frame) here a f now new) where
     abbrev h : Holdings
     h = holdings_in s trees
 

@@ -24,7 +24,7 @@ use Rattle.holdings.specs.Contents.{Contents, AreMapped, AreMoved}
 use Rattle.holdings.specs.Inner.Notes.{NotesAdd, AreAdded, AreEndsReady, IsEndReady, has_ends, is_end, ends_of}
 use Rattle.holdings.specs.Noting.{NotesFollow}
 use Rattle.holdings.specs.Sending.{AllGo, AreFree, AreReady, IsReady, fate_in, map_transfers, moving_of, pair_of}
-use Rattle.holdings.specs.declared.notes.Note.{Note}
+use Rattle.holdings.specs.NoteContents.{NoteContent}
 use Rattle.holdings.specs.declared.notes.Notes.{Notes}
 use Rattle.holdings.specs.declared.transfer.Transfer.{Transfer}
 use Rattle.holdings.specs.declared.transfer_counts.TransferCounts.{TransferCounts}
@@ -39,7 +39,7 @@ transfer_more h kind ts i d within p =
     ∙ sym (list_any-append (is_end h kind p) (take i ts) (get_or ts i d ∷ [])) ∙ ap (λ xs. ends_of h kind xs p) (sym (take_more ts i d within))
 
 -- a transfer that is not noted
-pub lost_noted : (h : Holdings) (kind : ItemKind) (t : Transfer) → has_ends h kind t ≡ false → (list : List Note) → AreAdded h (λ q. is_end h kind q t) list list
+pub lost_noted : (h : Holdings) (kind : ItemKind) (t : Transfer) → has_ends h kind t ≡ false → (list : List NoteContent) → AreAdded h (λ q. is_end h kind q t) list list
 lost_noted h kind t lost list = added_same h (λ q. false) (λ q. is_end h kind q t) list list (λ q. by kind lost q) (none_added h list)
   where
     by : (k : ItemKind) → has_ends h k t ≡ false → (q : Place) → false ≡ is_end h k q t

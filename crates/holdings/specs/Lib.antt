@@ -6,5 +6,6 @@ pub mod Contents
 pub mod Observing
 pub mod Mappings
 pub mod Sending
+pub mod NoteContents
 pub mod Noting
 pub mod Inner

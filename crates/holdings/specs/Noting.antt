@@ -4,16 +4,16 @@ use Rattle.space.specs.declared.place.Place.{Place}
 use Rattle.space.specs.Place.{same_place}
 use Rattle.model.specs.Definitions.Holdings.{Holdings, is_held}
 use Rattle.model.specs.Definitions.Changes.{tables_of}
-use Rattle.holdings.specs.declared.notes.Note.{Note}
+use Rattle.holdings.specs.NoteContents.{NoteContent}
 use Rattle.holdings.specs.declared.notes.Notes.{Notes}
 
 -- what the first note of a page says
-abbrev pub first_note : List Note → Place → Option Bool
+abbrev pub first_note : List NoteContent → Place → Option Bool
 first_note [] p = None
 first_note (n ∷ ns) p = if same_place p n.place then Some n.was_held else first_note ns p
 
 -- a page without a note has the frame and the rights that it had; of any other the first note says whether it was held
-pub record AreNoted (start now : Holdings) (notes : List Note) : Type 0 where
+pub record AreNoted (start now : Holdings) (notes : List NoteContent) : Type 0 where
   pub others : (p : Place) → first_note notes p ≡ None → tables_of now p ≡ tables_of start p
   pub held : (p : Place) (b : Bool) → first_note notes p ≡ Some b → is_held start p ≡ b
 

@@ -41,7 +41,8 @@ impl Holdings {
     pub(crate) fn are_stripped_alone<W: Workers>(&self, places: &[Place], workers: &W) -> bool
         requires { All (IsWithin self.now.limits) places.now }
     {
-        if is_small(self.most_mappings(places), workers) {
+        // Where nothing is ever shared, nothing need be counted.
+        if workers.shared_from() == usize::MAX || is_small(self.most_mappings(places), workers) {
             return true;
         }
         let extent = self.extent(places, workers.piece_length());

@@ -1,10 +1,10 @@
 //! The pages of a MapItem, after the flush: each is linked to its source, or extended.
 
-ghost use Rattle.std.specs.Prelude.{◌≡◌, IfOk, IsFalse};
-ghost use Rattle.std.specs.List.{All};
-ghost use Rattle.space.specs.Shards.{IsPlace, is_taken};
-ghost use Rattle.holdings.specs.Inner.Words.{IsThere};
-ghost use Rattle.holdings.specs.Inner.Planning.{stores_of};
+ghost use Rattle.std.specs.Prelude.{◌≡◌, None, Some, IsFalse};
+ghost use Rattle.holdings.specs.Meaning.{counts_of};
+ghost use Rattle.space.specs.declared.place.Entry.{Entry};
+ghost use Rattle.space.specs.Shards.{HasWord, IsPlace, entry_at, is_taken};
+ghost use Rattle.holdings.specs.Inner.Links.{IsPageLost, IsPageMapped};
 
 use crate::holdings::Holdings;
 use crate::link::link_all;
@@ -13,13 +13,11 @@ use crate::notes::Notes;
 use crate::phase::is_small;
 use crate::transfer::Transfer;
 use crate::transfer_counts::TransferCounts;
-use crate::writes::write_phase;
 use crew::{CrewError, Workers};
 use fpage::{ItemKind, Rights};
 use maptree::Tree;
-use pieces::{Store, links};
-use space::{Place, Shards};
-use std::alloc::{AllocError, Global};
+use space::{Entry, Place, Shards};
+use std::alloc::Global;
 
 impl Holdings {
     ghost use Rattle.std.specs.Prelude.{IfOk, IsErrOf};
@@ -48,58 +46,47 @@ impl Holdings {
         ensures needs_no_worker { W.starts_none workers.now → IsErrOf result NoWorker → ⊥ }
     {
         self.note_transfers(transfers, ItemKind::Map, notes)?;
-        if is_small(transfers.len(), workers) {
-            let mapped = self.map_alone(alloc, transfers, rights)?;
-            return Ok(mapped);
+        if !is_small(transfers.len(), workers) {
+            return self.map_in_pieces(alloc, transfers, rights, workers);
         }
-        self.map_in_pieces(alloc, transfers, rights, workers)
-    }
-
-    /// The same as one phase, by pieces.
-    fn map_in_pieces<W: Workers>(
-        self,
-        alloc: Global,
-        transfers: &[Transfer],
-        rights: Rights,
-        workers: &W,
-    ) -> Result<(Self, TransferCounts), CrewError>
-        requires planned { ArePlanned self.limits transfers.now }
-        requires ready { AreReady self.holdings rights transfers.now }
-        ensures mapped { IfOk result (AreMapped self transfers.now rights) }
-        ensures needs_no_worker { W.starts_none workers.now → IsErrOf result NoWorker → ⊥ }
-    {
         let Holdings {
             mut shards,
             mut trees,
         } = self;
         make_targets(&mut shards, transfers)?;
-        let counts = TransferCounts::of_all(&shards, transfers);
-        let stores = stores(alloc, &shards, transfers, rights)?;
-        let pieces = links(alloc, stores, workers.piece_length())?;
         link_all(alloc, &shards, &mut trees, transfers)?;
-        write_phase(alloc, &mut shards, pieces, workers)?;
-        Ok((Holdings { shards, trees }, counts))
+        let mut worked = TransferCounts::none();
+        for transfer in transfers {
+            let one = map_page(&mut shards, *transfer, rights);
+            worked = worked.plus(one);
+        }
+        Ok((Holdings { shards, trees }, worked))
     }
 }
 
-/// The stores of the transfers whose source is held, by the words of their pages.
-fn stores(
-    alloc: Global,
-    shards: &Shards,
-    transfers: &[Transfer],
-    rights: Rights,
-) -> Result<Vec<Store>, AllocError>
-    requires present { IsFalse (is_taken shards.now) }
-    requires places { All (λ t. IsPlace shards.now t.source × IsThere shards.now t.target) transfers.now }
-    ensures { IfOk result (λ stores. stores.items ≡ stores_of shards.now rights transfers.now) }
+/// Works one page of a MapItem, whose new mapping stands in the tree already.
+fn map_page(shards: &mut Shards, transfer: Transfer, rights: Rights) -> TransferCounts
+    requires source { IsPlace shards.old transfer.source }
+    requires target { IsPlace shards.old transfer.target }
+    requires there { HasWord shards.old transfer.target }
+    requires present { IsFalse (is_taken shards.old) }
+    ensures lost { entry_at shards.old transfer.source ≡ None → IsPageLost shards.old shards.new (counts_of result) }
+    ensures mapped { (e : Entry) → entry_at shards.old transfer.source ≡ Some e → IsPageMapped shards.old shards.new rights transfer e (counts_of result) }
 {
-    let mut stores = Vec::with_capacity(alloc, transfers.len())?;
-    for transfer in transfers {
-        if shards.get(transfer.source).is_some() {
-            let read = shards.index(transfer.source);
-            let put = shards.index(transfer.target);
-            stores.push(Store { read, put, rights })?;
-        }
+    let Some(source) = shards.get(transfer.source) else {
+        return TransferCounts::one_lost();
+    };
+    let rights = source.rights.meet(rights);
+    if transfer.extends {
+        shards.extend(transfer.target, rights);
+        return TransferCounts::one_extended();
     }
-    Ok(stores)
+    let status = Rights::none();
+    let entry = Entry {
+        rights,
+        status,
+        ..source
+    };
+    shards.set(transfer.target, Some(entry));
+    TransferCounts::one_linked()
 }

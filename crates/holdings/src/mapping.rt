@@ -2,7 +2,7 @@
 
 use crate::holdings::Holdings;
 use crate::mappings::Mappings;
-use crate::origins::origins_by_word;
+use crate::origins::origins_of_many;
 use fpage::Rights;
 use maptree::Tree;
 use space::{NoMemory, Place};
@@ -30,12 +30,13 @@ impl Holdings {
     pub fn by_place(&self, alloc: Global) -> Result<Mappings<'_>, NoMemory>
         ensures { IfOk result (λ mappings. mappings ≡ self.now) }
     {
-        let origins = origins_by_word(alloc, &self.shards, &self.trees)?;
+        let len = count_nodes(&self.trees);
+        let origins = origins_of_many(alloc, &self.shards, &self.trees, len)?;
         Ok(Mappings {
             shards: &self.shards,
             trees: &self.trees,
             origins,
-            len: count_nodes(&self.trees),
+            len,
         })
     }
 

@@ -1,9 +1,16 @@
 //! A reader of what is held, by rising place.
 
+ghost use Rattle.std.specs.Prelude.{◌≡◌, ◌<◌, length, Some, IfSome};
+ghost use Rattle.space.specs.Shards.{IsPlace, entry_at};
+ghost use Rattle.maptree.specs.Origins.{origin_in};
+ghost use Rattle.holdings.specs.Inner.Held.{links_in};
+ghost use Rattle.holdings.specs.Inner.WordOrigins.{AreOrigins};
+
 use crate::limits::Limits;
 use crate::mapping::Mapping;
 use crate::next_held::next_held;
 use crate::origin_word::OriginWord;
+use crate::tree::origin;
 use maptree::Tree;
 use space::{Entry, Place, Shards};
 use std::alloc::{AllocError, Global};
@@ -15,14 +22,14 @@ pub struct Mappings<'a> {
     pub(crate) shards: &'a Shards,
     /// The tree of each frame, at its number.
     pub(crate) trees: &'a [Tree],
-    /// The origin of each page that is held, at the index of its word.
-    pub(crate) origins: Vec<OriginWord>,
+    /// The origin of each page that is held, at the index of its word; none where each is searched for in its tree.
+    pub(crate) origins: Option<Vec<OriginWord>>,
     /// How many mappings there are.
     pub(crate) len: usize,
 }
 
 impl<'a> Model for Mappings<'a> {
-    ghost use Rattle.std.specs.Prelude.{length};
+    ghost use Rattle.std.specs.Prelude.{length, IfSome};
     ghost use Rattle.holdings.specs.Contents.{Contents};
     ghost use Rattle.holdings.specs.Inner.Held.{contents_of};
     ghost use Rattle.holdings.specs.Inner.Sound.{AreSound};
@@ -32,7 +39,7 @@ impl<'a> Model for Mappings<'a> {
 
     ghost view = { λ m. contents_of m.shards.now m.trees.now };
 
-    ghost invariant = { λ m. AreSound m.shards.now m.trees.now × AreOrigins m.shards.now m.trees.now (length m.trees.now) m.origins.items };
+    ghost invariant = { λ m. AreSound m.shards.now m.trees.now × IfSome m.origins (λ origins. AreOrigins m.shards.now m.trees.now (length m.trees.now) origins.items) };
 }
 
 impl<'a> Mappings<'a> {
@@ -75,7 +82,7 @@ impl<'a> Mappings<'a> {
         len
     }
 
-    /// What a page holds. Takes no search.
+    /// What a page holds. Its origin is searched for only where little is held of what has words.
     pub fn at(&self, place: Place) -> Option<Mapping>
         requires { IsWithin self.now.limits place }
         ensures held { option_map (λ m. (mapped_of m).1) result ≡ at self.now.holdings place }
@@ -97,7 +104,7 @@ impl<'a> Mappings<'a> {
             frame: entry.frame,
             rights: entry.rights,
             status: entry.status,
-            origin: self.origins[self.shards.index(place)].origin(),
+            origin: origin_of(self.shards, self.trees, &self.origins, place, entry),
         }
     }
 
@@ -138,5 +145,25 @@ impl<'a> Mappings<'a> {
             from.page = mapping.place.page + 1;
         }
         Ok(())
+    }
+}
+
+/// The origin of a page that has this entry.
+fn origin_of(
+    shards: &Shards,
+    trees: &[Tree],
+    origins: &Option<Vec<OriginWord>>,
+    place: Place,
+    entry: Entry,
+) -> Option<Place>
+    requires place { IsPlace shards.now place }
+    requires held { entry_at shards.now place ≡ Some entry }
+    requires frame { entry.frame < length trees.now }
+    requires origins { IfSome origins.now (λ list. AreOrigins shards.now trees.now (length trees.now) list.items) }
+    ensures { result ≡ origin_in (links_in trees.now entry.frame) place }
+{
+    match origins {
+        Some(origins) => origins[shards.index(place)].origin(),
+        None => origin(&trees[entry.frame as usize], place),
     }
 }

@@ -1,10 +1,12 @@
 //! Pages that move to other places, with all that derives from them.
 
-ghost use Rattle.std.specs.Prelude.{◌≡◌, IfOk, IsFalse};
-ghost use Rattle.std.specs.List.{All};
-ghost use Rattle.space.specs.Shards.{IsPlace, is_taken};
-ghost use Rattle.holdings.specs.Inner.Words.{IsThere};
-ghost use Rattle.holdings.specs.Inner.Planning.{word_pairs};
+ghost use Rattle.std.specs.Prelude.{◌≡◌, None, Some, false, IsFalse};
+ghost use Rattle.holdings.specs.Meaning.{counts_of};
+ghost use Rattle.space.specs.declared.place.Entry.{Entry};
+ghost use Rattle.space.specs.Place.{same_place};
+ghost use Rattle.space.specs.Shards.{HasWord, IsPlace, entry_at, is_taken};
+ghost use Rattle.holdings.specs.Inner.Links.{IsPageLost};
+ghost use Rattle.holdings.specs.Inner.Renamings.{IsPageMoved};
 
 use crate::holdings::Holdings;
 use crate::making::make_targets;
@@ -13,13 +15,11 @@ use crate::phase::is_small;
 use crate::renaming::rename_all;
 use crate::transfer::Transfer;
 use crate::transfer_counts::TransferCounts;
-use crate::writes::write_phase;
 use crew::{CrewError, Workers};
-use fpage::ItemKind;
+use fpage::{ItemKind, Rights};
 use maptree::Tree;
-use pieces::{Pair, moves};
-use space::{Place, Shards};
-use std::alloc::{AllocError, Global};
+use space::{Entry, Place, Shards};
+use std::alloc::Global;
 
 impl Holdings {
     ghost use Rattle.std.specs.Prelude.{IfOk, IsErrOf};
@@ -48,53 +48,39 @@ impl Holdings {
         ensures needs_no_worker { W.starts_none workers.now → IsErrOf result NoWorker → ⊥ }
     {
         self.note_transfers(transfers, ItemKind::Grant, notes)?;
-        if is_small(transfers.len(), workers) {
-            let moved = self.rename_alone(alloc, transfers)?;
-            return Ok(moved);
+        if !is_small(transfers.len(), workers) {
+            return self.rename_in_pieces(alloc, transfers, workers);
         }
-        self.rename_in_pieces(alloc, transfers, workers)
-    }
-
-    /// The same as one phase, by pieces.
-    fn rename_in_pieces<W: Workers>(
-        self,
-        alloc: Global,
-        transfers: &[Transfer],
-        workers: &W,
-    ) -> Result<(Self, TransferCounts), CrewError>
-        requires planned { ArePlanned self.limits transfers.now }
-        requires all_go { AllGo transfers.now }
-        requires free { AreFree self.holdings transfers.now }
-        ensures moved { IfOk result (AreMoved self transfers.now) }
-        ensures needs_no_worker { W.starts_none workers.now → IsErrOf result NoWorker → ⊥ }
-    {
         let Holdings {
             mut shards,
             mut trees,
         } = self;
         make_targets(&mut shards, transfers)?;
-        let counts = TransferCounts::of_all(&shards, transfers);
-        let pairs = pairs(alloc, &shards, transfers)?;
-        let pieces = moves(alloc, pairs, workers.piece_length())?;
         rename_all(alloc, &shards, &mut trees, transfers)?;
-        write_phase(alloc, &mut shards, pieces, workers)?;
-        Ok((Holdings { shards, trees }, counts))
+        let mut worked = TransferCounts::none();
+        for transfer in transfers {
+            let one = move_page(&mut shards, transfer.source, transfer.target);
+            worked = worked.plus(one);
+        }
+        Ok((Holdings { shards, trees }, worked))
     }
 }
 
-/// The transfers whose source is held, by the words of their pages.
-fn pairs(alloc: Global, shards: &Shards, transfers: &[Transfer]) -> Result<Vec<Pair>, AllocError>
-    requires present { IsFalse (is_taken shards.now) }
-    requires places { All (λ t. IsPlace shards.now t.source × IsThere shards.now t.target) transfers.now }
-    ensures { IfOk result (λ pairs. pairs.items ≡ word_pairs shards.now transfers.now) }
+/// Moves what a page holds, without its status, to the target, which stands in its place in the tree already.
+fn move_page(shards: &mut Shards, source: Place, target: Place) -> TransferCounts
+    requires source { IsPlace shards.old source }
+    requires target { IsPlace shards.old target }
+    requires there { HasWord shards.old target }
+    requires apart { same_place source target ≡ false }
+    requires present { IsFalse (is_taken shards.old) }
+    ensures lost { entry_at shards.old source ≡ None → IsPageLost shards.old shards.new (counts_of result) }
+    ensures moved { (e : Entry) → entry_at shards.old source ≡ Some e → IsPageMoved shards.old shards.new source target e (counts_of result) }
 {
-    let mut pairs = Vec::with_capacity(alloc, transfers.len())?;
-    for transfer in transfers {
-        if shards.get(transfer.source).is_some() {
-            let taken = shards.index(transfer.source);
-            let put = shards.index(transfer.target);
-            pairs.push(Pair { taken, put })?;
-        }
-    }
-    Ok(pairs)
+    let Some(entry) = shards.get(source) else {
+        return TransferCounts::one_lost();
+    };
+    shards.set(source, None);
+    let status = Rights::none();
+    shards.set(target, Some(Entry { status, ..entry }));
+    TransferCounts::one_linked()
 }

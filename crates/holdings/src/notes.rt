@@ -2,13 +2,56 @@
 
 use space::Place;
 use std::alloc::{AllocError, Global};
+use std::marker::Model;
 
-/// A page that a phase changes.
+/// A page that a phase changes, in eight bytes.
 #[derive(Clone, Copy, Debug, PartialEq, Eq)]
 pub struct Note {
-    pub place: Place,
+    page: u32,
+    space: u16,
+    was_held: bool,
+}
+
+impl Model for Note {
+    ghost use Rattle.holdings.specs.NoteContents.{NoteContent};
+
+    ghost Value = { NoteContent };
+
+    ghost view = { λ n. record { place = record { space = n.space; page = n.page }; was_held = n.was_held } };
+
+    ghost inverse = { λ n. record { page = n.place.page; space = n.place.space; was_held = n.was_held } };
+}
+
+impl Note {
+    ghost use Rattle.std.specs.Prelude.{◌≡◌};
+
+    /// A page, and whether it held something before the phase.
+    pub fn of(place: Place, was_held: bool) -> Note
+        ensures { result ≡ record { place = place; was_held = was_held } }
+    {
+        Note {
+            page: place.page,
+            space: place.space,
+            was_held,
+        }
+    }
+
+    /// The page.
+    pub fn place(self) -> Place
+        ensures { result ≡ self.place }
+    {
+        Place {
+            space: self.space,
+            page: self.page,
+        }
+    }
+
     /// Whether the page held something before the phase.
-    pub was_held: bool,
+    pub fn was_held(self) -> bool
+        ensures { result ≡ self.was_held }
+    {
+        self.was_held
+    }
 }
 
 /// The pages that the phases of a call change, where they are asked for. A page may come more than once.

@@ -237,6 +237,6 @@ fn loses(shards: &Shards, place: Place, revoked: Rights) -> bool
 fn add_note(list: &mut Vec<Note>, place: Place, was_held: bool) -> Result<(), AllocError>
     ensures { OnOk result (list.new.items ≡ list.old.items ++ (record { place = place; was_held = was_held }) ∷ []) }
 {
-    list.push(Note { place, was_held })?;
+    list.push(Note::of(place, was_held))?;
     Ok(())
 }

@@ -130,8 +130,9 @@ struct Stripped {
     left: Left,
 }
 
-/// Strips the first place of a run in one order or the other. The tree stays: it may then list places that hold nothing.
-/// Notes the places that lose a right.
+/// Strips the first place of a run: each of its places loses the rights, the first one if it is to, and its status is taken.
+/// What was taken is added to the status of the origin of the run. Gives back what was taken, and what is left of the places.
+/// Notes the places that lose a right. The tree stays: it may then list places that hold nothing.
 fn strip_run(
     alloc: Global,
     shards: &mut Shards,
@@ -155,42 +156,9 @@ fn strip_run(
     ensures run_left { IfOk result (λ stripped. IsLeft shards.new (links_in trees.now frame) run.now stripped.left) }
     ensures noted { OnOk result (NotesAdd (AreLosersNoted shards.old (links_in trees.now frame) (losing_from flush run.now.start) run.now.end revoked) notes.old notes.new) }
 {
-    match order {
-        Order::Recursion => {
-            note_run_if_asked(shards, &trees[frame], run, revoked, flush, notes)?;
-            let status = visit(alloc, shards, trees, frame, run, revoked, flush)?;
-            // The recursion keeps no account of what it leaves.
-            let left = Left::unknown(run.start);
-            Ok(Stripped { status, left })
-        }
-        Order::List => walk(shards, trees, frame, run, revoked, flush, notes),
+    if let Order::Recursion = order {
+        return strip_run_by_recursion(alloc, shards, trees, frame, run, revoked, flush, notes);
     }
-}
-
-/// Passes over a run: each of its places loses the rights, the first one if it is to, and its status is taken. What was
-/// taken is added to the status of the origin of the run. Gives back what was taken, and what is left of the places. Notes
-/// the places that lose a right.
-fn walk(
-    shards: &mut Shards,
-    trees: &[Tree],
-    frame: usize,
-    run: &Range<usize>,
-    revoked: Rights,
-    flush: bool,
-    notes: &mut Notes,
-) -> Result<Stripped, AllocError>
-    requires loose { AreLoose shards.old trees.now }
-    requires frame { frame < length trees.now }
-    requires run { IsRun (links_in trees.now frame) run.now }
-    requires some { run.now.start < run.now.end }
-    requires within { run.now.end ≤ length (links_in trees.now frame) }
-    ensures status { IfOk result (λ stripped. (d : Place) → stripped.status ≡ strip_word (holdings_in shards.old trees.now) (only (place_at (links_in trees.now frame) run.now.start d))) }
-    ensures left { OnOk result ((d : Place) → holdings_in shards.new trees.now ≡ strip (holdings_in shards.old trees.now) (only (place_at (links_in trees.now frame) run.now.start d)) revoked flush) }
-    ensures loose { OnOk result (AreLoose shards.new trees.now) }
-    ensures layout { OnOk result (IsLaidOutAs shards.old shards.new) }
-    ensures run_left { IfOk result (λ stripped. IsLeft shards.new (links_in trees.now frame) run.now stripped.left) }
-    ensures noted { OnOk result (NotesAdd (AreLosersNoted shards.old (links_in trees.now frame) (losing_from flush run.now.start) run.now.end revoked) notes.old notes.new) }
-{
     let tree = &trees[frame];
     tree.learn_places_are_distinct();
     let mut nodes = tree.nodes();
@@ -215,6 +183,36 @@ fn walk(
     if let Some(origin) = tree.origin_of(run.start) {
         shards.add_status(nodes.at(origin).place, status);
     }
+    Ok(Stripped { status, left })
+}
+
+/// Strips the first place of a run, first what derives from it.
+fn strip_run_by_recursion(
+    alloc: Global,
+    shards: &mut Shards,
+    trees: &[Tree],
+    frame: usize,
+    run: &Range<usize>,
+    revoked: Rights,
+    flush: bool,
+    notes: &mut Notes,
+) -> Result<Stripped, AllocError>
+    requires loose { AreLoose shards.old trees.now }
+    requires frame { frame < length trees.now }
+    requires run { IsRun (links_in trees.now frame) run.now }
+    requires some { run.now.start < run.now.end }
+    requires within { run.now.end ≤ length (links_in trees.now frame) }
+    ensures status { IfOk result (λ stripped. (d : Place) → stripped.status ≡ strip_word (holdings_in shards.old trees.now) (only (place_at (links_in trees.now frame) run.now.start d))) }
+    ensures left { OnOk result ((d : Place) → holdings_in shards.new trees.now ≡ strip (holdings_in shards.old trees.now) (only (place_at (links_in trees.now frame) run.now.start d)) revoked flush) }
+    ensures loose { OnOk result (AreLoose shards.new trees.now) }
+    ensures layout { OnOk result (IsLaidOutAs shards.old shards.new) }
+    ensures run_left { IfOk result (λ stripped. IsLeft shards.new (links_in trees.now frame) run.now stripped.left) }
+    ensures noted { OnOk result (NotesAdd (AreLosersNoted shards.old (links_in trees.now frame) (losing_from flush run.now.start) run.now.end revoked) notes.old notes.new) }
+{
+    note_run_if_asked(shards, &trees[frame], run, revoked, flush, notes)?;
+    let status = visit(alloc, shards, trees, frame, run, revoked, flush)?;
+    // The recursion keeps no account of what it leaves.
+    let left = Left::unknown(run.start);
     Ok(Stripped { status, left })
 }
 

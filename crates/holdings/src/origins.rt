@@ -1,6 +1,6 @@
 //! The origins of all pages that are held, found by their words.
 
-ghost use Rattle.std.specs.Prelude.{◌≡◌, ◌<◌, true, length, IfOk, ◌+◌, OnOk};
+ghost use Rattle.std.specs.Prelude.{◌≡◌, ◌<◌, true, length, IfOk, IfSome, ◌+◌, OnOk};
 ghost use Rattle.std.specs.List.{All};
 ghost use Rattle.space.specs.Shards.{index_of};
 ghost use Rattle.holdings.specs.Inner.Words.{IsThere};
@@ -13,8 +13,34 @@ use maptree::Tree;
 use space::{NoMemory, Place, Shards};
 use std::alloc::Global;
 
+/// How many mappings are so few that the origin of each may be searched for.
+const FEW: usize = 4_096;
+
+/// How many words there must be for each of these, so that a list of origins would be larger than all that is held.
+const SPARSE: usize = 16;
+
+/// The origin of each page that is held, at the index of its word; none where few pages are held and most words are of
+/// others. The number of mappings is only looked at to choose.
+///
+/// Refused, where memory is: `NoMemory`.
+pub fn origins_of_many(
+    alloc: Global,
+    shards: &Shards,
+    trees: &[Tree],
+    mappings: usize,
+) -> Result<Option<Vec<OriginWord>>, NoMemory>
+    requires { AreSound shards.now trees.now }
+    ensures { IfOk result (λ list. IfSome list (λ origins. AreOrigins shards.now trees.now (length trees.now) origins.items)) }
+{
+    if mappings < FEW && shards.words() / SPARSE > mappings {
+        return Ok(None);
+    }
+    let origins = origins_by_word(alloc, shards, trees)?;
+    Ok(Some(origins))
+}
+
 /// The origin of each page that is held, at the index of its word, by one pass over the trees.
-pub fn origins_by_word(
+fn origins_by_word(
     alloc: Global,
     shards: &Shards,
     trees: &[Tree],

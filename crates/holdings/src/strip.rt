@@ -47,28 +47,8 @@ impl Holdings {
         ensures noted { IfOk result (λ r. NotesFollow self.holdings r.0.holdings notes.old notes.new) }
         ensures needs_no_worker { W.starts_none workers.now → IsErrOf result NoWorker → ⊥ }
     {
-        if places.len() < 2 || self.are_apart(places) {
-            return self.strip_apart(alloc, places, revoked, flush, notes, workers);
-        }
-        let outer = self.outermost(alloc, places)?;
-        self.strip_apart(alloc, &outer, revoked, flush, notes, workers)
-    }
-
-    /// The same for pages of which none derives from another, one after another or by pieces.
-    fn strip_apart<W: Workers>(
-        self,
-        alloc: Global,
-        places: &[Place],
-        revoked: Rights,
-        flush: bool,
-        notes: &mut Notes,
-        workers: &W,
-    ) -> Result<(Self, Rights), CrewError>
-        requires within { All (IsWithin self.limits) places.now }
-        ensures stripped { IfOk result (IsStripped self (any_of places.now) revoked flush) }
-        ensures noted { IfOk result (λ r. NotesFollow self.holdings r.0.holdings notes.old notes.new) }
-        ensures needs_no_worker { W.starts_none workers.now → IsErrOf result NoWorker → ⊥ }
-    {
+        let mut room = Vec::new(alloc);
+        let places = self.outermost(alloc, places, &mut room)?;
         if self.are_stripped_alone(places, workers) {
             let order = Order::List;
             let stripped = self.strip_one_by_one(alloc, places, revoked, flush, notes, order)?;
@@ -81,16 +61,27 @@ impl Holdings {
         })
     }
 
-    /// Pages from which all derives that derives from these, and of which none derives from another.
-    pub(crate) fn outermost(&self, alloc: Global, places: &[Place]) -> Result<Vec<Place>, NoMemory>
+    /// Pages of which none derives from another, and from which all derives that derives from these: these, or some of
+    /// them, which are put into the room.
+    fn outermost<'a>(
+        &self,
+        alloc: Global,
+        places: &'a [Place],
+        room: &'a mut Vec<Place>,
+    ) -> Result<&'a [Place], NoMemory>
         requires { All (IsWithin self.now.limits) places.now }
-        ensures within { IfOk result (λ outer. All (IsWithin self.now.limits) outer.items) }
-        ensures stand { IfOk result (λ outer. StandFor self.now places.now outer.items) }
+        ensures within { IfOk result (λ outer. All (IsWithin self.now.limits) outer.now) }
+        ensures stand { IfOk result (λ outer. StandFor self.now places.now outer.now) }
     {
-        outer_places(alloc, &self.shards, &self.trees, places)
+        if places.len() < 2 || self.are_apart(places) {
+            return Ok(places);
+        }
+        *room = outer_places(alloc, &self.shards, &self.trees, places)?;
+        Ok(room)
     }
 
-    /// The same as one phase, if any of the pages is held. A function is given the words and the pieces, and works them.
+    /// The same strip as one phase, if any of the pages is held. A function is given the words and the pieces, and works
+    /// them.
     ///
     /// Refused, where memory is, `NoMemory`, and as the function is.
     pub(crate) fn strip_in_pieces<F>(

@@ -14,7 +14,7 @@ use Rattle.model.specs.Definitions.Holdings.{Held, Holdings, PlaceSet, at, is_he
 use Rattle.holdings.specs.Contents.{Contents, IsConsistent}
 use Rattle.holdings.specs.Noting.{first_note, AreNoted, NotesFollow}
 use Rattle.holdings.specs.Places.{IsWithin}
-use Rattle.holdings.specs.declared.notes.Note.{Note}
+use Rattle.holdings.specs.NoteContents.{NoteContent}
 use Rattle.holdings.specs.declared.notes.Notes.{Notes}
 use Rattle.holdings.proofs.Contents.Listing.{listed_within}
 use Rattle.mapdb.specs.Noted.{is_told, noted_places, NotesChange, NotesTell, Tells}
@@ -31,7 +31,7 @@ all_among P xs each i d within = each (get_or xs i d) (among xs i d within)
     among (x ∷ xs) (suc i) d within = or_right (same_place (get_or xs i d) x) (list_any (same_place (get_or xs i d)) xs) (among xs i d (omega (arith, within)))
 
 -- a page that no note names
-not_noted : (p : Place) (ns : List Note) → list_any (same_place p) (noted_places ns) ≡ false → first_note ns p ≡ None
+not_noted : (p : Place) (ns : List NoteContent) → list_any (same_place p) (noted_places ns) ≡ false → first_note ns p ≡ None
 not_noted p [] none = refl
 not_noted p (n ∷ ns) none = by (same_place p n.place) (not_noted p ns) none
   where
@@ -49,13 +49,13 @@ unheld_same old new p no_old no_new = ap (option_map entry_for) (none (at new p)
 
 -- ---- what is to be told
 
-module _ (now : Holdings) (list : List Note) where
+module _ (now : Holdings) (list : List NoteContent) where
   -- whether a page is to be told
   abbrev told : PlaceSet
   told p = is_told (first_note list p) (is_held now p)
 
   -- notes of pages that are to be told, with each of them that was noted
-  changed_by : (new : List Note) → ((p : Place) → list_any (same_place p) (noted_places new) ≡ false → (first_note list p ≡ None) ⊎ (told p ≡ false)) → ((p : Place) → list_any (same_place p) (noted_places new) ≡ true → told p ≡ true) → Tells now list new
+  changed_by : (new : List NoteContent) → ((p : Place) → list_any (same_place p) (noted_places new) ≡ false → (first_note list p ≡ None) ⊎ (told p ≡ false)) → ((p : Place) → list_any (same_place p) (noted_places new) ≡ true → told p ≡ true) → Tells now list new
   changed_by new rest those start noted = record {
     others = λ p none. same p (rest p none);
     held = all_among (λ p. IsTrue (is_held start p || is_held now p)) (noted_places new) (λ p there. either p (first_note list p) refl (those p there));
@@ -76,7 +76,7 @@ module _ (now : Holdings) (list : List Note) where
       either p (Some false) is so = or_right (is_held start p) (is_held now p) (sym (ap (λ o. is_told o (is_held now p)) is) ∙ so)
 
 -- each page was held when it was noted, or is held now
-first_told : (now : Holdings) (p : Place) (ns : List Note) → list_all (λ n. is_told (Some n.was_held) (is_held now n.place)) ns ≡ true → list_any (same_place p) (noted_places ns) ≡ true → is_told (first_note ns p) (is_held now p) ≡ true
+first_told : (now : Holdings) (p : Place) (ns : List NoteContent) → list_all (λ n. is_told (Some n.was_held) (is_held now n.place)) ns ≡ true → list_any (same_place p) (noted_places ns) ≡ true → is_told (first_note ns p) (is_held now p) ≡ true
 first_told now p [] all there = absurd (cc there)
 first_told now p (n ∷ ns) all there =
     let parts = and_parts (is_told (Some n.was_held) (is_held now n.place)) (list_all (λ n. is_told (Some n.was_held) (is_held now n.place)) ns) all in
@@ -87,12 +87,12 @@ first_told now p (n ∷ ns) all there =
     by true same here there rest = ap (λ q. is_told (Some n.was_held) (is_held now q)) (same_is p n.place same) ∙ here
     by false apart here there rest = rest there
 
-pub told_as_is : (now : Holdings) (list : List Note) → list_all (λ n. is_told (Some n.was_held) (is_held now n.place)) list ≡ true → Tells now list list
+pub told_as_is : (now : Holdings) (list : List NoteContent) → list_all (λ n. is_told (Some n.was_held) (is_held now n.place)) list ≡ true → Tells now list list
 told_as_is now list all = changed_by now list list (λ p none. inl (not_noted p list none)) (λ p there. first_told now p list all there)
 
 -- notes of some pages, all of them
 module _ (set : PlaceSet) where
-  all_kept : (p : Place) → set p ≡ true → (ns : List Note) → list_any (same_place p) (noted_places (filter (λ n. set n.place) ns)) ≡ list_any (same_place p) (noted_places ns)
+  all_kept : (p : Place) → set p ≡ true → (ns : List NoteContent) → list_any (same_place p) (noted_places (filter (λ n. set n.place) ns)) ≡ list_any (same_place p) (noted_places ns)
   all_kept p is [] = refl
   all_kept p is (n ∷ ns) = by (same_place p n.place) refl (set n.place) refl (all_kept p is ns)
     where
@@ -102,7 +102,7 @@ module _ (set : PlaceSet) where
       by false apart false dropped rest = rest
       by true same false dropped rest = absurd (cc (dropped, is, ap set (same_is p n.place same)))
 
-  only_kept : (p : Place) (ns : List Note) → list_any (same_place p) (noted_places (filter (λ n. set n.place) ns)) ≡ true → set p ≡ true
+  only_kept : (p : Place) (ns : List NoteContent) → list_any (same_place p) (noted_places (filter (λ n. set n.place) ns)) ≡ true → set p ≡ true
   only_kept p [] there = absurd (cc there)
   only_kept p (n ∷ ns) there = by (set n.place) refl there (only_kept p ns)
     where
@@ -115,7 +115,7 @@ module _ (set : PlaceSet) where
           here false apart there = rest there
 
 -- the others are taken out
-pub told_filtered : (now : Holdings) (list : List Note) → Tells now list (filter (λ n. is_told (first_note list n.place) (is_held now n.place)) list)
+pub told_filtered : (now : Holdings) (list : List NoteContent) → Tells now list (filter (λ n. is_told (first_note list n.place) (is_held now n.place)) list)
 told_filtered now list =
     changed_by now list (filter (λ n. told now list n.place) list) (λ p none. unnoted p none (told now list p) refl) (λ p there. only_kept (told now list) p list there)
   where
@@ -153,7 +153,7 @@ pub change_of : (old new : Holdings) (n m k : Notes) → NotesFollow old new n m
 change_of old new n m k follow same tells = record { asked = same ∙ follow.asked; changed = λ is start noted. tells start (follow.noted is start noted) }
 
 -- before any note
-nothing_noted : (h : Holdings) (ns : List Note) → ns ≡ [] → AreNoted h h ns
+nothing_noted : (h : Holdings) (ns : List NoteContent) → ns ≡ [] → AreNoted h h ns
 nothing_noted h ns none = record { others = λ p is. refl; held = λ p b is. absurd (cc (ap (λ xs. first_note xs p) none, is)) }
 
 -- notes that were forgotten before a call tell what it changed
@@ -162,4 +162,4 @@ change_tells old new before now after same none change = record { asked = change
 
 -- a call that changed no table
 pub none_tell : (old new : Holdings) (before after : Notes) → after.asked ≡ before.asked → after.list.items ≡ [] → ((p : Place) → tables_of new p ≡ tables_of old p) → NotesTell old new before after
-none_tell old new before after same none tables = record { asked = same; told = λ is. subst (λ (ns : List Note). AreChanged old new (noted_places ns)) (sym none) (record { others = λ p there. tables p; held = λ i d within. absurd (omega (arith, within)) }) }
+none_tell old new before after same none tables = record { asked = same; told = λ is. subst (λ (ns : List NoteContent). AreChanged old new (noted_places ns)) (sym none) (record { others = λ p there. tables p; held = λ i d within. absurd (omega (arith, within)) }) }

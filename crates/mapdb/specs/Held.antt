@@ -8,6 +8,6 @@ pub use Rattle.holdings.specs.Observing.{IsPhaseOf, SayWhatIsHeld}
 pub use Rattle.holdings.specs.Places.{IsWithin, from_page, pages_from, spaces_from, listed}
 unfoldable pub use Rattle.holdings.specs.Places.{listing}
 pub use Rattle.holdings.specs.declared.mapping.Mapping.{Mapping}
-pub use Rattle.holdings.specs.declared.notes.Note.{Note}
+pub use Rattle.holdings.specs.NoteContents.{NoteContent}
 pub use Rattle.holdings.specs.declared.notes.Notes.{Notes}
 pub use Rattle.mapdb.specs.Noted.{noted_places, NotesTell}

@@ -4,12 +4,12 @@ use Rattle.space.specs.declared.place.Place.{Place}
 use Rattle.model.specs.Definitions.Changes.{AreChanged}
 use Rattle.model.specs.Definitions.Holdings.{Holdings}
 use Rattle.holdings.specs.Noting.{AreNoted}
-use Rattle.holdings.specs.declared.notes.Note.{Note}
+use Rattle.holdings.specs.NoteContents.{NoteContent}
 use Rattle.holdings.specs.declared.notes.Notes.{Notes}
 use Rattle.mapdb.specs.declared.told.HeldRun.{HeldRun}
 
 -- the pages that are noted
-abbrev pub noted_places : List Note → List Place
+abbrev pub noted_places : List NoteContent → List Place
 noted_places notes = map (λ n. n.place) notes
 
 -- whether a page was held before a call, as its first note says, or is held after it
@@ -31,7 +31,7 @@ unless_held false said = said
 
 -- where some notes told what had changed when this is held, the others tell all of it, and no page that was held neither
 -- before nor now
-abbrev pub Tells : Holdings → List Note → List Note → Type 0
+abbrev pub Tells : Holdings → List NoteContent → List NoteContent → Type 0
 Tells now old new = (start : Holdings) → AreNoted start now old → AreChanged start now (noted_places new)
 
 -- where notes are asked for: behind those that told what had changed before some phases, these tell all that changed, and

@@ -1,18 +1,19 @@
 use crate::answer::Scratch;
-use crate::call::{Refusal, Sending, Unmap};
+use crate::call::{Refusal, Sending, Unmap, UnmapWord};
 use crate::clear::{clear_space, clear_space_by_recursion};
 use crate::error::DbError;
-use crate::item::work_items;
+use crate::item::work_item;
+use crate::item_pages::item_pages;
 use crate::reply::{Reply, SendReply};
 use crate::told::keep_told;
 use crate::unmap::{
-    answer_unmap, put_status, unmap_words, unmap_words_by_recursion, unmap_words_watched,
+    put_status, unmap_word, unmap_words, unmap_words_by_recursion, unmap_words_watched,
 };
 use crew::{Crew, Gate, Observe, Workers};
-use fpage::{Access, Control, Fpage, Item, Rights};
+use fpage::{Access, Control, Fpage, Item, Rights, with_status};
 use holdings::{Holdings, Limits, Mapping, Mappings, Notes};
 use space::{Entry, Place};
-use std::alloc::Global;
+use std::alloc::{AllocError, Global};
 use std::marker::Model;
 use std::sync::Wait;
 use std::thread::Threads;
@@ -350,8 +351,14 @@ impl Database {
         if send.window.is_nil() {
             return Err(DbError::NoWindow);
         }
-        let held = self.held.take().unwrap();
-        let (held, reply) = work_items(alloc, held, send, notes, workers)?;
+        let mut held = self.held.take().unwrap();
+        let mut reply = SendReply::none();
+        for item in send.items {
+            let pages = item_pages(send, item);
+            let (left, worked) = work_item(alloc, held, &pages, notes, workers)?;
+            held = left;
+            reply = reply.plus(worked);
+        }
         keep_told(alloc, &held, notes)?;
         self.held = Some(held);
         Ok(reply)
@@ -421,8 +428,23 @@ impl Database {
         if u32::from(unmap.space) >= self.limits().spaces {
             return Ok(Reply::Refused(Refusal::NoSuchSpace));
         }
-        let held = self.held.take().unwrap();
-        let held = answer_unmap(alloc, held, unmap, words, scratch, workers)?;
+        let mut held = self.held.take().unwrap();
+        let flush = unmap.control.is_flush();
+        scratch.words.clear();
+        scratch.words.reserve(words.len())?;
+        for i in 0..unmap.fpages.len() {
+            let word = UnmapWord {
+                space: unmap.space,
+                flush,
+                fpage: unmap.fpages[i],
+            };
+            let (left, status) = unmap_word(alloc, held, &word, &mut scratch.notes, workers)?;
+            held = left;
+            scratch
+                .words
+                .push(with_status(words[i], status))
+                .map_err(AllocError::from)?;
+        }
         keep_told(alloc, &held, &mut scratch.notes)?;
         self.held = Some(held);
         Ok(scratch.reply(alloc))

@@ -1,4 +1,4 @@
-//! The items of a send, one after another, each in phases.
+//! An item of a send, worked in phases.
 
 ghost use Rattle.std.specs.Prelude.{◌≡◌, ◌<◌, IfOk, IsErrOf, ◌^◌};
 ghost use Rattle.std.specs.List.{All};
@@ -26,47 +26,10 @@ use holdings::{Holdings, ItemPages, Notes, Transfer};
 use space::Place;
 use std::alloc::Global;
 
-/// Works items from one space to the window of another, one after another, and adds their counts. Notes the pages that
-/// they change.
+/// Works one item: the outcome of each page from the start, and then the phases. Notes the pages that it changes.
 ///
 /// Refused, where memory or a worker is: `NoMemory`, `NoWorker`.
-pub fn work_items<W: Workers>(
-    alloc: Global,
-    held: Holdings,
-    send: &Sending<'_>,
-    notes: &mut Notes,
-    workers: &W,
-) -> Result<(Holdings, SendReply), CrewError>
-    requires from { send.now.from < held.limits.spaces }
-    requires to { send.now.to < held.limits.spaces }
-    requires differ { send.now.from ≡ send.now.to → ⊥ }
-    requires window { IsFpageOf held.limits.bits send.now.window }
-    requires some { 0 < send.now.window.count }
-    requires items { All (λ item. IsFpageOf held.limits.bits item.sent) send.now.items.now }
-    ensures sent { IfOk result (IsSent held (send_answer send.now.from send.now.to send.now.window send.now.items.now held.holdings).left
-        (send_answer send.now.from send.now.to send.now.window send.now.items.now held.holdings).counts) }
-    ensures noted { IfOk result (λ r. NotesFollow held.holdings r.0.holdings notes.old notes.new) }
-    ensures needs_no_worker { W.starts_none workers.now → IsErrOf result NoWorker → ⊥ }
-{
-    let mut held = held;
-    let mut reply = SendReply::none();
-    for item in send.items {
-        let pages = item_pages(send, item);
-        let (left, worked) = if pages.count == 1 {
-            work_page(alloc, held, &pages, notes, workers)?
-        } else {
-            work_item(alloc, held, &pages, notes, workers)?
-        };
-        held = left;
-        reply = reply.plus(worked);
-    }
-    Ok((held, reply))
-}
-
-/// Works one item: the outcome of each page from the start, and then the phases.
-///
-/// Refused, where memory or a worker is: `NoMemory`, `NoWorker`.
-fn work_item<W: Workers>(
+pub fn work_item<W: Workers>(
     alloc: Global,
     held: Holdings,
     pages: &ItemPages,
@@ -79,6 +42,9 @@ fn work_item<W: Workers>(
     ensures noted { IfOk result (λ r. NotesFollow held.holdings r.0.holdings notes.old notes.new) }
     ensures needs_no_worker { W.starts_none workers.now → IsErrOf result NoWorker → ⊥ }
 {
+    if pages.count == 1 {
+        return work_page(alloc, held, pages, notes, workers);
+    }
     let plan = plan_item(alloc, &held, pages)?;
     let targets = ends(alloc, &plan.transfers, End::Target)?;
     let sources = match pages.kind {

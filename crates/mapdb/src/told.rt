@@ -9,7 +9,6 @@ ghost use Rattle.space.specs.Place.{place_cmp};
 ghost use Rattle.space.specs.declared.place.Place.{Place};
 ghost use Rattle.model.specs.Definitions.Holdings.{is_held};
 ghost use Rattle.holdings.specs.Noting.{first_note};
-ghost use Rattle.holdings.specs.declared.notes.Note.{Note};
 ghost use Rattle.holdings.specs.Places.{IsWithin};
 ghost use Rattle.mapdb.specs.Noted.{is_told, unless_held, IsInRun, Tells};
 
@@ -44,9 +43,10 @@ fn are_told(held: &Holdings, notes: &[Note]) -> bool
         end: 0,
     };
     for note in notes {
-        if !note.was_held && !run.has(note.place) {
-            run = held_run(held, note.place);
-            if !run.has(note.place) {
+        let place = note.place();
+        if !note.was_held() && !run.has(place) {
+            run = held_run(held, place);
+            if !run.has(place) {
                 return false;
             }
         }
@@ -107,8 +107,9 @@ fn first_notes(
     // From the last note on, so that an earlier one takes the place of a later one.
     for i in 0..notes.len() {
         let note = notes[notes.len() - 1 - i];
-        if !is_held(held, note.place) {
-            firsts.insert(note.place, note.was_held)?;
+        let place = note.place();
+        if !is_held(held, place) {
+            firsts.insert(place, note.was_held())?;
         }
     }
     Ok(firsts)
@@ -125,8 +126,9 @@ fn told_notes(
 {
     let mut told = Vec::with_capacity(alloc, notes.len())?;
     for note in notes {
-        let first = firsts.get(&note.place).copied();
-        if is_told(held, first, note.place) {
+        let place = note.place();
+        let first = firsts.get(&place).copied();
+        if is_told(held, first, place) {
             told.push(*note)?;
         }
     }

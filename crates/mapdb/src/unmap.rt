@@ -56,46 +56,6 @@ pub fn unmap_words<W: Workers>(
     Ok((held, status))
 }
 
-/// Works the words of an unmap one after another, and puts each with what it tells into the words of a reply, in place of
-/// what they had. Notes the pages that the words change.
-///
-/// Refused, where memory or a worker is: `NoMemory`, `NoWorker`.
-pub fn answer_unmap<W: Workers>(
-    alloc: Global,
-    held: Holdings,
-    unmap: &Unmap<'_>,
-    words: &[u32],
-    scratch: &mut Scratch,
-    workers: &W,
-) -> Result<Holdings, CrewError>
-    requires space { unmap.now.space < held.limits.spaces }
-    requires within { AreWordsWithin held.limits words.now unmap.now.fpages.now }
-    ensures left { IfOk result (λ left. left ≡ left_with held left.holdings) }
-    ensures told { IfOk result (λ left. record { words = scratch.new.words.items; left = left.holdings }
-        ≡ unmap_answer unmap.now.space unmap.now.control.flush (zip words.now unmap.now.fpages.now) held.holdings) }
-    ensures noted { IfOk result (λ left. NotesFollow held.holdings left.holdings scratch.old.notes scratch.new.notes) }
-    ensures needs_no_worker { W.starts_none workers.now → IsErrOf result NoWorker → ⊥ }
-{
-    let mut held = held;
-    let flush = unmap.control.is_flush();
-    scratch.words.clear();
-    scratch.words.reserve(words.len())?;
-    for i in 0..unmap.fpages.len() {
-        let word = UnmapWord {
-            space: unmap.space,
-            flush,
-            fpage: unmap.fpages[i],
-        };
-        let (left, status) = unmap_word(alloc, held, &word, &mut scratch.notes, workers)?;
-        held = left;
-        scratch
-            .words
-            .push(with_status(words[i], status))
-            .map_err(AllocError::from)?;
-    }
-    Ok(held)
-}
-
 /// Words, each with its status in place of its rights, in place of what the reply had.
 ///
 /// Refused, where memory is: `NoMemory`.

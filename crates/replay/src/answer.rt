@@ -69,34 +69,20 @@ pub fn answer_first<W: Workers>(
             Ok(Replies::Accesses(answers))
         }
         Ok(call) => {
-            let reply = answer_one(alloc, database, &call, workers, plain, &mut buffers.scratch)?;
-            trace.reuse(call);
-            Ok(Replies::One(reply))
+            let scratch = &mut buffers.scratch;
+            let answered = if plain {
+                database.answer_plain(alloc, &call, scratch, workers)
+            } else {
+                database.answer(alloc, &call, scratch, workers)
+            };
+            match answered {
+                Ok(reply) => {
+                    trace.reuse(call);
+                    Ok(Replies::One(reply))
+                }
+                Err(error) => Err(unanswered(error)),
+            }
         }
-    }
-}
-
-/// Answers a call; an unmap and a clear by recursion if `plain`.
-fn answer_one<W: Workers>(
-    alloc: Global,
-    database: &mut Database,
-    call: &Call,
-    workers: &W,
-    plain: bool,
-    scratch: &mut Scratch,
-) -> Result<Reply, CrewError>
-    requires within { IsWithinLimits database.old.limits call.now }
-    ensures answered { IfOk result (IsAnswered database.old (call_of call.now) database.new) }
-    ensures needs_no_worker { W.starts_none workers.now → IsErrOf result NoWorker → ⊥ }
-{
-    let answered = if plain {
-        database.answer_plain(alloc, call, scratch, workers)
-    } else {
-        database.answer(alloc, call, scratch, workers)
-    };
-    match answered {
-        Ok(reply) => Ok(reply),
-        Err(error) => Err(unanswered(error)),
     }
 }
 

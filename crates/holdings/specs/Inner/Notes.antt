@@ -14,13 +14,13 @@ use Rattle.space.specs.declared.shards.Shards.{Shards}
 use Rattle.maptree.specs.Origins.{Origins, IsRun, place_at}
 use Rattle.model.specs.Definitions.Strip.{is_narrowed}
 use Rattle.model.specs.Definitions.Holdings.{Holdings, PlaceSet, at, is_held}
-use Rattle.holdings.specs.declared.notes.Note.{Note}
+use Rattle.holdings.specs.NoteContents.{NoteContent}
 use Rattle.holdings.specs.declared.notes.Notes.{Notes}
 use Rattle.holdings.specs.declared.transfer.Transfer.{Transfer}
 use Rattle.holdings.specs.Noting.{first_note}
 
 -- where notes are asked for, such notes were added
-pub record NotesAdd (IsAdded : List Note → List Note → Type 0) (before after : Notes) : Type 0 where
+pub record NotesAdd (IsAdded : List NoteContent → List NoteContent → Type 0) (before after : Notes) : Type 0 where
   pub asked : after.asked ≡ before.asked
   pub added : before.asked ≡ true → IsAdded before.list.items after.list.items
 
@@ -29,7 +29,7 @@ abbrev pub noted_now : Holdings → PlaceSet → Place → Option Bool
 noted_now h set p = if set p then Some (is_held h p) else None
 
 -- the pages of a set were noted behind others, as they are held
-abbrev pub AreAdded : Holdings → PlaceSet → List Note → List Note → Type 0
+abbrev pub AreAdded : Holdings → PlaceSet → List NoteContent → List NoteContent → Type 0
 AreAdded h set old new = (p : Place) → first_note new p ≡ option_or (first_note old p) (noted_now h set p)
 
 -- ---- transfers
@@ -61,7 +61,7 @@ abbrev pub loses_at : Holdings → Rights → PlaceSet
 loses_at h a p = option_map_or (λ m. not (is_empty (meet m.rights a))) (at h p) false
 
 -- of the pages that a strip narrows, those that hold one of the revoked rights were noted behind others
-pub record IsStripNoted (h : Holdings) (set : PlaceSet) (revoked : Rights) (flush : Bool) (old new : List Note) : Type 0 where
+pub record IsStripNoted (h : Holdings) (set : PlaceSet) (revoked : Rights) (flush : Bool) (old new : List NoteContent) : Type 0 where
   pub noted : PlaceSet
   pub added : AreAdded h noted old new
   pub covers : (p : Place) → loses_at h revoked p ≡ true → is_narrowed h set flush p ≡ true → noted p ≡ true
@@ -79,15 +79,15 @@ abbrev pub loses_in : Shards → Rights → PlaceSet
 loses_in s a p = option_map_or (λ e. not (is_empty (meet e.rights a))) (entry_at s p) false
 
 -- a place was noted behind others, if this is so
-abbrev pub IsNotedIf : Bool → Place → List Note → List Note → Type 0
+abbrev pub IsNotedIf : Bool → Place → List NoteContent → List NoteContent → Type 0
 IsNotedIf lost p old new = (q : Place) → first_note new q ≡ option_or (first_note old q) (if same_place q p && lost then Some true else None)
 
 -- the same, if it holds one of the rights
-abbrev pub IsLoserNoted : Shards → Place → Rights → List Note → List Note → Type 0
+abbrev pub IsLoserNoted : Shards → Place → Rights → List NoteContent → List NoteContent → Type 0
 IsLoserNoted s p a old new = IsNotedIf (loses_in s a p) p old new
 
 -- of the places at some positions those that hold one of the rights were noted behind others
-abbrev pub AreLosersNoted : Shards → Origins → ℕ → ℕ → Rights → List Note → List Note → Type 0
+abbrev pub AreLosersNoted : Shards → Origins → ℕ → ℕ → Rights → List NoteContent → List NoteContent → Type 0
 AreLosersNoted s os a b revoked old new = (q : Place) → first_note new q ≡ option_or (first_note old q) (all_held (λ r. in_range os a b r && loses_in s revoked r) q)
 
 -- from which position of a run on its places lose rights
@@ -96,7 +96,7 @@ losing_from true start = start
 losing_from false start = start + 1
 
 -- of the run of a place those that hold one of the rights were noted behind others, the first one with a flush alone
-pub record IsRunNoted (s : Shards) (os : Origins) (p : Place) (a : Rights) (flush : Bool) (old new : List Note) : Type 0 where
+pub record IsRunNoted (s : Shards) (os : Origins) (p : Place) (a : Rights) (flush : Bool) (old new : List NoteContent) : Type 0 where
   pub run : Range ℕ
   pub whole : IsRun os run
   pub some : run.start < run.end

@@ -2,7 +2,7 @@
 use Rattle.std.proofs.Common.{◌≡◌, ◌⊎◌, inl, inr, true, false, Bool, refl, nat_lt, ltb-true, ℕ, ◌+◌, ◌<◌, ◌≤◌, List, [], ◌∷◌, ◌++◌, length, take, drop, get_or, set, sym, ap, ◌∙◌, subst, arith}
 use Rattle.std.proofs.lemmas.Bool.Decides.{nat_tests}
 use Rattle.std.proofs.lemmas.List.{take-append-drop, take_all, take_more, map-append}
-use Rattle.mapdb.specs.Held.{Note}
+use Rattle.mapdb.specs.Held.{NoteContent}
 use Rattle.mapdb.specs.State.{State}
 use Rattle.c_handle.specs.Changed.{change_at, changes_from}
 use Rattle.c_handle.specs.Listed.{IsWritten}
@@ -10,19 +10,15 @@ use Rattle.c_handle.specs.declared.changes.ChangeReply.{ChangeReply}
 use Rattle.c_handle.proofs.Buffers.{written_none, written_more, written_full}
 use Rattle.c_handle.proofs.changes.write_changes.Goals as goal
 
--- what is noted where nothing is
-abbrev none : Note
-none = record { place = record { space = 0; page = 0 }; was_held = false }
-
 -- the pages before one more, and that one
-one_more : (s : State) (notes : List Note) (i : ℕ) (d : Note) → i < length notes → changes_from s (take i notes) ++ change_at s (get_or notes i d).place ∷ [] ≡ changes_from s (take (i + 1) notes)
-one_more s notes i d within = sym (ap (changes_from s) (take_more notes i d within) ∙ map-append (λ (n : Note). change_at s n.place) (take i notes) (get_or notes i d ∷ []))
+one_more : (s : State) (notes : List NoteContent) (i : ℕ) (d : NoteContent) → i < length notes → changes_from s (take i notes) ++ change_at s (get_or notes i d).place ∷ [] ≡ changes_from s (take (i + 1) notes)
+one_more s notes i d within = sym (ap (changes_from s) (take_more notes i d within) ∙ map-append (λ (n : NoteContent). change_at s n.place) (take i notes) (get_or notes i d ∷ []))
 
 -- all pages, where none is left or there is no more room
-all : (s : State) (notes : List Note) (old new : List ChangeReply) (i : ℕ) → IsWritten old (changes_from s (take i notes)) new i → (length notes ≤ i) ⊎ (i ≡ length new) → IsWritten old (changes_from s notes) new i
+all : (s : State) (notes : List NoteContent) (old new : List ChangeReply) (i : ℕ) → IsWritten old (changes_from s (take i notes)) new i → (length notes ≤ i) ⊎ (i ≡ length new) → IsWritten old (changes_from s notes) new i
 all s notes old new i so_far (inl past) = subst (λ ns. IsWritten old (changes_from s ns) new i) (take_all i notes past) so_far
 all s notes old new i so_far (inr full) =
-    subst (λ xs. IsWritten old xs new i) (sym (map-append (λ (n : Note). change_at s n.place) (take i notes) (drop i notes)) ∙ ap (changes_from s) (take-append-drop i notes))
+    subst (λ xs. IsWritten old xs new i) (sym (map-append (λ (n : NoteContent). change_at s n.place) (take i notes) (drop i notes)) ∙ ap (changes_from s) (take-append-drop i notes))
     (written_full so_far full (changes_from s (drop i notes)))
 
 pub loop-i-init : goal.loop-i-init
@@ -35,7 +31,7 @@ loop-i-preserved c =
     let i = c.loop-i.i in
     let room : i < length c.loop-i.changes = omega (arith, c.loop-i-test.true, c.min-count.ensures, c.loop-i.auto.changes) in
     let within : i < length notes = omega (arith, c.loop-i-test.true, c.min-count.ensures) in
-    subst (λ xs. IsWritten c.args.changes.now xs (set c.loop-i.changes i c.change_at.result) (i + 1)) (ap (λ x. changes_from s (take i notes) ++ x ∷ []) c.change_at.ensures ∙ one_more s notes i none within)
+    subst (λ xs. IsWritten c.args.changes.now xs (set c.loop-i.changes i c.change_at.result) (i + 1)) (ap (λ x. changes_from s (take i notes) ++ x ∷ []) (c.change_at.ensures ∙ ap (change_at s) (c.place.ensures ∙ ap (λ (n : NoteContent). n.place) c.index-notes-i.is)) ∙ one_more s notes i c.index-notes-i.result within)
     (written_more c.loop-i.invariant room c.change_at.result)
 
 pub returns : goal.returns

@@ -1,8 +1,5 @@
 -- A database that is not halted refuses nothing.
-use Rattle.std.proofs.Common.{◌≡◌, ◌-◌, ◌^◌, ◌≤◌, Err, true, ap, arith, pow_mono}
-use Rattle.space.specs.Directory.{pages_of}
-use Rattle.model.specs.Definitions.Calls.{Limits}
-use Rattle.model.specs.Definitions.Records.{are_limits}
+use Rattle.std.proofs.Common.{Err, ap}
 use Rattle.c_handle.proofs.Served.{few}
 use Rattle.c_handle.proofs.mappings.next_page.Goals as goal
 

@@ -1,13 +1,12 @@
 -- Mapping after mapping below the page, until the buffer is full.
-use Rattle.std.proofs.Common.{◌≡◌, ◌≤◌, ◌<◌, ◌+◌, ◌++◌, List, [], ◌∷◌, length, sym, ap, ◌∙◌, subst, arith, append_assoc, append-nil, length-append}
+use Rattle.std.proofs.Common.{◌≡◌, ◌+◌, ◌++◌, List, [], ◌∷◌, length, sym, ap, ◌∙◌, subst, arith, append_assoc, append-nil, length-append}
 use Rattle.space.specs.Directory.{pages_of}
 use Rattle.space.specs.declared.place.Place.{Place}
 use Rattle.model.specs.Definitions.Derived.{is_below}
 use Rattle.model.specs.Definitions.Holdings.{only}
 use Rattle.mapdb.specs.Held.{held_below, IsNextBelow, IsWithin}
 use Rattle.mapdb.specs.State.{State}
-use Rattle.c_handle.specs.Listed.{mappings_at, mappings_of, IsWritten}
-use Rattle.c_handle.specs.declared.mappings.Listing.TheVariants.{Below}
+use Rattle.c_handle.specs.Listed.{mappings_at, IsWritten}
 use Rattle.c_handle.specs.declared.mappings.MappingReply.{MappingReply}
 use Rattle.c_handle.proofs.Buffers.{written_none, writes_none, writes_both, writes_full}
 use Rattle.c_handle.proofs.Found.{behind}

@@ -1,15 +1,14 @@
 -- The first record asks for what was answered; accesses are answered as one after another.
-use Rattle.std.proofs.Common.{rules, ◌≡◌, ◌∙◌, sym, ap, Ok, Some}
+use Rattle.std.proofs.Common.{rules, ◌≡◌, ◌∙◌, ap, Ok, Some}
 use Rattle.fpage.specs.declared.rights.Access.{Access}
 use Rattle.space.specs.declared.place.Place.{Place}
-use Rattle.mapdb.specs.Calls.{reply_of}
 use Rattle.mapdb.specs.Held.{access_answers, touched_all}
 use Rattle.mapdb.specs.State.{State}
 use Rattle.mapdb.specs.declared.call.Call.TheVariants.{Access as CallAccess}
 use Rattle.trace.specs.Meaning.{request_of}
 use Rattle.trace.specs.Unread.{Unread}
 use Rattle.replay.specs.Steps.{asked}
-use Rattle.replay.proofs.Answering.{accesses_are_told, first_answered, one_answered}
+use Rattle.replay.proofs.Answering.{accesses_are_told, first_answered}
 use Rattle.replay.proofs.answer.answer_first.Goals as goal
 
 pub returns-in_ok-answers-in-Ok-Access-clause-within : goal.returns-in_ok-answers-in-Ok-Access-clause-within

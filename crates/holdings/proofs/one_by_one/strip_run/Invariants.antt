@@ -4,7 +4,7 @@ use Rattle.holdings.specs.Inner.Held.{links_in}
 use Rattle.holdings.specs.Inner.Notes.{AreLosersNoted, NotesAdd, losing_from}
 use Rattle.holdings.proofs.Stripping.Walks.{IsWalked, stands_at}
 use Rattle.holdings.proofs.Stripping.LeftOfRuns.{IsSeen}
-use Rattle.holdings.proofs.one_by_one.walk.Given as goal
+use Rattle.holdings.proofs.one_by_one.strip_run.Given as goal
 
 abbrev pub invariant-loop-from : goal.invariant-loop-from
 invariant-loop-from l = record {

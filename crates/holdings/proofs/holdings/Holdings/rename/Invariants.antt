@@ -4,10 +4,10 @@ use Rattle.space.specs.Shards.{HasWord}
 use Rattle.holdings.specs.Meaning.{counts_of}
 use Rattle.holdings.specs.declared.transfer.Transfer.{Transfer}
 use Rattle.holdings.proofs.Renamings.MovingWords.{AreMoving}
-use Rattle.holdings.proofs.holdings.Holdings.rename_alone.Given as goal
+use Rattle.holdings.proofs.holdings.Holdings.rename.Given as goal
 
 abbrev pub invariant-loop-transfer : goal.invariant-loop-transfer
-invariant-loop-transfer l = record {
+invariant-loop-transfer g l = record {
   moving : AreMoving l.fn.self.limits l.fn.self.holdings l.initial.shards l.transfers l.transfer-index l.shards (counts_of l.worked);
   there : (k : ℕ) (d : Transfer) → k < length l.transfers → HasWord l.shards (get_or l.transfers k d).target;
 }

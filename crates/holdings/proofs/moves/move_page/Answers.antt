@@ -4,7 +4,7 @@ use Rattle.std.proofs.lemmas.Option.{same_Some}
 use Rattle.holdings.specs.Meaning.{counts_of}
 use Rattle.holdings.specs.Inner.Renamings.{IsPageMoved}
 use Rattle.holdings.proofs.Renamings.MovingWords.{page_moved}
-use Rattle.holdings.proofs.move_alone.move_page.Goals as goal
+use Rattle.holdings.proofs.moves.move_page.Goals as goal
 
 pub returns-clause-moved : goal.returns-clause-moved
 returns-clause-moved c = λ e is.
