@@ -19,10 +19,7 @@ pub fn push_view<V: Watch>(
     view: &View,
     watch: &mut V,
 ) -> Result<(), ShowError> {
-    let moment = moment_at(alloc, bytes, view.at.unwrap_or(u64::MAX), watch)?;
-    check_view(&moment, view)?;
-    let mut heading = String::new(alloc);
-    push_heading(alloc, &mut heading, name, bytes, &moment)?;
+    let (moment, mut heading) = headed_moment(alloc, name, bytes, view, watch)?;
     push_last_reply(alloc, &mut heading, bytes, &moment)?;
     if let Some(space) = view.space {
         let before = chosen(alloc, &moment.before, view.frame, view.space)?;
@@ -44,10 +41,7 @@ pub fn push_tree<V: Watch>(
     view: &View,
     watch: &mut V,
 ) -> Result<(), ShowError> {
-    let moment = moment_at(alloc, bytes, view.at.unwrap_or(u64::MAX), watch)?;
-    check_view(&moment, view)?;
-    let mut heading = String::new(alloc);
-    push_heading(alloc, &mut heading, name, bytes, &moment)?;
+    let (moment, heading) = headed_moment(alloc, name, bytes, view, watch)?;
     push_drawing(alloc, text, heading.as_str(), &moment, view)?;
     Ok(())
 }
@@ -77,6 +71,21 @@ pub fn push_changed_trees<V: Watch>(
         &view,
     )?;
     Ok(())
+}
+
+/// The moment that a view of a trace with this name is of, if it can be shown, and its heading.
+fn headed_moment<V: Watch>(
+    alloc: Global,
+    name: &str,
+    bytes: &[u8],
+    view: &View,
+    watch: &mut V,
+) -> Result<(Moment, String), ShowError> {
+    let moment = moment_at(alloc, bytes, view.at.unwrap_or(u64::MAX), watch)?;
+    check_view(&moment, view)?;
+    let mut heading = String::new(alloc);
+    push_heading(alloc, &mut heading, name, bytes, &moment)?;
+    Ok((moment, heading))
 }
 
 /// Appends after which record something is shown.

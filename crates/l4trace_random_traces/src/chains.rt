@@ -84,14 +84,7 @@ impl Traces {
             let other = self.right_of(Rights::all().without(has));
             rights = rights.join(other);
         }
-        self.beliefs.narrow(
-            slot,
-            Taking {
-                rights,
-                flush: false,
-            },
-        );
-        self.unmap_slot(slot, rights)
+        self.revoke_slot(slot, rights)
     }
 
     /// Makes the next record about a place that derives from another of its space: an access, an unmap of both, and

@@ -1,6 +1,6 @@
 //! Episodes by which pages go with others: back to where one of them came from, or out of a space that holds both.
 
-use crate::beliefs::{Place, Taking};
+use crate::beliefs::Place;
 use crate::changes::Sending;
 use crate::items::Sizes;
 use crate::record_parts::size_of_both;
@@ -156,14 +156,7 @@ impl Traces {
         self.asked = Some(knot);
         self.revoked = rights;
         self.begin_look(self.place(inner), rights);
-        self.beliefs.narrow(
-            knot,
-            Taking {
-                rights,
-                flush: false,
-            },
-        );
-        self.unmap_slot(knot, rights)
+        self.revoke_slot(knot, rights)
     }
 
     /// The place that derives directly from a slot, in its space.

@@ -1,6 +1,6 @@
 //! The words of records, and records of one word.
 
-use crate::beliefs::{Block, Place};
+use crate::beliefs::{Block, Place, Taking};
 use crate::traces::{LARGEST, Traces, pages_of};
 use fpage::Rights;
 use std::alloc::AllocError;
@@ -100,5 +100,15 @@ impl Traces {
     pub fn unmap_slot(&mut self, slot: u8, rights: Rights) -> Result<(), AllocError> {
         let place = self.place(slot);
         self.unmap_of(Block { place, size: 0 }, rights)
+    }
+
+    /// Makes an unmap of the page of a slot, without flush, and believes that what derives from it loses the rights.
+    pub fn revoke_slot(&mut self, slot: u8, rights: Rights) -> Result<(), AllocError> {
+        let taking = Taking {
+            rights,
+            flush: false,
+        };
+        self.beliefs.narrow(slot, taking);
+        self.unmap_slot(slot, rights)
     }
 }

@@ -249,14 +249,7 @@ impl Traces {
         });
         self.asked = Some(slot);
         self.revoked = rights;
-        self.beliefs.narrow(
-            slot,
-            Taking {
-                rights,
-                flush: false,
-            },
-        );
-        self.unmap_slot(slot, rights)
+        self.revoke_slot(slot, rights)
     }
 
     /// Makes an unmap that asks the slot of the episode for its status.
