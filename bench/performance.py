@@ -209,17 +209,14 @@ def head(*cells):
 
 def compare(bench):
     """The first table: both programs on each trace."""
-    head(
-        "Trace", "l4map ms", "least", "plain ms", "least", "times", "aim", "l4map MiB", "at most", "plain MiB",
-    )  # fmt: skip
+    head("Trace", "l4map ms", "plain ms", "times", "aim", "l4map MiB", "at most", "plain MiB")
     for it in compared():
         progress(it.name)
         trace = bench.trace(it.records, it.header)
         ours, plain = bench.in_turn(trace)
         allowed = os.path.getsize(trace) + it.a_mapping * it.mappings + AN_ACCESS * it.accesses_in_a_row + BESIDE
-        times = f"{median(ours):,.1f}", f"{least(ours):,.1f}", f"{median(plain):,.1f}", f"{least(plain):,.1f}"
-        ratio = f"{median(ours) / median(plain):.2f}", f"{it.aim:g}"
-        row(it.name, *times, *ratio, mib(peak(ours)), mib(allowed / 1024), mib(peak(plain)))
+        times = f"{median(ours):,.1f}", f"{median(plain):,.1f}", f"{median(ours) / median(plain):.2f}", f"{it.aim:g}"
+        row(it.name, *times, mib(peak(ours)), mib(allowed / 1024), mib(peak(plain)))
 
 
 def mib(kib):
