@@ -52,8 +52,8 @@ FUNCTIONS = 12  # that a profile tells
 # What l4map may take beside the text of its trace: bytes a mapping, bytes an access of a run of accesses, and bytes at
 # all.
 A_MAPPING, AN_ACCESS, BESIDE = 64, 32, 8 << 20
-# A mapping that has a shard of 64 words to itself, and a leaf of the directory; and what the audit takes for its words.
-A_SPARSE_MAPPING = A_MAPPING + 512 + 512 + 64 * 12
+# A mapping that has a shard of 64 words to itself, with a leaf and a branch of the directory.
+A_SPARSE_MAPPING = A_MAPPING + 512 + 64 + 64
 A_ROOT = 32  # a page that a frame has at the start, where there are many
 A_CALL = 65_536  # accesses that are one call at most
 
@@ -355,10 +355,10 @@ def few_held():
     return [send(0, 1, frame, frame * 104_857) for frame in range(10)]
 
 
-def thinly_held():
-    """A page at 1,000 places of 511 large spaces."""
+def thinly_held(count):
+    """A page at so many places of 511 large spaces."""
     chance = random.Random(11)
-    return [send(0, chance.randrange(1, 512), 0, chance.randrange(LARGE_PAGES)) for _ in range(1_000)]
+    return [send(0, chance.randrange(1, 512), 0, chance.randrange(LARGE_PAGES)) for _ in range(count)]
 
 
 def large_spaces(bench):
@@ -377,9 +377,11 @@ def large_spaces(bench):
     for name, record in (("31 items", "send,1,2,10" + 31 * ",8,17"), ("64 words", "unmap,1,3f" + 64 * ",10")):
         whole = taken(FEW_PAGES, [*few_held(), *1_000 * [record]])[0]
         row(f"a record of {name}, each a whole space of which 10 pages are held", f"{whole - start:,.1f} us", "50 us")
-    audited, audited_peak = taken("l4map,1,512,32,1", thinly_held())
+    audited, audited_peak = taken("l4map,1,512,32,1", thinly_held(1_000))
     row("1,000 mappings over 511 spaces, made and audited", f"{audited - large:,.2f} ms", "2 ms")
-    row("bytes a mapping of these", f"{(audited_peak - large_peak) * 1024 / 1_000:,.0f}", f"{A_SPARSE_MAPPING:,}")
+    row("bytes a mapping of these", f"{(audited_peak - large_peak) * 1024 / 1_000:,.0f}", "")
+    more = taken("l4map,1,512,32,1", thinly_held(4_000))[1] - audited_peak
+    row("bytes a mapping of 3,000 more", f"{more * 1024 / 3_000:,.0f}", f"{A_SPARSE_MAPPING:,}")
     for count in (1, 4, 64):
         progress(f"dense, {count} workers")
         words, trace = [bench.ours[0], "--workers", str(count)], bench.trace(dense(), DENSE)

@@ -63,6 +63,10 @@ RUNS = [
 ]
 
 
+# How many rounds of refusals a trace may take whose calls start threads.
+ROUNDS = 4
+
+
 class Replay(NamedTuple):
     """A trace with its options, the lines of its whole answer, whether its calls start threads, and what it is refused
     in turn."""
@@ -139,8 +143,12 @@ def wanting(replay, what, runs):
 
 def check_refusing(program, library, replay, what, and_rest, extent):
     """The cases of all runs of a trace in which allocations, or threads, are refused in turn."""
-    words = [program, *replay.options]
-    runs = list(runs_refusing(words, replay.trace, library, what, and_rest))
+    words, runs = [program, *replay.options], []
+    # Several workers ask for more in one run than in another, so that a run may miss what is asked for last.
+    for _ in range(ROUNDS if replay.starts_threads else 1):
+        runs += runs_refusing(words, replay.trace, library, what, and_rest)
+        if not wanting(replay, what, runs):
+            break
     found = [(f"{replay.name}: {what} {it.at} {extent} is refused", fault_of_refused(what, replay.lines, it.got)) for it in runs]
     return found + [(f"{replay.name}: {what}s, {extent}, are refused in turn", wanting(replay, what, runs))]
 

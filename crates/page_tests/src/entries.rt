@@ -180,6 +180,50 @@ fn the_next_shard_is_found_from_any_page(rt: HostRuntime) -> Result<(), Fail> {
     Ok(())
 }
 
+#[test]
+fn shards_of_one_leaf_of_one_branch_and_of_two_are_found(rt: HostRuntime) -> Result<(), Fail> {
+    // Pages, and the first page from there on whose shard is there.
+    let rows = [
+        (0, 192),
+        (256, 320),
+        (384, 2_560),
+        (2_624, 19_200),
+        (19_264, 1_048_576),
+    ];
+    let shards = four_shards_of_space_1(rt.alloc())?;
+    for (page, found) in rows {
+        assert_equal(&rt, next_from(&shards, 1, page, 1_048_576), found, page);
+    }
+    Ok(())
+}
+
+/// Three spaces, of which the second has four shards: two of one leaf, one of another leaf of the same branch, and one
+/// of another branch.
+fn four_shards_of_space_1(alloc: Global) -> Result<Shards, NoMemory>
+    ensures { IfOk result (λ shards. IsFalse (is_taken shards)) }
+{
+    let mut shards = Shards::new(alloc, 3, BITS)?;
+    shards.make(&[
+        Place {
+            space: 1,
+            page: 19_200,
+        },
+        Place {
+            space: 1,
+            page: 320,
+        },
+        Place {
+            space: 1,
+            page: 2_560,
+        },
+        Place {
+            space: 1,
+            page: 192,
+        },
+    ])?;
+    Ok(shards)
+}
+
 /// Three spaces, of which the second has the shards of its pages 70,017 and 1,048,575, and the third that of page 5.
 fn two_shards_of_space_1(alloc: Global) -> Result<Shards, NoMemory>
     ensures { IfOk result (λ shards. IsFalse (is_taken shards)) }

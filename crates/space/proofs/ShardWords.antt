@@ -22,7 +22,7 @@ use Rattle.space.specs.Shards.{IsPlace, HasWord, index_of, word_count, words_of,
 use Rattle.space.specs.ShardLaws.{HeldHaveWords, WordsAreTheirOwn, EntriesFit, AreAllWords, IsWithWords, ShardsHaveWords, WordsHaveShards}
 use Rattle.space.proofs.Words.{pack_gives_back, unpack_gives_back, unpacked_fits}
 use Rattle.space.proofs.Directories.{shard_found, same_shard, shard_in_space, same_parts, pages_are, few_pages}
-use Rattle.space.proofs.Leaves.{within_or_past, few_there, same_or_not}
+use Rattle.space.proofs.Leaves.{within_or_past, same_or_not, apart_in, below_in, few_there_in, found_in}
 
 -- the shard of a place is one that the directory can have
 pub shard_can : (s : Shards) (p : Place) → IsPlace s p → shard_of s.bits p < most_of s.directory
@@ -36,7 +36,7 @@ words_are_their_own s p q p_place q_place has same =
     let position : at_p ≡ at_q = omega (arith, same) in
     let offset : offset_of p ≡ offset_of q = omega (arith, same, position) in
     let there : at_p < count_of d = omega (arith, has) in
-    same_shard s.bits s.limits.low p q p_place.page q_place.page (d.found.apart (shard_of s.bits p) (shard_of s.bits q) there position) offset
+    same_shard s.bits s.limits.low p q p_place.page q_place.page (apart_in d (shard_of s.bits p) (shard_of s.bits q) there position) offset
 
 pub entries_fit : EntriesFit
 entries_fit s p = unpacked_fits _
@@ -45,7 +45,7 @@ entries_fit s p = unpacked_fits _
 pub nowhere_unless : (s : Shards) (p : Place) → (HasWord s p → ⊥) → position_in s.directory (shard_of s.bits p) ≡ nowhere
 nowhere_unless s p away = elim (same_or_not (position_in s.directory (shard_of s.bits p)) nowhere) as (λ _. position_in s.directory (shard_of s.bits p) ≡ nowhere) [
   | inl same ↦ same
-  | inr differ ↦ let there = s.directory.found.placed (shard_of s.bits p) differ in absurd (away (omega (arith, there)))
+  | inr differ ↦ let there = below_in s.directory (shard_of s.bits p) differ in absurd (away (omega (arith, there)))
 ]
 
 read_zeros : (n i : ℕ) → slice_index (replicate n 0) i ≡ 0
@@ -173,9 +173,9 @@ module _ (s : Shards) (words : Vec ℕ Global) (held : s.words ≡ Some words) (
         let parts = same_parts s.bits s.limits.low place p is_place.page is_p.page (sym same) in
         inr (λ i. eq-eqb place.space p.space parts.0 i && eq-eqb (place.page / 64) (p.page / 64) parts.1 i)
     | inr differ ↦
-        let apart : position_in d (shard_of s.bits p) ≡ count_of s.directory → ⊥ =
-        λ at. differ (d.found.apart (shard_of s.bits p) (shard_of s.bits place) (omega (arith, has)) (at ∙ sym added.there)) in
-        inl (omega (arith, same_index p differ, has, added.count, apart))
+        let not_there : position_in d (shard_of s.bits p) ≡ count_of s.directory → ⊥ =
+        λ at. differ (apart_in d (shard_of s.bits p) (shard_of s.bits place) (omega (arith, has)) (at ∙ sym added.there)) in
+        inl (omega (arith, same_index p differ, has, added.count, not_there))
   ]
 
 -- ---- the pages of a shard
@@ -255,7 +255,7 @@ module _ (s : Shards) (place : Place) (is_place : IsPlace s place) where
     page_skipped skipped p same after below has =
         let spaces : p.space * shards_in ≡ before = ap (λ n. n * shards_in) same in
         let away = skipped (shard_of s.bits p) (omega (arith, spaces, after)) (omega (arith, spaces, below, from)) in
-        absurd (omega (arith, has, away, few_there s.directory.most s.directory.count s.directory.leaves.items s.directory.positions.items s.directory.found, s.directory.found.few))
+        absurd (omega (arith, has, away, few_there_in s.directory, (found_in s.directory).few))
 
     pub page_absent : ((k : ℕ) → shard_of s.bits place ≤ k → k < found → position_in s.directory k ≡ nowhere)
         → (p : Place) → p.space ≡ place.space → place.page ≤ p.page → p.page < (found - before) * 64 → entry_at s p ≡ None

@@ -1,56 +1,93 @@
--- Where shards stand, as leaves of 128 positions tell it.
-use Rattle.std.specs.Prelude.{◌≡◌, ℕ, ◌+◌, ◌-◌, ◌*◌, ◌/◌, ◌%◌, ◌^◌, ◌<◌, ◌≤◌, ◌==◌, Bool, not, nat_lt, zero, suc, if◌then◌else◌, List, length, slice_index}
+-- Where shards stand, as branches of sixteen leaves and leaves of sixteen positions tell it.
+use Rattle.std.specs.Prelude.{◌≡◌, ℕ, ◌+◌, ◌-◌, ◌*◌, ◌/◌, ◌%◌, ◌^◌, ◌<◌, ◌≤◌, ◌==◌, Bool, not, nat_lt, zero, suc, if◌then◌else◌, IsTrue, List, length, slice_index}
 use Rattle.std.specs.Int.{div_ceil}
 
 -- the position of what is not there
 abbrev pub nowhere : ℕ
 nowhere = 2 ^ 32 - 1
 
--- the leaf of a run of 128 shards
-abbrev pub leaf_at : List ℕ → ℕ → ℕ
-leaf_at leaves run = slice_index leaves run
+-- where among numbers in blocks of sixteen that of a key stands, if each run of sixteen keys has such a block
+abbrev pub slot_in : (ℕ → ℕ) → ℕ → ℕ
+slot_in block key = block (key / 16) * 16 + key % 16
 
--- where among the positions that of a shard stands
-abbrev pub slot_of : List ℕ → ℕ → ℕ
-slot_of leaves shard = leaf_at leaves (shard / 128) * 128 + shard % 128
+-- the number of a key
+abbrev pub number_at : (ℕ → ℕ) → List ℕ → ℕ → ℕ
+number_at block numbers key = slice_index numbers (slot_in block key)
+
+-- the branch of a run of 256 shards
+abbrev pub branch_at : List ℕ → ℕ → ℕ
+branch_at branches run = slice_index branches run
+
+-- the leaf of a run of 16 shards
+abbrev pub leaf_at : List ℕ → List ℕ → ℕ → ℕ
+leaf_at branches leaves run = number_at (branch_at branches) leaves run
 
 -- the position of a shard
-abbrev pub position_at : List ℕ → List ℕ → ℕ → ℕ
-position_at leaves positions shard = slice_index positions (slot_of leaves shard)
+abbrev pub position_at : List ℕ → List ℕ → List ℕ → ℕ → ℕ
+position_at branches leaves positions shard = number_at (leaf_at branches leaves) positions shard
 
 -- how many numbers below one pass
 abbrev pub count_up : (ℕ → Bool) → ℕ → ℕ
 count_up f zero = 0
 count_up f (suc n) = (if f n then 1 else 0) + count_up f n
 
--- whether a run has a leaf of its own
-abbrev pub has_leaf : List ℕ → ℕ → Bool
-has_leaf leaves run = nat_lt 0 (leaf_at leaves run)
+-- whether a run has a block of its own
+abbrev pub has_block : (ℕ → ℕ) → ℕ → Bool
+has_block block run = nat_lt 0 (block run)
 
 -- whether a shard is there
-abbrev pub is_there : List ℕ → List ℕ → ℕ → Bool
-is_there leaves positions shard = not (position_at leaves positions shard == nowhere)
+abbrev pub is_there : List ℕ → List ℕ → List ℕ → ℕ → Bool
+is_there branches leaves positions shard = not (position_at branches leaves positions shard == nowhere)
+
+-- zeros, and behind them so many numbers in their order, from 1 on
+pub record AreNumbers (zeros count : ℕ) (numbers : List ℕ) : Type 0 where
+  pub how_many : length numbers ≡ zeros + count
+  pub none : (k : ℕ) → k < zeros → slice_index numbers k ≡ 0
+  pub order : (k : ℕ) → k < count → slice_index numbers (zeros + k) ≡ k + 1
 
 -- each run has a leaf of its own, in the order of the runs, behind the first leaf
-abbrev pub AreInOrder : List ℕ → Type 0
-AreInOrder leaves = (run : ℕ) → run < length leaves → leaf_at leaves run ≡ run + 1
+abbrev pub AreInOrder : List ℕ → List ℕ → Type 0
+AreInOrder branches leaves = (run : ℕ) → run < length branches * 16 → leaf_at branches leaves run ≡ run + 1
 
--- leaves of 128 positions each, the first of which is empty; each run has that one or one of its own; and shards that
--- are there have each a position of its own, below their number
-pub record IsDirectory (most count : ℕ) (leaves positions : List ℕ) : Type 0 where
+-- blocks of sixteen numbers each, the first of which is empty; each of so many runs has that one or one of its own
+pub record AreBlocks (absent runs : ℕ) (block : ℕ → ℕ) (numbers : List ℕ) : Type 0 where
+  pub past : (run : ℕ) → runs ≤ run → block run ≡ 0
+  pub how_many : length numbers ≡ (count_up (has_block block) runs + 1) * 16
+  pub within : (run : ℕ) → block run * 16 + 16 ≤ length numbers
+  pub own : (i j : ℕ) → 0 < block i → block i ≡ block j → i ≡ j
+  pub empty : (slot : ℕ) → slot < 16 → slice_index numbers slot ≡ absent
+
+-- the leaves of branches, and the positions of leaves
+pub data AreLaid (branches leaves positions : List ℕ) : Type 0 where
+  laid : AreBlocks 0 (length branches) (branch_at branches) leaves → AreBlocks nowhere (length branches * 16) (leaf_at branches leaves) positions → AreLaid branches leaves positions
+
+-- shards that are there have each a position of its own, below their number
+pub data ArePlaced (most count : ℕ) (branches leaves positions : List ℕ) : Type 0 where
+  placed : count ≡ count_up (is_there branches leaves positions) most
+      → ((shard : ℕ) → (position_at branches leaves positions shard ≡ nowhere → ⊥) → position_at branches leaves positions shard < count)
+      → ((j k : ℕ) → position_at branches leaves positions j < count → position_at branches leaves positions j ≡ position_at branches leaves positions k → j ≡ k)
+      → ArePlaced most count branches leaves positions
+
+-- branches with leaves, leaves with positions, and shards at these
+pub record IsDirectory (most count : ℕ) (branches leaves positions : List ℕ) : Type 0 where
   pub few : most ≤ 2 ^ 23
-  pub runs : length leaves ≡ div_ceil most 128
-  pub leaf_count : length positions ≡ (count_up (has_leaf leaves) (length leaves) + 1) * 128
-  pub within : (run : ℕ) → leaf_at leaves run * 128 + 128 ≤ length positions
-  pub own : (i j : ℕ) → 0 < leaf_at leaves i → leaf_at leaves i ≡ leaf_at leaves j → i ≡ j
-  pub empty : (slot : ℕ) → slot < 128 → slice_index positions slot ≡ nowhere
-  pub shard_count : count ≡ count_up (is_there leaves positions) most
-  pub placed : (shard : ℕ) → (position_at leaves positions shard ≡ nowhere → ⊥) → position_at leaves positions shard < count
-  pub apart : (j k : ℕ) → position_at leaves positions j < count → position_at leaves positions j ≡ position_at leaves positions k → j ≡ k
+  pub runs : length branches ≡ div_ceil most 256
+  pub are_laid : AreLaid branches leaves positions
+  pub are_placed : ArePlaced most count branches leaves positions
 
 -- each shard that is there is not before the first of its run, and before the end
-pub record AreSpans (leaves positions firsts ends : List ℕ) : Type 0 where
-  pub firsts_count : length firsts ≡ length leaves
-  pub ends_count : length ends ≡ length leaves
-  pub from_first : (shard : ℕ) → (position_at leaves positions shard ≡ nowhere → ⊥) → slice_index firsts (shard / 128) ≤ shard % 128
-  pub to_end : (shard : ℕ) → (position_at leaves positions shard ≡ nowhere → ⊥) → shard % 128 < slice_index ends (shard / 128)
+pub record AreSpans (branches leaves positions spans : List ℕ) : Type 0 where
+  pub how_many : length spans ≡ length branches
+  pub from_first : (shard : ℕ) → (position_at branches leaves positions shard ≡ nowhere → ⊥) → slice_index spans (shard / 256) % 256 ≤ shard % 256
+  pub to_end : (shard : ℕ) → (position_at branches leaves positions shard ≡ nowhere → ⊥) → shard % 256 < slice_index spans (shard / 256) / 256
+
+-- the same, closed: who has a directory need not look into it
+
+abbrev pub IsFound : ℕ → ℕ → List ℕ → List ℕ → List ℕ → Type 0
+IsFound most count branches leaves positions = ∥ IsDirectory most count branches leaves positions ∥₁
+
+abbrev pub HaveSpans : List ℕ → List ℕ → List ℕ → List ℕ → Type 0
+HaveSpans branches leaves positions spans = ∥ AreSpans branches leaves positions spans ∥₁
+
+abbrev pub IsDense : Bool → List ℕ → List ℕ → Type 0
+IsDense is_dense branches leaves = ∥ (IsTrue is_dense → AreInOrder branches leaves) ∥₁

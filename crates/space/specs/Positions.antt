@@ -15,13 +15,17 @@ most_of d = d.most
 abbrev pub count_of : Directory → ℕ
 count_of d = d.count
 
--- the leaf of a run of 128 shards
+-- the branch of a run of 256 shards
+abbrev pub branch_in : Directory → ℕ → ℕ
+branch_in d run = leaves.branch_at d.branches.items run
+
+-- the leaf of a run of 16 shards
 abbrev pub leaf_in : Directory → ℕ → ℕ
-leaf_in d run = leaves.leaf_at d.leaves.items run
+leaf_in d run = leaves.leaf_at d.branches.items d.leaves.items run
 
 -- the position of a shard
-abbrev pub position_in : Directory → ℕ → ℕ
-position_in d shard = leaves.position_at d.leaves.items d.positions.items shard
+unfoldable pub position_in : Directory → ℕ → ℕ
+position_in d shard = leaves.position_at d.branches.items d.leaves.items d.positions.items shard
 
 -- each shard is where it was
 pub record IsSame (old new : Directory) : Type 0 where

@@ -1,18 +1,21 @@
 //! Where the words of each shard stand.
 
-ghost use Rattle.std.specs.Prelude.{◌≡◌, ◌+◌, ◌≤◌, ◌^◌, true, length, IsTrue, IfOk, ℕ, ◌<◌, slice_index};
-ghost use Rattle.space.specs.Leaves.{nowhere, IsDirectory, AreInOrder, AreSpans};
+ghost use Rattle.std.specs.Prelude.{◌≡◌, ◌+◌, ◌/◌, ◌%◌, ◌≤◌, ◌^◌, true, length, IsTrue, IfOk, ℕ, ◌<◌, slice_index};
+ghost use Rattle.space.specs.Leaves.{nowhere, IsFound, IsDense, AreNumbers, HaveSpans};
 
 use std::alloc::{AllocError, Global};
 
 /// How many shards one leaf finds.
-const LEAF_SHARDS: usize = 128;
+const LEAF_SHARDS: usize = 16;
 
-/// The last shard of a leaf, within it.
-const LAST_OF_LEAF: u8 = 127;
+/// How many leaves one branch finds.
+const BRANCH_LEAVES: usize = 16;
 
-/// With so many shards at most each run of them has its leaf from the start: 128 KiB. Then a position is found without
-/// a look at the leaves.
+/// How many shards the leaves of one branch find.
+const BRANCH_SHARDS: usize = 256;
+
+/// With so many shards at most all branches and leaves are there from the start: 137 KiB. Then a position is found
+/// without a look at them.
 const DENSE_SHARDS: u32 = 1 << 15;
 
 /// Stands for the position of a shard that is not there.
@@ -20,32 +23,34 @@ const NOWHERE: u32 = u32::MAX;
 
 /// Where the words of each shard stand, counted in shards. A shard gets its position when it is added: the next one.
 ///
-/// Positions stand in leaves of 128 shards each. A leaf is made with the first of its shards; until then the empty leaf
-/// stands for it, which comes first and in which no shard is there.
+/// Positions stand in leaves of 16 shards each, and branches of 16 leaves each tell which leaf it is. Both are made with
+/// the first of their shards; until then the empty branch and the empty leaf stand for them, which come first and in which
+/// no shard is there.
 #[derive(Drop)]
 pub struct Directory {
     /// How many shards there can be, by number.
     most: u32,
     /// How many are there.
     count: u32,
-    /// Whether each run of 128 shards has its leaf, and the leaves stand in the order of the runs.
+    /// Whether each run of 16 shards has its leaf, and the leaves stand in the order of the runs.
     is_dense: bool,
-    /// Which leaf finds the shards of each run of 128.
+    /// Which branch finds the shards of each run of 256.
+    branches: Vec<u32>,
+    /// Which leaf finds the shards of each run of 16 of a branch, branch behind branch.
     leaves: Vec<u32>,
     /// The positions of the shards of each leaf, leaf behind leaf.
     positions: Vec<u32>,
-    /// Of the shards of each run of 128 that are there, within the run: the first, and the end of the last; 127 and 0
+    /// Of the shards of each run of 256 that are there, within the run: the first, and 256 times the end of the last; 0
     /// where none is.
-    firsts: Vec<u8>,
-    ends: Vec<u8>,
-    ghost found: { IsDirectory most count leaves.items positions.items },
-    ghost spans: { AreSpans leaves.items positions.items firsts.items ends.items },
-    ghost dense: { IsTrue is_dense → AreInOrder leaves.items },
+    spans: Vec<u32>,
+    ghost found: { IsFound most count branches.items leaves.items positions.items },
+    ghost within: { HaveSpans branches.items leaves.items positions.items spans.items },
+    ghost dense: { IsDense is_dense branches.items leaves.items },
 }
 
 impl Directory {
     ghost use Rattle.std.specs.Prelude.{◌≡◌, ℕ, ◌+◌, ◌*◌, ◌/◌, ◌<◌, ◌≤◌, ◌^◌, length, slice_index, IfOk, OnOk, OnErr, IsTrue, ◌↔◌};
-    ghost use Rattle.space.specs.Positions.{most_of, count_of, position_in, leaf_in, IsAdded, IsSame};
+    ghost use Rattle.space.specs.Positions.{most_of, count_of, position_in, branch_in, leaf_in, IsAdded, IsSame};
 
     /// A directory of so many shards, none of which is there.
     ///
@@ -64,48 +69,50 @@ impl Directory {
     }
 
     /// The same, with a leaf for each run.
+    #[tactic(auto, unfolding(crate::specs::Positions::position_in))]
     fn dense(alloc: Global, most: u32) -> Result<Self, AllocError>
         requires few { most ≤ 2 ^ 15 }
         ensures most { IfOk result (λ d. most_of d ≡ most) }
         ensures count { IfOk result (λ d. count_of d ≡ 0) }
         ensures none { IfOk result (λ d. (shard : ℕ) → position_in d shard ≡ nowhere) }
     {
-        let runs = (most as usize).div_ceil(LEAF_SHARDS);
-        let leaves = leaves_in_order(alloc, runs)?;
-        let positions = vec![in alloc; NOWHERE; (runs + 1) * LEAF_SHARDS]?;
-        let firsts = vec![in alloc; LAST_OF_LEAF; runs]?;
-        let ends = vec![in alloc; 0; runs]?;
+        let runs = (most as usize).div_ceil(BRANCH_SHARDS);
+        let branches = numbers_in_order(alloc, 0, runs)?;
+        let leaves = numbers_in_order(alloc, BRANCH_LEAVES, runs * BRANCH_LEAVES)?;
+        let positions = vec![in alloc; NOWHERE; (runs * BRANCH_LEAVES + 1) * LEAF_SHARDS]?;
+        let spans = vec![in alloc; 0; runs]?;
         Ok(Directory {
             most,
             count: 0,
             is_dense: true,
+            branches,
             leaves,
             positions,
-            firsts,
-            ends,
+            spans,
         })
     }
 
-    /// The same, with the empty leaf alone.
+    /// The same, with the empty branch and the empty leaf alone.
+    #[tactic(auto, unfolding(crate::specs::Positions::position_in))]
     fn sparse(alloc: Global, most: u32) -> Result<Self, AllocError>
         requires few { most ≤ 2 ^ 23 }
         ensures most { IfOk result (λ d. most_of d ≡ most) }
         ensures count { IfOk result (λ d. count_of d ≡ 0) }
         ensures none { IfOk result (λ d. (shard : ℕ) → position_in d shard ≡ nowhere) }
     {
-        let runs = (most as usize).div_ceil(LEAF_SHARDS);
-        let leaves = vec![in alloc; 0; runs]?;
+        let runs = (most as usize).div_ceil(BRANCH_SHARDS);
+        let branches = vec![in alloc; 0; runs]?;
+        let leaves = vec![in alloc; 0; BRANCH_LEAVES]?;
         let positions = vec![in alloc; NOWHERE; LEAF_SHARDS]?;
-        let firsts = vec![in alloc; LAST_OF_LEAF; runs]?;
-        let ends = vec![in alloc; 0; runs]?;
+        let spans = vec![in alloc; 0; runs]?;
         Ok(Directory {
             most,
             count: 0,
             is_dense: false,
+            branches,
             leaves,
             positions,
-            firsts,
-            ends,
+            spans,
         })
     }
 
@@ -118,6 +125,7 @@ impl Directory {
     }
 
     /// Where the words of a shard stand; `NOWHERE` where it is not there.
+    #[tactic(auto, unfolding(crate::specs::Positions::position_in))]
     pub fn position(&self, shard: usize) -> u32
         requires { shard < most_of self.now }
         ensures { result ≡ position_in self.now shard }
@@ -125,8 +133,27 @@ impl Directory {
         if self.is_dense {
             return self.positions[LEAF_SHARDS + shard];
         }
-        let leaf = self.leaves[shard / LEAF_SHARDS] as usize;
+        self.position_in_leaf(shard)
+    }
+
+    /// The same, by branch and leaf.
+    #[inline(never)]
+    #[tactic(auto, unfolding(crate::specs::Positions::position_in))]
+    fn position_in_leaf(&self, shard: usize) -> u32
+        requires { shard < most_of self.now }
+        ensures { result ≡ position_in self.now shard }
+    {
+        let leaf = self.leaf(shard / LEAF_SHARDS) as usize;
         self.positions[leaf * LEAF_SHARDS + shard % LEAF_SHARDS]
+    }
+
+    /// The leaf of a run of 16 shards.
+    fn leaf(&self, run: usize) -> u32
+        requires { run * 16 < most_of self.now }
+        ensures { result ≡ leaf_in self.now run }
+    {
+        let branch = self.branches[run / BRANCH_LEAVES] as usize;
+        self.leaves[branch * BRANCH_LEAVES + run % BRANCH_LEAVES]
     }
 
     /// Adds a shard that is not there, at the position behind the others.
@@ -138,43 +165,63 @@ impl Directory {
         ensures ok { OnOk result (IsAdded self.old self.new shard) }
         ensures err { OnErr result (IsSame self.old self.new) }
     {
+        self.add_branch(shard / BRANCH_SHARDS)?;
         self.add_leaf(shard / LEAF_SHARDS)?;
         self.put(shard);
         Ok(())
     }
 
-    /// Has a leaf of its own for a run of shards, if there is none yet.
+    /// Has a branch of its own for a run of 256 shards, if there is none yet.
+    #[tactic(auto, unfolding(crate::specs::Positions::position_in))]
+    fn add_branch(&mut self, run: usize) -> Result<(), AllocError>
+        requires within { run * 256 < most_of self.old }
+        ensures same { IsSame self.old self.new }
+        ensures branch { OnOk result (0 < branch_in self.new run) }
+    {
+        if self.branches[run] != 0 {
+            return Ok(());
+        }
+        let len = self.leaves.len();
+        self.leaves.resize(len + BRANCH_LEAVES, 0)?;
+        self.branches[run] = (len / BRANCH_LEAVES) as u32;
+        Ok(())
+    }
+
+    /// Has a leaf of its own for a run of 16 shards whose branch is there, if there is none yet.
+    #[tactic(auto, unfolding(crate::specs::Positions::position_in))]
     fn add_leaf(&mut self, run: usize) -> Result<(), AllocError>
-        requires within { run < length self.old.leaves.items }
+        requires within { run * 16 < most_of self.old }
+        requires branch { 0 < branch_in self.old (run / 16) }
         ensures same { IsSame self.old self.new }
         ensures leaf { OnOk result (0 < leaf_in self.new run) }
     {
-        if self.leaves[run] != 0 {
+        let branch = self.branches[run / BRANCH_LEAVES] as usize;
+        let at = branch * BRANCH_LEAVES + run % BRANCH_LEAVES;
+        if self.leaves[at] != 0 {
             return Ok(());
         }
         let len = self.positions.len();
         self.positions.resize(len + LEAF_SHARDS, NOWHERE)?;
-        self.leaves[run] = (len / LEAF_SHARDS) as u32;
+        self.leaves[at] = (len / LEAF_SHARDS) as u32;
         Ok(())
     }
 
     /// Puts the next position at a shard whose leaf is there.
+    #[tactic(auto, unfolding(crate::specs::Positions::position_in))]
     fn put(&mut self, shard: usize)
         requires within { shard < most_of self.old }
         requires absent { position_in self.old shard ≡ nowhere }
-        requires leaf { 0 < leaf_in self.old (shard / 128) }
+        requires leaf { 0 < leaf_in self.old (shard / 16) }
         ensures { IsAdded self.old self.new shard }
     {
-        let run = shard / LEAF_SHARDS;
-        let at = shard % LEAF_SHARDS;
-        let leaf = self.leaves[run] as usize;
-        self.positions[leaf * LEAF_SHARDS + at] = self.count;
+        let leaf = self.leaf(shard / LEAF_SHARDS) as usize;
+        self.positions[leaf * LEAF_SHARDS + shard % LEAF_SHARDS] = self.count;
         self.count += 1;
-        self.firsts[run] = self.firsts[run].min(at as u8);
-        self.ends[run] = self.ends[run].max(at as u8 + 1);
+        let run = shard / BRANCH_SHARDS;
+        self.spans[run] = span_with(self.spans[run], (shard % BRANCH_SHARDS) as u32);
     }
 
-    /// The first shard from one on that is there, or the end of those that are asked for. Of each run of 128 those before
+    /// The first shard from one on that is there, or the end of those that are asked for. Of each run of 256 those before
     /// its first and behind its last are passed over.
     pub fn next(&self, from: usize, end: usize) -> usize
         requires from { from ≤ end }
@@ -186,14 +233,15 @@ impl Directory {
     {
         let mut shard = from;
         while shard < end {
-            let run = self.next_filled(shard / LEAF_SHARDS, end.div_ceil(LEAF_SHARDS));
-            let start = run * LEAF_SHARDS;
+            let run = self.next_filled(shard / BRANCH_SHARDS, end.div_ceil(BRANCH_SHARDS));
+            let start = run * BRANCH_SHARDS;
             if start >= end {
                 return end;
             }
-            let run_end = (start + LEAF_SHARDS).min(end);
-            let first = shard.max(start + usize::from(self.firsts[run]));
-            let behind = run_end.min(start + usize::from(self.ends[run]));
+            let run_end = (start + BRANCH_SHARDS).min(end);
+            let span = self.spans[run] as usize;
+            let first = shard.max(start + span % BRANCH_SHARDS);
+            let behind = run_end.min(start + span / BRANCH_SHARDS);
             if first < behind {
                 let found = self.next_in_run(first, behind);
                 if found < behind {
@@ -205,85 +253,110 @@ impl Directory {
         end
     }
 
-    /// The first run of 128 from one on, and before an end, of which a shard is there; the end where there is none. It
+    /// The first run of 256 from one on, and before an end, of which a shard is there; the end where there is none. It
     /// looks at sixteen at once.
     fn next_filled(&self, from: usize, end: usize) -> usize
         requires from { from ≤ end }
-        requires end { end ≤ length self.now.ends.items }
+        requires end { end ≤ length self.now.spans.items }
         ensures from { from ≤ result }
         ensures end { result ≤ end }
-        ensures skipped { (shard : ℕ) → from ≤ shard / 128 → shard / 128 < result → position_in self.now shard ≡ nowhere }
+        ensures skipped { (shard : ℕ) → from ≤ shard / 256 → shard / 256 < result → position_in self.now shard ≡ nowhere }
     {
+        if from < end && self.spans[from] != 0 {
+            return from;
+        }
         let mut run = from;
-        while end - run >= 16 && are_empty(&self.ends, run) {
+        while end - run >= 16 && are_empty(&self.spans, run) {
             run += 16;
         }
-        if end - run >= 8 && are_eight_empty(&self.ends, run) {
+        if end - run >= 8 && are_eight_empty(&self.spans, run) {
             run += 8;
         }
-        while run < end && self.ends[run] == 0 {
+        while run < end && self.spans[run] == 0 {
             run += 1;
         }
         run
     }
 
-    /// The same of shards of one run of 128.
+    /// The same of shards of one run of 256, leaf by leaf.
     fn next_in_run(&self, from: usize, end: usize) -> usize
         requires from { from < end }
         requires end { end ≤ most_of self.now }
-        requires run { end ≤ (from / 128 + 1) * 128 }
         ensures from { from ≤ result }
         ensures end { result ≤ end }
         ensures there { result < end → position_in self.now result < count_of self.now }
         ensures skipped { (shard : ℕ) → from ≤ shard → shard < result → position_in self.now shard ≡ nowhere }
     {
-        let leaf = self.leaves[from / LEAF_SHARDS] as usize;
-        let first = leaf * LEAF_SHARDS + from % LEAF_SHARDS;
-        from + first_there(&self.positions[first..first + (end - from)])
+        let mut shard = from;
+        while shard < end {
+            let run = shard / LEAF_SHARDS;
+            let upto = ((run + 1) * LEAF_SHARDS).min(end);
+            let first = self.leaf(run) as usize * LEAF_SHARDS + shard % LEAF_SHARDS;
+            shard += absent(&self.positions, first, first + (upto - shard));
+            if shard < upto {
+                return shard;
+            }
+        }
+        end
     }
 }
 
-/// Whether no shard is there of sixteen runs from one on, whose ends these are.
-fn are_empty(ends: &[u8], run: usize) -> bool
-    requires { run + 16 ≤ length ends.now }
-    ensures { result ≡ true → (k : ℕ) → run ≤ k → k < run + 16 → slice_index ends.now k ≡ 0 }
+/// Whether no shard is there of sixteen runs from one on, whose spans these are.
+fn are_empty(spans: &[u32], run: usize) -> bool
+    requires { run + 16 ≤ length spans.now }
+    ensures { result ≡ true → (k : ℕ) → run ≤ k → k < run + 16 → slice_index spans.now k ≡ 0 }
 {
-    are_eight_empty(ends, run) & are_eight_empty(ends, run + 8)
+    are_eight_empty(spans, run) & are_eight_empty(spans, run + 8)
 }
 
 /// The same of eight.
-fn are_eight_empty(ends: &[u8], run: usize) -> bool
-    requires { run + 8 ≤ length ends.now }
-    ensures { result ≡ true → (k : ℕ) → run ≤ k → k < run + 8 → slice_index ends.now k ≡ 0 }
+fn are_eight_empty(spans: &[u32], run: usize) -> bool
+    requires { run + 8 ≤ length spans.now }
+    ensures { result ≡ true → (k : ℕ) → run ≤ k → k < run + 8 → slice_index spans.now k ≡ 0 }
 {
-    let front = ends[run] | ends[run + 1] | ends[run + 2] | ends[run + 3];
-    let behind = ends[run + 4] | ends[run + 5] | ends[run + 6] | ends[run + 7];
+    let front = spans[run] | spans[run + 1] | spans[run + 2] | spans[run + 3];
+    let behind = spans[run + 4] | spans[run + 5] | spans[run + 6] | spans[run + 7];
     front | behind == 0
 }
 
-/// The first of some positions at which a shard is; how many they are where none is.
-fn first_there(positions: &[u32]) -> usize
-    ensures end { result ≤ length positions.now }
-    ensures there { result < length positions.now → slice_index positions.now result ≡ nowhere → ⊥ }
-    ensures skipped { (k : ℕ) → k < result → slice_index positions.now k ≡ nowhere }
+/// The span of a run of which one shard more is there.
+fn span_with(span: u32, at: u32) -> u32
+    requires { at < 256 }
+    ensures first { result % 256 ≤ at }
+    ensures end { at < result / 256 }
+    ensures not_later { (span ≡ 0 → ⊥) → result % 256 ≤ span % 256 }
+    ensures not_sooner { span / 256 ≤ result / 256 }
 {
-    for (k, position) in positions.iter().enumerate() {
-        if *position != NOWHERE {
-            return k;
-        }
+    if span == 0 {
+        return (at + 1) * 256 + at;
     }
-    positions.len()
+    (span / 256).max(at + 1) * 256 + (span % 256).min(at)
 }
 
-/// The leaf of each of so many runs, in their order, behind the empty leaf.
-fn leaves_in_order(alloc: Global, runs: usize) -> Result<Vec<u32>, AllocError>
-    requires few { runs ≤ 2 ^ 16 }
-    ensures count { IfOk result (λ leaves. length leaves.items ≡ runs) }
-    ensures order { IfOk result (λ leaves. AreInOrder leaves.items) }
+/// How many positions from one on, and before an end, are those of no shard.
+fn absent(positions: &[u32], from: usize, end: usize) -> usize
+    requires order { from ≤ end }
+    requires within { end ≤ length positions.now }
+    ensures upto { from + result ≤ end }
+    ensures absent { (k : ℕ) → from ≤ k → k < from + result → slice_index positions.now k ≡ nowhere }
+    ensures there { from + result < end → slice_index positions.now (from + result) ≡ nowhere → ⊥ }
 {
-    let mut leaves = Vec::with_capacity(alloc, runs)?;
-    for run in 0..runs {
-        leaves.push(run as u32 + 1)?;
+    let mut at = from;
+    while at < end && positions[at] == NOWHERE {
+        at += 1;
     }
-    Ok(leaves)
+    at - from
+}
+
+/// Some zeros, and behind them so many numbers in their order, from 1 on.
+fn numbers_in_order(alloc: Global, zeros: usize, count: usize) -> Result<Vec<u32>, AllocError>
+    requires few { zeros ≤ 16 }
+    requires count { count ≤ 2 ^ 11 }
+    ensures { IfOk result (λ numbers. AreNumbers zeros count numbers.items) }
+{
+    let mut numbers = vec![in alloc; 0; zeros]?;
+    for number in 0..count {
+        numbers.push(number as u32 + 1)?;
+    }
+    Ok(numbers)
 }

@@ -107,6 +107,7 @@ impl Shards {
     }
 
     /// The same; behind all words where the shard of the place is not there.
+    #[inline]
     fn find(&self, place: Place) -> usize
         requires { IsPlace self.now place }
         ensures { result ≡ index_of self.now place }
@@ -200,7 +201,7 @@ impl Shards {
     }
 
     /// The first page of a space, from a page on and before an end, whose shard is there; the end where there is none.
-    /// No page before it has its shard there, so all are absent. What is not there is passed over in runs of 8,192
+    /// No page before it has its shard there, so all are absent. What is not there is passed over in runs of 16,384
     /// pages.
     pub fn first_from(&self, place: Place, end: u32) -> u32
         requires place { IsPlace self.now place }
@@ -413,6 +414,7 @@ impl Shards {
     }
 
     /// Withholds rights from what a page holds, if `flush` says so, and clears its status. With no right left the page goes.
+    #[inline]
     pub fn narrow(&mut self, place: Place, revoked: Rights, flush: bool) -> Narrowed
         requires place { IsPlace self.old place }
         requires present { IsFalse (is_taken self.old) }

@@ -6,6 +6,6 @@ use Rattle.space.proofs.directory.are_eight_empty.Goals as goal
 
 pub returns : goal.returns
 returns c is k from before =
-    let each : ℕ → ℕ = λ j. slice_index_or c.args.ends.now j 0 in
+    let each : ℕ → ℕ = λ j. slice_index_or c.args.spans.now j 0 in
     let none : or_of_eight each c.args.run ≡ 0 = grind (arith, nat_tests, is) in
     none_of_eight each c.args.run k from before none

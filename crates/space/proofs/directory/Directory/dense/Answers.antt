@@ -1,21 +1,30 @@
 -- Each run has a leaf, and no shard is there.
-use Rattle.std.proofs.Common.{◌≡◌, ◌∙◌, ℕ, sym, ap, length, ◌+◌, ◌*◌}
-use Rattle.std.specs.Prelude.{replicate}
+use Rattle.std.proofs.Common.{◌∙◌, ℕ, sym, ap, length}
 use Rattle.std.proofs.lemmas.List.{length-replicate}
-use Rattle.space.specs.Leaves.{nowhere}
-use Rattle.space.proofs.Leaves.{dense_directory, no_spans}
+use Rattle.space.proofs.Leaves.{closed_found, closed_spans, closed_dense}
+use Rattle.space.proofs.Leaves.{dense_directory, dense_nowhere, leaf_of, many, no_spans}
+use Rattle.space.specs.Positions.{position_in}
 use Rattle.space.proofs.directory.Directory.dense.Goals as goal
 
 pub invariant_of-result : goal.invariant_of-result
 invariant_of-result c =
-    let found =
-    dense_directory c.args.most c.in_ok-leaves.leaves.items c.in_ok-positions.positions.items c.requires.few (c.in_ok-leaves.ensures.count ∙ c.div_ceil-runs.ensures) c.in_ok-leaves.ensures.order
-    (c.in_ok-positions.ensures.items_if_clones_equal (λ y is. is) ∙ ap (λ n. replicate ((n + 1) * 128) nowhere) c.div_ceil-runs.ensures) in
-    let runs : length c.in_ok-leaves.leaves.items ≡ c.div_ceil-runs.result = c.in_ok-leaves.ensures.count in
+    let runs = c.div_ceil-runs.result in
+    let branches = c.in_ok-branches.branches.items in
+    let leaves = c.in_ok-leaves.leaves.items in
+    let positions = c.in_ok-positions.ensures.items_if_clones_equal (λ y is. is) in
+    let found = dense_directory c.args.most runs branches leaves c.in_ok-positions.positions.items c.requires.few c.div_ceil-runs.ensures c.in_ok-branches.ensures c.in_ok-leaves.ensures positions in
+    let as_many = many c.args.most runs branches leaves c.in_ok-positions.positions.items c.requires.few c.div_ceil-runs.ensures c.in_ok-branches.ensures c.in_ok-leaves.ensures positions in
     record {
-      found = found;
-      spans = no_spans c.args.most c.in_ok-leaves.leaves.items c.in_ok-positions.positions.items c.in_ok-firsts.firsts.items c.in_ok-ends.ends.items found
-          (ap length (c.in_ok-firsts.ensures.items_if_clones_equal (λ y is. is)) ∙ length-replicate {A = ℕ} c.div_ceil-runs.result 127 ∙ sym runs)
-          (ap length (c.in_ok-ends.ensures.items_if_clones_equal (λ y is. is)) ∙ length-replicate {A = ℕ} c.div_ceil-runs.result 0 ∙ sym runs);
-      dense = λ _. c.in_ok-leaves.ensures.order;
+      found = closed_found (found);
+      within =
+          closed_spans
+          (no_spans c.args.most branches leaves c.in_ok-positions.positions.items c.in_ok-spans.spans.items found
+          (ap length (c.in_ok-spans.ensures.items_if_clones_equal (λ y is. is)) ∙ length-replicate {A = ℕ} runs 0 ∙ sym as_many));
+      dense = closed_dense _ _ _ (λ _. leaf_of c.args.most runs branches leaves c.in_ok-positions.positions.items c.requires.few c.div_ceil-runs.ensures c.in_ok-branches.ensures c.in_ok-leaves.ensures positions);
     }
+
+pub returns-clause-none : goal.returns-clause-none
+unfolding position_in
+returns-clause-none c =
+    dense_nowhere c.args.most c.div_ceil-runs.result c.in_ok-branches.branches.items c.in_ok-leaves.leaves.items c.in_ok-positions.positions.items c.requires.few c.div_ceil-runs.ensures c.in_ok-branches.ensures c.in_ok-leaves.ensures
+    (c.in_ok-positions.ensures.items_if_clones_equal (λ y is. is))

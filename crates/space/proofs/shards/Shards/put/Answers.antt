@@ -1,12 +1,26 @@
 -- A word becomes another pack, and what stands at its place changes alone.
 use Rattle.std.proofs.Common.{◌≡◌, ◌∙◌, sym, ap, subst, slice_index, slice_set}
 use Rattle.std.specs.Option.{option_copied_mut}
+use Rattle.std.proofs.lemmas.Option.{same_Some}
 use Rattle.space.specs.declared.place.Place.{Place}
+use Rattle.space.specs.Directory.{AreWords}
+use Rattle.space.specs.Positions.{count_of}
 use Rattle.space.specs.Word.{entry_of}
 use Rattle.space.specs.Shards.{index_of, entry_at, IsPlace}
 use Rattle.space.proofs.Words.{pack_gives_back}
-use Rattle.space.proofs.ShardWords.{words_reach, set_there, set_elsewhere}
+use Rattle.space.proofs.ShardWords.{words_set, words_reach, set_there, set_elsewhere}
 use Rattle.space.proofs.shards.Shards.put.Goals as goal
+
+pub invariant_of-self : goal.invariant_of-self
+invariant_of-self c =
+    let s = c.args.self.now in
+    let old = c.unwrap-words.result.now in
+    let held = sym c.as_mut.ensures.value ∙ ap option_copied_mut c.unwrap-words.ensures in
+    record {
+      limits = s.limits;
+      most = s.most;
+      packed = λ words is. subst (AreWords (count_of s.directory)) (same_Some _ words is) (words_set (count_of s.directory) old c.args.index c.args.word (s.packed old held) c.requires.pack);
+    }
 
 pub returns-clause-set : goal.returns-clause-set
 returns-clause-set c p place is =

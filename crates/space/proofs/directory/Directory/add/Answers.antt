@@ -1,0 +1,15 @@
+-- Its branch, its leaf and then the shard are added.
+use Rattle.std.proofs.Common.{◌∙◌, arith}
+use Rattle.space.proofs.directory.Directory.add.Goals as goal
+
+pub returns-clause-ok : goal.returns-clause-ok
+returns-clause-ok c =
+    let branch = c.in_ok-add_branch.ensures.same in
+    let leaf = c.in_ok-add_leaf.ensures.same in
+    let put = c.put.ensures in
+    record {
+      most = put.most ∙ leaf.most ∙ branch.most;
+      count = omega (arith, put.count, leaf.count, branch.count);
+      there = put.there ∙ leaf.count ∙ branch.count;
+      elsewhere = λ other differ. put.elsewhere other differ ∙ leaf.positions other ∙ branch.positions other;
+    }
