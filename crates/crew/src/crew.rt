@@ -1,13 +1,8 @@
-ghost use Rattle.std.specs.Prelude.{◌≡◌, ◌<◌, ◌≤◌, min, length, IfOk, IsErrOf};
-ghost use Rattle.pieces.specs.Phases.{CanBeWorked};
-ghost use Rattle.crew.specs.Worked.{IsWorked};
-ghost use Rattle.crew.specs.declared.error.CrewError.TheVariants.{NoWorker};
+ghost use Rattle.std.specs.Prelude.{◌≡◌, ◌≤◌, min};
 
 use crate::error::CrewError;
 use crate::gate::{Gate, NoGate};
-use crate::observe::Observe;
-use crate::shared::work_shared;
-use crate::watched::work_shared_watched;
+use crate::shared::work;
 use crate::workers::Workers;
 use pieces::{Done, Piece};
 use std::alloc::Global;
@@ -86,50 +81,6 @@ impl<'a, R: Threads + Wait, G: Gate> Crew<'a, R, G> {
     {
         self.workers.min(pieces)
     }
-}
-
-/// Works all pieces of a phase, and returns the words as they leave them and what each piece found out. The pieces are
-/// numbered from 0, in the order in which they are given.
-///
-/// Each piece is a turn on shared words. There are as many workers as `workers_for` says of these pieces. The calling
-/// thread is the first, and each other a thread of its own; one alone starts none. Pieces that can be worked beside
-/// one another may be worked in any order, and their steps may be mixed: what comes of it is always the same.
-///
-/// Refused: `NoMemory`; `NoWorker`, where a thread could not be started. Then what was given is gone.
-pub fn work<R: Threads + Wait, G: Gate>(
-    crew: &Crew<'_, R, G>,
-    alloc: Global,
-    words: Vec<u64>,
-    pieces: Vec<Piece>,
-) -> Result<(Vec<u64>, Vec<Done>), CrewError>
-    requires some { 0 < length pieces.items }
-    requires can { CanBeWorked words.items pieces.items }
-    ensures worked { IfOk result (λ r. IsWorked words.items pieces.items r.0.items r.1.items) }
-    ensures no_worker { IsErrOf result NoWorker → 1 < crew.now.workers }
-    ensures no_worker_for_one { IsErrOf result NoWorker → 1 < length pieces.items }
-{
-    work_shared(crew, alloc, words, pieces)
-}
-
-/// Works all pieces of a phase as `work` does, while an observer looks at the entries with one watcher, on a thread
-/// of its own. The words are always shared, also where one worker is enough. It returns when the observer has
-/// returned too.
-///
-/// Refused: `NoMemory`; `NoWorker`, where a thread could not be started, that of the observer too. Then what was
-/// given is gone.
-pub fn work_watched<R: Threads + Wait, G: Gate, O: Observe>(
-    crew: &Crew<'_, R, G>,
-    alloc: Global,
-    words: Vec<u64>,
-    pieces: Vec<Piece>,
-    observer: &O,
-) -> Result<(Vec<u64>, Vec<Done>), CrewError>
-    requires some { 0 < length pieces.items }
-    requires can { CanBeWorked words.items pieces.items }
-    requires told { O.told observer.now words.items pieces.items }
-    ensures { IfOk result (λ r. IsWorked words.items pieces.items r.0.items r.1.items) }
-{
-    work_shared_watched(crew, alloc, observer, words, pieces)
 }
 
 /// A crew whose gate listens does the work for a type of its user's: an impl for every gate is refused (docs/DECISIONS.md).

@@ -17,8 +17,10 @@ mod watched;
 mod worker;
 mod workers;
 
-pub use crew::{Crew, work, work_watched};
+pub use crew::Crew;
 pub use error::CrewError;
 pub use gate::{Gate, NoGate};
 pub use observe::Observe;
+pub use shared::work;
+pub use watched::work_watched;
 pub use workers::{Alone, Workers};

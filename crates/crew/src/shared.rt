@@ -25,10 +25,15 @@ use std::sync::Wait;
 use std::thread::Threads;
 use turns::{Open, Turn};
 
-/// Works the pieces of a phase: each is a turn on shared words, which a worker takes from its own deque or steals.
+/// Works all pieces of a phase, and returns the words as they leave them and what each piece found out. The pieces are
+/// numbered from 0, in the order in which they are given.
 ///
-/// Refused: `NoMemory`; `NoWorker`, where a thread could not be started.
-pub fn work_shared<R: Threads + Wait, G: Gate>(
+/// Each piece is a turn on shared words. There are as many workers as `workers_for` says of these pieces. The calling
+/// thread is the first, and each other a thread of its own; one alone starts none. Pieces that can be worked beside
+/// one another may be worked in any order, and their steps may be mixed: what comes of it is always the same.
+///
+/// Refused: `NoMemory`; `NoWorker`, where a thread could not be started. Then what was given is gone.
+pub fn work<R: Threads + Wait, G: Gate>(
     crew: &Crew<'_, R, G>,
     alloc: Global,
     words: Vec<u64>,
@@ -37,7 +42,8 @@ pub fn work_shared<R: Threads + Wait, G: Gate>(
     requires some { 0 < length pieces.items }
     requires can { CanBeWorked words.items pieces.items }
     ensures worked { IfOk result (λ r. IsWorked words.items pieces.items r.0.items r.1.items) }
-    ensures no_worker { IsErrOf result NoWorker → 1 < min crew.now.workers (length pieces.items) }
+    ensures no_worker { IsErrOf result NoWorker → 1 < crew.now.workers }
+    ensures no_worker_for_one { IsErrOf result NoWorker → 1 < length pieces.items }
 {
     let (shared, turns) = Open::open(alloc, words, pieces)?;
     let turns = work_turns::<Brand, R, G>(crew, alloc, &shared, turns)?;

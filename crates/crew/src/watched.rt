@@ -34,16 +34,18 @@ impl Promise<Watcher> for SameWatcher {
     ghost kept_by = { λ p r. (r.shared ≡ p.0.value.shared) × (r.number ≡ p.0.value.number) };
 }
 
-/// Works the pieces of a phase as `work_shared` does. Meanwhile an observer has a watcher, on a thread of its own,
-/// which is waited for before the phase is closed.
+/// Works all pieces of a phase as `work` does, while an observer looks at the entries with one watcher, on a thread
+/// of its own. The words are always shared, also where one worker is enough. It returns when the observer has
+/// returned too.
 ///
-/// Refused: `NoMemory`; `NoWorker`, where a thread could not be started, that of the observer too.
-pub fn work_shared_watched<R: Threads + Wait, G: Gate, O: Observe>(
+/// Refused: `NoMemory`; `NoWorker`, where a thread could not be started, that of the observer too. Then what was
+/// given is gone.
+pub fn work_watched<R: Threads + Wait, G: Gate, O: Observe>(
     crew: &Crew<'_, R, G>,
     alloc: Global,
-    observer: &O,
     words: Vec<u64>,
     pieces: Vec<Piece>,
+    observer: &O,
 ) -> Result<(Vec<u64>, Vec<Done>), CrewError>
     requires some { 0 < length pieces.items }
     requires can { CanBeWorked words.items pieces.items }

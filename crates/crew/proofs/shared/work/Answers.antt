@@ -1,4 +1,4 @@
-use Rattle.std.proofs.Common.{rules, ⊎_elim, ◌≡◌, ◌<◌, length, ◌∙◌, ap, sym, subst}
+use Rattle.std.proofs.Common.{rules, arith, ℕ, ⊎_elim, ◌≡◌, ◌<◌, length, ◌∙◌, ap, sym, subst}
 use Rattle.std.specs.Prelude.{IsErrOf, min}
 use Rattle.std.specs.List.{All, range_with_len}
 use Rattle.pieces.specs.Phases.{CanBeWorked}
@@ -7,7 +7,7 @@ use Rattle.crew.specs.Hands.{IsFresh, weigh}
 use Rattle.crew.specs.Worked.{IsWorked}
 use Rattle.crew.specs.declared.error.CrewError.TheVariants.{NoWorker}
 use Rattle.crew.proofs.Wholes.{many_new, numbers_new, new_fresh, all_there, all_worked, none_wanting, no_watchers}
-use Rattle.crew.proofs.shared.work_shared.Goals as goal
+use Rattle.crew.proofs.shared.work.Goals as goal
 
 pub work_turns-requires-clause-fresh : goal.work_turns-requires-clause-fresh
 work_turns-requires-clause-fresh g c =
@@ -38,9 +38,16 @@ returns-clause-worked g c =
     (subst (λ qs. IsWorked o.words qs c.in-Ok.words.items c.in-Ok.dones.items) pieces
     (subst (λ v. IsWorked o.words o.pieces v c.in-Ok.dones.items) (sym c.in-Ok.ensures.words) (subst (IsWorked o.words o.pieces _) (sym c.in-Ok.ensures.dones) all)))
 
+both_above : (a b : ℕ) → 1 < min a b → (1 < a) × (1 < b)
+both_above a b is = (omega (arith, is), omega (arith, is))
+
 pub returns-in_err-turns-clause-no_worker : goal.returns-in_err-turns-clause-no_worker
 returns-in_err-turns-clause-no_worker g c =
+    λ is. let no : IsErrOf c.work_turns.result NoWorker = search (rules, is) in (both_above c.args.crew.now.workers (length c.in_ok-shared.turns.items) (c.work_turns.ensures.no_worker no)).0
+
+pub returns-in_err-turns-clause-no_worker_for_one : goal.returns-in_err-turns-clause-no_worker_for_one
+returns-in_err-turns-clause-no_worker_for_one g c =
     λ is.
     let no : IsErrOf c.work_turns.result NoWorker = search (rules, is) in
     let many : length c.in_ok-shared.turns.items ≡ length c.args.pieces.items = ap length c.in_ok-shared.ensures.turns ∙ many_new c.in_ok-shared.shared (length c.args.pieces.items) in
-    subst (λ n. 1 < min c.args.crew.now.workers n) many (c.work_turns.ensures.no_worker no)
+    subst (λ n. 1 < n) many (both_above c.args.crew.now.workers (length c.in_ok-shared.turns.items) (c.work_turns.ensures.no_worker no)).1

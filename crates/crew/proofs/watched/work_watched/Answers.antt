@@ -8,7 +8,7 @@ use Rattle.turns.specs.Closing.{numbers_of, OneWatcherIsWanting}
 use Rattle.crew.specs.Hands.{IsFresh, weigh}
 use Rattle.crew.specs.Worked.{IsWorked}
 use Rattle.crew.proofs.Wholes.{many_new, numbers_new, new_fresh, all_there, all_worked, none_wanting, only_watcher, only_one}
-use Rattle.crew.proofs.watched.work_shared_watched.Goals as goal
+use Rattle.crew.proofs.watched.work_watched.Goals as goal
 
 pub work_turns_watched-requires-clause-fresh : goal.work_turns_watched-requires-clause-fresh
 work_turns_watched-requires-clause-fresh g c =
