@@ -30,7 +30,7 @@ pub fn clear_space(
 {
     let reply = done(
         kept.database
-            .answer_clear(alloc, space, &mut kept.scratch, &Alone),
+            .answer_clear(alloc, space, &mut kept.scratch, &Alone, false),
     )?;
     if let Reply::Cleared(cleared) = reply {
         *status = cleared.number();

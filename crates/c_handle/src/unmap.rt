@@ -53,7 +53,7 @@ pub fn unmap(
     };
     let reply = done(
         kept.database
-            .answer_words(alloc, &unmap, &*words, &mut kept.scratch, &Alone),
+            .answer_words(alloc, &unmap, &*words, &mut kept.scratch, &Alone, false),
     )?;
     if let Reply::Unmapped(told) = reply {
         words.copy_from_slice(&told);

@@ -44,12 +44,7 @@ fn answer(
         Err(refusal) => return Ok(Reply::Refused(refusal)),
     };
     let mut scratch = Scratch::new(alloc);
-    let reply = if plain {
-        database.answer_plain(alloc, &call, &mut scratch, &Alone)?
-    } else {
-        database.answer(alloc, &call, &mut scratch, &Alone)?
-    };
-    Ok(reply)
+    Ok(database.answer(alloc, &call, &mut scratch, &Alone, plain)?)
 }
 
 /// Answers the records one after another, and looks at the lines of the replies.

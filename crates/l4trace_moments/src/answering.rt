@@ -139,7 +139,7 @@ pub fn answer_record(
 {
     match asked {
         Err(refusal) => Ok(Reply::Refused(*refusal)),
-        Ok(call) => match database.answer(alloc, call, &mut Scratch::new(alloc), &Alone) {
+        Ok(call) => match database.answer(alloc, call, &mut Scratch::new(alloc), &Alone, false) {
             Ok(reply) => Ok(reply),
             Err(error) => Err(unanswered(error)),
         },

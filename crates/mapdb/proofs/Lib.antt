@@ -6,7 +6,6 @@ pub mod ItemBounds
 pub mod ItemByItem
 pub mod WordByWord
 pub mod PlainWords
-pub mod WordsTold
 pub mod NamedPlaces
 pub mod WholeSpaces
 pub mod OneItem

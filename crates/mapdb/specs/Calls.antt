@@ -1,9 +1,7 @@
 -- What calls, refusals and replies stand for in the definitions.
-use Rattle.std.specs.Prelude.{◌≡◌, ⊤, ℕ, List, length, map}
+use Rattle.std.specs.Prelude.{◌≡◌, ⊤, ℕ, List, length}
 use Rattle.std.specs.List.{All, zip}
-use Rattle.fpage.specs.Control.{with_status}
 use Rattle.fpage.specs.Fpage.{Flexpage, IsFpageOf}
-use Rattle.fpage.specs.declared.rights.Rights.{Rights}
 use Rattle.fpage.specs.declared.error.FpageError.{FpageError}
 use Rattle.model.specs.Definitions.Calls as calls
 use Rattle.model.specs.Definitions.Calls.{Limits, Call, send, access, unmap, clear, Refusal, bad_size, misaligned, out_of_space, not_an_item, bad_control, no_such_space, same_space, no_window, bad_record, Reply, sent, accessed, unmapped, cleared, refused}
@@ -59,10 +57,6 @@ IsWithinLimits limits (Send from to window items) = IsFpageOf limits.bits window
 IsWithinLimits limits (Access place kind) = IsWithin limits place
 IsWithinLimits limits (Unmap space control words fpages) = AreWordsWithin limits words.items fpages.items
 IsWithinLimits limits (Clear space) = ⊤
-
--- words, each with its status in place of its rights
-abbrev pub words_with : List ℕ → List Rights → List ℕ
-words_with words status = map (λ e. with_status e.0 e.1) (zip words status)
 
 -- the reply that one of the program is
 abbrev pub reply_of : TheReply → Reply

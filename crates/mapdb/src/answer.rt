@@ -27,7 +27,7 @@ pub struct Scratch {
 }
 
 impl Scratch {
-    ghost use Rattle.std.specs.Prelude.{◌≡◌};
+    ghost use Rattle.std.specs.Prelude.{◌≡◌, [], false};
     ghost use Rattle.model.specs.Definitions.Calls.{unmapped};
     ghost use Rattle.mapdb.specs.Calls.{reply_of};
 
@@ -39,6 +39,26 @@ impl Scratch {
             words: Vec::new(alloc),
             notes: Notes::none(alloc),
         }
+    }
+
+    /// Forgets the notes of the last call, and tells whether notes are asked for.
+    pub(crate) fn forget(&mut self) -> bool
+        ensures asked { result ≡ self.old.notes.asked }
+        ensures kept { self.new.notes.asked ≡ self.old.notes.asked }
+        ensures none { self.new.notes.list.items ≡ [] }
+    {
+        self.notes.forget();
+        self.notes.asked
+    }
+
+    /// The answer to a call that was refused, with notes asked for as they were.
+    pub(crate) fn refused(&mut self, asked: bool, error: DbError) -> Result<Reply, DbError>
+        ensures answer { result ≡ refused_by error }
+        ensures asked { self.new.notes.asked ≡ asked }
+        ensures none { self.new.notes.list.items ≡ [] }
+    {
+        self.notes.ask(asked);
+        refused_by(error)
     }
 
     /// The reply that the words are.
@@ -58,7 +78,7 @@ impl Scratch {
 }
 
 impl Database {
-    ghost use Rattle.std.specs.Prelude.{◌≡◌, false, IfOk, IfErr, IsErrOf, OnOk};
+    ghost use Rattle.std.specs.Prelude.{◌≡◌, true, IfOk, IfErr, IsErrOf, OnOk};
     ghost use Rattle.model.specs.Definitions.Answers.{clear_answer};
     ghost use Rattle.std.specs.List.{All};
     ghost use Rattle.fpage.specs.Fpage.{IsFpageOf};
@@ -74,6 +94,8 @@ impl Database {
     /// by its refusal. Where notes are asked for, they then name every page whose frame or rights the call
     /// changed, and none that was held neither before it nor after it.
     ///
+    /// With `plain` an unmap and a clear are worked as by `unmap_plain` and `clear_plain`: by recursion, on the calling thread.
+    ///
     /// Not answered where the database is halted, `Halted`, and where memory or a worker is refused, `NoMemory`,
     /// `NoWorker`: then the database is halted.
     pub fn answer<W: Workers>(
@@ -82,11 +104,13 @@ impl Database {
         call: &Call,
         scratch: &mut Scratch,
         workers: &W,
+        plain: bool,
     ) -> Result<Reply, DbError>
         requires within { IsWithinLimits self.old.limits call.now }
         ensures ok { IfOk result (IsAnswered self.old (call_of call.now) self.new) }
         ensures err { IfErr result (IsUnanswered self.old (call_of call.now) self.new) }
         ensures needs_no_worker { W.starts_none workers.now → IsErrOf result NoWorker → ⊥ }
+        ensures plain { plain ≡ true → IsErrOf result NoWorker → IsSendOrAccess (call_of call.now) }
         ensures noted { OnOk result (NotesTell self.old.holdings self.new.holdings scratch.old.notes scratch.new.notes) }
     {
         match call {
@@ -118,45 +142,9 @@ impl Database {
                     control: *control,
                     fpages,
                 };
-                self.answer_words(alloc, &unmap, words, scratch, workers)
+                self.answer_words(alloc, &unmap, words, scratch, workers, plain)
             }
-            Call::Clear { space } => self.answer_clear(alloc, *space, scratch, workers),
-        }
-    }
-
-    /// The same, an unmap and a clear as `unmap_plain` and `clear_plain` work them: by recursion, on the calling thread.
-    ///
-    /// Not answered where `answer` does not answer, but that an unmap and a clear need no worker.
-    pub fn answer_plain<W: Workers>(
-        &mut self,
-        alloc: Global,
-        call: &Call,
-        scratch: &mut Scratch,
-        workers: &W,
-    ) -> Result<Reply, DbError>
-        requires within { IsWithinLimits self.old.limits call.now }
-        ensures ok { IfOk result (IsAnswered self.old (call_of call.now) self.new) }
-        ensures err { IfErr result (IsUnanswered self.old (call_of call.now) self.new) }
-        ensures worker { IsErrOf result NoWorker → IsSendOrAccess (call_of call.now) }
-        ensures needs_no_worker { W.starts_none workers.now → IsErrOf result NoWorker → ⊥ }
-        ensures noted { OnOk result (NotesTell self.old.holdings self.new.holdings scratch.old.notes scratch.new.notes) }
-    {
-        match call {
-            Call::Send { .. } | Call::Access { .. } => self.answer(alloc, call, scratch, workers),
-            Call::Unmap {
-                space,
-                control,
-                words,
-                fpages,
-            } => {
-                let unmap = Unmap {
-                    space: *space,
-                    control: *control,
-                    fpages,
-                };
-                self.answer_words_plain(alloc, &unmap, words, scratch)
-            }
-            Call::Clear { space } => self.answer_clear_plain(alloc, *space, scratch),
+            Call::Clear { space } => self.answer_clear(alloc, *space, scratch, workers, plain),
         }
     }
 
@@ -175,14 +163,10 @@ impl Database {
         ensures needs_no_worker { W.starts_none workers.now → IsErrOf result NoWorker → ⊥ }
         ensures noted { OnOk result (NotesTell self.old.holdings self.new.holdings scratch.old.notes scratch.new.notes) }
     {
-        let asked = scratch.notes.asked;
-        scratch.notes.forget();
+        let asked = scratch.forget();
         match self.send_noted(alloc, send, &mut scratch.notes, workers) {
             Ok(counts) => Ok(Reply::Sent(counts)),
-            Err(error) => {
-                scratch.notes.ask(asked);
-                refused_by(error)
-            }
+            Err(error) => scratch.refused(asked, error),
         }
     }
 
@@ -210,31 +194,6 @@ impl Database {
         Ok(Reply::Accessed(answers[0]))
     }
 
-    /// Answers an unmap, as `answer_plain` does.
-    fn answer_words_plain(
-        &mut self,
-        alloc: Global,
-        unmap: &Unmap<'_>,
-        words: &[u32],
-        scratch: &mut Scratch,
-    ) -> Result<Reply, DbError>
-        requires within { AreWordsWithin self.old.limits words.now unmap.now.fpages.now }
-        ensures ok { IfOk result (IsAnswered self.old (unmap_of unmap.now words.now) self.new) }
-        ensures err { IfErr result (IsUnanswered self.old (unmap_of unmap.now words.now) self.new) }
-        ensures needs_no_worker { IfErr result (λ e. e ≡ NoWorker → ⊥) }
-        ensures noted { OnOk result (NotesTell self.old.holdings self.new.holdings scratch.old.notes scratch.new.notes) }
-    {
-        let asked = scratch.notes.asked;
-        scratch.notes.forget();
-        match self.answer_unmap_plain(alloc, unmap, words, scratch) {
-            Ok(()) => Ok(scratch.reply(alloc)),
-            Err(error) => {
-                scratch.notes.ask(asked);
-                refused_by(error)
-            }
-        }
-    }
-
     /// Answers a clear, as `answer` does.
     pub fn answer_clear<W: Workers>(
         &mut self,
@@ -242,49 +201,24 @@ impl Database {
         space: u16,
         scratch: &mut Scratch,
         workers: &W,
+        plain: bool,
     ) -> Result<Reply, DbError>
         ensures ok { IfOk result (IsAnswered self.old (clear space) self.new) }
         ensures err { IfErr result (IsUnanswered self.old (clear space) self.new) }
         ensures needs_no_worker { W.starts_none workers.now → IsErrOf result NoWorker → ⊥ }
+        ensures plain { plain ≡ true → IsErrOf result NoWorker → ⊥ }
         ensures noted { OnOk result (NotesTell self.old.holdings self.new.holdings scratch.old.notes scratch.new.notes) }
     {
-        let asked = scratch.notes.asked;
-        scratch.notes.forget();
-        match self.clear_noted(alloc, space, &mut scratch.notes, workers) {
+        let asked = scratch.forget();
+        match self.clear_noted(alloc, space, &mut scratch.notes, workers, plain) {
             Ok(status) => Ok(Reply::Cleared(status)),
-            Err(error) => {
-                scratch.notes.ask(asked);
-                refused_by(error)
-            }
-        }
-    }
-
-    /// Answers a clear, as `answer_plain` does.
-    fn answer_clear_plain(
-        &mut self,
-        alloc: Global,
-        space: u16,
-        scratch: &mut Scratch,
-    ) -> Result<Reply, DbError>
-        ensures ok { IfOk result (IsAnswered self.old (clear space) self.new) }
-        ensures err { IfErr result (IsUnanswered self.old (clear space) self.new) }
-        ensures needs_no_worker { IfErr result (λ e. e ≡ NoWorker → ⊥) }
-        ensures noted { OnOk result (NotesTell self.old.holdings self.new.holdings scratch.old.notes scratch.new.notes) }
-    {
-        let asked = scratch.notes.asked;
-        scratch.notes.forget();
-        match self.clear_plain_noted(alloc, space, &mut scratch.notes) {
-            Ok(status) => Ok(Reply::Cleared(status)),
-            Err(error) => {
-                scratch.notes.ask(asked);
-                refused_by(error)
-            }
+            Err(error) => scratch.refused(asked, error),
         }
     }
 }
 
 /// The reply to a call that is refused for what it asks; any other error is none.
-fn refused_by(error: DbError) -> Result<Reply, DbError>
+pub(crate) fn refused_by(error: DbError) -> Result<Reply, DbError>
     ensures { result ≡ refused_by error }
 {
     match error {

@@ -51,6 +51,21 @@ pub struct Unmap<'a> {
     pub fpages: &'a [Fpage],
 }
 
+impl Unmap<'_> {
+    ghost use Rattle.std.specs.Prelude.{◌≡◌};
+
+    /// One of its words.
+    pub(crate) fn word(&self, fpage: Fpage) -> UnmapWord
+        ensures { result ≡ record { space = self.now.space; flush = self.now.control.flush; fpage = fpage } }
+    {
+        UnmapWord {
+            space: self.space,
+            flush: self.control.is_flush(),
+            fpage,
+        }
+    }
+}
+
 /// One word of an unmap.
 #[derive(Clone, Copy)]
 pub struct UnmapWord {

@@ -9,11 +9,10 @@ ghost use Rattle.holdings.specs.Contents.{IsStripped};
 ghost use Rattle.holdings.specs.Noting.{NotesFollow};
 
 use crate::call::UnmapWord;
-use crate::unmap::{unmap_word, unmap_word_by_recursion};
+use crate::unmap::unmap_word;
 use crew::{CrewError, Workers};
 use fpage::{Fpage, Rights};
 use holdings::{Holdings, Notes};
-use space::NoMemory;
 use std::alloc::Global;
 
 /// The word of the complete space, with all rights.
@@ -22,6 +21,8 @@ const COMPLETE_SPACE: u32 = 0x17;
 /// Takes all rights from the pages of a space, and from all that derives from them. Returns their status. Notes the pages
 /// that this changes.
 ///
+/// With `plain` by recursion, on the calling thread.
+///
 /// Refused, where memory or a worker is: `NoMemory`, `NoWorker`.
 pub fn clear_space<W: Workers>(
     alloc: Global,
@@ -29,39 +30,20 @@ pub fn clear_space<W: Workers>(
     space: u16,
     notes: &mut Notes,
     workers: &W,
+    plain: bool,
 ) -> Result<(Holdings, Rights), CrewError>
     requires { space < held.limits.spaces }
     ensures stripped { IfOk result (IsStripped held (in_space space) all_rights true) }
     ensures noted { IfOk result (λ r. NotesFollow held.holdings r.0.holdings notes.old notes.new) }
     ensures needs_no_worker { W.starts_none workers.now → IsErrOf result NoWorker → ⊥ }
+    ensures plain { plain ≡ true → IsErrOf result NoWorker → ⊥ }
 {
     let word = UnmapWord {
         space,
         flush: true,
         fpage: complete_space(held.limits().bits),
     };
-    unmap_word(alloc, held, &word, notes, workers)
-}
-
-/// The same by recursion, on the calling thread.
-///
-/// Refused, where memory is: `NoMemory`.
-pub fn clear_space_by_recursion(
-    alloc: Global,
-    held: Holdings,
-    space: u16,
-    notes: &mut Notes,
-) -> Result<(Holdings, Rights), NoMemory>
-    requires { space < held.limits.spaces }
-    ensures stripped { IfOk result (IsStripped held (in_space space) all_rights true) }
-    ensures noted { IfOk result (λ r. NotesFollow held.holdings r.0.holdings notes.old notes.new) }
-{
-    let word = UnmapWord {
-        space,
-        flush: true,
-        fpage: complete_space(held.limits().bits),
-    };
-    unmap_word_by_recursion(alloc, held, &word, notes)
+    unmap_word(alloc, held, &word, notes, workers, plain)
 }
 
 /// The fpage of all pages of a space of `2^bits` bytes, with all rights.

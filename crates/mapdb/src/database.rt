@@ -1,15 +1,13 @@
-use crate::answer::Scratch;
-use crate::call::{Refusal, Sending, Unmap, UnmapWord};
-use crate::clear::{clear_space, clear_space_by_recursion};
+use crate::answer::{Scratch, refused_by};
+use crate::call::{Sending, Unmap};
+use crate::clear::clear_space;
 use crate::error::DbError;
 use crate::item::work_item;
 use crate::item_pages::item_pages;
 use crate::reply::{Reply, SendReply};
 use crate::told::keep_told;
-use crate::unmap::{
-    put_status, unmap_word, unmap_words, unmap_words_by_recursion, unmap_words_watched,
-};
-use crew::{Crew, Gate, Observe, Workers};
+use crate::unmap::{unmap_word, unmap_words, unmap_words_watched};
+use crew::{Alone, Crew, Gate, Observe, Workers};
 use fpage::{Access, Control, Fpage, Item, Rights, with_status};
 use holdings::{Holdings, Limits, Mapping, Mappings, Notes};
 use space::{Entry, Place};
@@ -389,21 +387,64 @@ impl Database {
         ensures left { OnOk result (self.new ≡
             left_with self.old (unmap_left space control.flush fpages.now self.old.holdings)) }
     {
+        let unmap = Unmap {
+            space,
+            control,
+            fpages,
+        };
+        self.unmap_all(alloc, &unmap, workers, false)
+    }
+
+    /// Works an unmap as `unmap` does, or with `plain` as `unmap_plain` does.
+    ///
+    /// Refused as these are.
+    fn unmap_all<W: Workers>(
+        &mut self,
+        alloc: Global,
+        unmap: &Unmap<'_>,
+        workers: &W,
+        plain: bool,
+    ) -> Result<Vec<Rights>, DbError>
+        requires bits { All (IsFpageOf self.old.limits.bits) unmap.now.fpages.now }
+        ensures refused { IsRefused (unmap_refusal self.old unmap.now.space) self.old self.new result }
+        ensures no_memory { IsErrOf result NoMemory → self.new ≡ halted self.old }
+        ensures no_worker { IsErrOf result NoWorker → self.new ≡ halted self.old }
+        ensures needs_no_worker { W.starts_none workers.now → IsErrOf result NoWorker → ⊥ }
+        ensures plain { plain ≡ true → IsErrOf result NoWorker → ⊥ }
+        ensures status { IfOk result (λ status.
+            status.items ≡ unmap_status unmap.now.space unmap.now.control.flush unmap.now.fpages.now self.old.holdings) }
+        ensures left { OnOk result (self.new ≡
+            left_with self.old (unmap_left unmap.now.space unmap.now.control.flush unmap.now.fpages.now self.old.holdings)) }
+        ensures lawful { OnOk result (is_lawful self.old.holdings ≡ true) }
+    {
+        let held = self.take_held(unmap.space)?;
+        let mut notes = Notes::none(alloc);
+        let (held, status) = unmap_words(alloc, held, unmap, &mut notes, workers, plain)?;
+        self.held = Some(held);
+        Ok(status)
+    }
+
+    /// Takes out what is held, for a call about a space: until it is put back, the database is halted.
+    ///
+    /// Refused, the first that fits: `Halted`; `NoSuchSpace`. Then nothing changes.
+    fn take_held(&mut self, space: u16) -> Result<Holdings, DbError>
+        ensures refused { IsRefused (unmap_refusal self.old space) self.old self.new result }
+        ensures errors { IfErr result (λ e. (e ≡ Halted) ⊎ (e ≡ NoSuchSpace)) }
+        ensures running { OnOk result (self.old.is_halted ≡ false) }
+        ensures within { OnOk result (space < self.old.limits.spaces) }
+        ensures held { IfOk result (λ held. held.holdings ≡ self.old.holdings) }
+        ensures limits { IfOk result (λ held. held.limits ≡ self.old.limits) }
+        ensures layout { IfOk result (λ held. held.layout ≡ self.old.layout) }
+        ensures halted { OnOk result (self.new ≡ halted self.old) }
+        ensures lawful { OnOk result (is_lawful self.old.holdings ≡ true) }
+    {
         if self.held.is_none() {
             return Err(DbError::Halted);
         }
         if u32::from(space) >= self.limits().spaces {
             return Err(DbError::NoSuchSpace);
         }
-        let held = self.held.take().unwrap();
-        let unmap = Unmap {
-            space,
-            control,
-            fpages,
-        };
-        let (held, status) = unmap_words(alloc, held, &unmap, workers)?;
-        self.held = Some(held);
-        Ok(status)
+        Ok(self.held.take().unwrap())
     }
 
     /// Answers an unmap, as `answer` does.
@@ -414,31 +455,32 @@ impl Database {
         words: &[u32],
         scratch: &mut Scratch,
         workers: &W,
+        plain: bool,
     ) -> Result<Reply, DbError>
         requires within { AreWordsWithin self.old.limits words.now unmap.now.fpages.now }
         ensures ok { IfOk result (IsAnswered self.old (unmap_of unmap.now words.now) self.new) }
         ensures err { IfErr result (IsUnanswered self.old (unmap_of unmap.now words.now) self.new) }
         ensures needs_no_worker { W.starts_none workers.now → IsErrOf result NoWorker → ⊥ }
+        ensures plain { plain ≡ true → IsErrOf result NoWorker → ⊥ }
         ensures noted { OnOk result (NotesTell self.old.holdings self.new.holdings scratch.old.notes scratch.new.notes) }
     {
         scratch.notes.forget();
-        if self.held.is_none() {
-            return Err(DbError::Halted);
-        }
-        if u32::from(unmap.space) >= self.limits().spaces {
-            return Ok(Reply::Refused(Refusal::NoSuchSpace));
-        }
-        let mut held = self.held.take().unwrap();
-        let flush = unmap.control.is_flush();
+        let mut held = match self.take_held(unmap.space) {
+            Ok(held) => held,
+            Err(error) => return refused_by(error),
+        };
         scratch.words.clear();
         scratch.words.reserve(words.len())?;
         for i in 0..unmap.fpages.len() {
-            let word = UnmapWord {
-                space: unmap.space,
-                flush,
-                fpage: unmap.fpages[i],
-            };
-            let (left, status) = unmap_word(alloc, held, &word, &mut scratch.notes, workers)?;
+            let word = unmap.word(unmap.fpages[i]);
+            let (left, status) = unmap_word(
+                alloc,
+                held,
+                &word,
+                &mut scratch.notes,
+                workers,
+                plain,
+            )?;
             held = left;
             scratch
                 .words
@@ -448,33 +490,6 @@ impl Database {
         keep_told(alloc, &held, &mut scratch.notes)?;
         self.held = Some(held);
         Ok(scratch.reply(alloc))
-    }
-
-    /// The same as `unmap_plain`; each word of the reply is the word with the status of its pages in place of its rights.
-    ///
-    /// Refused as `unmap_plain` is. Then the words of the reply are anything.
-    pub(crate) fn answer_unmap_plain(
-        &mut self,
-        alloc: Global,
-        unmap: &Unmap<'_>,
-        words: &[u32],
-        scratch: &mut Scratch,
-    ) -> Result<(), DbError>
-        requires within { AreWordsWithin self.old.limits words.now unmap.now.fpages.now }
-        ensures refused { IsRefused (refusal self.old (unmap_of unmap.now words.now)) self.old self.new result }
-        ensures needs_no_worker { IfErr result (λ e. e ≡ NoWorker → ⊥) }
-        ensures no_memory { IsErrOf result NoMemory → self.new ≡ halted self.old }
-        ensures told { OnOk result (record { words = scratch.new.words.items; left = self.new.holdings }
-            ≡ unmap_answer unmap.now.space unmap.now.control.flush (zip words.now unmap.now.fpages.now) self.old.holdings) }
-        ensures left { OnOk result (self.new ≡ left_with self.old self.new.holdings) }
-        ensures noted { OnOk result (NotesChange self.old.holdings self.new.holdings scratch.old.notes scratch.new.notes) }
-    {
-        let status = self.unmap_plain_noted(alloc, unmap, &mut scratch.notes)?;
-        if put_status(words, &status, &mut scratch.words).is_err() {
-            self.held = None;
-            return Err(DbError::NoMemory);
-        }
-        Ok(())
     }
 
     /// The same as `unmap`, by a crew, while an observer looks at the entries: once for each word of which a page is
@@ -502,13 +517,7 @@ impl Database {
         ensures left { OnOk result (self.new ≡
             left_with self.old (unmap_left unmap.now.space unmap.now.control.flush unmap.now.fpages.now self.old.holdings)) }
     {
-        if self.held.is_none() {
-            return Err(DbError::Halted);
-        }
-        if u32::from(unmap.space) >= self.limits().spaces {
-            return Err(DbError::NoSuchSpace);
-        }
-        let held = self.held.take().unwrap();
+        let held = self.take_held(unmap.space)?;
         let (held, status) = unmap_words_watched(alloc, held, unmap, crew, observer)?;
         self.held = Some(held);
         Ok(status)
@@ -543,43 +552,7 @@ impl Database {
             control,
             fpages,
         };
-        self.unmap_plain_noted(alloc, &unmap, &mut Notes::none(alloc))
-    }
-
-    /// The same as `unmap_plain`. Notes the pages that it changes, if notes are asked for.
-    ///
-    /// Refused as `unmap_plain` is.
-    fn unmap_plain_noted(
-        &mut self,
-        alloc: Global,
-        unmap: &Unmap<'_>,
-        notes: &mut Notes,
-    ) -> Result<Vec<Rights>, DbError>
-        requires bits { All (IsFpageOf self.old.limits.bits) unmap.now.fpages.now }
-        ensures refused { IsRefused (unmap_refusal self.old unmap.now.space) self.old self.new result }
-        ensures needs_no_worker { IfErr result (λ e. e ≡ NoWorker → ⊥) }
-        ensures no_memory { IsErrOf result NoMemory → self.new ≡ halted self.old }
-        ensures status { IfOk result (λ status.
-            status.items ≡ unmap_status unmap.now.space unmap.now.control.flush unmap.now.fpages.now self.old.holdings) }
-        ensures left { OnOk result (self.new ≡
-            left_with self.old (unmap_left unmap.now.space unmap.now.control.flush unmap.now.fpages.now self.old.holdings)) }
-        ensures recursion_status { IfOk result (λ status.
-            status.items ≡ plain_status unmap.now.space unmap.now.control.flush unmap.now.fpages.now self.old.holdings) }
-        ensures recursion_left { OnOk result (self.new ≡
-            left_with self.old (plain_left unmap.now.space unmap.now.control.flush unmap.now.fpages.now self.old.holdings)) }
-        ensures noted { OnOk result (NotesChange self.old.holdings self.new.holdings notes.old notes.new) }
-    {
-        if self.held.is_none() {
-            return Err(DbError::Halted);
-        }
-        if u32::from(unmap.space) >= self.limits().spaces {
-            return Err(DbError::NoSuchSpace);
-        }
-        let held = self.held.take().unwrap();
-        let (held, status) = unmap_words_by_recursion(alloc, held, unmap, notes)?;
-        keep_told(alloc, &held, notes)?;
-        self.held = Some(held);
-        Ok(status)
+        self.unmap_all(alloc, &unmap, &Alone, true)
     }
 
     /// Takes all pages from a space, as where it is deleted, and with each page all that derives from it. Gives back
@@ -602,35 +575,33 @@ impl Database {
         ensures status { IfOk result (λ status. status ≡ (clear_answer space self.old.holdings).status) }
         ensures left { OnOk result (self.new ≡ left_with self.old (clear_answer space self.old.holdings).left) }
     {
-        self.clear_noted(alloc, space, &mut Notes::none(alloc), workers)
+        self.clear_noted(alloc, space, &mut Notes::none(alloc), workers, false)
     }
 
-    /// The same as `clear`. Notes the pages that it changes, if notes are asked for.
+    /// Works a clear as `clear` does, or with `plain` as `clear_plain` does. Notes the pages that it changes, if notes are
+    /// asked for.
     ///
-    /// Refused as `clear` is.
+    /// Refused as these are.
     pub(crate) fn clear_noted<W: Workers>(
         &mut self,
         alloc: Global,
         space: u16,
         notes: &mut Notes,
         workers: &W,
+        plain: bool,
     ) -> Result<Rights, DbError>
         ensures refused { IsRefused (refusal self.old (clear space)) self.old self.new result }
         ensures no_memory { IsErrOf result NoMemory → self.new ≡ halted self.old }
         ensures no_worker { IsErrOf result NoWorker → self.new ≡ halted self.old }
         ensures needs_no_worker { W.starts_none workers.now → IsErrOf result NoWorker → ⊥ }
+        ensures plain { plain ≡ true → IsErrOf result NoWorker → ⊥ }
         ensures status { IfOk result (λ status. status ≡ (clear_answer space self.old.holdings).status) }
         ensures left { OnOk result (self.new ≡ left_with self.old (clear_answer space self.old.holdings).left) }
         ensures noted { OnOk result (NotesChange self.old.holdings self.new.holdings notes.old notes.new) }
+        ensures lawful { OnOk result (is_lawful self.old.holdings ≡ true) }
     {
-        if self.held.is_none() {
-            return Err(DbError::Halted);
-        }
-        if u32::from(space) >= self.limits().spaces {
-            return Err(DbError::NoSuchSpace);
-        }
-        let held = self.held.take().unwrap();
-        let (held, status) = clear_space(alloc, held, space, notes, workers)?;
+        let held = self.take_held(space)?;
+        let (held, status) = clear_space(alloc, held, space, notes, workers, plain)?;
         keep_told(alloc, &held, notes)?;
         self.held = Some(held);
         Ok(status)
@@ -651,39 +622,6 @@ impl Database {
         ensures recursion_left { OnOk result (self.new ≡
             left_with self.old (recur self.old.holdings (in_space space) all_rights true).left) }
     {
-        self.clear_plain_noted(alloc, space, &mut Notes::none(alloc))
-    }
-
-    /// The same as `clear_plain`. Notes the pages that it changes, if notes are asked for.
-    ///
-    /// Refused as `clear_plain` is.
-    pub(crate) fn clear_plain_noted(
-        &mut self,
-        alloc: Global,
-        space: u16,
-        notes: &mut Notes,
-    ) -> Result<Rights, DbError>
-        ensures refused { IsRefused (refusal self.old (clear space)) self.old self.new result }
-        ensures needs_no_worker { IfErr result (λ e. e ≡ NoWorker → ⊥) }
-        ensures no_memory { IsErrOf result NoMemory → self.new ≡ halted self.old }
-        ensures status { IfOk result (λ status. status ≡ (clear_answer space self.old.holdings).status) }
-        ensures left { OnOk result (self.new ≡ left_with self.old (clear_answer space self.old.holdings).left) }
-        ensures recursion_status { IfOk result (λ status.
-            status ≡ (recur self.old.holdings (in_space space) all_rights true).word) }
-        ensures recursion_left { OnOk result (self.new ≡
-            left_with self.old (recur self.old.holdings (in_space space) all_rights true).left) }
-        ensures noted { OnOk result (NotesChange self.old.holdings self.new.holdings notes.old notes.new) }
-    {
-        if self.held.is_none() {
-            return Err(DbError::Halted);
-        }
-        if u32::from(space) >= self.limits().spaces {
-            return Err(DbError::NoSuchSpace);
-        }
-        let held = self.held.take().unwrap();
-        let (held, status) = clear_space_by_recursion(alloc, held, space, notes)?;
-        keep_told(alloc, &held, notes)?;
-        self.held = Some(held);
-        Ok(status)
+        self.clear_noted(alloc, space, &mut Notes::none(alloc), &Alone, true)
     }
 }

@@ -70,12 +70,7 @@ pub fn answer_first<W: Workers>(
         }
         Ok(call) => {
             let scratch = &mut buffers.scratch;
-            let answered = if plain {
-                database.answer_plain(alloc, &call, scratch, workers)
-            } else {
-                database.answer(alloc, &call, scratch, workers)
-            };
-            match answered {
+            match database.answer(alloc, &call, scratch, workers, plain) {
                 Ok(reply) => {
                     trace.reuse(call);
                     Ok(Replies::One(reply))

@@ -121,6 +121,14 @@ pub struct Case {
     pub left: &'static [(At, Option<Held>)],
 }
 
+/// Cases in databases with these limits, each behind the same steps.
+#[derive(Clone, Copy)]
+pub struct Group {
+    pub limits: Limits,
+    pub before: &'static [Step],
+    pub cases: &'static [Case],
+}
+
 /// The limits of a database of the tests: its spaces have 64 pages, 4,096, or 1,048,576.
 fn known_limits(rt: &impl Abort, database: &Database) -> Limits
     ensures bits { IsSpaceBits result.bits }
@@ -515,4 +523,20 @@ pub fn work_case<T: Workers>(
 ) -> Result<(), DbError> {
     let mut database = Database::new(alloc, limits.spaces, limits.bits, limits.frames)?;
     work_after(rt, &mut database, alloc, workers, before, case, plain)
+}
+
+/// The same with all cases of groups.
+pub fn work_groups<T: Workers>(
+    rt: &impl Abort,
+    alloc: Global,
+    workers: &T,
+    groups: &[Group],
+    plain: bool,
+) -> Result<(), DbError> {
+    for group in groups {
+        for case in group.cases {
+            work_case(rt, alloc, workers, group.limits, group.before, case, plain)?;
+        }
+    }
+    Ok(())
 }

@@ -1,15 +1,13 @@
 //! Clears of spaces, with answers that are worked out by hand.
 
 use super::calls::{
-    ALL, Case, GRANT, LINKED, NONE, READ, READ_EXECUTE, READ_WRITE, Step, work_case,
+    ALL, Case, GRANT, Group, LINKED, NONE, READ, READ_EXECUTE, READ_WRITE, Step, work_groups,
 };
 use super::unmaps::CHAIN;
 use crate::assertions::assert_equal;
-use crew::{Crew, NoGate, Workers};
+use crew::{Crew, NoGate};
 use fpage::Access;
 use mapdb::{Database, DbError, Limits};
-use std::alloc::Global;
-use std::process::Abort;
 use std::test::Fail;
 
 static CASES: [Case; 5] = [
@@ -91,7 +89,7 @@ static CASES: [Case; 5] = [
 ];
 
 /// The first and the last page of a space of 2^32 bytes.
-static ENDS_OF_MANY: Case = Case {
+static ENDS_OF_MANY: [Case; 1] = [Case {
     name: "the largest space, of which two pages are held",
     steps: &[
         Step::Map((0, 0), (1, 0)),
@@ -105,46 +103,65 @@ static ENDS_OF_MANY: Case = Case {
         ((1, 0), None),
         ((1, 1_048_575), None),
     ],
-};
+}];
 
-/// Works all cases, clears by recursion if `plain`.
-fn work_cases<T: Workers>(
-    rt: &impl Abort,
-    alloc: Global,
-    workers: &T,
-    plain: bool,
-) -> Result<(), DbError> {
-    let limits = Limits {
-        spaces: 3,
-        bits: 18,
-        frames: 16,
-    };
-    for case in &CASES {
-        work_case(rt, alloc, workers, limits, &CHAIN, case, plain)?;
-    }
-    let largest = Limits {
-        spaces: 2,
-        bits: 32,
-        frames: 2,
-    };
-    work_case(rt, alloc, workers, largest, &[], &ENDS_OF_MANY, plain)
+/// The cases, by the limits of their databases.
+fn groups() -> [Group; 2] {
+    [
+        Group {
+            limits: Limits {
+                spaces: 3,
+                bits: 18,
+                frames: 16,
+            },
+            before: &CHAIN,
+            cases: &CASES,
+        },
+        Group {
+            limits: Limits {
+                spaces: 2,
+                bits: 32,
+                frames: 2,
+            },
+            before: &[],
+            cases: &ENDS_OF_MANY,
+        },
+    ]
 }
 
 #[test]
 fn takes_all_pages_from_a_space(rt: HostRuntime) -> Result<(), Fail> {
-    work_cases(&rt, rt.alloc(), &Crew::new(&rt, 1, 1, &NoGate), false)?;
+    work_groups(
+        &rt,
+        rt.alloc(),
+        &Crew::new(&rt, 1, 1, &NoGate),
+        &groups(),
+        false,
+    )?;
     Ok(())
 }
 
 #[test]
 fn takes_all_pages_from_a_space_with_a_crew(rt: HostRuntime) -> Result<(), Fail> {
-    work_cases(&rt, rt.alloc(), &Crew::new(&rt, 4, 1, &NoGate), false)?;
+    work_groups(
+        &rt,
+        rt.alloc(),
+        &Crew::new(&rt, 4, 1, &NoGate),
+        &groups(),
+        false,
+    )?;
     Ok(())
 }
 
 #[test]
 fn takes_all_pages_from_a_space_by_recursion(rt: HostRuntime) -> Result<(), Fail> {
-    work_cases(&rt, rt.alloc(), &Crew::new(&rt, 1, 256, &NoGate), true)?;
+    work_groups(
+        &rt,
+        rt.alloc(),
+        &Crew::new(&rt, 1, 256, &NoGate),
+        &groups(),
+        true,
+    )?;
     Ok(())
 }
 

@@ -1,14 +1,12 @@
 //! Calls in three spaces of sixteen frames, with answers that are worked out by hand.
 
 use super::calls::{
-    ALL, Case, EXECUTE, LINKED, MAP, NO_PAIRS, NONE, READ, READ_EXECUTE, READ_WRITE, Step,
-    work_case,
+    ALL, Case, EXECUTE, Group, LINKED, MAP, NO_PAIRS, NONE, READ, READ_EXECUTE, READ_WRITE, Step,
+    work_groups,
 };
-use crew::{Crew, NoGate, Workers};
+use crew::{Crew, NoGate};
 use fpage::Access;
-use mapdb::{DbError, Limits, SendReply};
-use std::alloc::Global;
-use std::process::Abort;
+use mapdb::{Limits, SendReply};
 use std::test::Fail;
 
 /// Frame 5 goes from 0:5 to 1:0 and on to 2:0, before the steps of each case.
@@ -235,7 +233,7 @@ static CASES: [Case; 17] = [
 ];
 
 /// Two pages of different shards are held, of a space whose other shards are not there.
-static FEW_OF_MANY: Case = Case {
+static FEW_OF_MANY: [Case; 1] = [Case {
     name: "complete spaces of which two pages are held",
     steps: &[
         Step::Map((0, 0), (1, 70)),
@@ -263,10 +261,10 @@ static FEW_OF_MANY: Case = Case {
         ((2, 70), None),
         ((2, 4000), None),
     ],
-};
+}];
 
 /// The last page of a space of 2^32 bytes is mapped, written to, and loses a right.
-static LAST_PAGE_OF_MANY: Case = Case {
+static LAST_PAGE_OF_MANY: [Case; 1] = [Case {
     name: "the last page of the largest space",
     steps: &[
         Step::MapSome((0, 0), (1, 1_048_575), READ_WRITE),
@@ -279,52 +277,73 @@ static LAST_PAGE_OF_MANY: Case = Case {
         ((1, 0), None),
         ((1, 1_048_574), None),
     ],
-};
+}];
 
-/// Works all cases, unmaps by recursion if `plain`.
-fn work_cases<T: Workers>(
-    rt: &impl Abort,
-    alloc: Global,
-    workers: &T,
-    plain: bool,
-) -> Result<(), DbError> {
-    let limits = Limits {
-        spaces: 3,
-        bits: 18,
-        frames: 16,
-    };
-    for case in &CASES {
-        work_case(rt, alloc, workers, limits, &CHAIN, case, plain)?;
-    }
-    let large = Limits {
-        spaces: 3,
-        bits: 24,
-        frames: 2,
-    };
-    work_case(rt, alloc, workers, large, &[], &FEW_OF_MANY, plain)?;
-    let largest = Limits {
-        spaces: 2,
-        bits: 32,
-        frames: 1,
-    };
-    work_case(rt, alloc, workers, largest, &[], &LAST_PAGE_OF_MANY, plain)?;
-    Ok(())
+/// The cases, by the limits of their databases.
+fn groups() -> [Group; 3] {
+    [
+        Group {
+            limits: Limits {
+                spaces: 3,
+                bits: 18,
+                frames: 16,
+            },
+            before: &CHAIN,
+            cases: &CASES,
+        },
+        Group {
+            limits: Limits {
+                spaces: 3,
+                bits: 24,
+                frames: 2,
+            },
+            before: &[],
+            cases: &FEW_OF_MANY,
+        },
+        Group {
+            limits: Limits {
+                spaces: 2,
+                bits: 32,
+                frames: 1,
+            },
+            before: &[],
+            cases: &LAST_PAGE_OF_MANY,
+        },
+    ]
 }
 
 #[test]
 fn revokes_what_derives(rt: HostRuntime) -> Result<(), Fail> {
-    work_cases(&rt, rt.alloc(), &Crew::new(&rt, 1, 1, &NoGate), false)?;
+    work_groups(
+        &rt,
+        rt.alloc(),
+        &Crew::new(&rt, 1, 1, &NoGate),
+        &groups(),
+        false,
+    )?;
     Ok(())
 }
 
 #[test]
 fn revokes_what_derives_with_a_crew(rt: HostRuntime) -> Result<(), Fail> {
-    work_cases(&rt, rt.alloc(), &Crew::new(&rt, 4, 1, &NoGate), false)?;
+    work_groups(
+        &rt,
+        rt.alloc(),
+        &Crew::new(&rt, 4, 1, &NoGate),
+        &groups(),
+        false,
+    )?;
     Ok(())
 }
 
 #[test]
 fn revokes_by_recursion(rt: HostRuntime) -> Result<(), Fail> {
-    work_cases(&rt, rt.alloc(), &Crew::new(&rt, 1, 256, &NoGate), true)?;
+    work_groups(
+        &rt,
+        rt.alloc(),
+        &Crew::new(&rt, 1, 256, &NoGate),
+        &groups(),
+        true,
+    )?;
     Ok(())
 }

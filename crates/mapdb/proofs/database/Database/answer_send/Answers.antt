@@ -3,4 +3,4 @@ use Rattle.mapdb.proofs.ToldNotes.{change_tells}
 use Rattle.mapdb.proofs.database.Database.answer_send.Goals as goal
 
 pub returns-in-Ok-clause-noted : goal.returns-in-Ok-clause-noted
-returns-in-Ok-clause-noted g c = change_tells c.args.self.now.holdings c.send_noted.new.self.holdings c.args.scratch.now.notes c.forget.new.self c.send_noted.new.notes c.forget.ensures.asked c.forget.ensures.list c.in-Ok.ensures.noted
+returns-in-Ok-clause-noted g c = change_tells c.args.self.now.holdings c.send_noted.new.self.holdings c.args.scratch.now.notes c.forget-asked.new.self.notes c.send_noted.new.notes c.forget-asked.ensures.kept c.forget-asked.ensures.none c.in-Ok.ensures.noted

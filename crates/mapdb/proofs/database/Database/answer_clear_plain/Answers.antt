@@ -1,6 +1,0 @@
--- The notes of the call before are forgotten.
-use Rattle.mapdb.proofs.ToldNotes.{change_tells}
-use Rattle.mapdb.proofs.database.Database.answer_clear_plain.Goals as goal
-
-pub returns-in-Ok-clause-noted : goal.returns-in-Ok-clause-noted
-returns-in-Ok-clause-noted c = change_tells c.args.self.now.holdings c.clear_plain_noted.new.self.holdings c.args.scratch.now.notes c.forget.new.self c.clear_plain_noted.new.notes c.forget.ensures.asked c.forget.ensures.list c.in-Ok.ensures.noted
