@@ -66,10 +66,11 @@ fn add_held(
     requires has { HasWord shards.now first }
     ensures { OnOk result (places.new.items ≡ places.old.items ++ filter (has_entry shards.now) (pages_from first.space first.page (end - first.page))) }
 {
+    let start = shards.start_of_shard(first);
     let space = first.space;
     let mut page = first.page;
     while page < end {
-        page = shards.first_held_of_shard(first, page, end);
+        page = shards.first_held_of_shard(start, first, page, end);
         if page < end {
             places.push(Place { space, page })?;
             page += 1;

@@ -188,6 +188,7 @@ fn note_run(
 /// Notes the place at a position of a tree, where notes are asked for, if it lost a right.
 ///
 /// Refused where memory is.
+#[inline]
 pub fn note_lost(
     nodes: &mut Nodes<'_>,
     i: usize,
@@ -234,6 +235,7 @@ fn loses(shards: &Shards, place: Place, revoked: Rights) -> bool
 }
 
 /// Notes one page.
+#[inline(never)]
 fn add_note(list: &mut Vec<Note>, place: Place, was_held: bool) -> Result<(), AllocError>
     ensures { OnOk result (list.new.items ≡ list.old.items ++ (record { place = place; was_held = was_held }) ∷ []) }
 {

@@ -217,6 +217,7 @@ fn strip_run_by_recursion(
 }
 
 /// The indexes of the words of the nodes from a position up to another, which are 16 at most.
+#[inline(never)]
 fn find_words(
     shards: &Shards,
     nodes: &mut Nodes<'_>,

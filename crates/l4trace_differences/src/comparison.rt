@@ -250,14 +250,7 @@ fn compare_texts<T: AllocGlobal + Threads + Sync, W: Sink, V: Watch>(
         IsTrue (is_same found) ↔ (text.now ≡ answers.now)) }
 {
     match comparison.options.scope {
-        Scope::Whole => {
-            let difference = first_difference(text, answers);
-            let sides = Sides {
-                ours: text,
-                theirs: answers,
-            };
-            tell(rt, comparison, difference, &sides, writer, watch)
-        }
+        Scope::Whole => compare_lines(rt, comparison, text, answers, writer, watch),
         Scope::Audit => compare_audits(rt, comparison, text, answers, writer, watch),
         Scope::Part => compare_parts(rt, comparison, text, answers, writer, watch),
     }
@@ -303,11 +296,22 @@ fn compare_parts<T: AllocGlobal + Threads + Sync, W: Sink, V: Watch>(
         return Ok(Compared::Nothing);
     }
     let ours = named_lines(rt.alloc(), text, answers)?;
-    let difference = first_difference(&ours, answers);
-    let sides = Sides {
-        ours: &ours,
-        theirs: answers,
-    };
+    compare_lines(rt, comparison, &ours, answers, writer, watch)
+}
+
+/// Compares lines of answers with lines of l4map's.
+fn compare_lines<T: AllocGlobal + Threads + Sync, W: Sink, V: Watch>(
+    rt: &T,
+    comparison: &Comparison<'_>,
+    ours: &[u8],
+    theirs: &[u8],
+    writer: &mut W,
+    watch: &mut V,
+) -> Result<Compared, CompareError>
+    ensures { IfOk result (λ found. IsTrue (is_same found) ↔ (ours.now ≡ theirs.now)) }
+{
+    let difference = first_difference(ours, theirs);
+    let sides = Sides { ours, theirs };
     tell(rt, comparison, difference, &sides, writer, watch)
 }
 

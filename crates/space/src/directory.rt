@@ -254,7 +254,7 @@ impl Directory {
     }
 
     /// The first run of 256 from one on, and before an end, of which a shard is there; the end where there is none. It
-    /// looks at sixteen at once.
+    /// looks at eight at once.
     fn next_filled(&self, from: usize, end: usize) -> usize
         requires from { from ≤ end }
         requires end { end ≤ length self.now.spans.items }
@@ -266,10 +266,7 @@ impl Directory {
             return from;
         }
         let mut run = from;
-        while end - run >= 16 && are_empty(&self.spans, run) {
-            run += 16;
-        }
-        if end - run >= 8 && are_eight_empty(&self.spans, run) {
+        while end - run >= 8 && are_empty(&self.spans, run) {
             run += 8;
         }
         while run < end && self.spans[run] == 0 {
@@ -301,16 +298,8 @@ impl Directory {
     }
 }
 
-/// Whether no shard is there of sixteen runs from one on, whose spans these are.
+/// Whether no shard is there of eight runs from one on, whose spans these are.
 fn are_empty(spans: &[u32], run: usize) -> bool
-    requires { run + 16 ≤ length spans.now }
-    ensures { result ≡ true → (k : ℕ) → run ≤ k → k < run + 16 → slice_index spans.now k ≡ 0 }
-{
-    are_eight_empty(spans, run) & are_eight_empty(spans, run + 8)
-}
-
-/// The same of eight.
-fn are_eight_empty(spans: &[u32], run: usize) -> bool
     requires { run + 8 ≤ length spans.now }
     ensures { result ≡ true → (k : ℕ) → run ≤ k → k < run + 8 → slice_index spans.now k ≡ 0 }
 {

@@ -55,7 +55,7 @@ impl Shards {
     ghost use Rattle.std.specs.Option.{option_and_then};
     ghost use Rattle.space.specs.declared.place.Place.{Place};
     ghost use Rattle.space.specs.Word.{word_of, entry_of, is_pack, FrameFits};
-    ghost use Rattle.space.specs.Directory.{AreLimits, pages_of, shard_of};
+    ghost use Rattle.space.specs.Directory.{AreLimits, offset_of, pages_of, shard_of};
     ghost use Rattle.space.specs.Entries.{has_any, narrowed, status_of, with_status, extended};
     ghost use Rattle.space.specs.Positions.{most_of};
     ghost use Rattle.space.specs.Shards.{spaces_of, bits_of, IsPlace, HasWord, word_count, index_of, is_taken, words_of, entry_at, IsLaidOutAs, IsMade, AreOnlyMade, IsSetAt, are_beside};
@@ -244,7 +244,9 @@ impl Shards {
                 break;
             }
             let behind = page_behind_shard(first).min(end);
-            let found = self.first_held_of_shard(Place { space, page: first }, first, behind);
+            let place = Place { space, page: first };
+            let start = self.start_of_shard(place);
+            let found = self.first_held_of_shard(start, place, first, behind);
             if found < behind {
                 return found;
             }
@@ -253,9 +255,19 @@ impl Shards {
         end
     }
 
-    /// The same of pages of one shard that is there: that of a page, from another page of it on.
-    pub fn first_held_of_shard(&self, place: Place, from: u32, end: u32) -> u32
+    /// Where the words of the shard of a page begin.
+    pub fn start_of_shard(&self, place: Place) -> usize
+        requires { IsPlace self.now place }
+        ensures { result + offset_of place ≡ index_of self.now place }
+    {
+        self.find(place) - offset(place)
+    }
+
+    /// The first page that is held of one shard that is there, that of a page, from another page of it on. Its words begin
+    /// at `start`.
+    pub fn first_held_of_shard(&self, start: usize, place: Place, from: u32, end: u32) -> u32
         requires place { IsPlace self.now place }
+        requires start { start + offset_of place ≡ index_of self.now place }
         requires on { place.page ≤ from }
         requires from { from ≤ end }
         requires end { end ≤ (place.page / 64 + 1) * 64 }
@@ -268,12 +280,11 @@ impl Shards {
         ensures absent { (p : Place) → p.space ≡ place.space → from ≤ p.page → p.page < result → entry_at self.now p ≡ None }
     {
         let words = self.words.as_ref().unwrap();
-        let before = self.find(place) - offset(place);
         let space = place.space;
         let mut page = from;
         while page < end {
-            let at = before + offset(Place { space, page });
-            let to = (before + SHARD_PAGES).min(at + (end - page) as usize);
+            let at = start + offset(Place { space, page });
+            let to = (start + SHARD_PAGES).min(at + (end - page) as usize);
             let absent = zeros(words, at, to);
             page += absent as u32;
             if at + absent < to {

@@ -2,7 +2,7 @@
 use Rattle.std.proofs.Common.{◌≡◌, ℕ, slice_index_or, arith}
 use Rattle.std.proofs.lemmas.Bool.Decides.{nat_tests}
 use Rattle.space.proofs.Eights.{or_of_eight, none_of_eight}
-use Rattle.space.proofs.directory.are_eight_empty.Goals as goal
+use Rattle.space.proofs.directory.are_empty.Goals as goal
 
 pub returns : goal.returns
 returns c is k from before =
