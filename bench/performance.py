@@ -355,6 +355,11 @@ def few_held():
     return [send(0, 1, frame, frame * 104_857) for frame in range(10)]
 
 
+def held_once():
+    """A page at a place of each shard of a large space, taken back from all of them."""
+    return [*(send(0, 1, 0, page) for page in range(0, LARGE_PAGES, 64)), unmap(0, 0xC7)]
+
+
 def thinly_held(count):
     """A page at so many places of 511 large spaces."""
     chance = random.Random(11)
@@ -377,6 +382,9 @@ def large_spaces(bench):
     for name, record in (("31 items", "send,1,2,10" + 31 * ",8,17"), ("64 words", "unmap,1,3f" + 64 * ",10")):
         whole = taken(FEW_PAGES, [*few_held(), *1_000 * [record]])[0]
         row(f"a record of {name}, each a whole space of which 10 pages are held", f"{whole - start:,.1f} us", "50 us")
+        made = [*held_once(), *few_held()]
+        once = taken(FEW_PAGES, [*made, *1_000 * [record]])[0] - taken(FEW_PAGES, made)[0]
+        row("the same, where each of its 16,384 shards held a page before", f"{once:,.1f} us", "50 us")
     audited, audited_peak = taken("l4map,1,512,32,1", thinly_held(1_000))
     row("1,000 mappings over 511 spaces, made and audited", f"{audited - large:,.2f} ms", "2 ms")
     row("bytes a mapping of these", f"{(audited_peak - large_peak) * 1024 / 1_000:,.0f}", "")

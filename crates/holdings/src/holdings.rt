@@ -104,7 +104,7 @@ impl Holdings {
             return start..start;
         }
         let pages = 1 << (self.shards.bits() - 12);
-        start..self.shards.next_run(place, pages).end
+        start..self.shards.next_run(place, pages).pages.end
     }
 
     /// The page from which a page came; none for a root, and where nothing is held.

@@ -48,6 +48,7 @@ pub use laws::phases_in_pieces;
 pub use limits::Limits;
 pub use mapping::Mapping;
 pub use mappings::Mappings;
+pub use named::Named;
 pub use notes::{Note, Notes};
 pub use outcome::Outcome;
 pub use transfer::Transfer;

@@ -15,8 +15,7 @@ use crate::holdings::Holdings;
 use crate::item_pages::ItemPages;
 use fpage::{ItemKind, Rights};
 use maptree::Tree;
-use space::{Place, Shards};
-use std::ops::Range;
+use space::{Place, Run, Shards};
 
 /// What becomes of a page of an item, as things stand at the item's start (profile).
 #[derive(Clone, Copy, Debug, PartialEq, Eq)]
@@ -56,23 +55,26 @@ impl Holdings {
 
     /// The next pages of an item, from one on, whose sources are held, side by side in one shard. The sources of all
     /// pages before them are absent. It passes over shards that are not there without a look at their pages.
-    pub fn next_sources(&self, pages: &ItemPages, from: u32) -> Range<u32>
+    pub fn next_sources(&self, pages: &ItemPages, from: u32) -> Run
         requires pages { AreItemPages self.now.limits pages.now }
         requires within { from < pages.now.count }
-        ensures from { from ≤ result.start }
-        ensures order { result.start ≤ result.end }
-        ensures further { from < result.end }
-        ensures end { result.end ≤ pages.now.count }
-        ensures absent { (i : ℕ) → from ≤ i → i < result.start → at self.now.holdings (page_on pages.now.source i) ≡ None }
-        ensures shard { (i : ℕ) → result.start ≤ i → i < result.end
-            → (page_on pages.now.source i).page / 64 ≡ (page_on pages.now.source result.start).page / 64 }
+        ensures from { from ≤ result.pages.start }
+        ensures order { result.pages.start ≤ result.pages.end }
+        ensures further { from < result.pages.end }
+        ensures end { result.pages.end ≤ pages.now.count }
+        ensures absent { (i : ℕ) → from ≤ i → i < result.pages.start → at self.now.holdings (page_on pages.now.source i) ≡ None }
+        ensures shard { (i : ℕ) → result.pages.start ≤ i → i < result.pages.end
+            → (page_on pages.now.source i).page / 64 ≡ (page_on pages.now.source result.pages.start).page / 64 }
         ensures consistent { IsConsistent self.now }
     {
         let shards = &self.shards;
         let (source, _) = pages.pair(from);
         let first = pages.source.page;
         let run = shards.next_run(source, first + pages.count);
-        run.start - first..run.end - first
+        Run {
+            pages: run.pages.start - first..run.pages.end - first,
+            in_vain: run.in_vain,
+        }
     }
 }
 

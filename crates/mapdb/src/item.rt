@@ -57,7 +57,12 @@ pub fn work_item<W: Workers>(
         targets: &targets,
         sources: &sources,
     };
-    work_phases(alloc, held, pages, &phases, notes, workers)
+    let (left, counts) = work_phases(alloc, held, pages, &phases, notes, workers)?;
+    let first = pages.source.page;
+    let sources = first..first.saturating_add(pages.count);
+    let found = u128::from(pages.count).saturating_sub(plan.decided.absent) as usize;
+    let left = left.swept(pages.source.space, sources, found, plan.in_vain);
+    Ok((left, counts))
 }
 
 /// The same of an item of one page, without lists.

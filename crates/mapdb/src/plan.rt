@@ -10,7 +10,7 @@ ghost use Rattle.mapdb.specs.Sending.{counts_before_flush, transfer_of, transfer
 
 use crate::reply::SendReply;
 use holdings::{Holdings, ItemPages, Outcome, Transfer};
-use space::Place;
+use space::{Place, Run};
 use std::alloc::{AllocError, Global};
 use std::ops::Range;
 
@@ -21,6 +21,8 @@ pub struct Plan {
     pub decided: SendReply,
     /// The others, in order.
     pub transfers: Vec<Transfer>,
+    /// How many shards were looked at in vain. No clause says how many.
+    pub in_vain: usize,
 }
 
 /// Decides the outcome of every page of an item. Sources whose shards are not there are absent without a look at each.
@@ -37,13 +39,19 @@ pub fn plan_item(alloc: Global, held: &Holdings, pages: &ItemPages) -> Result<Pl
     let mut plan = Plan {
         decided: SendReply::none(),
         transfers: Vec::new(alloc),
+        in_vain: 0,
     };
     let mut i = 0;
     while i < pages.count {
-        let next = held.next_sources(pages, i);
+        let Run {
+            pages: next,
+            in_vain,
+        } = held.next_sources(pages, i);
         plan.decided = plan.decided.plus(SendReply::of_absent(next.start - i));
-        plan_pages(held, pages, next.start..next.end, &mut plan)?;
-        i = next.end;
+        plan.in_vain = plan.in_vain.saturating_add(in_vain as usize);
+        let behind = next.end;
+        plan_pages(held, pages, next, &mut plan)?;
+        i = behind;
     }
     Ok(plan)
 }

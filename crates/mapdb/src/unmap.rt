@@ -85,11 +85,15 @@ pub fn unmap_word<W: Workers>(
         };
         return held.strip(alloc, &[place], revoked, word.flush, notes, workers);
     }
-    let places = held.held_among(alloc, word.space, pages)?;
-    if plain {
-        return Ok(held.strip_by_recursion(alloc, &places, revoked, word.flush, notes)?);
-    }
-    held.strip(alloc, &places, revoked, word.flush, notes, workers)
+    let named = held.held_among(alloc, word.space, pages)?;
+    let places = named.places.as_slice();
+    let (left, status) = if plain {
+        held.strip_by_recursion(alloc, places, revoked, word.flush, notes)?
+    } else {
+        held.strip(alloc, places, revoked, word.flush, notes, workers)?
+    };
+    let left = left.swept(word.space, word.fpage.pages(), places.len(), named.in_vain);
+    Ok((left, status))
 }
 
 /// Works the words of an unmap as `unmap_words` does, while an observer looks at the entries: once for each word of
@@ -140,10 +144,10 @@ fn unmap_word_watched<R: Threads + Wait, G: Gate, O: Observe>(
         → O.told observer.now words pieces }
     ensures { IfOk result (IsStripped held (pages_in word.now.space word.now.fpage) word.now.fpage.rights word.now.flush) }
 {
-    let places = held.held_among(alloc, word.space, word.fpage.pages())?;
+    let named = held.held_among(alloc, word.space, word.fpage.pages())?;
     held.strip_watched(
         alloc,
-        &places,
+        &named.places,
         word.fpage.rights(),
         word.flush,
         crew,

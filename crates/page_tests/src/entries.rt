@@ -243,7 +243,7 @@ fn two_shards_of_space_1(alloc: Global) -> Result<Shards, NoMemory>
     Ok(shards)
 }
 
-/// The first page of a space, from one on and before an end, whose shard is there, if there are such pages.
+/// The first page of a space, from one on and before an end, whose shard is there and not dead, if there are such pages.
 fn next_from(shards: &Shards, space: u16, page: u32, end: u32) -> u32 {
     if u32::from(space) >= shards.spaces() || page >= end || end > 1 << (shards.bits() - 12) {
         return 0;
@@ -298,7 +298,66 @@ fn next_run(shards: &Shards, page: u32, end: u32) -> Range<u32>
     if 1 >= shards.spaces() || page >= end || end > 1 << (shards.bits() - 12) {
         return 0..0;
     }
-    shards.next_run(Place { space: 1, page }, end)
+    shards.next_run(Place { space: 1, page }, end).pages
+}
+
+#[test]
+fn a_shard_that_holds_nothing_is_passed_over_once_it_is_swept(rt: HostRuntime) -> Result<(), Fail> {
+    let end = 1 << (BITS - 12);
+    // Pages from which the first shard is searched for, and its first page: four are there, and two of them hold a page.
+    let before = [
+        (0, 192),
+        (256, 320),
+        (384, 2_560),
+        (2_624, 19_200),
+        (19_264, end),
+    ];
+    let after = [
+        (0, 320),
+        (256, 320),
+        (384, 19_200),
+        (2_624, 19_200),
+        (19_264, end),
+    ];
+    // And once the one of page 2,560 holds a page again.
+    let again = [
+        (0, 320),
+        (256, 320),
+        (384, 2_560),
+        (2_624, 19_200),
+        (19_264, end),
+    ];
+    let mut shards = four_shards_of_space_1(rt.alloc())?;
+    hold(&mut shards, 321);
+    hold(&mut shards, 19_263);
+    for (page, first) in before {
+        assert_equal(&rt, next_from(&shards, 1, page, end), first, page);
+    }
+    // Of the shard of page 19,263 some pages alone are asked for.
+    sweep(&mut shards, 0, 19_210);
+    for (page, first) in after {
+        assert_equal(&rt, next_from(&shards, 1, page, end), first, page);
+    }
+    hold(&mut shards, 2_561);
+    for (page, first) in again {
+        assert_equal(&rt, next_from(&shards, 1, page, end), first, page);
+    }
+    assert_equal(&rt, next_run(&shards, 322, end), 2_561..2_562, "held again");
+    // While the words are away they may change, so no shard stays passed over.
+    let words = shards.take_words();
+    shards.put_words(words);
+    assert_equal(&rt, next_from(&shards, 1, 0, end), 192, "put back");
+    Ok(())
+}
+
+/// Sweeps pages of space 1, if there are such pages.
+fn sweep(shards: &mut Shards, page: u32, end: u32)
+    requires { IsFalse (is_taken shards.old) }
+    ensures { IsFalse (is_taken shards.new) }
+{
+    if 1 < shards.spaces() && page < end && end <= 1 << (shards.bits() - 12) {
+        shards.sweep(Place { space: 1, page }, end);
+    }
 }
 
 /// How many pages `keeps_a_million_entries_over_512_spaces` holds.

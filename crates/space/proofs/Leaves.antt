@@ -541,6 +541,17 @@ pub below_in : (d : Directory) (shard : ℕ) → (position_in d shard ≡ nowher
 unfolding position_in
 below_in d shard there = below d.most d.count d.branches.items d.leaves.items d.positions.items (found_in d) shard there
 
+-- what is not there is not live
+pub dead_unless : (d : Directory) (live : List ℕ) → length live ≡ count_of d → (shard : ℕ) → position_in d shard ≡ nowhere → slice_index live (position_in d shard) ≡ 0
+dead_unless d live how_many shard away = get_or_past live (position_in d shard) 0 (omega (arith, how_many, away, few_there_in d, (found_in d).few))
+
+-- what is live is there
+pub live_within : (d : Directory) (live : List ℕ) → length live ≡ count_of d → (shard : ℕ) → (slice_index live (position_in d shard) ≡ 0 → ⊥) → position_in d shard < count_of d
+live_within d live how_many shard some = elim (within_or_past (position_in d shard) (count_of d)) as (λ _. position_in d shard < count_of d) [
+  | inl within ↦ within
+  | inr past ↦ absurd (some (get_or_past live (position_in d shard) 0 (omega (arith, how_many, past))))
+]
+
 pub apart_in : (d : Directory) (j k : ℕ) → position_in d j < count_of d → position_in d j ≡ position_in d k → j ≡ k
 unfolding position_in
 apart_in d j k there same = apart d.most d.count d.branches.items d.leaves.items d.positions.items (found_in d) j k there same

@@ -1,5 +1,5 @@
 -- The words of shards, by place.
-use Rattle.std.proofs.Common.{◌≡◌, refl, sym, ◌∙◌, ap, arith, subst, ℕ, ◌+◌, ◌*◌, ◌^◌, ◌<◌, ◌≤◌, ◌++◌, ◌⊎◌, inl, inr, List, [], length, Option, Some, None, IsTrue, IfSome, Bool, true, false, ◌==◌, ◌&&◌, ◌/◌, ◌-◌, Vec, Global, slice_index, slice_set, vec_capacity}
+use Rattle.std.proofs.Common.{◌≡◌, refl, sym, ◌∙◌, ap, arith, subst, ℕ, ◌+◌, ◌*◌, ◌^◌, ◌<◌, ◌≤◌, ◌++◌, ◌∷◌, ◌%◌, ◌⊎◌, inl, inr, List, [], length, Option, Some, None, IsTrue, IfSome, Bool, true, false, ◌==◌, ◌&&◌, ◌/◌, ◌-◌, Vec, Global, slice_index, slice_set, vec_capacity}
 use Rattle.std.specs.Option.{option_map_or}
 use Rattle.std.specs.Prelude.{replicate, is_some}
 use Rattle.std.specs.List.{AllPass}
@@ -9,20 +9,20 @@ use Rattle.std.proofs.lemmas.Nat.{mul-le}
 use Rattle.std.proofs.lemmas.Grind.{div_ceil_times}
 use Rattle.std.proofs.lemmas.Bool.{eq-eqb, eqb-true}
 use Rattle.std.proofs.lemmas.Option.{same_Some}
-use Rattle.std.proofs.lemmas.List.{length-replicate, length-set, get_or-set_same, get_or-set_other, get_or_past, get_or-replicate, get_or_append_left, get_or-append_right}
+use Rattle.std.proofs.lemmas.List.{length-append, length-replicate, length-set, get_or-set_same, get_or-set_other, get_or_past, get_or-replicate, get_or_append_left, get_or-append_right}
 use Rattle.std.proofs.lemmas.List.Elements.{All-append, All-replicate, All-set}
 use Rattle.space.specs.declared.place.Place.{Place}
 use Rattle.space.specs.declared.place.Entry.{Entry}
 use Rattle.space.specs.declared.shards.Shards.{Shards}
 use Rattle.space.specs.Word.{word_of, entry_of, is_pack, FrameFits}
-use Rattle.space.specs.Directory.{pages_of, shards_of, shard_of, offset_of, AreWords}
+use Rattle.space.specs.Directory.{pages_of, shards_of, shard_of, offset_of, AreLive, AreWords}
 use Rattle.space.specs.declared.directory.Directory.{Directory}
-use Rattle.space.specs.Positions.{nowhere, most_of, count_of, position_in, IsAdded}
+use Rattle.space.specs.Positions.{nowhere, most_of, count_of, position_in, AreRunsOf, IsAdded, IsSame}
 use Rattle.space.specs.Shards.{IsPlace, HasWord, index_of, word_count, words_of, entry_at, are_beside, IsSetAt}
 use Rattle.space.specs.ShardLaws.{HeldHaveWords, WordsAreTheirOwn, EntriesFit, AreAllWords, IsWithWords, ShardsHaveWords, WordsHaveShards}
 use Rattle.space.proofs.Words.{pack_gives_back, unpack_gives_back, unpacked_fits}
 use Rattle.space.proofs.Directories.{shard_found, same_shard, shard_in_space, same_parts, pages_are, few_pages}
-use Rattle.space.proofs.Leaves.{within_or_past, same_or_not, apart_in, below_in, few_there_in, found_in}
+use Rattle.space.proofs.Leaves.{few_there_in, found_in, within_or_past, same_or_not, apart_in, below_in}
 
 -- the shard of a place is one that the directory can have
 pub shard_can : (s : Shards) (p : Place) → IsPlace s p → shard_of s.bits p < most_of s.directory
@@ -40,6 +40,13 @@ words_are_their_own s p q p_place q_place has same =
 
 pub entries_fit : EntriesFit
 entries_fit s p = unpacked_fits _
+
+-- a position that is none of the shards that are there
+away_from : (d : Directory) (shard : ℕ) → count_of d ≤ position_in d shard → position_in d shard ≡ nowhere
+away_from d shard past = elim (same_or_not (position_in d shard) nowhere) as (λ _. position_in d shard ≡ nowhere) [
+  | inl same ↦ same
+  | inr differ ↦ let there = below_in d shard differ in absurd (omega (arith, there, past))
+]
 
 -- a shard that is not there has no position
 pub nowhere_unless : (s : Shards) (p : Place) → (HasWord s p → ⊥) → position_in s.directory (shard_of s.bits p) ≡ nowhere
@@ -77,6 +84,99 @@ words_set count words i w are pack = record {
   count = omega (arith, length-set words.items i w, are.count);
   packs = All-set (λ x. is_pack x ≡ true) words.items i w pack are.packs;
 }
+
+-- live stay live where a word of a live shard becomes another, or one of another shard stays 0
+pub live_set : (live : List ℕ) (words : Vec ℕ Global) (i w : ℕ) → i < length words.items → (slice_index live (i / 64) ≡ 0 → w ≡ 0) → AreLive live words → AreLive live (with_item words i w)
+live_set live words i w within only are j none = elim (same_or_not i j) as (λ _. slice_index (slice_set words.items i w) j ≡ 0) [
+  | inl same ↦ ap (slice_index (slice_set words.items i w)) (sym same) ∙ get_or-set_same words.items i w 0 within ∙ only (ap (λ k. slice_index live (k / 64)) same ∙ none)
+  | inr differ ↦ get_or-set_other words.items i j w 0 (λ same. differ (sym same)) ∙ are j none
+]
+
+-- the same live and words
+pub same_live : (live now : List ℕ) (words after : Vec ℕ Global) → now ≡ live → after.items ≡ words.items → AreLive live words → AreLive now after
+same_live live now words after now_is after_is are i none = ap (λ xs. slice_index xs i) after_is ∙ are i (ap (λ xs. slice_index xs (i / 64)) (sym now_is) ∙ none)
+
+-- a live shard more
+pub live_longer : (live now : List ℕ) (words after : Vec ℕ Global) → now ≡ live ++ 1 ∷ [] → after.items ≡ words.items ++ replicate 64 0 → length words.items ≡ length live * 64 → AreLive live words → AreLive now after
+live_longer live now words after now_is after_is count are i none =
+    ap (λ xs. slice_index xs i) after_is ∙ read_longer words.items 64 i ∙ (elim (within_or_past (i / 64) (length live)) as (λ _. slice_index words.items i ≡ 0) [
+      | inl within ↦ are i (sym (get_or_append_left live (1 ∷ []) 0 (i / 64) within) ∙ ap (λ xs. slice_index xs (i / 64)) (sym now_is) ∙ none)
+      | inr past ↦ get_or_past words.items i 0 (omega (arith, past, count))
+    ])
+
+-- a dead shard more, whose words are 0
+pub live_without : (live : List ℕ) (words : Vec ℕ Global) (start : ℕ) → start % 64 ≡ 0 → ((i : ℕ) → start ≤ i → i < start + 64 → slice_index words.items i ≡ 0) → AreLive live words → AreLive (slice_set live (start / 64) 0) words
+live_without live words start whole zeros are i none = elim (same_or_not (start / 64) (i / 64)) as (λ _. slice_index words.items i ≡ 0) [
+  | inl same ↦ zeros i (omega (arith, same, whole)) (omega (arith, same, whole))
+  | inr differ ↦ are i (sym (get_or-set_other live (start / 64) (i / 64) 0 0 (λ same. differ (sym same))) ∙ none)
+]
+
+-- where all shards are live, the others have no words
+pub live_all : (shards : ℕ) (live : List ℕ) (words : Vec ℕ Global) → length words.items ≡ shards * 64 → length live ≡ shards → ((k : ℕ) → k < length live → slice_index live k ≡ 1) → AreLive live words
+live_all shards live words count how_many all i none = elim (within_or_past (i / 64) (length live)) as (λ _. slice_index words.items i ≡ 0) [
+  | inl within ↦ let one = all (i / 64) within in absurd (omega (arith, one, none))
+  | inr past ↦ get_or_past words.items i 0 (omega (arith, past, how_many, count))
+]
+
+-- words stay those of live shards where a dead one becomes live
+pub live_revived : (live : List ℕ) (words : Vec ℕ Global) (k : ℕ) → k < length live → AreLive live words → AreLive (slice_set live k 1) words
+live_revived live words k within are i none = elim (same_or_not k (i / 64)) as (λ _. slice_index words.items i ≡ 0) [
+  | inl same ↦ let one = ap (slice_index (slice_set live k 1)) (sym same) ∙ get_or-set_same live k 1 0 within in absurd (omega (arith, one, none))
+  | inr differ ↦ are i (sym (get_or-set_other live k (i / 64) 1 0 (λ same. differ (sym same))) ∙ none)
+]
+
+-- ---- runs of shards
+
+module _ (d : Directory) (live runs : List ℕ) where
+  -- where none is dead
+  pub runs_of_all : length runs ≡ div_ceil (most_of d) 256 → ((k : ℕ) → k < length runs → slice_index runs k ≡ 1) → AreRunsOf d live runs
+  runs_of_all how_many all shard less none =
+      let within : shard / 256 < length runs = omega (arith, how_many, less, div_ceil_times (most_of d) 256 (omega arith)) in
+      let one = all (shard / 256) within in
+      absurd (omega (arith, one, none))
+
+  module _ (are : AreRunsOf d live runs) where
+    -- where a run is not dead any more
+    pub runs_revived : (run : ℕ) → run < length runs → AreRunsOf d live (slice_set runs run 1)
+    runs_revived run within shard less none = elim (same_or_not run (shard / 256)) as (λ _. slice_index live (position_in d shard) ≡ 0) [
+      | inl same ↦ let one = ap (slice_index (slice_set runs run 1)) (sym same) ∙ get_or-set_same runs run 1 0 within in absurd (omega (arith, one, none))
+      | inr differ ↦ are shard less (sym (get_or-set_other runs run (shard / 256) 1 0 (λ same. differ (sym same))) ∙ none)
+    ]
+
+    -- where a shard of a live run is not dead any more
+    pub shard_revived : (shard : ℕ) → position_in d shard < count_of d → (slice_index runs (shard / 256) ≡ 0 → ⊥) → AreRunsOf d (slice_set live (position_in d shard) 1) runs
+    shard_revived shard there live_run other less none =
+        let differ : position_in d other ≡ position_in d shard → ⊥ = λ same. live_run (ap (λ k. slice_index runs (k / 256)) (apart_in d shard other there (sym same)) ∙ none) in
+        get_or-set_other live (position_in d shard) (position_in d other) 1 0 differ ∙ are other less none
+
+    -- where a shard is dead now
+    pub shard_dead : (position : ℕ) → AreRunsOf d (slice_set live position 0) runs
+    shard_dead position other less none = elim (same_or_not position (position_in d other)) as (λ _. slice_index (slice_set live position 0) (position_in d other) ≡ 0) [
+      | inl same ↦ elim (within_or_past position (length live)) as (λ _. slice_index (slice_set live position 0) (position_in d other) ≡ 0) [
+        | inl within ↦ ap (slice_index (slice_set live position 0)) (sym same) ∙ get_or-set_same live position 0 0 within
+        | inr past ↦ get_or_past (slice_set live position 0) (position_in d other) 0 (omega (arith, past, same, length-set live position 0))
+      ]
+      | inr differ ↦ get_or-set_other live position (position_in d other) 0 0 (λ same. differ (sym same)) ∙ are other less none
+    ]
+
+    -- where each shard is where it was
+    pub runs_same : (now : Directory) → IsSame d now → (live_now : List ℕ) → live_now ≡ live → AreRunsOf now live_now runs
+    runs_same now same live_now live_is shard less none =
+        ap (λ xs. slice_index xs (position_in now shard)) live_is ∙ ap (slice_index live) (same.positions shard) ∙ are shard (rw (← same.most) less) none
+
+    -- where a live shard is added
+    pub runs_longer : (now : Directory) (shard : ℕ) → IsAdded d now shard → length live ≡ count_of d → shard / 256 < length runs → (live_now : List ℕ) → live_now ≡ live ++ 1 ∷ [] → AreRunsOf now live_now (slice_set runs (shard / 256) 1)
+    runs_longer now shard added how_many within live_now live_is other less none =
+        let apart : shard / 256 ≡ other / 256 → ⊥ = λ same. let one = ap (slice_index (slice_set runs (shard / 256) 1)) (sym same) ∙ get_or-set_same runs (shard / 256) 1 0 within in absurd (omega (arith, one, none)) in
+        let stood = added.elsewhere other (λ same. apart (ap (λ k. k / 256) (sym same))) in
+        let dead = are other (rw (← added.most) less) (sym (get_or-set_other runs (shard / 256) (other / 256) 1 0 (λ same. apart (sym same))) ∙ none) in
+        ap (λ xs. slice_index xs (position_in now other)) live_is ∙ ap (slice_index (live ++ 1 ∷ [])) stood
+        ∙ (elim (within_or_past (position_in d other) (count_of d)) as (λ _. slice_index (live ++ 1 ∷ []) (position_in d other) ≡ 0) [
+          | inl there ↦ get_or_append_left live (1 ∷ []) 0 (position_in d other) (omega (arith, there, how_many)) ∙ dead
+          | inr past ↦
+              let away = away_from d other past in
+              get_or_past (live ++ 1 ∷ []) (position_in d other) 0 (omega (arith, away, how_many, length-append live (1 ∷ []), few_there_in d, (found_in d).few))
+        ])
 
 -- ---- the words of shards
 
@@ -122,6 +222,24 @@ absent_unless s p away = by s.words refl
     by : (o : Option (Vec ℕ Global)) → s.words ≡ o → entry_at s p ≡ None
     by None none = ap (λ (o : Option (Vec ℕ Global)). entry_of (slice_index (option_map_or (λ w. w.items) o []) (index_of s p))) none
     by (Some v) some = none_behind s v some p away
+
+-- the pages of a dead shard hold nothing
+pub absent_dead : (s : Shards) (p : Place) → slice_index s.live.items (position_in s.directory (shard_of s.bits p)) ≡ 0 → entry_at s p ≡ None
+absent_dead s p dead = by s.words refl
+  where
+    by : (o : Option (Vec ℕ Global)) → s.words ≡ o → entry_at s p ≡ None
+    by None none = ap (λ (o : Option (Vec ℕ Global)). entry_of (slice_index (option_map_or (λ w. w.items) o []) (index_of s p))) none
+    by (Some v) some =
+        let at : index_of s p / 64 ≡ position_in s.directory (shard_of s.bits p) = omega arith in
+        entry_read s v some p ∙ ap entry_of (s.dead v some (index_of s p) (ap (slice_index s.live.items) at ∙ dead))
+
+-- a word of a dead shard is 0
+pub dead_zero : (s : Shards) (i : ℕ) → slice_index s.live.items (i / 64) ≡ 0 → slice_index (words_of s) i ≡ 0
+dead_zero s i dead = by s.words refl
+  where
+    by : (o : Option (Vec ℕ Global)) → s.words ≡ o → slice_index (words_of s) i ≡ 0
+    by None none = ap (λ (o : Option (Vec ℕ Global)). slice_index (option_map_or (λ w. w.items) o []) i) none
+    by (Some v) some = ap (λ (o : Option (Vec ℕ Global)). slice_index (option_map_or (λ w. w.items) o []) i) some ∙ s.dead v some i dead
 
 -- as many words as the shards that are there have
 pub words_are_all : (s : Shards) (words : Vec ℕ Global) → s.words ≡ Some words → length words.items ≡ word_count s
@@ -198,6 +316,15 @@ module _ (s : Shards) (place : Place) (is_place : IsPlace s place) where
   pub has_beside : HasWord s place → (p : Place) → p.space ≡ place.space → p.page / 64 ≡ place.page / 64 → HasWord s p
   has_beside has p space pages = omega (arith, has, beside p space pages)
 
+  -- pages whose words are 0, one behind another, are absent
+  pub absent_between : (words : Vec ℕ Global) → s.words ≡ Some words → (start page absent : ℕ) → start + offset_of place ≡ index_of s place
+      → ((i : ℕ) → start + (page + place.space * 8) % 64 ≤ i → i < start + (page + place.space * 8) % 64 + absent → slice_index words.items i ≡ 0)
+      → start + (page + place.space * 8) % 64 + absent ≤ start + 64
+      → (p : Place) → p.space ≡ place.space → p.page / 64 ≡ place.page / 64 → page ≤ p.page → p.page < page + absent → entry_at s p ≡ None
+  absent_between words held start page absent start_is zeros within p space pages from before =
+      let index : start + (page + place.space * 8) % 64 + (p.page - page) ≡ index_of s p = omega (arith, start_is, within, beside p space pages, space, from, before) in
+      entry_read s words held p ∙ ap entry_of (ap (slice_index words.items) (sym index) ∙ zeros (start + (page + place.space * 8) % 64 + (p.page - page)) (omega arith) (omega (arith, from, before)))
+
 -- what is not 0 says that something is held
 said : (w : ℕ) → (w ≡ 0 → ⊥) → IsTrue (is_some (entry_of w))
 said w some = by (w == 0) refl
@@ -250,16 +377,11 @@ module _ (s : Shards) (place : Place) (is_place : IsPlace s place) where
         let position : position_in s.directory (shard_of s.bits p) < count_of s.directory = rw shard low in
         omega (arith, position)
 
-    pub page_skipped : ((k : ℕ) → shard_of s.bits place ≤ k → k < found → position_in s.directory k ≡ nowhere)
-        → (p : Place) → p.space ≡ place.space → place.page ≤ p.page → p.page < (found - before) * 64 → HasWord s p → ⊥
-    page_skipped skipped p same after below has =
-        let spaces : p.space * shards_in ≡ before = ap (λ n. n * shards_in) same in
-        let away = skipped (shard_of s.bits p) (omega (arith, spaces, after)) (omega (arith, spaces, below, from)) in
-        absurd (omega (arith, has, away, few_there_in s.directory, (found_in s.directory).few))
-
-    pub page_absent : ((k : ℕ) → shard_of s.bits place ≤ k → k < found → position_in s.directory k ≡ nowhere)
+    pub page_absent : ((k : ℕ) → shard_of s.bits place ≤ k → k < found → slice_index s.live.items (position_in s.directory k) ≡ 0)
         → (p : Place) → p.space ≡ place.space → place.page ≤ p.page → p.page < (found - before) * 64 → entry_at s p ≡ None
-    page_absent skipped p same after below = absent_unless s p (page_skipped skipped p same after below)
+    page_absent dead p same after below =
+        let spaces : p.space * shards_in ≡ before = ap (λ n. n * shards_in) same in
+        absent_dead s p (dead (shard_of s.bits p) (omega (arith, spaces, after)) (omega (arith, spaces, below, from)))
 
 pub held_have_words : HeldHaveWords
 held_have_words s p e is = elim (within_or_past (index_of s p) (word_count s)) as (λ _. HasWord s p) [
@@ -294,19 +416,31 @@ words_have_shards s present words count packs = by s.words refl
         let fits : length words ≤ vec_capacity v = omega (arith, as_many, count, v.ok.0, v.ok.1) in
         let u = with_items v words fits in
         let are : AreWords (count_of s.directory) u = record { count = count; packs = packs } in
+        let how_many : length (replicate (count_of s.directory) 1) ≡ count_of s.directory = length-replicate {A = ℕ} (count_of s.directory) 1 in
+        let live = with_items s.live (replicate (count_of s.directory) 1) (omega (arith, how_many, s.counted, s.live.ok.0, s.live.ok.1)) in
+        let all : AreLive live.items u = live_all (count_of s.directory) live.items u count how_many (λ k less. get_or-replicate (count_of s.directory) k 1 0 (omega (arith, less, how_many))) in
+        let many_runs : length (replicate (length s.runs.items) 1) ≡ length s.runs.items = length-replicate {A = ℕ} (length s.runs.items) 1 in
+        let runs = with_items s.runs (replicate (length s.runs.items) 1) (omega (arith, many_runs, s.runs.ok.0, s.runs.ok.1)) in
+        let each_run : length runs.items ≡ div_ceil (most_of s.directory) 256 = many_runs ∙ s.each_run in
         let new : Shards = record {
           spaces = s.spaces;
           bits = s.bits;
           directory = s.directory;
           words = Some u;
+          live = live;
+          runs = runs;
           limits = s.limits;
           most = s.most;
           packed = λ x x_is. subst (AreWords (count_of s.directory)) (same_Some u x x_is) are;
+          counted = how_many;
+          dead = λ x x_is. subst (AreLive live.items) (same_Some u x x_is) all;
+          each_run = each_run;
+          dead_runs = runs_of_all s.directory live.items runs.items each_run (λ k less. get_or-replicate (length s.runs.items) k 1 0 (omega (arith, less, many_runs)));
         } in (
           new,
           record {
-            are = record { count = count; packs = packs; entries = λ p place. refl };
-            present = refl;
-            layout = record { spaces = refl; bits = refl; count = refl; index = λ p. refl };
+            are = record { count = count; packs = packs; entries = λ p place. refl {a = entry_of (slice_index words (index_of s p))} };
+            present = refl {a = false};
+            layout = record { spaces = refl {a = s.spaces}; bits = refl {a = s.bits}; count = refl {a = word_count s}; index = λ p. refl {a = index_of s p} };
           },
         )

@@ -1,5 +1,5 @@
 -- Where the word of a place stands: words lie in shards of 64 pages of one space, found through a directory (profile).
-use Rattle.std.specs.Prelude.{◌≡◌, ℕ, ◌+◌, ◌-◌, ◌*◌, ◌/◌, ◌%◌, ◌^◌, ◌≤◌, length}
+use Rattle.std.specs.Prelude.{◌≡◌, ℕ, ◌+◌, ◌-◌, ◌*◌, ◌/◌, ◌%◌, ◌^◌, ◌≤◌, List, length, slice_index}
 use Rattle.std.specs.List.{AllPass}
 use Rattle.std.specs.declared.alloc.Global.{Global}
 use Rattle.std.specs.declared.vec.Vec.{Vec}
@@ -33,3 +33,7 @@ pub record AreLimits (spaces bits : ℕ) : Type 0 where
 pub record AreWords (shards : ℕ) (words : Vec ℕ Global) : Type 0 where
   pub count : length words.items ≡ shards * 64
   pub packs : AllPass is_pack words.items
+
+-- the words of a dead shard, one that is known to hold nothing, are 0
+abbrev pub AreLive : List ℕ → Vec ℕ Global → Type 0
+AreLive live words = (i : ℕ) → slice_index live (i / 64) ≡ 0 → slice_index words.items i ≡ 0

@@ -1,5 +1,5 @@
 -- The directory of shards: which are there, and where.
-use Rattle.std.specs.Prelude.{◌≡◌, ℕ, ◌+◌}
+use Rattle.std.specs.Prelude.{◌≡◌, ℕ, ◌+◌, ◌/◌, ◌<◌, List, slice_index}
 use Rattle.space.specs.declared.directory.Directory.{Directory}
 use Rattle.space.specs.Leaves as leaves
 
@@ -39,3 +39,7 @@ pub record IsAdded (old new : Directory) (shard : ℕ) : Type 0 where
   pub count : count_of new ≡ count_of old + 1
   pub there : position_in new shard ≡ count_of old
   pub elsewhere : (other : ℕ) → (other ≡ shard → ⊥) → position_in new other ≡ position_in old other
+
+-- all shards of a run are dead where 0 stands for it
+abbrev pub AreRunsOf : Directory → List ℕ → List ℕ → Type 0
+AreRunsOf d live runs = (shard : ℕ) → shard < most_of d → slice_index runs (shard / 256) ≡ 0 → slice_index live (position_in d shard) ≡ 0

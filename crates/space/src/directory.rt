@@ -12,7 +12,7 @@ const LEAF_SHARDS: usize = 16;
 const BRANCH_LEAVES: usize = 16;
 
 /// How many shards the leaves of one branch find.
-const BRANCH_SHARDS: usize = 256;
+pub const BRANCH_SHARDS: usize = 256;
 
 /// With so many shards at most all branches and leaves are there from the start: 137 KiB. Then a position is found
 /// without a look at them.
@@ -50,7 +50,7 @@ pub struct Directory {
 
 impl Directory {
     ghost use Rattle.std.specs.Prelude.{◌≡◌, ℕ, ◌+◌, ◌*◌, ◌/◌, ◌<◌, ◌≤◌, ◌^◌, length, slice_index, IfOk, OnOk, OnErr, IsTrue, ◌↔◌};
-    ghost use Rattle.space.specs.Positions.{most_of, count_of, position_in, branch_in, leaf_in, IsAdded, IsSame};
+    ghost use Rattle.space.specs.Positions.{most_of, count_of, position_in, branch_in, leaf_in, AreRunsOf, IsAdded, IsSame};
 
     /// A directory of so many shards, none of which is there.
     ///
@@ -114,6 +114,13 @@ impl Directory {
             positions,
             spans,
         })
+    }
+
+    /// How many shards there can be.
+    pub fn most(&self) -> usize
+        ensures { result ≡ most_of self.now }
+    {
+        self.most as usize
     }
 
     /// How many shards are there.
@@ -221,15 +228,18 @@ impl Directory {
         self.spans[run] = span_with(self.spans[run], (shard % BRANCH_SHARDS) as u32);
     }
 
-    /// The first shard from one on that is there, or the end of those that are asked for. Of each run of 256 those before
-    /// its first and behind its last are passed over.
-    pub fn next(&self, from: usize, end: usize) -> usize
+    /// The first live shard from one on, or the end of those that are asked for. What stands at the position of a shard in
+    /// `live` is 0 where the shard is dead, and what stands in `runs` for a run of 256 where all of them are: such a run is
+    /// passed over. Of each other those before the first that is there and behind the last are passed over.
+    pub fn next(&self, from: usize, end: usize, live: &[u8], runs: &[u8]) -> usize
         requires from { from ≤ end }
         requires end { end ≤ most_of self.now }
+        requires live { length live.now ≡ count_of self.now }
+        requires runs { AreRunsOf self.now live.now runs.now }
         ensures from { from ≤ result }
         ensures end { result ≤ end }
         ensures there { result < end → position_in self.now result < count_of self.now }
-        ensures skipped { (shard : ℕ) → from ≤ shard → shard < result → position_in self.now shard ≡ nowhere }
+        ensures dead { (shard : ℕ) → from ≤ shard → shard < result → slice_index live.now (position_in self.now shard) ≡ 0 }
     {
         let mut shard = from;
         while shard < end {
@@ -239,11 +249,15 @@ impl Directory {
                 return end;
             }
             let run_end = (start + BRANCH_SHARDS).min(end);
+            if life_at(runs, run) == 0 {
+                shard = run_end;
+                continue;
+            }
             let span = self.spans[run] as usize;
             let first = shard.max(start + span % BRANCH_SHARDS);
             let behind = run_end.min(start + span / BRANCH_SHARDS);
             if first < behind {
-                let found = self.next_in_run(first, behind);
+                let found = self.next_in_run(first, behind, live);
                 if found < behind {
                     return found;
                 }
@@ -275,21 +289,22 @@ impl Directory {
         run
     }
 
-    /// The same of shards of one run of 256, leaf by leaf.
-    fn next_in_run(&self, from: usize, end: usize) -> usize
+    /// The first live shard from one on, or the end, of shards of one run of 256, leaf by leaf.
+    pub fn next_in_run(&self, from: usize, end: usize, live: &[u8]) -> usize
         requires from { from < end }
         requires end { end ≤ most_of self.now }
+        requires live { length live.now ≡ count_of self.now }
         ensures from { from ≤ result }
         ensures end { result ≤ end }
         ensures there { result < end → position_in self.now result < count_of self.now }
-        ensures skipped { (shard : ℕ) → from ≤ shard → shard < result → position_in self.now shard ≡ nowhere }
+        ensures dead { (shard : ℕ) → from ≤ shard → shard < result → slice_index live.now (position_in self.now shard) ≡ 0 }
     {
         let mut shard = from;
         while shard < end {
             let run = shard / LEAF_SHARDS;
             let upto = ((run + 1) * LEAF_SHARDS).min(end);
             let first = self.leaf(run) as usize * LEAF_SHARDS + shard % LEAF_SHARDS;
-            shard += absent(&self.positions, first, first + (upto - shard));
+            shard += dead(&self.positions, live, first, first + (upto - shard));
             if shard < upto {
                 return shard;
             }
@@ -322,19 +337,29 @@ fn span_with(span: u32, at: u32) -> u32
     (span / 256).max(at + 1) * 256 + (span % 256).min(at)
 }
 
-/// How many positions from one on, and before an end, are those of no shard.
-fn absent(positions: &[u32], from: usize, end: usize) -> usize
+/// How many positions from one on, and before an end, are those of no live shard.
+fn dead(positions: &[u32], live: &[u8], from: usize, end: usize) -> usize
     requires order { from ≤ end }
     requires within { end ≤ length positions.now }
     ensures upto { from + result ≤ end }
-    ensures absent { (k : ℕ) → from ≤ k → k < from + result → slice_index positions.now k ≡ nowhere }
-    ensures there { from + result < end → slice_index positions.now (from + result) ≡ nowhere → ⊥ }
+    ensures dead { (k : ℕ) → from ≤ k → k < from + result → slice_index live.now (slice_index positions.now k) ≡ 0 }
+    ensures live { from + result < end → slice_index live.now (slice_index positions.now (from + result)) ≡ 0 → ⊥ }
 {
     let mut at = from;
-    while at < end && positions[at] == NOWHERE {
+    while at < end && life_at(live, positions[at] as usize) == 0 {
         at += 1;
     }
     at - from
+}
+
+/// What stands at a position; 0 behind all.
+fn life_at(live: &[u8], position: usize) -> u8
+    ensures { result ≡ slice_index live.now position }
+{
+    match live.get(position) {
+        Some(life) => *life,
+        None => 0,
+    }
 }
 
 /// Some zeros, and behind them so many numbers in their order, from 1 on.

@@ -16,7 +16,7 @@ pub use error::NoMemory;
 pub use laws::{entry_words, shard_words};
 pub use node::Node;
 pub use place::{Entry, Place};
-pub use shards::{Narrowed, Shards, page_behind_shard};
+pub use shards::{Narrowed, Run, Shards, page_behind_shard};
 pub use slice::Slice;
 pub use status::Status;
 pub use word::{narrowed_word, pack, rights_left, unpack, word_bits, word_status};

@@ -1,9 +1,10 @@
 ghost use Rattle.std.specs.Prelude.{◌≡◌, ℕ, ◌*◌, ◌+◌, ◌/◌, ◌^◌, ◌<◌, ◌≤◌, ◌++◌, true, length, replicate, slice_index, vec_capacity};
 ghost use Rattle.std.specs.Option.{ForSome};
-ghost use Rattle.space.specs.Directory.{AreLimits, AreWords, offset_of, shards_of};
-ghost use Rattle.space.specs.Positions.{most_of, count_of};
+ghost use Rattle.std.specs.Int.{div_ceil};
+ghost use Rattle.space.specs.Directory.{AreLimits, AreLive, AreWords, offset_of, shards_of};
+ghost use Rattle.space.specs.Positions.{most_of, count_of, AreRunsOf};
 
-use crate::directory::Directory;
+use crate::directory::{BRANCH_SHARDS, Directory};
 use crate::error::NoMemory;
 use crate::place::{Entry, Place};
 use crate::status::Status;
@@ -32,11 +33,45 @@ pub struct Narrowed {
     pub held: bool,
 }
 
+/// Held pages, side by side in one shard, as a search finds them.
+#[derive(Drop)]
+pub struct Run {
+    pub pages: Range<u32>,
+    /// How many shards were looked at in vain before them. No clause says how many.
+    pub in_vain: u32,
+}
+
+/// A held page, as a search finds it.
+#[derive(Clone, Copy)]
+struct Search {
+    page: u32,
+    /// How many shards were looked at in vain before it.
+    in_vain: u32,
+}
+
+impl Narrowed {
+    ghost use Rattle.std.specs.Prelude.{◌≡◌, false};
+    ghost use Rattle.fpage.specs.Rights.{no_rights};
+
+    /// What becomes of a page that holds nothing.
+    fn absent() -> Narrowed
+        ensures status { result.status ≡ no_rights }
+        ensures lost { result.lost ≡ false }
+        ensures held { result.held ≡ false }
+    {
+        Narrowed {
+            status: Status::none(),
+            lost: false,
+            held: false,
+        }
+    }
+}
+
 /// A map from places to entries, kept as entry words (profile).
 ///
 /// The words lie in shards of 64 pages of one space, one shard behind another, in the order in which they were made. A
-/// directory tells where those of a place stand, if its shard is there; all other pages are absent. Only `new`, `make`
-/// and `make_one` take memory.
+/// directory tells where those of a place stand, if its shard is there; all other pages are absent. A shard that is known
+/// to hold nothing is dead, and searches pass over it. Only `new`, `make` and `make_one` take memory.
 #[derive(Drop)]
 pub struct Shards {
     spaces: u32,
@@ -44,9 +79,17 @@ pub struct Shards {
     directory: Directory,
     /// None while the words are taken.
     words: Option<Vec<u64>>,
+    /// For each shard that is there, 0 if it is dead, and else 1.
+    live: Vec<u8>,
+    /// For each run of 256 shards, 0 if all of them are dead, and else 1.
+    runs: Vec<u8>,
     ghost limits: { AreLimits spaces bits },
     ghost most: { most_of directory ≡ spaces * shards_of bits },
     ghost packed: { ForSome words (AreWords (count_of directory)) },
+    ghost counted: { length live.items ≡ count_of directory },
+    ghost dead: { ForSome words (AreLive live.items) },
+    ghost each_run: { length runs.items ≡ div_ceil (most_of directory) 256 },
+    ghost dead_runs: { AreRunsOf directory live.items runs.items },
 }
 
 impl Shards {
@@ -73,11 +116,14 @@ impl Shards {
     {
         let shards = spaces << (bits - SHARD_BITS);
         let directory = Directory::new(alloc, shards)?;
+        let runs = vec![in alloc; 0; directory.most().div_ceil(BRANCH_SHARDS)]?;
         Ok(Shards {
             spaces,
             bits,
             directory,
             words: Some(Vec::new(alloc)),
+            live: Vec::new(alloc),
+            runs,
         })
     }
 
@@ -185,8 +231,11 @@ impl Shards {
         let shard = self.shard(place);
         let words = self.words.as_mut().unwrap();
         words.reserve(SHARD_PAGES)?;
+        self.live.reserve(1)?;
         self.directory.add(shard)?;
         add_absent(words);
+        self.live.push_reserved(1);
+        self.runs[shard / BRANCH_SHARDS] = 1;
         Ok(())
     }
 
@@ -200,9 +249,8 @@ impl Shards {
         self.directory.position(self.shard(place)) < self.directory.count()
     }
 
-    /// The first page of a space, from a page on and before an end, whose shard is there; the end where there is none.
-    /// No page before it has its shard there, so all are absent. What is not there is passed over in runs of 16,384
-    /// pages.
+    /// The first page of a space, from a page on and before an end, whose shard is there and not dead; the end where there
+    /// is none. No page before it is held. What is not there is passed over in runs of 16,384 pages.
     pub fn first_from(&self, place: Place, end: u32) -> u32
         requires place { IsPlace self.now place }
         requires from { place.page ≤ end }
@@ -210,13 +258,12 @@ impl Shards {
         ensures from { place.page ≤ result }
         ensures end { result ≤ end }
         ensures there { result < end → HasWord self.now (record { space = place.space; page = result }) }
-        ensures skipped { (p : Place) → p.space ≡ place.space → place.page ≤ p.page → p.page < result → HasWord self.now p → ⊥ }
         ensures absent { (p : Place) → p.space ≡ place.space → place.page ≤ p.page → p.page < result → entry_at self.now p ≡ None }
     {
         let from = self.shard(place);
         let before = self.shards_before(place.space);
         let behind = before + (end as usize).div_ceil(SHARD_PAGES);
-        let found = self.directory.next(from, behind);
+        let found = self.directory.next(from, behind, &self.live, &self.runs);
         if found == from {
             return place.page;
         }
@@ -236,8 +283,23 @@ impl Shards {
         ensures held { result < end → IsTrue (is_some (entry_at self.now (record { space = place.space; page = result }))) }
         ensures absent { (p : Place) → p.space ≡ place.space → place.page ≤ p.page → p.page < result → entry_at self.now p ≡ None }
     {
+        self.search(place, end).page
+    }
+
+    /// The same, and how many shards were looked at in vain.
+    fn search(&self, place: Place, end: u32) -> Search
+        requires place { IsPlace self.now place }
+        requires from { place.page ≤ end }
+        requires end { end ≤ pages_of (bits_of self.now) }
+        requires present { IsFalse (is_taken self.now) }
+        ensures from { place.page ≤ result.page }
+        ensures end { result.page ≤ end }
+        ensures held { result.page < end → IsTrue (is_some (entry_at self.now (record { space = place.space; page = result.page }))) }
+        ensures absent { (p : Place) → p.space ≡ place.space → place.page ≤ p.page → p.page < result.page → entry_at self.now p ≡ None }
+    {
         let space = place.space;
         let mut page = place.page;
+        let mut in_vain: u32 = 0;
         while page < end {
             let first = self.first_from(Place { space, page }, end);
             if first == end {
@@ -248,11 +310,73 @@ impl Shards {
             let start = self.start_of_shard(place);
             let found = self.first_held_of_shard(start, place, first, behind);
             if found < behind {
-                return found;
+                return Search {
+                    page: found,
+                    in_vain,
+                };
             }
+            in_vain = in_vain.saturating_add(1);
             page = behind;
         }
-        end
+        Search { page: end, in_vain }
+    }
+
+    /// Has each shard of these pages that holds nothing dead: searches pass over it until something is put there.
+    pub fn sweep(&mut self, place: Place, end: u32)
+        requires place { IsPlace self.old place }
+        requires from { place.page ≤ end }
+        requires end { end ≤ pages_of (bits_of self.old) }
+        requires present { IsFalse (is_taken self.old) }
+        ensures made { IsMade self.old self.new }
+        ensures layout { IsLaidOutAs self.old self.new }
+        ensures present { IsFalse (is_taken self.new) }
+    {
+        let space = place.space;
+        let mut page = place.page;
+        while page < end {
+            let first = self.first_from(Place { space, page }, end);
+            if first == end {
+                break;
+            }
+            self.look_over(Place { space, page: first });
+            page = page_behind_shard(first).min(end);
+        }
+        let before = self.shards_before(space);
+        let first = (before + place.page as usize / SHARD_PAGES) / BRANCH_SHARDS;
+        let behind = (before + (end as usize).div_ceil(SHARD_PAGES)).div_ceil(BRANCH_SHARDS);
+        for run in first..behind {
+            self.look_over_run(run);
+        }
+    }
+
+    /// Has a run of 256 shards dead, if all of these are.
+    fn look_over_run(&mut self, run: usize)
+        requires present { IsFalse (is_taken self.old) }
+        ensures made { IsMade self.old self.new }
+        ensures layout { IsLaidOutAs self.old self.new }
+        ensures present { IsFalse (is_taken self.new) }
+    {
+        let from = run.saturating_mul(BRANCH_SHARDS);
+        let end = from.saturating_add(BRANCH_SHARDS).min(self.directory.most());
+        if from < end && self.directory.next_in_run(from, end, &self.live) == end {
+            self.runs[run] = 0;
+        }
+    }
+
+    /// Has the shard of a page dead, if it holds nothing.
+    fn look_over(&mut self, place: Place)
+        requires place { IsPlace self.old place }
+        requires has { HasWord self.old place }
+        requires present { IsFalse (is_taken self.old) }
+        ensures made { IsMade self.old self.new }
+        ensures layout { IsLaidOutAs self.old self.new }
+        ensures present { IsFalse (is_taken self.new) }
+    {
+        let start = self.start_of_shard(place);
+        let words = self.words.as_ref().unwrap();
+        if zeros(words, start, start + SHARD_PAGES) == SHARD_PAGES {
+            self.live[start / SHARD_PAGES] = 0;
+        }
     }
 
     /// Where the words of the shard of a page begin.
@@ -318,30 +442,39 @@ impl Shards {
 
     /// The next pages of a space, from a page on and before an end, that are held: the first, with those behind it,
     /// side by side in its shard. Both ends are the end where there is none.
-    pub fn next_run(&self, place: Place, end: u32) -> Range<u32>
+    pub fn next_run(&self, place: Place, end: u32) -> Run
         requires place { IsPlace self.now place }
         requires from { place.page < end }
         requires end { end ≤ pages_of (bits_of self.now) }
         requires present { IsFalse (is_taken self.now) }
-        ensures from { place.page ≤ result.start }
-        ensures end { result.end ≤ end }
-        ensures order { result.start ≤ result.end }
-        ensures further { place.page < result.end }
-        ensures none { result.start ≡ result.end → result.start ≡ end }
-        ensures absent { (p : Place) → p.space ≡ place.space → place.page ≤ p.page → p.page < result.start → entry_at self.now p ≡ None }
-        ensures held { (p : Place) → p.space ≡ place.space → result.start ≤ p.page → p.page < result.end → IsTrue (is_some (entry_at self.now p)) }
-        ensures shard { (page : ℕ) → result.start ≤ page → page < result.end → page / 64 ≡ result.start / 64 }
+        ensures from { place.page ≤ result.pages.start }
+        ensures end { result.pages.end ≤ end }
+        ensures order { result.pages.start ≤ result.pages.end }
+        ensures further { place.page < result.pages.end }
+        ensures none { result.pages.start ≡ result.pages.end → result.pages.start ≡ end }
+        ensures absent { (p : Place) → p.space ≡ place.space → place.page ≤ p.page → p.page < result.pages.start → entry_at self.now p ≡ None }
+        ensures held { (p : Place) → p.space ≡ place.space → result.pages.start ≤ p.page → p.page < result.pages.end → IsTrue (is_some (entry_at self.now p)) }
+        ensures shard { (page : ℕ) → result.pages.start ≤ page → page < result.pages.end → page / 64 ≡ result.pages.start / 64 }
     {
-        let start = self.first_held(place, end);
+        let Search {
+            page: start,
+            in_vain,
+        } = self.search(place, end);
         if start == end {
-            return end..end;
+            return Run {
+                pages: end..end,
+                in_vain,
+            };
         }
         let first = Place {
             space: place.space,
             page: start,
         };
         let behind = page_behind_shard(start).min(end);
-        start..self.end_of_held(first, behind)
+        Run {
+            pages: start..self.end_of_held(first, behind),
+            in_vain,
+        }
     }
 
     /// How many words there are. Each page that is held has its word among them.
@@ -395,15 +528,34 @@ impl Shards {
     {
         let index = self.find(place);
         if index < self.words.as_ref().unwrap().len() {
+            self.revive(place);
             self.write(index, entry);
         }
     }
 
-    /// Writes the word at an index that the words reach.
+    /// Has the shard of a page live.
+    fn revive(&mut self, place: Place)
+        requires place { IsPlace self.old place }
+        requires has { HasWord self.old place }
+        requires present { IsFalse (is_taken self.old) }
+        ensures made { IsMade self.old self.new }
+        ensures layout { IsLaidOutAs self.old self.new }
+        ensures present { IsFalse (is_taken self.new) }
+        ensures words { words_of self.new ≡ words_of self.old }
+        ensures live { slice_index self.new.live.items (index_of self.new place / 64) ≡ 0 → ⊥ }
+    {
+        let shard = self.shard(place);
+        let position = self.directory.position(shard) as usize;
+        self.runs[shard / BRANCH_SHARDS] = 1;
+        self.live[position] = 1;
+    }
+
+    /// Writes the word at an index that the words reach, of a live shard.
     fn write(&mut self, index: usize, entry: Option<Entry>)
         requires present { IsFalse (is_taken self.old) }
         requires within { index < length (words_of self.old) }
         requires frame { FrameFits entry }
+        requires live { slice_index self.old.live.items (index / 64) ≡ 0 → ⊥ }
         ensures set { (p : Place) → IsPlace self.old p → index_of self.old p ≡ index → IsSetAt self.old self.new p entry }
         ensures present { IsFalse (is_taken self.new) }
         ensures layout { IsLaidOutAs self.old self.new }
@@ -411,11 +563,12 @@ impl Shards {
         self.put(index, pack(entry));
     }
 
-    /// The same of a word.
+    /// The same of a word, which is 0 if the shard is dead.
     fn put(&mut self, index: usize, word: u64)
         requires present { IsFalse (is_taken self.old) }
         requires within { index < length (words_of self.old) }
         requires pack { IsTrue (is_pack word) }
+        requires live { slice_index self.old.live.items (index / 64) ≡ 0 → word ≡ 0 }
         ensures set { (p : Place) → IsPlace self.old p → index_of self.old p ≡ index → IsSetAt self.old self.new p (entry_of word) }
         ensures present { IsFalse (is_taken self.new) }
         ensures layout { IsLaidOutAs self.old self.new }
@@ -451,12 +604,11 @@ impl Shards {
         ensures layout { IsLaidOutAs self.old self.new }
     {
         let Some(word) = self.word(index) else {
-            return Narrowed {
-                status: Status::none(),
-                lost: false,
-                held: false,
-            };
+            return Narrowed::absent();
         };
+        if word == 0 {
+            return Narrowed::absent();
+        }
         let left = narrowed_word(word, revoked, flush);
         self.put(index, left);
         Narrowed {
@@ -523,7 +675,19 @@ impl Shards {
         ensures present { IsFalse (is_taken self.new) }
         ensures layout { IsLaidOutAs self.old self.new }
     {
+        revive_all(&mut self.live);
+        revive_all(&mut self.runs);
         self.words = Some(words);
+    }
+}
+
+/// Has none dead.
+fn revive_all(live: &mut [u8])
+    ensures each { length live.new ≡ length live.old }
+    ensures all { (k : ℕ) → k < length live.new → slice_index live.new k ≡ 1 }
+{
+    for k in 0..live.len() {
+        live[k] = 1;
     }
 }
 

@@ -36,13 +36,13 @@ pair-requires-clause-target c = omega (arith, few c.self.inside.shards c.self.in
 
 pub returns-clause-absent : goal.returns-clause-absent
 returns-clause-absent c i after before =
-    none_before c.self.inside.shards c.self.inside.trees.items c.args.self.now c.self.view_is c.args.pages.now c.args.from i c.next_run-run.result.start (c.next_run-run.result.start - c.args.pages.now.source.page) c.pair.result.0
+    none_before c.self.inside.shards c.self.inside.trees.items c.args.self.now c.self.view_is c.args.pages.now c.args.from i c.next_run-run.result.pages.start (c.next_run-run.result.pages.start - c.args.pages.now.source.page) c.pair.result.0
     (ap (λ (x : Place × Place). x.0) c.pair.ensures) c.next_run-run.ensures.absent (omega arith) after before
 
 pub returns-clause-shard : goal.returns-clause-shard
 returns-clause-shard c i after before =
     let source : c.pair.result.0.page ≡ c.args.pages.now.source.page + c.args.from = ap (λ (x : Place × Place). x.0.page) c.pair.ensures in
-    let first : c.args.pages.now.source.page + (c.next_run-run.result.start - c.args.pages.now.source.page) ≡ c.next_run-run.result.start = omega (arith, source, c.next_run-run.ensures.from) in
+    let first : c.args.pages.now.source.page + (c.next_run-run.result.pages.start - c.args.pages.now.source.page) ≡ c.next_run-run.result.pages.start = omega (arith, source, c.next_run-run.ensures.from) in
     c.next_run-run.ensures.shard (c.args.pages.now.source.page + i) (omega (arith, first, after)) (omega (arith, before)) ∙ ap (λ n. n / 64) (sym first)
 
 pub returns-clause-consistent : goal.returns-clause-consistent

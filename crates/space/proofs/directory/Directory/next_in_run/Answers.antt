@@ -1,12 +1,11 @@
 -- The positions of a leaf are side by side.
-use Rattle.std.proofs.Common.{◌≡◌, ◌∙◌, sym, ap, arith, ◌≤◌, ◌+◌, ◌-◌, ◌*◌, ◌/◌, ◌%◌, length, inl, inr}
-use Rattle.space.specs.Leaves.{nowhere}
+use Rattle.std.proofs.Common.{◌≡◌, ◌∙◌, sym, ap, arith, ◌≤◌, ◌+◌, ◌-◌, ◌*◌, ◌/◌, ◌%◌, length, slice_index, inl, inr}
 use Rattle.space.specs.Positions.{position_in}
-use Rattle.space.proofs.Leaves.{found_in, within_or_past, below, leaf_blocks, read_in_leaf}
+use Rattle.space.proofs.Leaves.{found_in, within_or_past, leaf_blocks, live_within, read_in_leaf}
 use Rattle.space.proofs.directory.Directory.next_in_run.Goals as goal
 
-pub absent-shard-requires-clause-within : goal.absent-shard-requires-clause-within
-absent-shard-requires-clause-within c =
+pub dead-shard-requires-clause-within : goal.dead-shard-requires-clause-within
+dead-shard-requires-clause-within c =
     let d = c.args.self.now in
     let whole = (leaf_blocks d.most d.count d.branches.items d.leaves.items d.positions.items (found_in d)).within (c.loop-shard.shard / 16) in
     omega (arith, whole, c.leaf.ensures, c.min-upto.ensures, c.loop-shard-test.true, ap length c.deref.ensures.value)
@@ -16,24 +15,26 @@ unfolding position_in
 returns-then-shard-upto-clause-there c less =
     let d = c.args.self.now in
     let s = c.loop-shard.shard in
-    let k = c.absent-shard.result in
+    let k = c.dead-shard.result in
     let here =
     read_in_leaf d.most d.count d.branches.items d.leaves.items d.positions.items (found_in d) s k c.leaf.result c.deref.result.now c.leaf.ensures (omega (arith, c.if-shard-upto.true, c.min-upto.ensures)) c.deref.ensures.value in
-    below d.most d.count d.branches.items d.leaves.items d.positions.items (found_in d) (s + k) (λ away. c.absent-shard.ensures.there (omega (arith, c.if-shard-upto.true, c.loop-shard-test.true)) (here ∙ away))
+    live_within d c.args.live.now c.requires.live (s + k)
+    (λ none. c.dead-shard.ensures.live (omega (arith, c.if-shard-upto.true, c.loop-shard-test.true)) (ap (slice_index c.args.live.now) here ∙ none))
 
-pub returns-then-shard-upto-clause-skipped : goal.returns-then-shard-upto-clause-skipped
+pub returns-then-shard-upto-clause-dead : goal.returns-then-shard-upto-clause-dead
 unfolding position_in
-returns-then-shard-upto-clause-skipped c shard from before =
+returns-then-shard-upto-clause-dead c shard from before =
     let d = c.args.self.now in
     let s = c.loop-shard.shard in
-    elim (within_or_past shard s) as (λ _. position_in d shard ≡ nowhere) [
-      | inl earlier ↦ c.loop-shard.invariant.skipped shard from earlier
+    elim (within_or_past shard s) as (λ _. slice_index c.args.live.now (position_in d shard) ≡ 0) [
+      | inl earlier ↦ c.loop-shard.invariant.dead shard from earlier
       | inr past ↦
           let k = shard - s in
           let at : s + k ≡ shard = omega (arith, past) in
-          ap (position_in d) (sym at)
-          ∙ sym (read_in_leaf d.most d.count d.branches.items d.leaves.items d.positions.items (found_in d) s k c.leaf.result c.deref.result.now c.leaf.ensures (omega (arith, past, before, c.absent-shard.ensures.upto, c.min-upto.ensures)) c.deref.ensures.value)
-          ∙ c.absent-shard.ensures.absent (c.leaf.result * 16 + s % 16 + k) (omega arith) (omega (arith, past, before))
+          ap (slice_index c.args.live.now)
+          (ap (position_in d) (sym at)
+          ∙ sym (read_in_leaf d.most d.count d.branches.items d.leaves.items d.positions.items (found_in d) s k c.leaf.result c.deref.result.now c.leaf.ensures (omega (arith, past, before, c.dead-shard.ensures.upto, c.min-upto.ensures)) c.deref.ensures.value))
+          ∙ c.dead-shard.ensures.dead (c.leaf.result * 16 + s % 16 + k) (omega arith) (omega (arith, past, before))
     ]
 
 pub loop-shard-preserved : goal.loop-shard-preserved
@@ -41,17 +42,18 @@ unfolding position_in
 loop-shard-preserved c =
     let d = c.args.self.now in
     let s = c.loop-shard.shard in
-    let upto : s + c.absent-shard.result ≤ c.min-upto.result = omega (arith, c.absent-shard.ensures.upto, c.min-upto.ensures, c.loop-shard-test.true) in
+    let upto : s + c.dead-shard.result ≤ c.min-upto.result = omega (arith, c.dead-shard.ensures.upto, c.min-upto.ensures, c.loop-shard-test.true) in
     record {
       from = omega (arith, c.loop-shard.invariant.from);
       upto = omega (arith, upto, c.min-upto.ensures);
-      skipped = λ shard from before. elim (within_or_past shard s) as (λ _. position_in d shard ≡ nowhere) [
-        | inl earlier ↦ c.loop-shard.invariant.skipped shard from earlier
+      dead = λ shard from before. elim (within_or_past shard s) as (λ _. slice_index c.args.live.now (position_in d shard) ≡ 0) [
+        | inl earlier ↦ c.loop-shard.invariant.dead shard from earlier
         | inr past ↦
             let k = shard - s in
             let at : s + k ≡ shard = omega (arith, past) in
-            ap (position_in d) (sym at)
-            ∙ sym (read_in_leaf d.most d.count d.branches.items d.leaves.items d.positions.items (found_in d) s k c.leaf.result c.deref.result.now c.leaf.ensures (omega (arith, past, before, upto, c.min-upto.ensures)) c.deref.ensures.value)
-            ∙ c.absent-shard.ensures.absent (c.leaf.result * 16 + s % 16 + k) (omega arith) (omega (arith, past, before))
+            ap (slice_index c.args.live.now)
+            (ap (position_in d) (sym at)
+            ∙ sym (read_in_leaf d.most d.count d.branches.items d.leaves.items d.positions.items (found_in d) s k c.leaf.result c.deref.result.now c.leaf.ensures (omega (arith, past, before, upto, c.min-upto.ensures)) c.deref.ensures.value))
+            ∙ c.dead-shard.ensures.dead (c.leaf.result * 16 + s % 16 + k) (omega arith) (omega (arith, past, before))
       ];
     }

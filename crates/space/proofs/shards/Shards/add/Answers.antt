@@ -1,15 +1,17 @@
 -- The words of the new shard stand behind the others, and each is 0.
-use Rattle.std.proofs.Common.{◌≡◌, ◌∙◌, refl, sym, ap, subst, arith, ℕ, inl, ◌+◌, ◌*◌, ◌++◌, length, slice_index}
+use Rattle.std.proofs.Common.{◌≡◌, ◌∙◌, refl, sym, ap, subst, arith, ℕ, inl, ◌+◌, ◌*◌, ◌/◌, ◌<◌, ◌++◌, ◌∷◌, [], length, slice_index}
 use Rattle.std.specs.Prelude.{replicate}
 use Rattle.std.specs.Option.{option_copied_mut}
 use Rattle.std.proofs.lemmas.Option.{same_Some}
-use Rattle.std.proofs.lemmas.List.{length-append, length-replicate}
+use Rattle.std.proofs.lemmas.List.{length-append, length-set, length-replicate}
 use Rattle.std.specs.List.{AllPass}
+use Rattle.std.specs.Int.{div_ceil}
+use Rattle.std.proofs.lemmas.Grind.{div_ceil_times}
 use Rattle.space.specs.Word.{entry_of, is_pack}
-use Rattle.space.specs.Directory.{AreWords, shard_of, offset_of}
-use Rattle.space.specs.Positions.{count_of, position_in, IsAdded}
+use Rattle.space.specs.Directory.{AreLive, AreWords, shard_of, offset_of}
+use Rattle.space.specs.Positions.{count_of, most_of, position_in, IsAdded}
 use Rattle.space.specs.Shards.{index_of}
-use Rattle.space.proofs.ShardWords.{nowhere_unless, entry_read, read_now, index_kept, only_added, packs_longer}
+use Rattle.space.proofs.ShardWords.{nowhere_unless, entry_read, read_now, index_kept, only_added, packs_longer, same_live, live_longer, shard_can, runs_longer, runs_same}
 use Rattle.space.proofs.shards.Shards.add.Goals as goal
 
 pub invariant_of-self-2-clause-packed : goal.invariant_of-self-2-clause-packed
@@ -27,6 +29,36 @@ invariant_of-self-2-clause-packed c words is =
       count = ap length after ∙ omega (arith, longer, more, are.count, added);
       packs = subst (AllPass is_pack) (sym after) (packs_longer old.items 64 are.packs);
     })
+
+pub invariant_of-self-2-clause-dead : goal.invariant_of-self-2-clause-dead
+invariant_of-self-2-clause-dead c words is =
+    let s = c.args.self.now in
+    let old = c.unwrap-words.result.now in
+    let held = sym c.as_mut.ensures.value ∙ ap option_copied_mut c.unwrap-words.ensures in
+    let after = c.add_absent.ensures ∙ ap (λ xs. xs ++ replicate 64 0) c.reserve.ensures.items in
+    let now = c.push_reserved.ensures.items ∙ ap (λ xs. xs ++ 1 ∷ []) c.reserve-2.ensures.items in
+    let are = s.packed old held in
+    subst (AreLive c.push_reserved.new.self.items) (same_Some c.add_absent.new.words words is)
+    (live_longer s.live.items c.push_reserved.new.self.items old c.add_absent.new.words now after (omega (arith, are.count, s.counted)) (s.dead old held))
+
+pub index_mut-requires : goal.index_mut-requires
+index_mut-requires c =
+    let s = c.args.self.now in
+    let most = shard_can s c.args.place (record { space = c.requires.place.space; page = c.requires.place.page }) in
+    omega (arith, most, c.shard-shard.ensures.shard, s.each_run, div_ceil_times (most_of s.directory) 256 (omega arith), s.runs.ok.0)
+
+pub invariant_of-self-2-clause-each_run : goal.invariant_of-self-2-clause-each_run
+invariant_of-self-2-clause-each_run c =
+    let s = c.args.self.now in
+    length-set s.runs.items (c.shard-shard.result / 256) 1 ∙ s.each_run ∙ ap (λ n. div_ceil n 256) (sym c.in_ok-add.ensures.ok.most)
+
+pub invariant_of-self-2-clause-dead_runs : goal.invariant_of-self-2-clause-dead_runs
+invariant_of-self-2-clause-dead_runs c =
+    let s = c.args.self.now in
+    let now = c.push_reserved.ensures.items ∙ ap (λ xs. xs ++ 1 ∷ []) c.reserve-2.ensures.items in
+    let most = shard_can s c.args.place (record { space = c.requires.place.space; page = c.requires.place.page }) in
+    let within : c.shard-shard.result / 256 < length s.runs.items = omega (arith, most, c.shard-shard.ensures.shard, s.each_run, div_ceil_times (most_of s.directory) 256 (omega arith)) in
+    runs_longer s.directory s.live.items s.runs.items s.dead_runs c.add.new.self c.shard-shard.result c.in_ok-add.ensures.ok s.counted within c.push_reserved.new.self.items now
 
 pub returns-clause-made : goal.returns-clause-made
 returns-clause-made c =
@@ -58,14 +90,38 @@ add-requires-clause-absent c = ap (position_in c.args.self.now.directory) c.shar
 pub invariant_of-self-in-Break-branch-2 : goal.invariant_of-self-in-Break-branch-2
 invariant_of-self-in-Break-branch-2 c =
     let s = c.args.self.now in
+    let old = c.unwrap-words.result.now in
     let held = sym c.as_mut.ensures.value ∙ ap option_copied_mut c.unwrap-words.ensures in
-    let are = s.packed c.unwrap-words.result.now held in
+    let are = s.packed old held in
+    record {
+      limits = s.limits;
+      most = s.most;
+      packed = λ words is. subst (AreWords s.directory.count) (same_Some c.reserve.new.self words is)
+          (record { count = ap length c.reserve.ensures.items ∙ are.count; packs = subst (AllPass is_pack) (sym c.reserve.ensures.items) are.packs });
+      counted = ap length c.reserve-2.ensures.items ∙ s.counted;
+      each_run = s.each_run;
+      dead_runs = runs_same s.directory s.live.items s.runs.items s.dead_runs s.directory (record { most = refl; count = refl; positions = λ k. refl }) c.reserve-2.new.self.items c.reserve-2.ensures.items;
+      dead = λ words is. subst (AreLive c.reserve-2.new.self.items) (same_Some c.reserve.new.self words is)
+          (same_live s.live.items c.reserve-2.new.self.items old c.reserve.new.self c.reserve-2.ensures.items c.reserve.ensures.items (s.dead old held));
+    }
+
+pub invariant_of-self-in-Break-branch-3 : goal.invariant_of-self-in-Break-branch-3
+invariant_of-self-in-Break-branch-3 c =
+    let s = c.args.self.now in
+    let old = c.unwrap-words.result.now in
+    let held = sym c.as_mut.ensures.value ∙ ap option_copied_mut c.unwrap-words.ensures in
+    let are = s.packed old held in
     let same = c.in_err-add.ensures.err in
     record {
       limits = s.limits;
       most = same.most ∙ s.most;
       packed = λ words is. subst (AreWords c.add.new.self.count) (same_Some c.reserve.new.self words is)
           (record { count = omega (arith, ap length c.reserve.ensures.items, are.count, same.count); packs = subst (AllPass is_pack) (sym c.reserve.ensures.items) are.packs });
+      counted = ap length c.reserve-2.ensures.items ∙ s.counted ∙ sym same.count;
+      each_run = s.each_run ∙ ap (λ n. div_ceil n 256) (sym same.most);
+      dead_runs = runs_same s.directory s.live.items s.runs.items s.dead_runs c.add.new.self same c.reserve-2.new.self.items c.reserve-2.ensures.items;
+      dead = λ words is. subst (AreLive c.reserve-2.new.self.items) (same_Some c.reserve.new.self words is)
+          (same_live s.live.items c.reserve-2.new.self.items old c.reserve.new.self c.reserve-2.ensures.items c.reserve.ensures.items (s.dead old held));
     }
 
 pub returns-in_err-add-clause-made : goal.returns-in_err-add-clause-made

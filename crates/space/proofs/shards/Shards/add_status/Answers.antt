@@ -8,11 +8,15 @@ use Rattle.space.specs.Word.{entry_of, is_pack}
 use Rattle.space.specs.Entries.{with_status}
 use Rattle.space.specs.Shards.{IsSetAt, entry_at, words_of}
 use Rattle.space.proofs.Words.{pack_gains_status}
+use Rattle.space.proofs.ShardWords.{dead_zero}
 use Rattle.space.proofs.shards.Shards.add_status.Goals as goal
 
 pub put-requires-clause-pack : goal.put-requires-clause-pack
 put-requires-clause-pack c =
     subst (λ bits. IsTrue (is_pack (bit_or c.in-Some.word bits))) (sym c.word_bits.ensures) (pack_gains_status c.in-Some.word c.args.status c.in-Some.ensures.pack c.if-word-eq0.false).0
+
+pub put-requires-clause-live : goal.put-requires-clause-live
+put-requires-clause-live c none = absurd (c.if-word-eq0.false (c.in-Some.ensures.word ∙ dead_zero c.args.self.now c.find-index.result none))
 
 pub returns-clause-set : goal.returns-clause-set
 returns-clause-set c =

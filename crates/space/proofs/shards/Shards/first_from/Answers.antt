@@ -1,11 +1,11 @@
 -- Pages by the shards of their space.
-use Rattle.std.proofs.Common.{◌∙◌, subst, arith, ◌-◌, ◌*◌, ◌<◌, ◌≤◌, ◌≡◌}
+use Rattle.std.proofs.Common.{◌∙◌, sym, ap, subst, slice_index, arith, ◌-◌, ◌*◌, ◌<◌, ◌≤◌, ◌≡◌}
 use Rattle.std.specs.Int.{div_ceil}
 use Rattle.std.proofs.lemmas.Grind.{div_ceil_times}
 use Rattle.space.specs.Directory.{shard_of}
 use Rattle.space.specs.Positions.{position_in, count_of}
 use Rattle.space.specs.Shards.{HasWord}
-use Rattle.space.proofs.ShardWords.{shards_within, shard_from, shard_to, page_there, page_skipped, page_absent}
+use Rattle.space.proofs.ShardWords.{shards_within, shard_from, shard_to, page_there, page_absent}
 use Rattle.space.proofs.shards.Shards.first_from.Goals as goal
 
 pub next-found-requires-clause-from : goal.next-found-requires-clause-from
@@ -34,12 +34,9 @@ returns-clause-there c within =
     subst (λ page. HasWord c.args.self.now (record { space = c.args.place.space; page = page })) (omega (arith, page, c.shards_before-before.ensures))
     (page_there c.args.self.now c.args.place c.requires.place c.next-found.result (rw (← c.shard-from.ensures.shard) c.next-found.ensures.from) low)
 
-pub returns-clause-skipped : goal.returns-clause-skipped
-returns-clause-skipped c p space from below =
-    page_skipped c.args.self.now c.args.place c.requires.place c.next-found.result (rw (← c.shard-from.ensures.shard) c.next-found.ensures.from)
-    (rw (← c.shard-from.ensures.shard) c.next-found.ensures.skipped) p space from (rw (← c.shards_before-before.ensures) (omega (arith, below, c.min.ensures)))
-
 pub returns-clause-absent : goal.returns-clause-absent
 returns-clause-absent c p space from below =
-    page_absent c.args.self.now c.args.place c.requires.place c.next-found.result (rw (← c.shard-from.ensures.shard) c.next-found.ensures.from)
-    (rw (← c.shard-from.ensures.shard) c.next-found.ensures.skipped) p space from (rw (← c.shards_before-before.ensures) (omega (arith, below, c.min.ensures)))
+    let s = c.args.self.now in
+    page_absent s c.args.place c.requires.place c.next-found.result (rw (← c.shard-from.ensures.shard) c.next-found.ensures.from)
+    (λ k low high. ap (λ live. slice_index live (position_in s.directory k)) (sym c.deref.ensures.value) ∙ c.next-found.ensures.dead k (rw c.shard-from.ensures.shard low) high) p space from
+    (rw (← c.shards_before-before.ensures) (omega (arith, below, c.min.ensures)))

@@ -1,10 +1,12 @@
 -- No shard is there, and so there are no words.
-use Rattle.std.proofs.Common.{◌≡◌, ◌∙◌, sym, ap, subst, length, ◌*◌, ◌-◌, ◌^◌, ◌%◌, ◌≤◌, arith, ℕ}
+use Rattle.std.proofs.Common.{Vec, Global, [], slice_index, ◌≡◌, ◌∙◌, sym, ap, subst, length, ◌*◌, ◌-◌, ◌^◌, ◌%◌, ◌≤◌, arith, ℕ}
 use Rattle.std.specs.List.{AllPass}
+use Rattle.std.specs.Int.{div_ceil}
 use Rattle.std.proofs.lemmas.Option.{same_Some}
+use Rattle.std.proofs.lemmas.List.{get_or_past, length-replicate}
 use Rattle.space.specs.Word.{is_pack}
 use Rattle.space.specs.Directory.{AreWords, shards_of}
-use Rattle.space.specs.Positions.{count_of}
+use Rattle.space.specs.Positions.{count_of, position_in}
 use Rattle.space.proofs.Directories.{shifted, few_shards}
 use Rattle.space.proofs.shards.Shards.new.Goals as goal
 
@@ -23,4 +25,8 @@ invariant_of-result c =
       most = c.in_ok-directory.ensures.most ∙ all_is c.args.spaces c.args.bits c.requires.few c.requires.high;
       packed = λ words is. subst (AreWords (count_of d)) (same_Some c.new-2.result words is)
           (record { count = omega (arith, ap length items, c.in_ok-directory.ensures.count); packs = subst (AllPass is_pack) (sym items) (λ k d less. absurd (omega (arith, less))) });
+      each_run = ap length (c.in_ok-runs.ensures.items_if_clones_equal (λ y is. is)) ∙ length-replicate {A = ℕ} c.div_ceil.result 0 ∙ c.div_ceil.ensures ∙ ap (λ n. div_ceil n 256) c.most.ensures;
+      dead_runs = λ shard less none. ap (λ xs. slice_index xs (position_in d shard)) c.new-3.ensures.items ∙ get_or_past [] (position_in d shard) 0 (omega arith);
+      counted = ap length c.new-3.ensures.items ∙ sym c.in_ok-directory.ensures.count;
+      dead = λ words is i none. get_or_past words.items i 0 (omega (arith, ap (λ (v : Vec ℕ Global). length v.items) (same_Some c.new-2.result words is), ap length items));
     }

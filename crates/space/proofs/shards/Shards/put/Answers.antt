@@ -3,12 +3,12 @@ use Rattle.std.proofs.Common.{◌≡◌, ◌∙◌, sym, ap, subst, slice_index,
 use Rattle.std.specs.Option.{option_copied_mut}
 use Rattle.std.proofs.lemmas.Option.{same_Some}
 use Rattle.space.specs.declared.place.Place.{Place}
-use Rattle.space.specs.Directory.{AreWords}
+use Rattle.space.specs.Directory.{AreLive, AreWords}
 use Rattle.space.specs.Positions.{count_of}
 use Rattle.space.specs.Word.{entry_of}
 use Rattle.space.specs.Shards.{index_of, entry_at, IsPlace}
 use Rattle.space.proofs.Words.{pack_gives_back}
-use Rattle.space.proofs.ShardWords.{words_set, words_reach, set_there, set_elsewhere}
+use Rattle.space.proofs.ShardWords.{live_set, words_set, words_reach, set_there, set_elsewhere}
 use Rattle.space.proofs.shards.Shards.put.Goals as goal
 
 pub invariant_of-self : goal.invariant_of-self
@@ -20,6 +20,11 @@ invariant_of-self c =
       limits = s.limits;
       most = s.most;
       packed = λ words is. subst (AreWords (count_of s.directory)) (same_Some _ words is) (words_set (count_of s.directory) old c.args.index c.args.word (s.packed old held) c.requires.pack);
+      counted = s.counted;
+      each_run = s.each_run;
+      dead_runs = s.dead_runs;
+      dead = λ words is. subst (AreLive s.live.items) (same_Some _ words is)
+          (live_set s.live.items old c.args.index c.args.word (words_reach s old held c.args.index c.requires.within) c.requires.live (s.dead old held));
     }
 
 pub returns-clause-set : goal.returns-clause-set

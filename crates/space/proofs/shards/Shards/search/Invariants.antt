@@ -2,7 +2,7 @@
 use Rattle.std.proofs.Common.{◌-◌, ◌≡◌, ◌<◌, ◌≤◌, None}
 use Rattle.space.specs.declared.place.Place.{Place}
 use Rattle.space.specs.Shards.{entry_at}
-use Rattle.space.proofs.shards.Shards.first_held.Given as goal
+use Rattle.space.proofs.shards.Shards.search.Given as goal
 
 abbrev pub invariant-loop-page : goal.invariant-loop-page
 invariant-loop-page l = record {

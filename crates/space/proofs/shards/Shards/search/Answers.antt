@@ -4,7 +4,7 @@ use Rattle.space.specs.declared.place.Place.{Place}
 use Rattle.space.specs.Shards.{IsPlace, entry_at}
 use Rattle.space.proofs.Leaves.{within_or_past}
 use Rattle.space.proofs.ShardWords.{page_few}
-use Rattle.space.proofs.shards.Shards.first_held.Goals as goal
+use Rattle.space.proofs.shards.Shards.search.Goals as goal
 
 pub page_behind_shard-requires : goal.page_behind_shard-requires
 page_behind_shard-requires c =
