@@ -357,7 +357,9 @@ impl Shards {
         ensures present { IsFalse (is_taken self.new) }
     {
         let from = run.saturating_mul(BRANCH_SHARDS);
-        let end = from.saturating_add(BRANCH_SHARDS).min(self.directory.most());
+        let end = from
+            .saturating_add(BRANCH_SHARDS)
+            .min(self.directory.most());
         if from < end && self.directory.next_in_run(from, end, &self.live) == end {
             self.runs[run] = 0;
         }
