@@ -87,6 +87,10 @@ fn run_len(tree: &Tree, place: Place) -> usize {
     let Some(i) = tree.find(place) else {
         return 0;
     };
+    if i == 0 {
+        // All others derive from the root of a frame.
+        return tree.len();
+    }
     let run = tree.run_of(i);
     run.end.saturating_sub(run.start)
 }

@@ -77,7 +77,7 @@ returns-then-first-pages-clause-held c =
     let all : c.first_from-first.result ≡ end = c.if-first-pages.true in
     let none = passed_over c.args.space page end end (omega (arith, is.from, all)) (omega arith) c.self.inside.shards c.self.inside.trees.items c.args.self.now c.self.view_is c.requires.space c.requires.pages
     (λ p space from below. is.absent p space from (omega (arith, below, all))) in
-    sym (append-nil so_far) ∙ ap (λ (ps : List Place). so_far ++ ps) (sym none) ∙ c.loop-page.invariant
+    ap (λ places. places.items) c.of.ensures ∙ sym (append-nil so_far) ∙ ap (λ (ps : List Place). so_far ++ ps) (sym none) ∙ c.loop-page.invariant
 
 -- what is held is consistent, whatever is returned
 pub returns-in_err-add_held-clause-consistent : goal.returns-in_err-add_held-clause-consistent
