@@ -18,6 +18,9 @@ const TURNED: usize = 64;
 /// Of more pieces than this not all are looked at: where the ends of a piece stand is in no cache near.
 const LOOKED_AT: usize = 64;
 
+/// How many words are copied in and out in the time that an access takes in a list, which is sorted and searched.
+const WORDS_AN_ACCESS: usize = 4;
+
 /// Which words of a phase are shared.
 #[derive(Drop)]
 pub enum Indexes {
@@ -43,8 +46,9 @@ impl Indexes {
 }
 
 /// The words that are shared, and how many of them stand in front that one piece alone has a step about. Where pieces change at least
-/// half of all words, and each words that stand side by side, all are shared: that takes less than a list of those that are. Where they
-/// stand apart, a list takes less: it has the words of a piece side by side.
+/// half of all words, and each words that stand side by side, all are shared: that takes less than a list of those that are. So it does
+/// where accesses are many, whose list is sorted, and searched at each. Where words stand apart, a list takes less: it has those of a
+/// piece side by side.
 pub(crate) fn shared_indexes(
     alloc: Global,
     words: &[u64],
@@ -56,7 +60,7 @@ pub(crate) fn shared_indexes(
     ensures some { IfOk result (λ r. 0 < length (indexes_of (length words.now) r.0)) }
     ensures within { IfOk result (λ r. All (λ i. i < length words.now) (indexes_of (length words.now) r.0)) }
 {
-    if are_most_changed(words, pieces) {
+    if are_all_shared(words, pieces) {
         return Ok((Indexes::All, 0));
     }
     let (at, own) = listed_indexes(alloc, pieces)?;
@@ -82,16 +86,28 @@ pub(crate) fn watched_indexes(
     Ok(Indexes::Listed(rising(at)))
 }
 
-/// Whether pieces that change words side by side change at least half of these, as far as some of the pieces tell.
-fn are_most_changed(words: &[u64], pieces: &[Piece]) -> bool {
+/// Whether all words are shared, as far as some of the pieces tell.
+fn are_all_shared(words: &[u64], pieces: &[Piece]) -> bool {
     let step = (pieces.len() / LOOKED_AT).max(1);
     let mut wanting = words.len() / 2 / step;
     for piece in pieces.iter().step_by(step) {
-        if is_side_by_side(piece) {
-            wanting = wanting.saturating_sub(changed_words(piece));
-        }
+        wanting = wanting.saturating_sub(weight(piece));
     }
     wanting == 0
+}
+
+/// How many words may be shared instead of a list of those of a piece.
+fn weight(piece: &Piece) -> usize {
+    match piece {
+        Piece::Touch(touch) => touch.len().saturating_mul(WORDS_AN_ACCESS),
+        _ => {
+            if is_side_by_side(piece) {
+                changed_words(piece)
+            } else {
+                0
+            }
+        }
+    }
 }
 
 /// Whether the words that a piece changes stand side by side, as far as the first and the last of them tell.

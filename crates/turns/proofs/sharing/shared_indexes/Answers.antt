@@ -3,11 +3,11 @@ use Rattle.turns.proofs.Openings.{phase, shared_within, others_apart}
 use Rattle.turns.proofs.AllWords.{all_phase, all_are_within}
 use Rattle.turns.proofs.sharing.shared_indexes.Goals as goal
 
-pub returns-then-are_most_changed-clause-phase : goal.returns-then-are_most_changed-clause-phase
-returns-then-are_most_changed-clause-phase c = all_phase c.args.words.now c.args.pieces.now 0 c.requires.each c.requires.can
+pub returns-then-are_all_shared-clause-phase : goal.returns-then-are_all_shared-clause-phase
+returns-then-are_all_shared-clause-phase c = all_phase c.args.words.now c.args.pieces.now 0 c.requires.each c.requires.can
 
-pub returns-then-are_most_changed-clause-within : goal.returns-then-are_most_changed-clause-within
-returns-then-are_most_changed-clause-within c = all_are_within (length c.args.words.now)
+pub returns-then-are_all_shared-clause-within : goal.returns-then-are_all_shared-clause-within
+returns-then-are_all_shared-clause-within c = all_are_within (length c.args.words.now)
 
 pub listed_indexes-requires-clause-distinct : goal.listed_indexes-requires-clause-distinct
 listed_indexes-requires-clause-distinct c = c.requires.can.distinct
