@@ -558,7 +558,8 @@ impl Database {
     /// Takes all pages from a space, as where it is deleted, and with each page all that derives from it. Gives back
     /// the status of all of them; what it was is added to that of the page from which they come (profile).
     ///
-    /// Its time goes with what the space holds and what derives from that, and not with how many pages the space has.
+    /// Its time goes with what the space holds, or held before, and what derives from that, and not with how many pages
+    /// the space has.
     ///
     /// Refused, the first that fits: `Halted`; `NoSuchSpace`, where nothing changes; and where memory or a worker is,
     /// `NoMemory`, `NoWorker`: then the database is halted.

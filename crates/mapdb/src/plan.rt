@@ -10,7 +10,7 @@ ghost use Rattle.mapdb.specs.Sending.{counts_before_flush, transfer_of, transfer
 
 use crate::reply::SendReply;
 use holdings::{Holdings, ItemPages, Outcome, Transfer};
-use space::{Place, Run};
+use space::Place;
 use std::alloc::{AllocError, Global};
 use std::ops::Range;
 
@@ -43,14 +43,11 @@ pub fn plan_item(alloc: Global, held: &Holdings, pages: &ItemPages) -> Result<Pl
     };
     let mut i = 0;
     while i < pages.count {
-        let Run {
-            pages: next,
-            in_vain,
-        } = held.next_sources(pages, i);
-        plan.decided = plan.decided.plus(SendReply::of_absent(next.start - i));
-        plan.in_vain = plan.in_vain.saturating_add(in_vain as usize);
-        let behind = next.end;
-        plan_pages(held, pages, next, &mut plan)?;
+        let run = held.next_sources(pages, i);
+        plan.decided = plan.decided.plus(SendReply::of_absent(run.pages.start - i));
+        plan.in_vain = plan.in_vain.saturating_add(run.in_vain as usize);
+        let behind = run.pages.end;
+        plan_pages(held, pages, run.pages, &mut plan)?;
         i = behind;
     }
     Ok(plan)
