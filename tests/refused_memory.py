@@ -5,10 +5,10 @@ a thread.
     tests/refused_memory.py [PROGRAM]
 
 A run in which something was refused must end as the undisturbed one, or with status 3 and `NoMemory` or `NoWorker` at
-some record, having written exactly the reply lines of the records before it. Where a thread is refused to the audit,
-the audit is made with fewer; where it is refused to a call, that is `NoWorker`. No run may hang. Of each trace some run
-must end before its first record, some at one of its records, and some at the audit. Allocations and starts of threads
-are refused by the preloaded library of support/fail_alloc.c.
+some record, having written exactly the reply lines of the records before it: no line of the audit where memory is
+refused to it. Where a thread is refused to the audit, the audit is made with fewer; where it is refused to a call, that
+is `NoWorker`. No run may hang. Of each trace some run must end before its first record, some at one of its records, and
+some at the audit. Allocations and starts of threads are refused by the preloaded library of support/fail_alloc.c.
 """
 
 import os
@@ -68,15 +68,13 @@ ROUNDS = 4
 
 
 class Replay(NamedTuple):
-    """A trace with its options, the lines of its whole answer, whether its calls start threads, and what it is refused
-    in turn."""
+    """A trace with its options, the lines of its whole answer, and whether its calls start threads."""
 
     name: str
     options: list
     trace: bytes
     lines: list
     starts_threads: bool
-    refused: tuple = ("allocation", "thread")
 
 
 def read_replay(trace, options, starts_threads):
@@ -108,15 +106,17 @@ def cleared_replay(options):
 
 
 def audit_replay():
-    """The trace of an audit that several threads make, and its answer by the definitions: all pages of a space are
-    mapped to another."""
-    pages = LINES // 2
-    records = [f"l4map,1,3,23,{pages}", "send,0,1,10,8,17"]
-    lines = [f"1 send absent=0 norights=0 origin=0 lost=0 extended=0 linked={pages}"]
+    """The trace of an audit of several parts, each of which several threads make, and its answer by the definitions:
+    all pages of a space are mapped to each of the others."""
+    pages = 64
+    spaces = LINES // pages
+    records = [f"l4map,1,{spaces},18,{pages}", *(f"send,0,{space},10,8,17" for space in range(1, spaces))]
+    sent = f"send absent=0 norights=0 origin=0 lost=0 extended=0 linked={pages}"
+    lines = [f"{number} {sent}" for number in range(1, spaces)]
     lines += [f"0,{page},{page},rwx,---,-" for page in range(pages)]
-    lines += [f"1,{page},{page},rwx,---,0:{page}" for page in range(pages)]
-    trace, answer = (("\n".join(it) + "\n").encode() for it in (records, [*lines, "end 1 0"]))
-    return Replay("a long audit", [], trace, answer.splitlines(keepends=True), False, ("thread",))
+    lines += [f"{space},{page},{page},rwx,---,0:{page}" for space in range(1, spaces) for page in range(pages)]
+    trace, answer = (("\n".join(it) + "\n").encode() for it in (records, [*lines, f"end {spaces - 1} 0"]))
+    return Replay("a long audit", [], trace, answer.splitlines(keepends=True), False)
 
 
 def audit_starts_threads(replay):
@@ -166,7 +166,7 @@ def main():
         tasks = [
             pool.submit(check_refusing, program, library, replay, what, and_rest, extent)
             for replay in replays
-            for what in replay.refused
+            for what in ("allocation", "thread")
             for and_rest, extent in EXTENTS
         ]
         for task in tasks:

@@ -1,2 +1,3 @@
 mod Texts
+mod Told
 mod Checks

@@ -1,6 +1,6 @@
 -- The texts of spaces, one after another, are the text of all mappings.
-use Rattle.std.proofs.Common.{◌≡◌, ℕ, ◌+◌, ◌<◌, ◌++◌, List, [], ◌∷◌, length, drop, flat_map, get_or, Result, Ok, Err, IsOk, String, Global, refl, sym, ap, ◌∙◌, append_assoc}
-use Rattle.std.specs.Prelude.{string_bytes}
+use Rattle.std.proofs.Common.{◌≡◌, ℕ, ◌+◌, ◌<◌, ◌++◌, List, [], ◌∷◌, length, drop, flat_map, get_or, Result, Ok, Err, IsOk, OnOk, false, is_err, String, Global, refl, sym, ap, ◌∙◌, append_assoc}
+use Rattle.std.specs.Prelude.{⊤, string_bytes}
 use Rattle.std.specs.List.{All, AllZip}
 use Rattle.std.specs.declared.alloc.AllocError.{AllocError}
 use Rattle.std.proofs.lemmas.Grind.{flat_map-append}
@@ -36,3 +36,8 @@ all_texts mappings (s ∷ ss) [] each all = absurd each
 all_texts mappings (s ∷ ss) (Err e ∷ ts) each all = absurd (cc (All-head IsOk (Err e) ts all))
 all_texts mappings (s ∷ ss) (Ok text ∷ ts) each all =
     (λ i. each.0 i ++ all_texts mappings ss ts each.1 (All-tail IsOk (Ok text) ts all) i) ∙ sym (flat_map-append audit_line (mappings s) (flat_map mappings ss))
+
+-- what is so where memory sufficed
+pub was_ok : {P : Type 0} (r : Result ⊤ AllocError) → is_err r ≡ false → OnOk r P → P
+was_ok (Ok x) is p = p
+was_ok (Err e) is p = absurd (cc is)

@@ -1,2 +1,4 @@
 pub mod Errors
+pub mod Parts
+pub mod Room
 pub mod Sections

@@ -5,8 +5,10 @@ mod audit;
 mod checker;
 mod error;
 mod line;
+mod parts;
 
 pub use audit::{check_database, lines, report};
 pub use checker::check;
 pub use error::AuditError;
 pub use line::Line;
+pub use parts::Report;

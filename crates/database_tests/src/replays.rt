@@ -537,9 +537,9 @@ fn expect_write_failed(rt: &(impl Abort + AllocGlobal + Threads + Wait + Sync), 
 
 #[test]
 fn a_sink_that_fails_at_any_call_is_write_failed(rt: HostRuntime) {
-    // The reply lines of two records, the audit with the end line, and the flush.
-    expect_undisturbed(&rt, 3);
-    for fails_at in 1..4 {
+    // The reply lines of two records, the audit, the end line, and the flush.
+    expect_undisturbed(&rt, 4);
+    for fails_at in 1..5 {
         expect_write_failed(&rt, fails_at);
     }
 }
@@ -568,8 +568,8 @@ fn a_watch_hears_of_each_record_and_may_have_its_line_at_once(rt: HostRuntime) {
     let mut watch = Eager { heard: 0, last: 0 };
     let outcome = run_short(&rt, &mut output, &mut watch);
     assert_holds(&rt, outcome.is_ok(), "the short trace");
-    // Two reply lines, none that is left, the audit with the end line, and the flush.
-    expect_written(&rt, &output, 5);
+    // Two reply lines, none that is left, the audit, the end line, and the flush.
+    expect_written(&rt, &output, 6);
     assert_equal(&rt, (watch.heard, watch.last), (2, 2), "the watch");
 }
 

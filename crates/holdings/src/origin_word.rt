@@ -4,13 +4,13 @@ use space::Place;
 use std::marker::Model;
 
 /// How far up the space of a place stands in the number.
-const SPACE: u64 = 1 << 32;
+const SPACE: u32 = 1 << 20;
 
-/// The origin of a page, or none, in eight bytes.
+/// The origin of a page, or none, in four bytes.
 #[derive(Clone, Copy)]
 pub struct OriginWord {
-    /// 0 for none; else one more than the page and, from bit 32 on, the space.
-    word: u64,
+    /// 0 for none; else one more than the page and, from bit 20 on, the space.
+    word: u32,
 }
 
 impl Model for OriginWord {
@@ -22,21 +22,23 @@ impl Model for OriginWord {
 
     ghost view = { λ o. origin_of_word o.word };
 
-    ghost invariant = { λ o. o.word ≤ 2 ^ 48 };
+    ghost invariant = { λ o. o.word ≤ 2 ^ 29 };
 
     ghost inverse = { λ o. record { word = word_of_origin o } };
 }
 
 impl OriginWord {
-    ghost use Rattle.std.specs.Prelude.{◌≡◌};
+    ghost use Rattle.std.specs.Prelude.{◌≡◌, IfSome};
+    ghost use Rattle.holdings.specs.Inner.OriginWords.{IsSmall};
 
     /// Packs an origin.
     pub fn of(origin: Option<Place>) -> OriginWord
+        requires { IfSome origin IsSmall }
         ensures { result ≡ origin }
     {
         let word = match origin {
             None => 0,
-            Some(place) => 1 + u64::from(place.space) * SPACE + u64::from(place.page),
+            Some(place) => 1 + u32::from(place.space) * SPACE + place.page,
         };
         OriginWord { word }
     }
@@ -50,8 +52,8 @@ impl OriginWord {
         }
         let number = self.word - 1;
         Some(Place {
-            space: (number / SPACE % 0x1_0000) as u16,
-            page: (number % SPACE) as u32,
+            space: (number / SPACE) as u16,
+            page: number % SPACE,
         })
     }
 }

@@ -6,6 +6,7 @@ ghost use Rattle.space.specs.Shards.{index_of};
 ghost use Rattle.holdings.specs.Inner.Words.{IsThere};
 ghost use Rattle.maptree.specs.Origins.{are_once};
 ghost use Rattle.holdings.specs.Inner.Sound.{AreSound};
+ghost use Rattle.holdings.specs.Inner.OriginWords.{IsSmall};
 ghost use Rattle.holdings.specs.Inner.WordOrigins.{AreOrigins, ArePut};
 
 use crate::origin_word::OriginWord;
@@ -84,6 +85,7 @@ fn put_tree(
 fn put_origins(shards: &Shards, links: &[(Place, Option<Place>)], origins: &mut [OriginWord])
     requires places { All (λ link. IsThere shards.now link.0) links.now }
     requires reached { All (λ link. index_of shards.now link.0 < length origins.old) links.now }
+    requires origins { All (λ link. IfSome link.1 IsSmall) links.now }
     requires once { are_once links.now ≡ true }
     ensures { ArePut shards.now links.now origins.old origins.new }
 {

@@ -33,3 +33,15 @@ passes_end {old} {mid} {text} {left} p new more written =
 
 pub passes_rest : {old mid : Option (List ℕ)} {text left : List ℕ} → PassesOn old mid text left → (new : Option (List ℕ)) → Appends mid new left → Appends old new text
 passes_rest {old} {mid} {text} {left} p new written = appends_same old new (sym p.text_is) (Appends-trans old mid new p.front left p.written written)
+
+-- a part of what is left
+pub passes_part : {old mid : Option (List ℕ)} {text left : List ℕ} → PassesOn old mid text left → (new : Option (List ℕ)) (part rest : List ℕ) → left ≡ part ++ rest → Appends mid new part → PassesOn old new text rest
+passes_part {old} {mid} {text} {left} p new part rest is written = record {
+  front = p.front ++ part;
+  written = Appends-trans old mid new p.front part p.written written;
+  text_is = p.text_is ∙ ap (λ l. p.front ++ l) is ∙ sym (append_assoc p.front part rest);
+}
+
+-- where nothing is left
+pub passes_done : {old now : Option (List ℕ)} {text left : List ℕ} → PassesOn old now text left → left ≡ [] → Appends old now text
+passes_done {old} {now} {text} {left} p none = appends_same old now (sym (p.text_is ∙ ap (λ l. p.front ++ l) none ∙ append-nil p.front)) p.written

@@ -8,12 +8,12 @@ use Rattle.model.specs.Definitions.Holdings.{Holdings}
 use Rattle.model.specs.Definitions.Calls.{Limits, Reply}
 use Rattle.model.specs.Definitions.Replay.{Told}
 use Rattle.model.specs.Definitions.Records.{Fields, Version}
-use Rattle.model.specs.Definitions.Text.{reply_lines, refused_count, audit_lines, end_line}
+use Rattle.model.specs.Definitions.Text.{reply_lines, refused_count}
 use Rattle.crew.specs.declared.error.CrewError.{CrewError}
 use Rattle.crew.specs.declared.error.CrewError.TheVariants as crew
 use Rattle.replay.specs.declared.error.RunError.{RunError}
 use Rattle.replay.specs.declared.error.RunError.TheVariants.{BadHeader, BadLimits, NoMemory, NoWorker, Unreadable, WriteFailed}
-use Rattle.replay.specs.Run.{StopsBefore, WritesText}
+use Rattle.replay.specs.Run.{StopsBefore}
 use Rattle.replay.specs.Steps.{told_of, PassesOn, StopsAt, StopsBehind, StopsAmong, StopsEarly}
 use Rattle.replay.proofs.Passing.{appends_same, passes_none, passes_more, passes_end, passes_rest}
 use Rattle.replay.proofs.Replays.{take_front, lines_append, refused_append, refused_few, replies_count, told_append}
@@ -75,7 +75,7 @@ few_refused s = omega (arith, s.count, s.refused_is, refused_few s.done)
 
 -- ---- the end
 
-stopped : {t : Told} {old : Option (List ℕ)} (done others : List Reply) (new : Option (List ℕ)) → t.replies ≡ done ++ others → Appends old new (reply_lines 1 done) → (k : ℕ) → k ≡ length done → StopsBefore t old new k
+pub stopped : {t : Told} {old : Option (List ℕ)} (done others : List Reply) (new : Option (List ℕ)) → t.replies ≡ done ++ others → Appends old new (reply_lines 1 done) → (k : ℕ) → k ≡ length done → StopsBefore t old new k
 stopped {t} {old} done others new all written k is =
     let front : take k t.replies ≡ done = rw (all, is) (ap (λ n. take n (done ++ others)) (omega arith) ∙ take_front done others 0 (omega arith) ∙ append-nil done) in
     let whole : length t.replies ≡ length (done ++ others) = ap length all in
@@ -121,16 +121,3 @@ so_far-among s next new was is failed WriteFailed same stop = stop
 so_far-among s next new was is failed BadHeader same stop = stop
 so_far-among s next new was is failed BadLimits same stop = stop
 so_far-among s next new was is failed Unreadable same stop = stop
-
--- where no record is left, and the audit and the end line follow
-pub so_far-whole : {t : Told} {version : Version} {limits : Limits} {h : Holdings} {number : ℕ} {old now : Option (List ℕ)} {lines : List ℕ} {refused : ℕ} → SoFar t version limits [] h number old now lines refused
-    → (count : ℕ) → number ≡ count + 1 → (new : Option (List ℕ)) → Appends now new (lines ++ (audit_lines h ++ end_line count refused)) → WritesText t old new (record { records = count; refused = refused })
-so_far-whole {t} {version} {limits} {h} {number} {old} {now} {lines} {refused} s count is new closing =
-    let all : t.replies ≡ s.done = ap (λ (x : Told). x.replies) s.told ∙ append-nil s.done in
-    let last : t.last ≡ h = ap (λ (x : Told). x.last) s.told in
-    let counted : length s.done ≡ count = omega (arith, s.count, is) in
-    record {
-      written = rw (all, last, counted, ← s.refused_is, append_assoc) (passes_end s.lines_are new (audit_lines h ++ end_line count refused) closing);
-      records = sym counted ∙ ap length (sym all);
-      refused = rw all s.refused_is;
-    }

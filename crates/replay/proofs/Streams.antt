@@ -1,5 +1,5 @@
 -- What a result says, told of another.
-use Rattle.std.proofs.Common.{◌≡◌, Result, Ok, Err, IfOk, IfErr, OnOk, sym, subst}
+use Rattle.std.proofs.Common.{◌≡◌, Result, Ok, Err, IfOk, IfErr, OnOk, is_err, false, sym, subst}
 use Rattle.std.specs.Result.{IsErrAnd}
 use Rattle.replay.specs.declared.replay.Summary.{Summary}
 
@@ -20,3 +20,13 @@ ok_from (Err e) P Q p f = tt
 pub closed : {E : Type 0} (r : Result Summary E) (s : Summary) (A : Type 0) (P : Summary → Type 0) → IfOk r (λ x. x ≡ s) → OnOk r A → (A → P s) → IfOk r P
 closed (Ok x) s A P is a f = subst P (sym is) (f a)
 closed (Err e) s A P is a f = tt
+
+-- an error that tells of another
+pub fault_of : {T E : Type 0} (r : Result T E) (Q P : E → Type 0) → IsErrAnd r Q → ((e : E) → Q e → P e) → IfErr r P
+fault_of (Ok x) Q P is f = tt
+fault_of (Err e) Q P is f = f e is
+
+-- what is so where there is no error
+pub on_ok : {T E A : Type 0} (r : Result T E) → is_err r ≡ false → OnOk r A → A
+on_ok (Ok x) is a = a
+on_ok (Err e) is a = absurd (cc is)

@@ -1,5 +1,5 @@
 -- What the parts of a run write, record by record, and what they leave where they end early.
-use Rattle.std.specs.Prelude.{◌≡◌, ℕ, zero, suc, ◌+◌, ◌≤◌, ◌<◌, ⊤, Bool, true, false, List, [], ◌∷◌, ◌++◌, map, length, take, Option, Ok}
+use Rattle.std.specs.Prelude.{◌≡◌, ℕ, zero, suc, ◌+◌, ◌≤◌, ◌<◌, ⊤, Bool, true, false, List, [], ◌∷◌, ◌++◌, map, length, take, Option, Ok, Err}
 use Rattle.std.specs.Io.KnownBytes.{Appends, Keeps}
 use Rattle.crew.specs.declared.error.CrewError.{CrewError}
 use Rattle.crew.specs.declared.error.CrewError.TheVariants as crew
@@ -8,18 +8,17 @@ use Rattle.space.specs.declared.place.Place.{Place}
 use Rattle.model.specs.Definitions.Holdings.{Holdings}
 use Rattle.model.specs.Definitions.Calls.{Limits, access, Request, Reply, accessed}
 use Rattle.model.specs.Definitions.Answers.{answer}
-use Rattle.model.specs.Definitions.Replay.{Told, replay, start}
-use Rattle.model.specs.Definitions.Records.{Fields, Version, are_limits, request}
-use Rattle.model.specs.Definitions.Text.{reply_lines}
+use Rattle.model.specs.Definitions.Replay.{Told, replay}
+use Rattle.model.specs.Definitions.Records.{Fields, Trace, Version, are_limits, bad_header, bad_limits, request, trace_of}
+use Rattle.model.specs.Definitions.Text.{told, reply_lines, refused_count}
 use Rattle.mapdb.specs.State.{State, laid_out, new_state}
 use Rattle.trace.specs.Meaning.{reply_of}
-use Rattle.trace.specs.Unread.{Unread}
 use Rattle.replay.specs.declared.answer.Replies.{Replies}
 use Rattle.replay.specs.declared.answer.Replies.TheVariants.{One, Accesses}
-use Rattle.replay.specs.declared.replay.Summary.{Summary}
+use Rattle.replay.specs.declared.replay.Replayed.{Replayed}
 use Rattle.replay.specs.declared.error.RunError.{RunError}
 use Rattle.replay.specs.declared.error.RunError.TheVariants.{BadHeader, BadLimits, NoMemory, NoWorker, Unreadable, WriteFailed}
-use Rattle.replay.specs.Run.{StopsBefore, WritesText}
+use Rattle.replay.specs.Run.{StopsBefore, StopsInReplay, StopsAtRecord, IsTrace}
 
 -- the replies to these records of a trace of a version, and the last holdings
 abbrev pub told_of : Version → Limits → List Fields → Holdings → Told
@@ -102,29 +101,23 @@ StartsNot limits (NoWorker n) = ⊥
 StartsNot limits Unreadable = ⊥
 StartsNot limits WriteFailed = ⊥
 
--- a trace of which the header was read was replayed, and its text was written
-pub record ReplaysTrace (u : Unread) (old new : Option (List ℕ)) (s : Summary) : Type 0 where
-  pub served : are_limits u.limits ≡ true
-  pub replayed : WritesText (told_of u.version u.limits u.records (start u.limits)) old new s
+-- all records of a trace are answered: their lines are written or left, and what is held is known
+pub record AwaitsAudit (input : List ℕ) (old now : Option (List ℕ)) (r : Replayed) : Type 0 where
+  pub trace : Trace
+  pub is_trace : trace_of input ≡ Ok trace
+  pub lines_are : PassesOn old now (reply_lines 1 (told trace).replies) r.lines
+  pub last : r.database.holdings ≡ (told trace).last
+  pub number : r.number ≡ length (told trace).replies + 1
+  pub refused : r.refused ≡ refused_count (told trace).replies
+  pub running : r.database.is_halted ≡ false
 
--- the reply lines of such a trace before record number k + 1 were written
-pub record StopsInTrace (u : Unread) (old new : Option (List ℕ)) (k : ℕ) : Type 0 where
-  pub served : are_limits u.limits ≡ true
-  pub stopped : StopsBefore (told_of u.version u.limits u.records (start u.limits)) old new k
-
--- the same, before a record that is there
-pub record StopsAtRecordOf (u : Unread) (old new : Option (List ℕ)) (k : ℕ) : Type 0 where
-  pub served : are_limits u.limits ≡ true
-  pub stopped : StopsBefore (told_of u.version u.limits u.records (start u.limits)) old new k
-  pub there : k < length (told_of u.version u.limits u.records (start u.limits)).replies
-
--- why such a trace was not replayed to its end; whether the writer had failed, and has
-abbrev pub StopsTrace : Unread → Option (List ℕ) → Option (List ℕ) → Bool → Bool → RunError → Type 0
-StopsTrace u old new was is BadLimits = (are_limits u.limits ≡ false) × Keeps old new × (is ≡ was)
-StopsTrace u old new was is (NoMemory zero) = Keeps old new × (is ≡ was)
-StopsTrace u old new was is (NoMemory (suc k)) = StopsInTrace u old new k × (is ≡ was)
-StopsTrace u old new was is (NoWorker zero) = ⊥
-StopsTrace u old new was is (NoWorker (suc k)) = StopsAtRecordOf u old new k × (is ≡ was)
-StopsTrace u old new was is WriteFailed = (are_limits u.limits ≡ true) × (is ≡ true)
-StopsTrace u old new was is BadHeader = ⊥
-StopsTrace u old new was is Unreadable = ⊥
+-- why the records of some input are not all answered; whether the writer had failed, and has
+abbrev pub StopsInput : List ℕ → Option (List ℕ) → Option (List ℕ) → Bool → Bool → RunError → Type 0
+StopsInput input old new was is BadHeader = (trace_of input ≡ Err bad_header) × Keeps old new × (is ≡ was)
+StopsInput input old new was is BadLimits = (trace_of input ≡ Err bad_limits) × Keeps old new × (is ≡ was)
+StopsInput input old new was is (NoMemory zero) = Keeps old new × (is ≡ was)
+StopsInput input old new was is (NoMemory (suc k)) = StopsInReplay input old new k × (is ≡ was)
+StopsInput input old new was is (NoWorker zero) = ⊥
+StopsInput input old new was is (NoWorker (suc k)) = StopsAtRecord input old new k × (is ≡ was)
+StopsInput input old new was is Unreadable = ⊥
+StopsInput input old new was is WriteFailed = IsTrace input × (is ≡ true)

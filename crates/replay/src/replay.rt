@@ -1,6 +1,6 @@
 //! A run: from the bytes of a trace to the text of its replay.
 
-ghost use Rattle.std.specs.Prelude.{◌≡◌, ◌<◌, ◌≤◌, ◌+◌, ◌++◌, ◌⊎◌, false, true, map, length, IfOk, IfErr, IfSome, OnOk};
+ghost use Rattle.std.specs.Prelude.{◌≡◌, ◌<◌, ◌≤◌, ◌+◌, ◌-◌, ◌++◌, ◌⊎◌, false, true, map, length, string_bytes, IfOk, IfErr, IfSome, OnOk, OnErr};
 ghost use Rattle.std.specs.Io.KnownBytes.{Appends};
 ghost use Rattle.model.specs.Definitions.Calls.{accessed};
 ghost use Rattle.model.specs.Definitions.Text.{reply_line, reply_lines, is_refused, refused_count, audit_lines, end_line};
@@ -11,7 +11,7 @@ ghost use Rattle.trace.specs.Stream.{TellsFailure};
 ghost use Rattle.replay.specs.Options.{AreServed};
 ghost use Rattle.replay.specs.Run.{WritesReplay, EndsEarly, WritesNothing, IsNoWorker, TellsStreams};
 ghost use Rattle.replay.specs.Steps.{replies_of, PassesOn, StopsAt, StopsAmong, IsStarted, StartsNot};
-ghost use Rattle.replay.specs.Steps.{ReplaysTrace, StopsTrace};
+ghost use Rattle.replay.specs.Steps.{AwaitsAudit, StopsInput};
 
 use crate::answer::{Replies, answer_first};
 use crate::buffers::Buffers;
@@ -19,13 +19,13 @@ use crate::error::RunError;
 use crate::lines::Lines;
 use crate::options::Options;
 use crate::watch::Watch;
-use audit::report;
+use audit::Report;
 use crew::{Alone, Crew, CrewError, NoGate, Workers};
 use mapdb::{Database, DbError, Limits};
 use std::alloc::{AllocError, Global};
 use std::sync::Wait;
 use std::thread::Threads;
-use trace::{ReadError, Reply, Sink, Source, TraceReader, read_to_end};
+use trace::{Failed, ReadError, Reply, Sink, Source, TraceReader, read_to_end};
 
 /// How many full pieces a phase must fill for several workers to share it (measured in docs/PERFORMANCE.md).
 const LEAST_SHARED: usize = 128;
@@ -109,22 +109,27 @@ fn is_refused(reply: &Reply) -> bool
     matches!(reply, Reply::Refused(_))
 }
 
-/// The audit lines and the end line.
-fn closing_text(
+/// Gives the sink the audit lines, part by part.
+fn write_audit<W: Sink>(
     rt: &(impl AllocGlobal + Threads + Sync),
-    database: &Database,
-    records: u64,
-    refused: u64,
-) -> Result<Vec<u8>, AllocError>
-    requires { database.now.is_halted ≡ false }
-    ensures { IfOk result (λ text. text.items ≡ audit_lines database.now.holdings ++ end_line records refused) }
+    report: &mut Report<'_>,
+    writer: &mut W,
+) -> Result<(), Failed>
+    ensures bytes { OnOk result (Appends (W.contents writer.old) (W.contents writer.new) report.old.rest) }
+    ensures ok { OnOk result (W.failed writer.new ≡ W.failed writer.old) }
+    ensures err { OnErr result (W.failed writer.new ≡ true) }
 {
-    let Ok(mut text) = report(rt, database) else {
-        return Err(AllocError);
-    };
-    let end = format!(in rt.alloc(); "end {records} {refused}\n")?;
-    text.extend_from_slice(end.as_bytes())?;
-    Ok(text)
+    while report.next(rt) {
+        writer.write_all(report.part())?;
+    }
+    Ok(())
+}
+
+/// The end line.
+fn end_text(alloc: Global, records: u64, refused: u64) -> Result<String, AllocError>
+    ensures { IfOk result (λ text. string_bytes text ≡ end_line records refused) }
+{
+    format!(in alloc; "end {records} {refused}\n")
 }
 
 /// Replays a trace: reads it to its end, answers its records one by one, and writes the replies and the audit. The calling
@@ -157,15 +162,16 @@ pub fn run<T: AllocGlobal + Threads + Wait + Sync, R: Source, W: Sink, V: Watch>
 {
     let alloc = rt.alloc();
     let bytes = read_input(alloc, reader)?;
-    let mut trace = TraceReader::new(alloc, &bytes)?;
     if options.plain || options.workers == 1 {
-        return replay_trace(rt, &mut trace, writer, options.plain, &Alone, watch);
+        let replayed = replay_trace(alloc, bytes, writer, options.plain, &Alone, watch)?;
+        return write_closing(rt, replayed, writer);
     }
     let workers = options.workers as usize;
     let crew = Crew::new(rt, workers, options.piece_length as usize, &NoGate).alone_below(
         LEAST_SHARED,
     );
-    replay_trace(rt, &mut trace, writer, false, &crew, watch)
+    let replayed = replay_trace(alloc, bytes, writer, false, &crew, watch)?;
+    write_closing(rt, replayed, writer)
 }
 
 /// The same, whoever works the calls; with `plain` unmaps and clears go by recursion on the calling thread.
@@ -193,9 +199,9 @@ pub fn run_by<T: AllocGlobal + Threads + Sync, R: Source, W: Sink, C: Workers, V
     ensures needs_no_worker { C.starts_none workers.now → IfErr result (λ e. IsNoWorker e → ⊥) }
 {
     let alloc = rt.alloc();
-    let input = read_input(alloc, reader)?;
-    let mut trace = TraceReader::new(alloc, &input)?;
-    replay_trace(rt, &mut trace, writer, plain, workers, watch)
+    let bytes = read_input(alloc, reader)?;
+    let replayed = replay_trace(alloc, bytes, writer, plain, workers, watch)?;
+    write_closing(rt, replayed, writer)
 }
 
 /// Reads a source to its end.
@@ -221,24 +227,34 @@ fn start(alloc: Global, limits: &Limits) -> Result<Database, RunError>
     }
 }
 
-/// Replays a trace whose header was read, on a database with its limits: answers its records in order, writes their reply lines, the
-/// audit lines and the end line, and flushes them. Where a record cannot be answered for want of memory or of a worker, the reply lines
-/// before it are flushed.
-fn replay_trace<T: AllocGlobal + Threads + Sync, W: Sink, C: Workers, V: Watch>(
-    rt: &T,
-    trace: &mut TraceReader<'_>,
+/// A trace of which all records are answered. Its audit is not written yet, nor are some lines.
+#[derive(Drop)]
+struct Replayed {
+    database: Database,
+    lines: Lines,
+    /// The number that one record more would have.
+    number: u64,
+    /// How many of the records were refused.
+    refused: u64,
+}
+
+/// Reads the header and the records of a trace, answers these in order on a database with its limits, and writes their reply
+/// lines, but for some of the last. The bytes are needed no longer then. Where a record cannot be answered for want of memory
+/// or of a worker, the reply lines before it are flushed.
+fn replay_trace<W: Sink, C: Workers, V: Watch>(
+    alloc: Global,
+    bytes: Vec<u8>,
     writer: &mut W,
     plain: bool,
     workers: &C,
     watch: &mut V,
-) -> Result<Summary, RunError>
-    requires first { trace.old.number ≡ 1 }
-    ensures ok { IfOk result (ReplaysTrace trace.old (W.contents writer.old) (W.contents writer.new)) }
+) -> Result<Replayed, RunError>
+    ensures ok { IfOk result (AwaitsAudit bytes.items (W.contents writer.old) (W.contents writer.new)) }
     ensures works { OnOk result (W.failed writer.new ≡ W.failed writer.old) }
-    ensures err { IfErr result (StopsTrace trace.old (W.contents writer.old) (W.contents writer.new) (W.failed writer.old) (W.failed writer.new)) }
+    ensures err { IfErr result (StopsInput bytes.items (W.contents writer.old) (W.contents writer.new) (W.failed writer.old) (W.failed writer.new)) }
     ensures needs_no_worker { C.starts_none workers.now → IfErr result (λ e. IsNoWorker e → ⊥) }
 {
-    let alloc = rt.alloc();
+    let mut trace = TraceReader::new(alloc, &bytes)?;
     let mut database = start(alloc, &trace.limits())?;
     let mut lines = Lines::new(alloc, watch.block());
     let mut buffers = Buffers::new(alloc);
@@ -249,7 +265,7 @@ fn replay_trace<T: AllocGlobal + Threads + Sync, W: Sink, C: Workers, V: Watch>(
         let replies = match answer_first(
             alloc,
             &mut database,
-            trace,
+            &mut trace,
             workers,
             plain,
             &mut buffers,
@@ -263,33 +279,47 @@ fn replay_trace<T: AllocGlobal + Threads + Sync, W: Sink, C: Workers, V: Watch>(
         refused += refusals;
         number = next;
     }
-    write_closing(rt, &database, &mut lines, number - 1, refused, writer)
+    Ok(Replayed {
+        database,
+        lines,
+        number,
+        refused,
+    })
 }
 
 /// Writes the lines that are left, the audit lines and the end line, and flushes them.
 fn write_closing<W: Sink>(
     rt: &(impl AllocGlobal + Threads + Sync),
-    database: &Database,
-    lines: &mut Lines,
-    records: u64,
-    refused: u64,
+    replayed: Replayed,
     writer: &mut W,
 ) -> Result<Summary, RunError>
-    requires running { database.now.is_halted ≡ false }
-    requires few { records < 18446744073709551615 }
-    ensures ok { IfOk result (λ summary. summary ≡ record { records = records; refused = refused }) }
+    requires running { replayed.database.is_halted ≡ false }
+    requires records { 0 < replayed.number }
+    ensures ok { IfOk result (λ summary. summary ≡ record { records = replayed.number - 1; refused = replayed.refused }) }
     ensures written { OnOk result (Appends (W.contents writer.old) (W.contents writer.new)
-        (lines.old ++ (audit_lines database.now.holdings ++ end_line records refused))) }
+        (replayed.lines ++ (audit_lines replayed.database.holdings ++ end_line (replayed.number - 1) replayed.refused))) }
     ensures works { OnOk result (W.failed writer.new ≡ W.failed writer.old) }
-    ensures err { IfErr result (StopsAt NoMemory (records + 1) lines.old (W.contents writer.old) (W.contents writer.new) (W.failed writer.old) (W.failed writer.new)) }
+    ensures err { IfErr result (StopsAt NoMemory replayed.number replayed.lines (W.contents writer.old) (W.contents writer.new) (W.failed writer.old) (W.failed writer.new)) }
 {
-    if lines.pass_on(writer).is_err() {
-        return Err(RunError::WriteFailed);
-    }
-    let Ok(text) = closing_text(rt, database, records, refused) else {
-        return Err(stop_at(writer, lines, records + 1, CrewError::NoMemory));
+    let Replayed {
+        database,
+        mut lines,
+        number,
+        refused,
+    } = replayed;
+    let records = number - 1;
+    let alloc = rt.alloc();
+    let Ok(mut report) = Report::new(alloc, &database) else {
+        return Err(stop_at(writer, &mut lines, number, CrewError::NoMemory));
     };
-    if writer.write_all(&text).is_err() || writer.flush().is_err() {
+    let Ok(end) = end_text(alloc, records, refused) else {
+        return Err(stop_at(writer, &mut lines, number, CrewError::NoMemory));
+    };
+    if lines.pass_on(writer).is_err()
+        || write_audit(rt, &mut report, writer).is_err()
+        || writer.write_all(end.as_bytes()).is_err()
+        || writer.flush().is_err()
+    {
         return Err(RunError::WriteFailed);
     }
     Ok(Summary { records, refused })

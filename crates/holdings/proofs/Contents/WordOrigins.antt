@@ -1,5 +1,5 @@
 -- The origin of each held page stands at the index of its word, since a place stands in the tree of its frame alone, and once.
-use Rattle.std.proofs.Common.{◌≡◌, ℕ, ◌+◌, ◌<◌, ◌≤◌, true, false, Bool, ◌||◌, List, [], ◌∷◌, ◌++◌, length, take, get_or, Option, Some, None, refl, sym, ap, ◌∙◌, subst, arith, ◌⊎◌, inl, inr, if◌then◌else◌, ◌==◌, slice_index, slice_set, nat_lt}
+use Rattle.std.proofs.Common.{◌≡◌, ℕ, ◌+◌, ◌<◌, ◌≤◌, true, false, Bool, ◌||◌, List, [], ◌∷◌, ◌++◌, length, take, get_or, Option, Some, None, IfSome, refl, sym, ap, ◌∙◌, subst, arith, ◌⊎◌, inl, inr, if◌then◌else◌, ◌==◌, slice_index, slice_set, nat_lt}
 use Rattle.std.specs.Prelude.{not}
 use Rattle.std.specs.List.{All, list_all}
 use Rattle.std.proofs.lemmas.Bool.{and_parts, false_from_ne_true, ltb-true, ltb-false}
@@ -14,16 +14,18 @@ use Rattle.space.specs.Place.{same_place}
 use Rattle.space.specs.Word.{entry_of}
 use Rattle.space.specs.Shards.{IsPlace, index_of, entry_at, words_of}
 use Rattle.space.proofs.Places.{same_self, same_or_apart, apart_back}
-use Rattle.maptree.specs.Origins.{Origins, Shape, are_once, origin_in}
+use Rattle.maptree.specs.Origins.{Origins, OriginsStand, Shape, are_once, origin_in}
 use Rattle.space.proofs.Lists.{take_all}
 use Rattle.holdings.specs.Inner.Derivation.{stands_in}
 use Rattle.holdings.specs.Inner.Held.{links_in, is_listed, has_frame, limits_in}
+use Rattle.holdings.specs.Inner.OriginWords.{IsSmall}
 use Rattle.holdings.specs.Inner.Sound.{AreSound}
 use Rattle.holdings.specs.Inner.Words.{IsThere}
 use Rattle.space.proofs.ShardWords.{held_have_words}
 use Rattle.holdings.specs.Inner.WordOrigins.{AreOrigins, ArePut}
 use Rattle.holdings.proofs.Contents.Holders.{place_within, links_read}
 use Rattle.holdings.proofs.Contents.Listing.{within_from_place}
+use Rattle.holdings.proofs.Contents.Roots.{served, pages_few}
 
 -- ---- each link is that of its place
 
@@ -146,7 +148,21 @@ module _ (s : Shards) (trees : List Shape) (sound : AreSound s trees) where
     listed_there : (p : Place) → stands_in t.links p ≡ true → is_listed trees frame p ≡ true
     listed_there p there = ap (λ os. stands_in os p) (links_read trees frame t within is) ∙ there
 
+    -- an origin stands in the tree too
+    pub origin_small : (o : Option Place) → ((q : Place) → o ≡ Some q → stands_in t.links q ≡ true) → IfSome o IsSmall
+    origin_small None there = tt
+    origin_small (Some q) there =
+        let limits = limits_in s trees in
+        let within = within_from_place limits q (sound.pruned.within frame q (listed_there q (there q refl))) in
+        record { space = omega (arith, within.space, (served limits sound.kept.fits.served).few); page = omega (arith, within.page, pages_few limits sound.kept.fits.served) }
+
     module _ (once : are_once t.links ≡ true) where
+      pub origins_small : OriginsStand t.links → All (λ o. IfSome o.1 IsSmall) t.links
+      origins_small stand k d small =
+          let o = get_or t.links k d in
+          let link = each_link t.links once k d small in
+          origin_small o.1 (λ q is. stand o.0 q (link.1 ∙ is))
+
       pub places_there : All (λ o. IsThere s o.0) t.links
       places_there k d small =
           let p = (get_or t.links k d).0 in

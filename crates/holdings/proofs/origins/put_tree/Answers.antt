@@ -1,13 +1,15 @@
 -- One more tree.
-use Rattle.std.proofs.Common.{◌≡◌, ◌<◌, ◌∙◌, [], ◌∷◌, length, Option, refl, ap, sym, subst, arith}
+use Rattle.std.proofs.Common.{◌≡◌, ◌<◌, ◌∙◌, [], ◌∷◌, length, Option, IfSome, refl, ap, sym, subst, arith}
 use Rattle.std.specs.List.{All}
+use Rattle.std.proofs.lemmas.List.Elements.{All-nil, All-cons}
 use Rattle.space.specs.declared.place.Place.{Place}
 use Rattle.space.specs.Shards.{index_of}
 use Rattle.space.proofs.Places.{same_self}
 use Rattle.maptree.specs.Origins.{Origins, IsOriginAt, are_once, origin_in, place_at}
+use Rattle.holdings.specs.Inner.OriginWords.{IsSmall}
 use Rattle.holdings.specs.Inner.Words.{IsThere}
 use Rattle.holdings.specs.Inner.WordOrigins.{ArePut}
-use Rattle.holdings.proofs.Contents.WordOrigins.{places_there, words_there, one_tree}
+use Rattle.holdings.proofs.Contents.WordOrigins.{origin_small, origins_small, places_there, words_there, one_tree}
 use Rattle.holdings.proofs.origins.put_tree.Goals as goal
 
 -- a tree of one place has the link of that place
@@ -33,6 +35,13 @@ put_origins-requires-clause-reached c =
     let is = one_link t.links c.node.result.place c.place_of_origin.result (sym c.len.ensures ∙ c.if-len-eq1.true) c.node.ensures.place c.place_of_origin.ensures in
     subst (λ (os : Origins). All (λ o. index_of s o.0 < n) os) is (words_there s c.args.trees.now c.requires.sound c.args.frame t c.requires.within c.index-trees-frame.is (ap are_once is) n c.requires.before.count)
 
+pub put_origins-requires-clause-origins : goal.put_origins-requires-clause-origins
+put_origins-requires-clause-origins c =
+    let t = c.index-trees-frame.result in
+    let o = c.place_of_origin.result in
+    let small = origin_small c.args.shards.now c.args.trees.now c.requires.sound c.args.frame t c.requires.within c.index-trees-frame.is o c.place_of_origin.ensures.stands in
+    All-cons (λ o. IfSome o.1 IsSmall) (c.node.result.place, o) [] small (All-nil (λ o. IfSome o.1 IsSmall))
+
 pub returns-then-len-eq1 : goal.returns-then-len-eq1
 returns-then-len-eq1 c =
     let s = c.args.shards.now in
@@ -57,6 +66,13 @@ put_origins-requires-2-clause-reached c =
     let links = c.deref.ensures.value ∙ c.in_ok-links.ensures.links in
     subst (λ (os : Origins). All (λ o. index_of s o.0 < n) os) (sym links)
     (words_there s c.args.trees.now c.requires.sound c.args.frame t c.requires.within c.index-trees-frame.is c.in_ok-links.ensures.once n c.requires.before.count)
+
+pub put_origins-requires-2-clause-origins : goal.put_origins-requires-2-clause-origins
+put_origins-requires-2-clause-origins c =
+    let t = c.index-trees-frame.result in
+    let links = c.deref.ensures.value ∙ c.in_ok-links.ensures.links in
+    subst (λ (os : Origins). All (λ o. IfSome o.1 IsSmall) os) (sym links)
+    (origins_small c.args.shards.now c.args.trees.now c.requires.sound c.args.frame t c.requires.within c.index-trees-frame.is c.in_ok-links.ensures.once c.in_ok-links.ensures.origins)
 
 pub returns : goal.returns
 returns c =

@@ -2,7 +2,7 @@
 use Rattle.std.proofs.Common.{◌≡◌, ◌++◌, length, string_bytes}
 use Rattle.model.specs.Definitions.Text.{audit_lines}
 use Rattle.mapdb.specs.Held.{held_from}
-use Rattle.audit.proofs.audit.push_space.Given as goal
+use Rattle.audit.proofs.parts.push_space.Given as goal
 
 abbrev pub invariant-loop-line : goal.invariant-loop-line
 invariant-loop-line l = (l.from.space ≡ l.space) × ((string_bytes l.text ++ audit_lines (held_from l.mappings l.space l.from.page)) ≡ string_bytes l.initial.text ++ audit_lines (held_from l.mappings l.space 0))

@@ -1,10 +1,10 @@
 -- One more text.
-use Rattle.std.proofs.Common.{IsOk, subst, string_bytes}
+use Rattle.std.proofs.Common.{IsOk, subst, arith, string_bytes}
 use Rattle.std.specs.List.{All}
 use Rattle.std.proofs.lemmas.List.{take_all}
 use Rattle.std.proofs.lemmas.List.Elements.{All-more}
 use Rattle.audit.proofs.Texts.{one_more_text, text_is_ok}
-use Rattle.audit.proofs.audit.push_texts.Goals as goal
+use Rattle.audit.proofs.parts.push_texts.Goals as goal
 
 pub loop-text-preserved : goal.loop-text-preserved
 loop-text-preserved c =
@@ -14,6 +14,7 @@ loop-text-preserved c =
       one_more_text texts i item c.in-Ok.text (string_bytes c.loop-text.whole) c.as_str.result.now _ _ c.loop-text-test.true c.text-item.is c.in-Ok.is c.as_str.ensures.value
           c.in_ok-push_str-in-Ok.ensures.bytes c.loop-text.invariant.0,
       All-more IsOk texts i item c.loop-text-test.true c.loop-text.invariant.1 (text_is_ok texts i item c.in-Ok.text c.text-item.is c.in-Ok.is),
+      omega (arith, c.loop-text.invariant.2, c.in_ok-push_str-in-Ok.ensures.capacity),
     )
 
 pub returns-clause-all : goal.returns-clause-all

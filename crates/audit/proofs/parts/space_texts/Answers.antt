@@ -5,7 +5,7 @@ use Rattle.rayon.proofs.ListFacts.{IfOk-then}
 use Rattle.rayon.proofs.ToStd.{slice-AllZip}
 use Rattle.mapdb.specs.Held.{held_from}
 use Rattle.audit.specs.Sections.{IsTextOf}
-use Rattle.audit.proofs.audit.space_texts.Goals as goal
+use Rattle.audit.proofs.parts.space_texts.Goals as goal
 
 pub returns : goal.returns
 returns g c =

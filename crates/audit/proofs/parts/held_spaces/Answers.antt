@@ -6,8 +6,8 @@ use Rattle.std.specs.Prelude.{MatchOption}
 use Rattle.model.specs.Definitions.Holdings.{Holdings}
 use Rattle.mapdb.specs.Held.{Mapping, held_from}
 use Rattle.holdings.proofs.Contents.FromPages.{from_space, all_spaces, one_space}
-use Rattle.audit.proofs.audit.held_spaces.Goals.{then-is_some+in_ok-push, else-is_some}
-use Rattle.audit.proofs.audit.held_spaces.Goals as goal
+use Rattle.audit.proofs.parts.held_spaces.Goals.{then-is_some+in_ok-push, else-is_some}
+use Rattle.audit.proofs.parts.held_spaces.Goals as goal
 
 -- where no first mapping is found
 nothing_there : (found : Option Mapping) (N : Type 0) (S : Mapping → Type 0) → is_some found ≡ false → MatchOption found N S → N
