@@ -1,13 +1,12 @@
 -- Each piece of a phase has one turn, and all are worked.
 use Rattle.std.proofs.Common.{◌≡◌, ⊎_elim, ℕ, zero, suc, ◌+◌, ◌<◌, ◌≤◌, Bool, true, false, ◌&&◌, not, List, [], ◌∷◌, ◌++◌, length, map, get_or, Option, Some, refl, ap, ◌∙◌, sym, subst, arith, zero-add, if◌then◌else◌}
-use Rattle.std.specs.Prelude.{◌==◌, ◌%◌, slice_get, cond}
+use Rattle.std.specs.Prelude.{◌==◌, slice_get, cond}
 use Rattle.std.specs.List.{All, AllPass, flat_map, range_with_len}
 use Rattle.std.specs.Option.{option_map, option_map_or, option_to_list}
 use Rattle.std.proofs.lemmas.Bool.{cases_lt, eqb-true, eq-eqb, ne_eqb, lt-leb, true≢false}
 use Rattle.std.proofs.lemmas.List.Elements.{All-cons}
 use Rattle.std.proofs.lemmas.List.Folds.{list_any_none}
 use Rattle.std.proofs.lemmas.List.FromFn.{get_or-range_with_len, length-range_with_len, length-map-range_with_len}
-use Rattle.std.proofs.lemmas.Nat.{mod_below}
 use Rattle.space.specs.Word.{is_pack}
 use Rattle.pieces.specs.Applied.{applied, step_counts}
 use Rattle.pieces.specs.Distinct.{is_none_of, are_distinct}
@@ -27,7 +26,7 @@ use Rattle.turns.specs.SharedWords.{SharedContent}
 use Rattle.turns.specs.Turns.{steps_to_do, new_turns, done_of}
 use Rattle.turns.specs.Views.{count_in}
 use Rattle.turns.specs.Works.{step_count}
-use Rattle.crew.specs.Crews.{DealtContent, AreDealt, IsEnded, share_of, dealt}
+use Rattle.crew.specs.Crews.{DealtContent, AreDealt, IsEnded, worker_of, share_of, dealt}
 use Rattle.crew.specs.Hands.{weigh, IsFresh}
 use Rattle.crew.specs.Worked.{IsWorked}
 
@@ -48,73 +47,73 @@ many_new s n = length-map-range_with_len (λ p. record { shared = s; number = p;
 -- ---- turns that are dealt
 
 -- what is dealt to so many workers, from this one on, weighs
-abbrev shares : (ℕ → ℕ) → ℕ → List ℕ → ℕ → ℕ → ℕ
-shares h workers ns a zero = 0
-shares h workers ns a (suc n) = weigh h (share_of workers a ns) + shares h workers ns (a + 1) n
+abbrev shares : (ℕ → ℕ) → ℕ → ℕ → List ℕ → ℕ → ℕ → ℕ
+shares h room workers ns a zero = 0
+shares h room workers ns a (suc n) = weigh h (share_of room workers a ns) + shares h room workers ns (a + 1) n
 
 -- each deque has the share of its worker
-dealt_shares : (h : ℕ → ℕ) (workers : ℕ) (ns : List ℕ) (a : ℕ) (crew : List DealtContent) → ((k : ℕ) (d : DealtContent) → k < length crew → (get_or crew k d).put ≡ share_of workers (a + k) ns)
-    → dealt h crew ≡ shares h workers ns a (length crew)
-dealt_shares h workers ns a [] each = refl
-dealt_shares h workers ns a (d ∷ crew) each =
+dealt_shares : (h : ℕ → ℕ) (room workers : ℕ) (ns : List ℕ) (a : ℕ) (crew : List DealtContent) → ((k : ℕ) (d : DealtContent) → k < length crew → (get_or crew k d).put ≡ share_of room workers (a + k) ns)
+    → dealt h crew ≡ shares h room workers ns a (length crew)
+dealt_shares h room workers ns a [] each = refl
+dealt_shares h room workers ns a (d ∷ crew) each =
     let here : a + 0 ≡ a = omega arith in
-    let x : ℕ = weigh h d.put in let y : ℕ = weigh h (share_of workers a ns) in let first : x ≡ y = ap (weigh h) (each 0 d (omega arith) ∙ ap (λ k. share_of workers k ns) here) in
-    let b : ℕ = dealt h crew in let c : ℕ = shares h workers ns (a + 1) (length crew) in
-    let others : b ≡ c = dealt_shares h workers ns (a + 1) crew (λ k e less. let next : a + suc k ≡ (a + 1) + k = omega arith in each (suc k) e (omega (arith, less)) ∙ ap (λ j. share_of workers j ns) next) in
+    let x : ℕ = weigh h d.put in let y : ℕ = weigh h (share_of room workers a ns) in let first : x ≡ y = ap (weigh h) (each 0 d (omega arith) ∙ ap (λ k. share_of room workers k ns) here) in
+    let b : ℕ = dealt h crew in let c : ℕ = shares h room workers ns (a + 1) (length crew) in
+    let others : b ≡ c = dealt_shares h room workers ns (a + 1) crew (λ k e less. let next : a + suc k ≡ (a + 1) + k = omega arith in each (suc k) e (omega (arith, less)) ∙ ap (λ j. share_of room workers j ns) next) in
     let goal : x + b ≡ y + c = omega arith in goal
 
 -- shares of nothing
-no_shares : (h : ℕ → ℕ) (workers a n : ℕ) → shares h workers [] a n ≡ 0
-no_shares h workers a zero = refl
-no_shares h workers a (suc n) = zero-add (shares h workers [] (a + 1) n) ∙ no_shares h workers (a + 1) n
+no_shares : (h : ℕ → ℕ) (room workers a n : ℕ) → shares h room workers [] a n ≡ 0
+no_shares h room workers a zero = refl
+no_shares h room workers a (suc n) = zero-add (shares h room workers [] (a + 1) n) ∙ no_shares h room workers (a + 1) n
 
 -- a number that another worker gets
-share_same : (h : ℕ → ℕ) (workers m a : ℕ) (ns : List ℕ) → (m % workers == a) ≡ false → weigh h (share_of workers a (m ∷ ns)) ≡ weigh h (share_of workers a ns)
-share_same h workers m a ns apart = ap (λ t. weigh h (cond t (m ∷ share_of workers a ns) (share_of workers a ns))) apart
+share_same : (h : ℕ → ℕ) (room workers m a : ℕ) (ns : List ℕ) → (worker_of room workers m == a) ≡ false → weigh h (share_of room workers a (m ∷ ns)) ≡ weigh h (share_of room workers a ns)
+share_same h room workers m a ns apart = ap (λ t. weigh h (cond t (m ∷ share_of room workers a ns) (share_of room workers a ns))) apart
 
 -- and one that this worker gets
-share_more : (h : ℕ → ℕ) (workers m a : ℕ) (ns : List ℕ) → (m % workers == a) ≡ true → weigh h (share_of workers a (m ∷ ns)) ≡ h m + weigh h (share_of workers a ns)
-share_more h workers m a ns same = ap (λ t. weigh h (cond t (m ∷ share_of workers a ns) (share_of workers a ns))) same
+share_more : (h : ℕ → ℕ) (room workers m a : ℕ) (ns : List ℕ) → (worker_of room workers m == a) ≡ true → weigh h (share_of room workers a (m ∷ ns)) ≡ h m + weigh h (share_of room workers a ns)
+share_more h room workers m a ns same = ap (λ t. weigh h (cond t (m ∷ share_of room workers a ns) (share_of room workers a ns))) same
 
 -- a number whose worker comes before these
-shares_same : (h : ℕ → ℕ) (workers m : ℕ) (ns : List ℕ) (a n : ℕ) → m % workers < a → shares h workers (m ∷ ns) a n ≡ shares h workers ns a n
-shares_same h workers m ns a zero low = refl
-shares_same h workers m ns a (suc n) low =
-    let x : ℕ = weigh h (share_of workers a (m ∷ ns)) in let y : ℕ = weigh h (share_of workers a ns) in
-    let first : x ≡ y = share_same h workers m a ns (ne_eqb (m % workers) a (λ same. omega (arith, low, same))) in
-    let b : ℕ = shares h workers (m ∷ ns) (a + 1) n in let c : ℕ = shares h workers ns (a + 1) n in
-    let others : b ≡ c = shares_same h workers m ns (a + 1) n (omega (arith, low)) in
+shares_same : (h : ℕ → ℕ) (room workers m : ℕ) (ns : List ℕ) (a n : ℕ) → worker_of room workers m < a → shares h room workers (m ∷ ns) a n ≡ shares h room workers ns a n
+shares_same h room workers m ns a zero low = refl
+shares_same h room workers m ns a (suc n) low =
+    let x : ℕ = weigh h (share_of room workers a (m ∷ ns)) in let y : ℕ = weigh h (share_of room workers a ns) in
+    let first : x ≡ y = share_same h room workers m a ns (ne_eqb (worker_of room workers m) a (λ same. omega (arith, low, same))) in
+    let b : ℕ = shares h room workers (m ∷ ns) (a + 1) n in let c : ℕ = shares h room workers ns (a + 1) n in
+    let others : b ≡ c = shares_same h room workers m ns (a + 1) n (omega (arith, low)) in
     let goal : x + b ≡ y + c = omega arith in goal
 
 -- and one whose worker is one of these
-shares_more : (h : ℕ → ℕ) (workers m : ℕ) (ns : List ℕ) (a n : ℕ) → a ≤ m % workers → m % workers < a + n → shares h workers (m ∷ ns) a n ≡ h m + shares h workers ns a n
-shares_more h workers m ns a zero from to = absurd (omega (arith, from, to))
-shares_more h workers m ns a (suc n) from to =
-    let x : ℕ = weigh h (share_of workers a (m ∷ ns)) in let y : ℕ = weigh h (share_of workers a ns) in
-    let b : ℕ = shares h workers (m ∷ ns) (a + 1) n in let c : ℕ = shares h workers ns (a + 1) n in let w : ℕ = h m in
+shares_more : (h : ℕ → ℕ) (room workers m : ℕ) (ns : List ℕ) (a n : ℕ) → a ≤ worker_of room workers m → worker_of room workers m < a + n → shares h room workers (m ∷ ns) a n ≡ h m + shares h room workers ns a n
+shares_more h room workers m ns a zero from to = absurd (omega (arith, from, to))
+shares_more h room workers m ns a (suc n) from to =
+    let x : ℕ = weigh h (share_of room workers a (m ∷ ns)) in let y : ℕ = weigh h (share_of room workers a ns) in
+    let b : ℕ = shares h room workers (m ∷ ns) (a + 1) n in let c : ℕ = shares h room workers ns (a + 1) n in let w : ℕ = h m in
     ⊎_elim
-    (λ (less : a < m % workers).
-    let first : x ≡ y = share_same h workers m a ns (ne_eqb (m % workers) a (λ same. omega (arith, less, same))) in
-    let others : b ≡ w + c = shares_more h workers m ns (a + 1) n (omega (arith, less)) (omega (arith, to)) in
+    (λ (less : a < worker_of room workers m).
+    let first : x ≡ y = share_same h room workers m a ns (ne_eqb (worker_of room workers m) a (λ same. omega (arith, less, same))) in
+    let others : b ≡ w + c = shares_more h room workers m ns (a + 1) n (omega (arith, less)) (omega (arith, to)) in
     let goal : x + b ≡ w + (y + c) = omega arith in goal)
-    (λ (most : m % workers ≤ a).
-    let first : x ≡ w + y = share_more h workers m a ns (eq-eqb (m % workers) a (omega (arith, from, most))) in
-    let others : b ≡ c = shares_same h workers m ns (a + 1) n (omega (arith, most)) in
+    (λ (most : worker_of room workers m ≤ a).
+    let first : x ≡ w + y = share_more h room workers m a ns (eq-eqb (worker_of room workers m) a (omega (arith, from, most))) in
+    let others : b ≡ c = shares_same h room workers m ns (a + 1) n (omega (arith, most)) in
     let goal : x + b ≡ w + (y + c) = omega arith in goal)
-    (cases_lt a (m % workers))
+    (cases_lt a (worker_of room workers m))
 
 -- all shares together weigh what all numbers do
-all_shares : (h : ℕ → ℕ) (workers : ℕ) (ns : List ℕ) → 1 ≤ workers → shares h workers ns 0 workers ≡ weigh h ns
-all_shares h workers [] some = no_shares h workers 0 workers
-all_shares h workers (m ∷ ns) some =
-    let below : m % workers < workers = mod_below m workers (omega (arith, some)) in
-    shares_more h workers m ns 0 workers (omega arith) (omega (arith, below)) ∙ ap (λ x. h m + x) (all_shares h workers ns some)
+all_shares : (h : ℕ → ℕ) (room workers : ℕ) (ns : List ℕ) → 1 ≤ workers → shares h room workers ns 0 workers ≡ weigh h ns
+all_shares h room workers [] some = no_shares h room workers 0 workers
+all_shares h room workers (m ∷ ns) some =
+    let below : worker_of room workers m < workers = omega (arith, some) in
+    shares_more h room workers m ns 0 workers (omega arith) (omega (arith, below)) ∙ ap (λ x. h m + x) (all_shares h room workers ns some)
 
 -- what was dealt weighs what there was to deal
-pub dealt_all : (h : ℕ → ℕ) (workers : ℕ) (ns : List ℕ) (crew : List DealtContent) → 1 ≤ workers → AreDealt workers ns crew → dealt h crew ≡ weigh h ns
-dealt_all h workers ns crew some are =
-    dealt_shares h workers ns 0 crew (λ k d less. let same : k ≡ 0 + k = omega arith in are.each k d less ∙ ap (λ j. share_of workers j ns) same)
-    ∙ ap (shares h workers ns 0) are.many ∙ all_shares h workers ns some
+pub dealt_all : (h : ℕ → ℕ) (room workers : ℕ) (ns : List ℕ) (crew : List DealtContent) → 1 ≤ workers → AreDealt room workers ns crew → dealt h crew ≡ weigh h ns
+dealt_all h room workers ns crew some are =
+    dealt_shares h room workers ns 0 crew (λ k d less. let same : k ≡ 0 + k = omega arith in are.each k d less ∙ ap (λ j. share_of room workers j ns) same)
+    ∙ ap (shares h room workers ns 0) are.many ∙ all_shares h room workers ns some
 
 -- ---- one number
 

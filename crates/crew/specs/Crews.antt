@@ -1,5 +1,5 @@
 -- The deques of a crew, and what its workers hold.
-use Rattle.std.specs.Prelude.{◌≡◌, ℕ, ◌+◌, ◌-◌, ◌%◌, ◌==◌, ◌<◌, List, [], ◌∷◌, length, map, filter, get_or, Some, slice_get, if◌then◌else◌}
+use Rattle.std.specs.Prelude.{◌≡◌, ℕ, ◌+◌, ◌-◌, ◌/◌, ◌==◌, ◌<◌, min, List, [], ◌∷◌, length, map, filter, get_or, Some, slice_get, if◌then◌else◌}
 use Rattle.std.specs.List.{All, range_with_len}
 use Rattle.std.specs.Option.{option_map_or}
 use Rattle.std.specs.declared.alloc.Global.{Global}
@@ -76,14 +76,18 @@ pass_on o = record { number = o.number; taken = [] }
 abbrev pub fewer : OwnDequeContent → OwnDequeContent
 fewer o = record { number = o.number; hand = hand (o.hand.parts - 1) o.hand.put o.hand.taken }
 
--- the numbers that are dealt to one of so many workers
-abbrev pub share_of : ℕ → ℕ → List ℕ → List ℕ
-share_of workers worker ns = filter (λ n. n % workers == worker) ns
+-- to which of so many workers a turn is dealt, where each has so many side by side, and the last all others
+abbrev pub worker_of : ℕ → ℕ → ℕ → ℕ
+worker_of room workers n = min (n / room) (workers - 1)
 
--- turns with these numbers were dealt to so many deques: turn n to that of worker n mod workers
-pub record AreDealt (workers : ℕ) (ns : List ℕ) (deques : List DealtContent) : Type 0 where
+-- the numbers that are dealt to one of them
+abbrev pub share_of : ℕ → ℕ → ℕ → List ℕ → List ℕ
+share_of room workers worker ns = filter (λ n. worker_of room workers n == worker) ns
+
+-- turns with these numbers were dealt to so many deques
+pub record AreDealt (room workers : ℕ) (ns : List ℕ) (deques : List DealtContent) : Type 0 where
   pub many : length deques ≡ workers
-  pub each : (k : ℕ) (d : DealtContent) → k < length deques → (get_or deques k d).put ≡ share_of workers k ns
+  pub each : (k : ℕ) (d : DealtContent) → k < length deques → (get_or deques k d).put ≡ share_of room workers k ns
 
 -- what was stolen by all these passes weighs
 abbrev pub stolen : (ℕ → ℕ) → List StealPassContent → ℕ

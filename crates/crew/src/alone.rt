@@ -10,7 +10,8 @@ ghost use Rattle.crew.specs.Worked.{IsWorked};
 ghost use Rattle.crew.specs.declared.error.CrewError.TheVariants.{NoWorker};
 
 use crate::error::CrewError;
-use crate::workers::{Alone, Workers};
+use crate::plan::plan_in_turn;
+use crate::workers::{Alone, Planned, Workers};
 use pieces::{Done, Piece};
 use std::alloc::{AllocError, Global};
 use turns::{Open, Turn};
@@ -67,6 +68,19 @@ impl Workers for Alone {
 
     fn shared_from(&self) -> usize {
         usize::MAX
+    }
+
+    fn planners(&self) -> usize {
+        1
+    }
+
+    fn plan(
+        &self,
+        alloc: Global,
+        parts: usize,
+        plan: &(dyn Fn(usize) -> Planned + Sync),
+    ) -> Result<Vec<Planned>, AllocError> {
+        plan_in_turn(alloc, parts, plan)
     }
 
     fn work(

@@ -1,11 +1,12 @@
-ghost use Rattle.std.specs.Prelude.{◌≡◌, ◌≤◌, min};
+ghost use Rattle.std.specs.Prelude.{◌≡◌, ℕ, ◌<◌, ◌≤◌, min, length, slice_index_or, IfOk};
 
 use crate::error::CrewError;
 use crate::gate::{Gate, NoGate};
+use crate::plan::plan_together;
 use crate::shared::work;
-use crate::workers::Workers;
+use crate::workers::{Planned, Workers};
 use pieces::{Done, Piece};
-use std::alloc::Global;
+use std::alloc::{AllocError, Global};
 use std::sync::Wait;
 use std::thread::Threads;
 
@@ -81,6 +82,30 @@ impl<'a, R: Threads + Wait, G: Gate> Crew<'a, R, G> {
     {
         self.workers.min(pieces)
     }
+
+    /// How many of the workers plan a phase side by side: all.
+    pub fn planners(&self) -> usize
+        ensures { 1 ≤ result }
+    {
+        self.workers
+    }
+
+    /// Asks a function for the plan of each of so many parts of a phase, each but the first on a thread of its own, and
+    /// returns what it answers, part after part. Where a thread is refused the calling thread plans the part.
+    ///
+    /// Refused, where memory is: `AllocError`.
+    pub fn plan(
+        &self,
+        alloc: Global,
+        parts: usize,
+        plan: &(dyn Fn(usize) -> Planned + Sync),
+    ) -> Result<Vec<Planned>, AllocError>
+        requires each { (part : ℕ) → part < parts → pre plan.now part }
+        ensures count { IfOk result (λ planned. length planned.items ≡ parts) }
+        ensures each { IfOk result (λ planned. (part : ℕ) (d : _) → part < parts → post plan.now part (slice_index_or planned.items part d)) }
+    {
+        plan_together(self.rt, alloc, parts, plan)
+    }
 }
 
 /// A crew whose gate listens does the work for a type of its user's: an impl for every gate is refused (docs/DECISIONS.md).
@@ -99,6 +124,19 @@ impl<'a, R: Threads + Wait> Workers for Crew<'a, R, NoGate> {
 
     fn shared_from(&self) -> usize {
         self.least
+    }
+
+    fn planners(&self) -> usize {
+        self.planners()
+    }
+
+    fn plan(
+        &self,
+        alloc: Global,
+        parts: usize,
+        plan: &(dyn Fn(usize) -> Planned + Sync),
+    ) -> Result<Vec<Planned>, AllocError> {
+        self.plan(alloc, parts, plan)
     }
 
     fn work(

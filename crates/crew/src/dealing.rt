@@ -1,6 +1,6 @@
 //! Turns are dealt to deques, and the deques to workers.
 
-ghost use Rattle.std.specs.Prelude.{◌≡◌, ◌+◌, ◌-◌, ◌<◌, ◌≤◌, [], map, length, IfOk, OnOk};
+ghost use Rattle.std.specs.Prelude.{◌≡◌, ◌+◌, ◌-◌, ◌/◌, ◌<◌, ◌≤◌, [], map, length, IfOk, OnOk};
 ghost use Rattle.std.specs.List.{All, range_with_len};
 ghost use Rattle.turns.specs.Closing.{numbers_of};
 ghost use Rattle.crew.specs.Crews.{DealtContent, OwnDequeContent, AreNumberedFrom, AreNumbered, pass_on, fewer, new_owns, AreRows, AreDealt};
@@ -12,7 +12,8 @@ use crate::worker::Worker;
 use std::alloc::{AllocError, Global};
 use turns::Turn;
 
-/// Deals turns to so many deques: turn n to that of worker n mod workers.
+/// Deals turns to so many deques: the first to that of the first worker, as many behind them to that of the next, and so on.
+/// Words of pieces side by side share cache lines, so that what one worker takes is far from what the others take.
 pub fn deal<N: Which>(
     alloc: Global,
     workers: usize,
@@ -20,11 +21,12 @@ pub fn deal<N: Which>(
 ) -> Result<Vec<Dealt<N>>, AllocError>
     requires some { 1 ≤ workers }
     requires fresh { All (IsFresh N.shared) turns.items }
-    ensures { IfOk result (λ deques. AreDealt workers (numbers_of turns.items) deques.items) }
+    ensures { IfOk result (λ deques. AreDealt (length turns.items / workers + 1) workers (numbers_of turns.items) deques.items) }
 {
-    let mut deques = empty_deques(alloc, workers, turns.len() / workers + 1)?;
+    let room = turns.len() / workers + 1;
+    let mut deques = empty_deques(alloc, workers, room)?;
     for turn in turns {
-        let worker = turn.piece() % workers;
+        let worker = (turn.piece() / room).min(workers - 1);
         deques[worker].put(turn)?;
     }
     Ok(deques)
@@ -36,7 +38,7 @@ fn empty_deques<N: Which>(
     workers: usize,
     room: usize,
 ) -> Result<Vec<Dealt<N>>, AllocError>
-    ensures { IfOk result (λ deques. AreDealt workers [] deques.items) }
+    ensures { IfOk result (λ deques. AreDealt room workers [] deques.items) }
 {
     let mut deques = Vec::with_capacity(alloc, workers)?;
     for worker in 0..workers {

@@ -1,12 +1,16 @@
 ghost use Rattle.std.specs.Prelude.{◌≡◌};
 
 use crate::error::CrewError;
-use pieces::{Done, Piece};
-use std::alloc::Global;
+use pieces::{Done, Piece, StripPlan};
+use space::NoMemory;
+use std::alloc::{AllocError, Global};
+
+/// What comes of planning a part of a phase: its plan, or that memory was refused.
+pub type Planned = Result<StripPlan, NoMemory>;
 
 /// Who works the pieces of a phase: a `Crew`, or the calling thread, `Alone`.
 pub trait Workers {
-    ghost use Rattle.std.specs.Prelude.{◌≡◌, ℕ, ◌<◌, ◌≤◌, length, IfOk, IsErrOf};
+    ghost use Rattle.std.specs.Prelude.{◌≡◌, ℕ, ◌<◌, ◌≤◌, length, slice_index_or, IfOk, IsErrOf};
     ghost use Rattle.pieces.specs.Phases.{CanBeWorked};
     ghost use Rattle.crew.specs.Worked.{IsWorked};
     ghost use Rattle.crew.specs.declared.error.CrewError.TheVariants.{NoWorker};
@@ -29,6 +33,24 @@ pub trait Workers {
     /// works it alone, in place, and tells nobody; with 0 it never does.
     fn shared_from(&self) -> usize
         ensures { result ≡ Self.least_of self.now };
+
+    /// In how many parts the plan of a phase is made side by side, if it is large.
+    fn planners(&self) -> usize
+        ensures { 1 ≤ result };
+
+    /// Asks a function for the plan of each of so many parts of a phase, side by side, and returns what it answers, part
+    /// after part. Where a thread is refused the calling thread plans the part.
+    ///
+    /// Refused, where memory is: `AllocError`.
+    fn plan(
+        &self,
+        alloc: Global,
+        parts: usize,
+        plan: &(dyn Fn(usize) -> Planned + Sync),
+    ) -> Result<Vec<Planned>, AllocError>
+        requires each { (part : ℕ) → part < parts → pre plan.now part }
+        ensures count { IfOk result (λ planned. length planned.items ≡ parts) }
+        ensures each { IfOk result (λ planned. (part : ℕ) (d : _) → part < parts → post plan.now part (slice_index_or planned.items part d)) };
 
     /// Works all pieces of a phase, and returns the words as they leave them and what each piece found out. The pieces are
     /// numbered from 0, in the order in which they are given.

@@ -8,7 +8,7 @@ mod worked;
 
 use crate::assertions::{assert_equal, assert_holds};
 use audit::{AuditError, check, lines};
-use crew::{Crew, CrewError, Gate, NoGate, Workers, work};
+use crew::{Crew, CrewError, Gate, NoGate, Planned, Workers, work};
 use mapdb::{Database, DbError};
 use pieces::{Done, Piece};
 use replay::{Buffers, NoWatch, Options, RunError, Summary, Watch, answer_first, run, run_by};
@@ -329,6 +329,19 @@ impl<'a, R: Threads + Wait> Workers for Counted<'a, R> {
 
     fn shared_from(&self) -> usize {
         self.crew.shared_from()
+    }
+
+    fn planners(&self) -> usize {
+        self.crew.planners()
+    }
+
+    fn plan(
+        &self,
+        alloc: Global,
+        parts: usize,
+        plan: &(dyn Fn(usize) -> Planned + Sync),
+    ) -> Result<Vec<Planned>, AllocError> {
+        self.crew.plan(alloc, parts, plan)
     }
 
     fn work(

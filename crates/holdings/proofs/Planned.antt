@@ -2,6 +2,7 @@
 pub mod Parts
 pub mod Runs
 pub mod Groups
+pub mod Cuts
 pub mod AllKept
 pub mod Apart
 pub mod Plan

@@ -8,7 +8,6 @@ pub mod Stripping
 pub mod Planning
 pub mod Words
 pub mod Phases
-pub mod RunForms
 pub mod StripPlans
 pub mod Outcomes
 pub mod Links

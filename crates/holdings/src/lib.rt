@@ -3,6 +3,7 @@
 #![tactic(auto)]
 
 mod access;
+mod batches;
 mod below;
 mod extent;
 mod group;

@@ -5,42 +5,31 @@ ghost use Rattle.std.specs.List.{All};
 ghost use Rattle.holdings.specs.Places.{IsWithin, any_of};
 ghost use Rattle.holdings.specs.Inner.Held.{limits_in};
 ghost use Rattle.holdings.specs.Inner.Sound.{AreSound};
-ghost use Rattle.holdings.specs.Inner.StripPlans.{IsPlanned, AreOuterPlaces, HaveRuns, all_firsts, AreFrameRuns, ArePlannedStrips, AreAdded, HaveWords, IsRunAdded, pages_of};
+ghost use Rattle.holdings.specs.Inner.StripPlans.{IsPlanned, AreOuterPlaces, HaveRuns, all_firsts, AreFrameRuns, AreRunsBetween, IsCut, ArePlannedStrips, AreAdded, HaveWords, IsRunAdded, pages_of};
 ghost use Rattle.maptree.specs.Origins.{AreRising};
-ghost use Rattle.holdings.specs.Inner.Stripping.{firsts};
+ghost use Rattle.holdings.specs.Inner.Stripping.{firsts, places_in};
 ghost use Rattle.std.specs.List.Sorted.{IsNonDecreasingBy};
 ghost use Rattle.space.specs.declared.place.Place.{Place};
 ghost use Rattle.space.specs.Shards.{index_of};
 ghost use Rattle.holdings.specs.Inner.Words.{IsThere};
 
+use crate::batches::plan_pages;
 use crate::group::group_end;
 use crate::pages::{HeldPage, places_of, sorted_pages};
-use crate::runs::Runs;
+use crate::runs::outermost_runs;
+use crew::Workers;
 use fpage::Rights;
 use maptree::{NodeOrigins, Tree};
-use pieces::{Piece, Strip, learn_are_pieces};
+use pieces::{FrameRuns, Piece, Runs, Strip, StripPlan, learn_are_pieces};
 use space::{NoMemory, Node, Place, Shards};
 use std::alloc::{AllocError, Global};
 use std::ops::Range;
 
-/// The outermost runs of some pages of one frame, in its tree.
-#[derive(Drop)]
-pub struct FrameRuns {
-    pub frame: u32,
-    pub runs: Runs,
-}
-
-/// The runs that are stripped, and the pieces of this work.
-#[derive(Drop)]
-pub struct StripPlan {
-    pub frames: Vec<FrameRuns>,
-    pub pieces: Vec<Piece>,
-}
-
-/// Plans the strip of some places: each piece is a part of at most so many nodes of one outermost run.
+/// Plans the strip of some places: each piece is a part of at most so many nodes of one outermost run. Where they are many,
+/// the workers plan them side by side.
 ///
 /// Refused, where memory is: `NoMemory`.
-pub fn plan_strip(
+pub fn plan_strip<W: Workers>(
     alloc: Global,
     shards: &Shards,
     trees: &[Tree],
@@ -48,6 +37,7 @@ pub fn plan_strip(
     revoked: Rights,
     flush: bool,
     most: usize,
+    workers: &W,
 ) -> Result<StripPlan, NoMemory>
     requires sound { AreSound shards.now trees.now }
     requires within { All (IsWithin (limits_in shards.now trees.now)) places.now }
@@ -55,10 +45,9 @@ pub fn plan_strip(
     ensures { IfOk result (IsPlanned shards.now trees.now (any_of places.now) revoked flush) }
 {
     let pages = sorted_pages(alloc, shards, places)?;
-    let frames = runs_by_frame(alloc, trees, &pages)?;
-    let pieces = strips(alloc, shards, trees, &frames, revoked, flush, most)?;
-    learn_are_pieces(&pieces);
-    Ok(StripPlan { frames, pieces })
+    let plan = plan_pages(alloc, shards, trees, &pages, revoked, flush, most, workers)?;
+    learn_are_pieces(&plan.pieces);
+    Ok(plan)
 }
 
 /// The first places of the outermost runs of some pages: all that derives from the pages derives from these, and none of
@@ -118,16 +107,38 @@ fn runs_by_frame(
     ensures { IfOk result (λ frames. AreFrameRuns trees.now pages.now frames.items) }
 {
     let places = places_of(alloc, pages)?;
+    runs_between(alloc, trees, pages, &places, 0, pages.len())
+}
+
+/// The same of the pages from one on up to another, which is the first of its frame. The places are those of all pages.
+///
+/// Refused, where memory is: `NoMemory`.
+pub fn runs_between(
+    alloc: Global,
+    trees: &[Tree],
+    pages: &[HeldPage],
+    places: &[Place],
+    from: usize,
+    to: usize,
+) -> Result<Vec<FrameRuns>, NoMemory>
+    requires sorted { IsNonDecreasingBy (λ h. h.frame) pages.now }
+    requires frames { All (λ h. h.frame < length trees.now) pages.now }
+    requires places { places.now ≡ places_in pages.now }
+    requires order { from ≤ to }
+    requires within { to ≤ length pages.now }
+    requires cut { IsCut pages.now to }
+    ensures { IfOk result (λ frames. AreRunsBetween trees.now pages.now from to frames.items) }
+{
     let mut frames = Vec::new(alloc);
-    let mut from = 0;
-    while from < pages.len() {
-        let frame = pages[from].frame;
-        let end = group_end(pages, from);
-        let runs = Runs::outermost(alloc, &trees[frame as usize], &places[from..end])?;
+    let mut first = from;
+    while first < to {
+        let frame = pages[first].frame;
+        let end = group_end(pages, first);
+        let runs = outermost_runs(alloc, &trees[frame as usize], &places[first..end])?;
         frames
             .push(FrameRuns { frame, runs })
             .map_err(AllocError::from)?;
-        from = end;
+        first = end;
     }
     Ok(frames)
 }
@@ -135,7 +146,7 @@ fn runs_by_frame(
 /// The strips of all these runs, one run after another, in parts of at most so many nodes.
 ///
 /// Refused, where memory is: `NoMemory`.
-fn strips(
+pub fn strips(
     alloc: Global,
     shards: &Shards,
     trees: &[Tree],

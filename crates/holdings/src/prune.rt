@@ -10,8 +10,8 @@ ghost use Rattle.holdings.specs.Inner.Held.{has_as, has_entry};
 ghost use Rattle.holdings.specs.Inner.Stripping.{pruned, OriginsHaveEntries, IsLeft};
 ghost use Rattle.holdings.specs.Inner.StripPlans.{AllCanBePruned, ArePruned, AreKeptNodes, count_in_runs, count_in_frames, in_frames};
 
-use crate::planning::FrameRuns;
 use maptree::Tree;
+use pieces::FrameRuns;
 use space::{NoMemory, Node, Shards, Slice};
 use std::alloc::{AllocError, Global};
 use std::ops::Range;

@@ -4,11 +4,11 @@ use crate::holdings::Holdings;
 use crate::notes::Notes;
 use crate::one_by_one::Order;
 use crate::phase::work_phase_by;
-use crate::planning::{StripPlan, outer_places, plan_strip};
+use crate::planning::{outer_places, plan_strip};
 use crate::prune::prune_gone;
 use crew::{CrewError, Workers};
 use fpage::Rights;
-use pieces::{Done, Piece};
+use pieces::{Done, Piece, StripPlan};
 use space::{NoMemory, Place};
 use std::alloc::Global;
 
@@ -56,9 +56,15 @@ impl Holdings {
         }
         self.note_strip(places, revoked, flush, notes)?;
         let most = workers.piece_length();
-        self.strip_in_pieces(alloc, places, revoked, flush, most, |words, pieces| {
-            workers.work(alloc, words, pieces)
-        })
+        self.strip_in_pieces(
+            alloc,
+            places,
+            revoked,
+            flush,
+            most,
+            workers,
+            |words, pieces| workers.work(alloc, words, pieces),
+        )
     }
 
     /// Pages of which none derives from another, and from which all derives that derives from these: these, or some of
@@ -80,17 +86,18 @@ impl Holdings {
         Ok(room)
     }
 
-    /// The same strip as one phase, if any of the pages is held. A function is given the words and the pieces, and works
-    /// them.
+    /// The same strip as one phase, if any of the pages is held. Workers plan it. A function is given the words and the
+    /// pieces, and works them.
     ///
     /// Refused, where memory is, `NoMemory`, and as the function is.
-    pub(crate) fn strip_in_pieces<F>(
+    pub(crate) fn strip_in_pieces<W: Workers, F>(
         self,
         alloc: Global,
         places: &[Place],
         revoked: Rights,
         flush: bool,
         most: usize,
+        planners: &W,
         work: F,
     ) -> Result<(Self, Rights), CrewError>
     where
@@ -107,7 +114,9 @@ impl Holdings {
             mut shards,
             mut trees,
         } = self;
-        let plan = plan_strip(alloc, &shards, &trees, places, revoked, flush, most)?;
+        let plan = plan_strip(
+            alloc, &shards, &trees, places, revoked, flush, most, planners,
+        )?;
         let StripPlan { frames, pieces } = plan;
         if pieces.is_empty() {
             return Ok((Holdings { shards, trees }, Rights::none()));

@@ -1,7 +1,7 @@
 //! Rights revoked while an observer looks at the entries.
 
 use crate::holdings::Holdings;
-use crew::{Crew, CrewError, Gate, Observe, work_watched};
+use crew::{Alone, Crew, CrewError, Gate, Observe, work_watched};
 use fpage::Rights;
 use pieces::{Done, Piece};
 use space::Place;
@@ -42,6 +42,6 @@ impl Holdings {
             requires { (0 < length pieces.items) × CanBeWorked words.items pieces.items × O.told observer.now words.items pieces.items }
             ensures { IfOk result (λ w. IsWorked words.items pieces.items w.0.items w.1.items) }
         { work_watched(crew, alloc, words, pieces, observer) };
-        self.strip_in_pieces(alloc, places, revoked, flush, most, work)
+        self.strip_in_pieces(alloc, places, revoked, flush, most, &Alone, work)
     }
 }

@@ -6,10 +6,11 @@ ghost use Rattle.pieces.specs.Phases.{CanBeWorked};
 
 use crate::assertions::assert_equal;
 use crate::by_turns::one_piece;
-use crew::{Alone, Crew, CrewError, Gate, NoGate, Workers, work};
+use crew::{Alone, Crew, CrewError, Gate, NoGate, Planned, Workers, work};
 use fpage::{Access, Rights};
 use pieces::{
-    Done, Gathered, Pair, Piece, Store, Strip, WordAccess, gather, links, moves, touches,
+    Done, FrameRuns, Gathered, Pair, Piece, Runs, Store, Strip, StripPlan, WordAccess, gather,
+    links, moves, touches,
 };
 use space::{NoMemory, Node, Place, Slice};
 use std::alloc::{AllocError, Global};
@@ -417,7 +418,9 @@ impl Meeting {
 impl Gate for Meeting {
     fn begin(&self, worker: usize, _workers: usize, turn: &Turn, _shared: &Open) {
         self.begun.fetch_add(1, Ordering::SeqCst);
-        if worker != turn.piece() % 2 {
+        // Of eighteen pieces the first ten are dealt to the first worker.
+        let dealt_to = if turn.piece() < 10 { 0 } else { 1 };
+        if worker != dealt_to {
             self.stolen.fetch_add(1, Ordering::SeqCst);
         }
         if worker == 0 {
@@ -455,6 +458,19 @@ impl<'a, R: Threads + Wait> Workers for Held<'a, R> {
 
     fn shared_from(&self) -> usize {
         self.crew.shared_from()
+    }
+
+    fn planners(&self) -> usize {
+        self.crew.planners()
+    }
+
+    fn plan(
+        &self,
+        alloc: Global,
+        parts: usize,
+        plan: &(dyn Fn(usize) -> Planned + Sync),
+    ) -> Result<Vec<Planned>, AllocError> {
+        self.crew.plan(alloc, parts, plan)
     }
 
     fn work(
@@ -528,7 +544,7 @@ fn two_workers_work_eighteen_pieces_and_one_steals(rt: HostRuntime) -> Result<()
         ("begun", &gate.begun, 18, 18),
         ("ended", &gate.ended, 18, 18),
         ("first", &gate.first, 1, u64::MAX),
-        ("second", &gate.second, 10, u64::MAX),
+        ("second", &gate.second, 9, u64::MAX),
         ("stolen", &gate.stolen, 1, u64::MAX),
     ] {
         lies_within(&rt, count, least, most, name);
@@ -550,6 +566,72 @@ fn a_gate_hears_of_a_single_piece(rt: HostRuntime) -> Result<(), Fail> {
         ("first", &gate.first),
     ] {
         lies_within(&rt, count, 1, 1, name);
+    }
+    Ok(())
+}
+
+/// A plan without pieces, of the frame of this number.
+fn plan_of(alloc: Global, number: usize) -> Planned {
+    let frame = u32::try_from(number).unwrap_or(u32::MAX);
+    let mut frames = Vec::with_capacity(alloc, 1)?;
+    frames
+        .push(FrameRuns {
+            frame,
+            runs: Runs::one(0..1),
+        })
+        .map_err(AllocError::from)?;
+    Ok(StripPlan {
+        frames,
+        pieces: Vec::new(alloc),
+    })
+}
+
+/// The frame of such a plan; another number where there is none.
+fn frame_of(planned: &Planned) -> u32 {
+    match planned {
+        Ok(plan) => match plan.frames.first() {
+            Some(runs) => runs.frame,
+            None => u32::MAX,
+        },
+        Err(_) => u32::MAX,
+    }
+}
+
+#[test]
+fn parts_are_planned_in_their_order(rt: HostRuntime) -> Result<(), Fail> {
+    let alloc = rt.alloc();
+    let plan = move |part: usize| -> Planned { plan_of(alloc, part) };
+    let crew = Crew::new(&rt, 4, 1, &NoGate);
+    for parts in 0..6 {
+        for planned in [
+            crew.plan(alloc, parts, &plan)?,
+            Alone.plan(alloc, parts, &plan)?,
+        ] {
+            assert_equal(&rt, planned.len(), parts, "parts");
+            for (part, its_plan) in planned.iter().enumerate() {
+                assert_equal(&rt, frame_of(its_plan) as usize, part, "the plan of a part");
+            }
+        }
+    }
+    Ok(())
+}
+
+/// The first part waits until the second has begun, which a thread of its own plans.
+#[test]
+fn two_parts_are_planned_side_by_side(rt: HostRuntime) -> Result<(), Fail> {
+    let alloc = rt.alloc();
+    let begun = AtomicU64::new(0);
+    let plan = |part: usize| -> Planned {
+        if part == 0 {
+            wait_for(&begun);
+        } else {
+            begun.fetch_add(1, Ordering::SeqCst);
+        }
+        plan_of(alloc, begun.load(Ordering::SeqCst) as usize)
+    };
+    let crew = Crew::new(&rt, 2, 1, &NoGate);
+    for planned in &crew.plan(alloc, 2, &plan)? {
+        assert_equal(&rt, frame_of(planned), 1, "parts begun");
     }
     Ok(())
 }

@@ -13,5 +13,6 @@ pub mod Gathering
 pub mod Places
 pub mod Masks
 pub mod Phases
+pub mod RunForms
 pub mod Readiness
 pub mod Laws

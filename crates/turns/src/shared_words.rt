@@ -217,6 +217,17 @@ impl SharedWords {
         self.table.shared.swap::<Made>(seat, at, word)
     }
 
+    /// Has a shared word near, for a step that comes to it soon: a load that tells nothing. The hint says where it stands.
+    pub(crate) fn warm(&self, index: usize, hint: usize) {
+        let at = match &self.indexes {
+            Indexes::All => index,
+            Indexes::Listed(_) => hint,
+        };
+        if at < self.table.word_count() {
+            let _ = self.table.shared.peek(at);
+        }
+    }
+
     /// The pieces can be worked on these words. The function does nothing: its contract is what it tells.
     pub(crate) fn learn_can_be_worked(&self)
         ensures { IsPhase self.now.opening }

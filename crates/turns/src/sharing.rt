@@ -12,10 +12,7 @@ ghost use Rattle.turns.specs.Tables.{indexes_of};
 use pieces::{Piece, Strip, Touch, changed_indexes, changed_words};
 use std::alloc::{AllocError, Global};
 
-/// The ends of words side by side may stand so much farther apart than these have room: entry words are turned within a shard (`space`).
-const TURNED: usize = 64;
-
-/// Of more pieces than this not all are looked at: where the ends of a piece stand is in no cache near.
+/// Of more pieces than this not all are looked at: how long a piece is stands in no cache near.
 const LOOKED_AT: usize = 64;
 
 /// How many words are copied in and out in the time that an access takes in a list, which is sorted and searched.
@@ -45,10 +42,9 @@ impl Indexes {
     }
 }
 
-/// The words that are shared, and how many of them stand in front that one piece alone has a step about. Where pieces change at least
-/// half of all words, and each words that stand side by side, all are shared: that takes less than a list of those that are. So it does
-/// where accesses are many, whose list is sorted, and searched at each. Where words stand apart, a list takes less: it has those of a
-/// piece side by side.
+/// The words that are shared, and how many of them stand in front that one piece alone has a step about. Where pieces change
+/// at least a third of all words, all are shared: that takes less than a list of those that are. So it does where accesses
+/// are many, whose list is sorted, and searched at each.
 pub(crate) fn shared_indexes(
     alloc: Global,
     words: &[u64],
@@ -89,7 +85,7 @@ pub(crate) fn watched_indexes(
 /// Whether all words are shared, as far as some of the pieces tell.
 fn are_all_shared(words: &[u64], pieces: &[Piece]) -> bool {
     let step = (pieces.len() / LOOKED_AT).max(1);
-    let mut wanting = words.len() / 2 / step;
+    let mut wanting = words.len() / 3 / step;
     for piece in pieces.iter().step_by(step) {
         wanting = wanting.saturating_sub(weight(piece));
     }
@@ -100,39 +96,7 @@ fn are_all_shared(words: &[u64], pieces: &[Piece]) -> bool {
 fn weight(piece: &Piece) -> usize {
     match piece {
         Piece::Touch(touch) => touch.len().saturating_mul(WORDS_AN_ACCESS),
-        _ => {
-            if is_side_by_side(piece) {
-                changed_words(piece)
-            } else {
-                0
-            }
-        }
-    }
-}
-
-/// Whether the words that a piece changes stand side by side, as far as the first and the last of them tell.
-fn is_side_by_side(piece: &Piece) -> bool {
-    match ends(piece) {
-        Some((first, last)) => {
-            first.abs_diff(last) < changed_words(piece).saturating_add(TURNED)
-        }
-        None => false,
-    }
-}
-
-/// The indexes of the first and the last word that a strip narrows or a link puts.
-fn ends(piece: &Piece) -> Option<(usize, usize)> {
-    match piece {
-        Piece::Strip(strip) => {
-            let indexes = strip.indexes();
-            Some((*indexes.first()?, *indexes.last()?))
-        }
-        Piece::Link(link) => {
-            let stores = link.stores();
-            Some((stores.first()?.put, stores.last()?.put))
-        }
-        Piece::Move(_) => None,
-        Piece::Touch(_) => None,
+        _ => changed_words(piece),
     }
 }
 

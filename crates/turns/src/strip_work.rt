@@ -8,6 +8,9 @@ use pieces::{Masks, Strip, move_node};
 use space::Slice;
 use std::snapshot::Snapshot;
 
+/// How many words are found at once.
+const AT_ONCE: usize = 16;
+
 /// A strip, some of whose steps were done. The nodes that are kept stand in front, in their order.
 #[derive(Drop)]
 pub(crate) struct StripWork {
@@ -26,7 +29,8 @@ pub(crate) struct StripWork {
 }
 
 impl StripWork {
-    ghost use Rattle.std.specs.Prelude.{◌≡◌, ℕ, List, ◌+◌, ◌<◌, ◌≤◌, Some, length, slice_get};
+    ghost use Rattle.std.specs.Prelude.{◌≡◌, ℕ, List, ◌+◌, ◌-◌, ◌<◌, ◌≤◌, Some, length, slice_get, slice_index};
+    ghost use Rattle.std.specs.List.{All};
     ghost use Rattle.pieces.specs.Steps.{steps, status_in};
     ghost use Rattle.pieces.specs.Values.{kept_nodes};
     ghost use Rattle.pieces.specs.declared.piece.Piece.TheVariants as piece;
@@ -92,7 +96,9 @@ impl StripWork {
     {
         let k = post.steps();
         if k < self.indexes.len() {
-            self.narrow(post, shared, k);
+            shared.learn_can_be_worked();
+            let word = shared.shared_word(self.indexes[k], self.hint.wrapping_add(k));
+            self.narrow(post, shared, k, word);
         } else if let Some(index) = self.fold {
             let found = bits(self.status);
             post.add(shared, index, found, self.hint);
@@ -111,17 +117,62 @@ impl StripWork {
     {
         let len = self.len();
         while post.steps() < len {
-            self.step(post, shared);
+            if post.steps() < self.indexes.len() {
+                self.narrow_some(post, shared);
+            } else {
+                self.step(post, shared);
+            }
         }
     }
 
-    /// The step of the node at a position.
-    fn narrow(&mut self, post: &mut Post, shared: &SharedWords, k: usize)
+    /// The steps of the next nodes, of some at once.
+    fn narrow_some(&mut self, post: &mut Post, shared: &SharedWords)
+        requires of { post.old.shared ≡ shared.now }
+        requires piece { slice_get shared.now.opening.pieces post.old.number ≡ Some (piece.Strip self.old.of.value) }
+        requires work { IsStripWork shared.now.opening.words self.old post.old.steps }
+        requires left { post.old.steps < length self.old.of.value.nodes }
+        ensures post { post.new ≡ record post.old { steps = post.new.steps } }
+        ensures more { post.old.steps < post.new.steps }
+        ensures few { post.new.steps ≤ length self.old.of.value.nodes }
+        ensures of { self.new.of.value ≡ self.old.of.value }
+        ensures work { IsStripWork shared.now.opening.words self.new post.new.steps }
+    {
+        shared.learn_can_be_worked();
+        let from = post.steps();
+        let to = from + AT_ONCE.min(self.indexes.len() - from);
+        let found = self.find_words(shared, from, to);
+        for k in from..to {
+            self.narrow(post, shared, k, found[k - from]);
+        }
+    }
+
+    /// The words of the nodes from a position up to another, as they were at opening. Their loads go on side by side, and so
+    /// do those that have the shared words near: swaps would wait for each other.
+    fn find_words(&self, shared: &SharedWords, from: usize, to: usize) -> [u64; AT_ONCE]
+        requires order { from ≤ to }
+        requires few { to ≤ from + 16 }
+        requires within { to ≤ length self.now.indexes.items }
+        requires words { All (λ i. i < length shared.now.opening.words) self.now.indexes.items }
+        ensures { (k : ℕ) → from ≤ k → k < to → slice_index result (k - from) ≡ slice_index shared.now.opening.words (slice_index self.now.indexes.items k) }
+    {
+        let mut found = [0; AT_ONCE];
+        for k in from..to {
+            let index = self.indexes[k];
+            let hint = self.hint.wrapping_add(k);
+            found[k - from] = shared.shared_word(index, hint);
+            shared.warm(index, hint);
+        }
+        found
+    }
+
+    /// The step of the node at a position, whose word was this at opening.
+    fn narrow(&mut self, post: &mut Post, shared: &SharedWords, k: usize, word: u64)
         requires of { post.old.shared ≡ shared.now }
         requires piece { slice_get shared.now.opening.pieces post.old.number ≡ Some (piece.Strip self.old.of.value) }
         requires work { IsStripWork shared.now.opening.words self.old post.old.steps }
         requires next { post.old.steps ≡ k }
         requires within { k < length self.old.of.value.nodes }
+        requires word { word ≡ slice_index shared.now.opening.words (slice_index self.old.indexes.items k) }
         ensures post { post.new ≡ record post.old { steps = post.old.steps + 1 } }
         ensures of { self.new.of.value ≡ self.old.of.value }
         ensures work { IsStripWork shared.now.opening.words self.new (post.old.steps + 1) }
@@ -130,7 +181,6 @@ impl StripWork {
         let index = self.indexes[k];
         let mask = self.masks.get(k);
         let hint = self.hint.wrapping_add(k);
-        let word = shared.shared_word(index, hint);
         let found = post.write(shared, index, narrowed(word, mask), hint);
         self.status = self.status.join(status(found));
         if remains(found, mask) {

@@ -3,12 +3,12 @@
 use super::calls::{At, Step, index_of, page, work, work_all};
 use super::unmaps::CHAIN;
 use crate::assertions::assert_equal;
-use crew::{Alone, CrewError, Workers};
+use crew::{Alone, CrewError, Planned, Workers};
 use fpage::Rights;
 use mapdb::{Database, DbError};
 use pieces::{Done, Piece, Strip};
 use space::Place;
-use std::alloc::Global;
+use std::alloc::{AllocError, Global};
 use std::process::Abort;
 use std::sync::atomic::{AtomicU64, Ordering};
 use std::test::Fail;
@@ -73,6 +73,19 @@ impl<'a, T: Abort> Workers for Looking<'a, T> {
 
     fn shared_from(&self) -> usize {
         0
+    }
+
+    fn planners(&self) -> usize {
+        Alone.planners()
+    }
+
+    fn plan(
+        &self,
+        alloc: Global,
+        parts: usize,
+        plan: &(dyn Fn(usize) -> Planned + Sync),
+    ) -> Result<Vec<Planned>, AllocError> {
+        Alone.plan(alloc, parts, plan)
     }
 
     fn work(

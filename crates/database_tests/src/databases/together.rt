@@ -3,11 +3,11 @@
 use super::calls::{At, GRANT, MAP, NO_PAIRS, Step, work, work_all};
 use super::unmaps::CHAIN;
 use crate::assertions::{assert_equal, assert_holds};
-use crew::{Crew, CrewError, Gate, NoGate, Workers};
+use crew::{Crew, CrewError, Gate, NoGate, Planned, Workers};
 use fpage::Access;
 use mapdb::{Database, DbError, SendReply};
 use pieces::{Done, Piece};
-use std::alloc::Global;
+use std::alloc::{AllocError, Global};
 use std::process::Abort;
 use std::sync::Wait;
 use std::sync::atomic::{AtomicU64, Ordering};
@@ -99,6 +99,19 @@ impl<'a, R: Threads + Wait> Workers for Held<'a, R> {
 
     fn shared_from(&self) -> usize {
         self.crew.shared_from()
+    }
+
+    fn planners(&self) -> usize {
+        self.crew.planners()
+    }
+
+    fn plan(
+        &self,
+        alloc: Global,
+        parts: usize,
+        plan: &(dyn Fn(usize) -> Planned + Sync),
+    ) -> Result<Vec<Planned>, AllocError> {
+        self.crew.plan(alloc, parts, plan)
     }
 
     fn work(

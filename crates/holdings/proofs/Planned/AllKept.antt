@@ -15,7 +15,7 @@ use Rattle.maptree.specs.Origins.{Origins, Shape, AreRising}
 use Rattle.space.specs.Slices.{nodes_of}
 use Rattle.maptree.specs.Cuts.{kept_of, count_of, outside}
 use Rattle.pieces.specs.Contents.{StripContent}
-use Rattle.holdings.specs.declared.planning.FrameRuns.{FrameRuns}
+use Rattle.pieces.specs.declared.runs.FrameRuns.{FrameRuns}
 use Rattle.holdings.specs.Inner.Held.{links_in, has_entry}
 use Rattle.holdings.specs.Inner.Planning.{RunPlan, IsRunPlan, all_places, places_of_runs, strip_of, strips_of_run, strips_of_runs}
 use Rattle.holdings.specs.Inner.Links.{IsTreeSet}

@@ -6,39 +6,42 @@ use Rattle.std.proofs.lemmas.Bool.{eqb-true, and_parts}
 use Rattle.maptree.specs.Origins.{Shape, AreOuterRuns}
 use Rattle.maptree.proofs.Cuttings.{split_at}
 use Rattle.holdings.specs.declared.pages.HeldPage.{HeldPage}
-use Rattle.holdings.specs.declared.planning.FrameRuns.{FrameRuns}
+use Rattle.pieces.specs.declared.runs.FrameRuns.{FrameRuns}
 use Rattle.holdings.specs.Inner.Held.{links_in}
 use Rattle.holdings.specs.Inner.Stripping.{places_in}
-use Rattle.holdings.specs.Inner.StripPlans.{AreFrameRuns, IsFrameGroup}
+use Rattle.std.proofs.lemmas.List.Elements.{All-append}
+use Rattle.holdings.specs.Inner.StripPlans.{AreFrameRuns, AreRunsBetween, HaveRuns, IsFrameGroup}
 
--- the groups of the pages so far, put in front of those of the pages to come, are the groups of all
-pub record AreGroupedUpTo (trees : List Shape) (pages : List HeldPage) (from : ℕ) (fs : List FrameRuns) : Type 0 where
-  pub upto : from ≤ length pages
-  pub whole : (rest : List FrameRuns) → AreFrameRuns trees (drop from pages) rest → AreFrameRuns trees pages (fs ++ rest)
+pub no_runs : (trees : List Shape) (pages : List HeldPage) (from : ℕ) → AreRunsBetween trees pages from from []
+no_runs trees pages from = record { each = λ k d less. absurd (omega (arith, less)); whole = λ rest are. are }
 
-pub no_group : (trees : List Shape) (pages : List HeldPage) → AreGroupedUpTo trees pages 0 []
-no_group trees pages = record { upto = omega arith; whole = λ rest are. are }
+assoc : (xs ys zs : List FrameRuns) → (xs ++ ys) ++ zs ≡ xs ++ (ys ++ zs)
+assoc [] ys zs = refl
+assoc (x ∷ xs) ys zs = ap (λ fs. x ∷ fs) (assoc xs ys zs)
+
+-- those of the pages up to one, and from it on
+pub runs_joined : (trees : List Shape) (pages : List HeldPage) (a b c : ℕ) (fs gs : List FrameRuns) → AreRunsBetween trees pages a b fs → AreRunsBetween trees pages b c gs → AreRunsBetween trees pages a c (fs ++ gs)
+runs_joined trees pages a b c fs gs front behind = record {
+  each = All-append (HaveRuns trees) fs gs front.each behind.each;
+  whole = λ rest are. subst (AreFrameRuns trees (drop a pages)) (sym (assoc fs gs rest)) (front.whole (gs ++ rest) (behind.whole rest are));
+}
 
 -- all of one frame
-same_frames : (hs : List HeldPage) (frame : ℕ) → list_all (λ h. h.frame == frame) hs ≡ true → All (λ h. h.frame ≡ frame) hs
+pub same_frames : (hs : List HeldPage) (frame : ℕ) → list_all (λ h. h.frame == frame) hs ≡ true → All (λ h. h.frame ≡ frame) hs
 same_frames [] frame all k d less = absurd (omega (arith, less))
 same_frames (h ∷ hs) frame all zero d less = eqb-true h.frame frame (and_parts (h.frame == frame) (list_all (λ h. h.frame == frame) hs) all).0
 same_frames (h ∷ hs) frame all (suc k) d less = same_frames hs frame (and_parts (h.frame == frame) (list_all (λ h. h.frame == frame) hs) all).1 k d (omega (arith, less))
 
 -- one group more
-pub one_group : (trees : List Shape) (pages : List HeldPage) (from end : ℕ) (fs : List FrameRuns) → AreGroupedUpTo trees pages from fs → IsNonDecreasingBy (λ h. h.frame) pages → All (λ h. h.frame < length trees) pages
+pub one_group : (trees : List Shape) (pages : List HeldPage) (start from end : ℕ) (fs : List FrameRuns) → AreRunsBetween trees pages start from fs → IsNonDecreasingBy (λ h. h.frame) pages → All (λ h. h.frame < length trees) pages
     → from < end → end ≤ length pages → (f : FrameRuns) (first : HeldPage) → f.frame ≡ (get_or pages from first).frame
     → list_all (λ h. h.frame == f.frame) (slice_range pages from end) ≡ true → ((d : HeldPage) → end < length pages → (get_or pages end d).frame ≡ (get_or pages from d).frame → ⊥)
-    → AreOuterRuns (links_in trees f.frame) (places_in (slice_range pages from end)) f.runs → AreGroupedUpTo trees pages end (fs ++ f ∷ [])
-one_group trees pages from end fs so_far sorted within less upto f first frame same ends outer =
-    record { upto = upto; whole = λ rest are. subst (AreFrameRuns trees pages) (sym (assoc fs (f ∷ []) rest)) (so_far.whole (f ∷ rest) (group, drop end pages, split_at from end pages (omega (arith, less)), grouped, are)) }
+    → AreOuterRuns (links_in trees f.frame) (places_in (slice_range pages from end)) f.runs → AreRunsBetween trees pages start end (fs ++ f ∷ [])
+one_group trees pages start from end fs so_far sorted within less upto f first frame same ends outer =
+    runs_joined trees pages start from end fs (f ∷ []) so_far (record { each = one_each; whole = λ rest are. (group, drop end pages, split_at from end pages (omega (arith, less)), grouped, are) })
   where
     group : List HeldPage
     group = slice_range pages from end
-
-    assoc : (xs ys zs : List FrameRuns) → (xs ++ ys) ++ zs ≡ xs ++ (ys ++ zs)
-    assoc [] ys zs = refl
-    assoc (x ∷ xs) ys zs = ap (λ fs. x ∷ fs) (assoc xs ys zs)
 
     here : (d : HeldPage) → (get_or pages from d).frame ≡ f.frame
     here d = ap (λ (h : HeldPage). h.frame) (default pages from d first (omega (arith, less, upto))) ∙ sym frame
@@ -72,7 +75,11 @@ one_group trees pages from end fs so_far sorted within less upto f first frame s
       runs = outer;
     }
 
-pub all_groups : (trees : List Shape) (pages : List HeldPage) (from : ℕ) (fs : List FrameRuns) → AreGroupedUpTo trees pages from fs → length pages ≤ from → AreFrameRuns trees pages fs
+    one_each : All (HaveRuns trees) (f ∷ [])
+    one_each zero d less = record { frame = grouped.frame; rising = outer.rising; whole = outer.whole }
+    one_each (suc k) d less = absurd (omega (arith, less))
+
+pub all_groups : (trees : List Shape) (pages : List HeldPage) (from : ℕ) (fs : List FrameRuns) → AreRunsBetween trees pages 0 from fs → length pages ≤ from → AreFrameRuns trees pages fs
 all_groups trees pages from fs so_far end = subst (AreFrameRuns trees pages) (none fs) (so_far.whole [] (empty from pages end))
   where
     none : (xs : List FrameRuns) → xs ++ [] ≡ xs

@@ -5,7 +5,7 @@ use Rattle.std.proofs.lemmas.Bool.{and_parts}
 use Rattle.std.proofs.lemmas.List.Folds.{list_all-append}
 use Rattle.space.specs.declared.shards.Shards.{Shards}
 use Rattle.maptree.specs.Origins.{Shape}
-use Rattle.holdings.specs.declared.planning.FrameRuns.{FrameRuns}
+use Rattle.pieces.specs.declared.runs.FrameRuns.{FrameRuns}
 use Rattle.holdings.specs.Inner.Held.{links_in, has_entry}
 use Rattle.holdings.specs.Inner.StripPlans.{AllCanBePruned, in_runs, in_frames}
 use Rattle.holdings.proofs.Planned.Trees.{ArePrunedUpTo, drop_here}

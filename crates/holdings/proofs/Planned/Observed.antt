@@ -22,7 +22,7 @@ use Rattle.holdings.specs.Inner.Planning.{strips_of_runs}
 use Rattle.holdings.specs.Inner.Sound.{AreSound}
 use Rattle.holdings.specs.Inner.StripPlans.{IsPlanned}
 use Rattle.holdings.specs.Inner.Words.{AreWordsOf, IsWith}
-use Rattle.holdings.specs.declared.planning.StripPlan.{StripPlan}
+use Rattle.pieces.specs.declared.runs.StripPlan.{StripPlan}
 use Rattle.holdings.proofs.Contents.Holders.{entry_within}
 use Rattle.holdings.proofs.Contents.Layouts.{index_has, same_layout}
 use Rattle.holdings.proofs.Phases.Whole.{planned_strips_are_strips}

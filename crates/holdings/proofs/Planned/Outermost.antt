@@ -21,7 +21,7 @@ use Rattle.holdings.specs.Inner.Sound.{AreSound}
 use Rattle.holdings.specs.Inner.Stripping.{any_page, places_in, HasItsFrame, AreHeldPages, firsts}
 use Rattle.holdings.specs.Inner.StripPlans.{AreFrameRuns, AreOuterPlaces, all_firsts}
 use Rattle.holdings.specs.declared.pages.HeldPage.{HeldPage}
-use Rattle.holdings.specs.declared.planning.FrameRuns.{FrameRuns}
+use Rattle.pieces.specs.declared.runs.FrameRuns.{FrameRuns}
 use Rattle.holdings.proofs.Contents.Listing.{within_from_place}
 use Rattle.holdings.proofs.Stripping.Frames.{covered, entry_of_held, first_named, loose_from}
 use Rattle.holdings.proofs.Stripping.HeldPages.{any_within}

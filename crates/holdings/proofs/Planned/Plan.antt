@@ -26,7 +26,7 @@ use Rattle.holdings.specs.Inner.Sound.{AreSound}
 use Rattle.holdings.specs.Inner.Stripping.{any_page, places_in, HasItsFrame, AreHeldPages, AreOfFrame, firsts}
 use Rattle.holdings.specs.Inner.StripPlans.{AreFrameRuns, AreFramePlans, HaveRuns, HaveWords, pages_of, is_planned}
 use Rattle.holdings.specs.declared.pages.HeldPage.{HeldPage}
-use Rattle.holdings.specs.declared.planning.FrameRuns.{FrameRuns}
+use Rattle.pieces.specs.declared.runs.FrameRuns.{FrameRuns}
 use Rattle.holdings.proofs.Contents.Listing.{within_from_place}
 use Rattle.holdings.proofs.Contents.WordChanges.{frame_from}
 use Rattle.holdings.proofs.Stripping.Frames.{covered, entry_of_held, loose_from}

@@ -3,7 +3,7 @@ use Rattle.std.proofs.Common.{◌≡◌, ℕ, ◌<◌, List, length, get_or, sli
 use Rattle.std.specs.declared.ops.Range.{Range}
 use Rattle.space.specs.declared.shards.Shards.{Shards}
 use Rattle.maptree.specs.Origins.{Shape}
-use Rattle.holdings.specs.declared.planning.FrameRuns.{FrameRuns}
+use Rattle.pieces.specs.declared.runs.FrameRuns.{FrameRuns}
 use Rattle.holdings.specs.Inner.Held.{links_in}
 use Rattle.holdings.specs.Inner.Links.{IsTreeSet}
 use Rattle.holdings.specs.Inner.Stripping.{pruned}

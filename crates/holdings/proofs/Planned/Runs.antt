@@ -11,7 +11,7 @@ use Rattle.space.specs.declared.node.Node.{Node}
 use Rattle.maptree.specs.Origins.{Shape, IsRun, are_once}
 use Rattle.pieces.specs.declared.piece.Piece.{Piece}
 use Rattle.pieces.specs.declared.piece.Piece.TheVariants as piece
-use Rattle.holdings.specs.declared.planning.FrameRuns.{FrameRuns}
+use Rattle.pieces.specs.declared.runs.FrameRuns.{FrameRuns}
 use Rattle.maptree.specs.Origins.{IsOriginAt}
 use Rattle.holdings.specs.Inner.Held.{links_in}
 use Rattle.holdings.specs.Inner.Planning.{RunPlan, IsRunPlan, all_places, strips_of_run, strips_of_runs}
@@ -143,14 +143,26 @@ module _ (s : Shards) (trees : List Shape) (a : Rights) (flush : Bool) where
   pub no_frame : ArePlannedStrips s trees a flush [] []
   no_frame = record { plans = []; planned = refl; items = refl }
 
+  -- frames with their plans, and others with theirs
+  frames_joined : (fs gs : List FrameRuns) (plans others : List RunPlan) → AreFramePlans trees fs plans → AreFramePlans trees gs others → AreFramePlans trees (fs ++ gs) (plans ++ others)
+  frames_joined [] gs plans others none are = subst (λ ps. AreFramePlans trees gs (ps ++ others)) (sym none) are
+  frames_joined (f ∷ fs) gs plans others (mine, rest, parts, mine_are, rest_are) are =
+      (mine, rest ++ others, ap (λ ps. ps ++ others) parts ∙ joined mine rest others, mine_are, frames_joined fs gs rest others rest_are are)
+
   frames_more : (fs : List FrameRuns) (plans : List RunPlan) → AreFramePlans trees fs plans → (f : FrameRuns) (mine : List RunPlan) → AreRunPlans trees f.frame f.runs mine → AreFramePlans trees (fs ++ f ∷ []) (plans ++ mine)
-  frames_more [] plans none f mine are = (mine, [], ap (λ ps. ps ++ mine) none ∙ sym (none_more mine), are, refl)
-  frames_more (g ∷ fs) plans (first, others, parts, first_are, rest) f mine are =
-      (first, others ++ mine, ap (λ ps. ps ++ mine) parts ∙ joined first others mine, first_are, frames_more fs others rest f mine are)
+  frames_more fs plans are f mine mine_are = frames_joined fs (f ∷ []) plans mine are (mine, [], sym (none_more mine), mine_are, refl)
 
   pub one_frame : (fs : List FrameRuns) (now new : List Piece) → ArePlannedStrips s trees a flush fs now → (f : FrameRuns) → AreAdded s trees a flush f.frame f.runs now new → ArePlannedStrips s trees a flush (fs ++ f ∷ []) new
   one_frame fs now new so_far f added = record {
     plans = so_far.plans ++ added.plans;
     planned = frames_more fs so_far.plans so_far.planned f added.plans added.planned;
     items = more_strips [] now new so_far.plans added.plans so_far.items added.items;
+  }
+
+  -- frames after those before them
+  pub more_frames : (fs gs : List FrameRuns) (now mine : List Piece) → ArePlannedStrips s trees a flush fs now → ArePlannedStrips s trees a flush gs mine → ArePlannedStrips s trees a flush (fs ++ gs) (now ++ mine)
+  more_frames fs gs now mine so_far more = record {
+    plans = so_far.plans ++ more.plans;
+    planned = frames_joined fs gs so_far.plans more.plans so_far.planned more.planned;
+    items = more_strips [] now (now ++ mine) so_far.plans more.plans so_far.items (ap (λ ks. now ++ ks) more.items);
   }

@@ -28,7 +28,7 @@ use Rattle.holdings.specs.Inner.Planning.{RunPlan, IsRunPlan, IsStripPlan, strip
 use Rattle.holdings.specs.Inner.Sound.{AreSound}
 use Rattle.holdings.specs.Inner.StripPlans.{IsPlanned, AllCanBePruned, AreKeptNodes, ArePruned}
 use Rattle.holdings.specs.Inner.Words.{CanBeWorkedIn, IsPhaseWorked, IsWith}
-use Rattle.holdings.specs.declared.planning.StripPlan.{StripPlan}
+use Rattle.pieces.specs.declared.runs.StripPlan.{StripPlan}
 use Rattle.holdings.proofs.Contents.Layouts.{same_layout}
 use Rattle.holdings.proofs.Phases.StripPlans.{plan_can_be_worked, stripped_runs}
 use Rattle.holdings.proofs.Phases.Whole.{planned_strips_are_strips}

@@ -30,7 +30,7 @@ use Rattle.holdings.specs.Inner.Sound.{AreSound}
 use Rattle.holdings.specs.Inner.Stripping.{pruned}
 use Rattle.holdings.specs.Inner.StripPlans.{AreFrameRuns, AreRunPlans, AreFramePlans, HaveRuns, CanBePruned, AllCanBePruned, ArePruned, is_planned}
 use Rattle.holdings.specs.declared.pages.HeldPage.{HeldPage}
-use Rattle.holdings.specs.declared.planning.FrameRuns.{FrameRuns}
+use Rattle.pieces.specs.declared.runs.FrameRuns.{FrameRuns}
 use Rattle.holdings.proofs.Contents.Holders.{present_within}
 use Rattle.holdings.proofs.Contents.Listing.{within_from_place}
 use Rattle.holdings.proofs.Contents.WordChanges.{frame_from}

@@ -1,6 +1,7 @@
 -- The runs of a strip, frame by frame, as they are planned, and the trees that lose the places that are held no more.
-use Rattle.std.specs.Prelude.{◌≡◌, ℕ, ◌+◌, ◌-◌, ◌<◌, ◌==◌, ⊤, Bool, true, false, List, [], ◌∷◌, ◌++◌, length, map, Option, Some}
+use Rattle.std.specs.Prelude.{◌≡◌, ℕ, ◌+◌, ◌-◌, ◌<◌, ◌≤◌, ◌==◌, ⊤, Bool, true, false, List, [], ◌∷◌, ◌++◌, length, map, drop, get_or, slice_index, Option, Some}
 use Rattle.std.specs.List.{All, flat_map, list_any, list_all, slice_range}
+use Rattle.std.specs.List.Sorted.{IsNonDecreasingBy}
 use Rattle.std.specs.declared.ops.Range.{Range}
 use Rattle.fpage.specs.declared.rights.Rights.{Rights}
 use Rattle.space.specs.declared.place.Place.{Place}
@@ -16,10 +17,11 @@ use Rattle.pieces.specs.Phases.{IsPiece}
 use Rattle.pieces.specs.declared.piece.Piece.{Piece}
 use Rattle.pieces.specs.declared.piece.Piece.TheVariants as piece
 use Rattle.holdings.specs.declared.pages.HeldPage.{HeldPage}
-use Rattle.holdings.specs.declared.planning.FrameRuns.{FrameRuns}
-use Rattle.holdings.specs.declared.planning.StripPlan.{StripPlan}
+use Rattle.pieces.specs.declared.runs.FrameRuns.{FrameRuns}
+use Rattle.pieces.specs.declared.runs.StripPlan.{StripPlan}
 use Rattle.holdings.specs.Contents.{Contents, IsStripped}
 use Rattle.holdings.specs.Inner.Held.{links_in, has_entry, holdings_in}
+use Rattle.holdings.specs.Inner.Sound.{AreSound}
 use Rattle.holdings.specs.Places.{any_of}
 use Rattle.holdings.specs.Inner.Planning.{RunPlan, IsRunPlan, IsStripPlan, strips_of_run, strips_of_runs, all_places, come_once}
 use Rattle.holdings.specs.Inner.Stripping.{firsts, places_in, OriginsHaveEntries, pruned}
@@ -37,6 +39,30 @@ abbrev pub AreFrameRuns : List Shape → List HeldPage → List FrameRuns → Ty
 AreFrameRuns trees pages [] = pages ≡ []
 AreFrameRuns trees pages (f ∷ fs) = (group : List HeldPage) × (rest : List HeldPage) × (pages ≡ group ++ rest) × IsFrameGroup trees group rest f × AreFrameRuns trees rest fs
 
+-- each range is the run of a node of the frame's tree, and they rise
+pub record HaveRuns (trees : List Shape) (f : FrameRuns) : Type 0 where
+  pub frame : f.frame < length trees
+  pub rising : AreRising 0 f.runs (length (links_in trees f.frame))
+  pub whole : All (IsRun (links_in trees f.frame)) f.runs
+
+-- of the pages from one on up to another the groups with their runs, put in front of those of the pages to come
+pub record AreRunsBetween (trees : List Shape) (pages : List HeldPage) (from to : ℕ) (fs : List FrameRuns) : Type 0 where
+  pub each : All (HaveRuns trees) fs
+  pub whole : (rest : List FrameRuns) → AreFrameRuns trees (drop to pages) rest → AreFrameRuns trees (drop from pages) (fs ++ rest)
+
+-- no frame has a page in front of this one, and one behind
+abbrev pub IsCut : List HeldPage → ℕ → Type 0
+IsCut pages at = (d : HeldPage) → 0 < at → at < length pages → (get_or pages (at - 1) d).frame ≡ (get_or pages at d).frame → ⊥
+
+-- where batches of pages begin, from the first page on, and the end of the last
+pub record AreCuts (pages : List HeldPage) (cuts : List ℕ) (end : ℕ) : Type 0 where
+  pub some : 0 < length cuts
+  pub first : slice_index cuts 0 ≡ 0
+  pub last : slice_index cuts (length cuts - 1) ≡ end
+  pub rising : (k : ℕ) → k + 1 < length cuts → slice_index cuts k ≤ slice_index cuts (k + 1)
+  pub within : (k : ℕ) → k < length cuts → slice_index cuts k ≤ length pages
+  pub cut : (k : ℕ) → k < length cuts → IsCut pages (slice_index cuts k)
+
 -- the runs of a frame, planned
 pub record AreRunPlans (trees : List Shape) (frame : ℕ) (runs : List (Range ℕ)) (plans : List RunPlan) : Type 0 where
   pub each : All (IsRunPlan trees) plans
@@ -51,12 +77,6 @@ AreFramePlans trees [] plans = plans ≡ []
 AreFramePlans trees (f ∷ fs) plans = (mine : List RunPlan) × (others : List RunPlan) × (plans ≡ mine ++ others) × AreRunPlans trees f.frame f.runs mine × AreFramePlans trees fs others
 
 -- ---- the strips of runs
-
--- each range is the run of a node of the frame's tree, and they rise
-pub record HaveRuns (trees : List Shape) (f : FrameRuns) : Type 0 where
-  pub frame : f.frame < length trees
-  pub rising : AreRising 0 f.runs (length (links_in trees f.frame))
-  pub whole : All (IsRun (links_in trees f.frame)) f.runs
 
 -- each of some pages has its own word, and the origin, which is none of them, has another
 pub record HaveWords (s : Shards) (origin : Option Place) (ps : List Place) : Type 0 where
@@ -87,6 +107,25 @@ pub record ArePlannedStrips (s : Shards) (trees : List Shape) (revoked : Rights)
   pub plans : List RunPlan
   pub planned : AreFramePlans trees fs plans
   pub items : pieces ≡ map piece.Strip (strips_of_runs s revoked flush plans)
+
+-- the runs of the pages from one on up to another, with their strips
+pub record IsBatchPlanned (s : Shards) (trees : List Shape) (revoked : Rights) (flush : Bool) (pages : List HeldPage) (from to : ℕ) (fs : List FrameRuns) (pieces : List Piece) : Type 0 where
+  pub runs : AreRunsBetween trees pages from to fs
+  pub strips : ArePlannedStrips s trees revoked flush fs pieces
+
+-- the runs of all these pages, with their strips
+pub record ArePagesPlanned (s : Shards) (trees : List Shape) (revoked : Rights) (flush : Bool) (pages : List HeldPage) (plan : StripPlan) : Type 0 where
+  pub runs : AreFrameRuns trees pages plan.frames.items
+  pub strips : ArePlannedStrips s trees revoked flush plan.frames.items plan.pieces.items
+
+-- pages that are held, sorted by frame, and their places, in batches
+pub record CanBePlanned (s : Shards) (trees : List Shape) (pages : List HeldPage) (places : List Place) (cuts : List ℕ) (most : ℕ) : Type 0 where
+  pub sound : AreSound s trees
+  pub some : 1 ≤ most
+  pub sorted : IsNonDecreasingBy (λ h. h.frame) pages
+  pub frames : All (λ h. h.frame < length trees) pages
+  pub places_are : places ≡ places_in pages
+  pub cuts_are : AreCuts pages cuts (length pages)
 
 -- the strip of a set of pages, planned, with its pieces
 pub record IsPlanned (s : Shards) (trees : List Shape) (set : PlaceSet) (revoked : Rights) (flush : Bool) (plan : StripPlan) : Type 0 where

@@ -4,4 +4,4 @@ use Rattle.crew.specs.Crews.{AreDealt}
 use Rattle.crew.proofs.dealing.deal.Given as goal
 
 abbrev pub invariant-loop-turn : goal.invariant-loop-turn
-invariant-loop-turn g l = AreDealt l.workers (numbers_of l.yielded) l.deques.items
+invariant-loop-turn g l = AreDealt l.room l.workers (numbers_of l.yielded) l.deques.items

@@ -14,4 +14,4 @@ pub returns-clause-sums : goal.returns-clause-sums
 returns-clause-sums g c =
     let n : ℕ = c.len.result in let m : ℕ = length c.args.turns.items in let many : n ≡ m = c.len.ensures ∙ c.args.turns.ok.0 in let has : 0 < m = c.requires.some in
     let some : 1 ≤ n = omega (arith, many, has) in
-    IfOk-weaker c.work_deques.result _ _ (λ ended sums h. sums h ∙ dealt_all h c.workers_for-workers.result (numbers_of c.args.turns.items) c.in_ok-deques.deques.items (c.workers_for-workers.ensures.some some) c.in_ok-deques.ensures) c.work_deques.ensures.sums
+    IfOk-weaker c.work_deques.result _ _ (λ ended sums h. sums h ∙ dealt_all h _ c.workers_for-workers.result (numbers_of c.args.turns.items) c.in_ok-deques.deques.items (c.workers_for-workers.ensures.some some) c.in_ok-deques.ensures) c.work_deques.ensures.sums

@@ -5,7 +5,7 @@ use Rattle.std.proofs.lemmas.List.{take_more}
 use Rattle.maptree.specs.Origins.{Origins, Shape, IsRun, are_once}
 use Rattle.maptree.specs.Origins.{IsOriginAt}
 use Rattle.holdings.specs.Inner.Held.{links_in}
-use Rattle.holdings.specs.declared.planning.FrameRuns.{FrameRuns}
+use Rattle.pieces.specs.declared.runs.FrameRuns.{FrameRuns}
 use Rattle.holdings.specs.Inner.StripPlans.{AreAdded, HaveRuns, HaveWords, IsRunAdded, pages_of}
 use Rattle.holdings.proofs.Contents.Holders.{links_read}
 use Rattle.holdings.proofs.Stripping.Sequences.{rising_at}

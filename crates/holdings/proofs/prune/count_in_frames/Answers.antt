@@ -1,7 +1,7 @@
 -- One frame more.
 use Rattle.std.proofs.Common.{◌+◌, ◌≤◌, take, sym, ap, subst, ◌∙◌}
 use Rattle.std.specs.List.{All}
-use Rattle.holdings.specs.declared.planning.FrameRuns.{FrameRuns}
+use Rattle.pieces.specs.declared.runs.FrameRuns.{FrameRuns}
 use Rattle.holdings.specs.Inner.StripPlans.{count_in_runs, count_in_frames}
 use Rattle.holdings.proofs.Planned.AllKept.{frames_more}
 use Rattle.holdings.proofs.prune.count_in_frames.Goals as goal

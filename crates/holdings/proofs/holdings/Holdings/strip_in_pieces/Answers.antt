@@ -17,8 +17,8 @@ use Rattle.holdings.specs.Places.{any_of}
 use Rattle.holdings.specs.Inner.Held.{contents_of}
 use Rattle.holdings.specs.Inner.Sound.{AreSound}
 use Rattle.holdings.specs.Inner.StripPlans.{IsPlanned, AllCanBePruned, AreKeptNodes, ArePruned}
-use Rattle.holdings.specs.declared.planning.FrameRuns.{FrameRuns}
-use Rattle.holdings.specs.declared.planning.StripPlan.{StripPlan}
+use Rattle.pieces.specs.declared.runs.FrameRuns.{FrameRuns}
+use Rattle.pieces.specs.declared.runs.StripPlan.{StripPlan}
 use Rattle.holdings.proofs.Planned.StripPhase.{plan_can, plan_can_prune, plan_keeps, plan_left, plan_stripped, nothing_stripped}
 use Rattle.holdings.proofs.Planned.Observed.{plan_phase}
 use Rattle.holdings.proofs.holdings.Holdings.strip_in_pieces.Goals as goal

@@ -1,26 +1,23 @@
-use Rattle.std.proofs.Common.{◌≡◌, ◌+◌, ◌<◌, ◌∷◌, [], arith, length, take, set, get_or, min, ◌∙◌, ap, sym, subst}
-use Rattle.std.proofs.lemmas.List.{length-set}
+use Rattle.std.proofs.Common.{◌≡◌, ◌+◌, ◌<◌, ◌∷◌, [], arith, length, take, set, get_or, slice_index, min, ◌∙◌, ap, sym, subst}
+use Rattle.std.proofs.lemmas.List.{length-set, get_or_default}
 use Rattle.pieces.specs.Steps.{status_in}
 use Rattle.pieces.proofs.Keeping.{IsFront}
 use Rattle.turns.specs.Rules.{next_step}
 use Rattle.turns.specs.SharedWords.{SharedContent}
 use Rattle.turns.specs.Works.{IsStripWork}
 use Rattle.space.proofs.Lists.{blank, read_any}
-use Rattle.turns.proofs.StripSteps.{is_within, narrow_next, status_more, node_kept, node_gone}
+use Rattle.turns.proofs.StripSteps.{narrow_next, status_more, node_kept, node_gone}
 use Rattle.turns.proofs.strip_work.StripWork.narrow.Goals as goal
-
-pub shared_word-word-requires : goal.shared_word-word-requires
-shared_word-word-requires c =
-    let work = subst (IsStripWork c.args.shared.now.opening.words c.args.self.now) c.requires.next c.requires.work in
-    is_within c.args.shared.now.opening c.learn_can_be_worked.ensures c.args.post.now.number c.args.k c.args.self.now c.requires.piece work c.requires.within c.index-index.result.now c.index-index.ensures
 
 pub write-found-requires-clause-next : goal.write-found-requires-clause-next
 write-found-requires-clause-next c =
     let work = subst (IsStripWork c.args.shared.now.opening.words c.args.self.now) c.requires.next c.requires.work in
+    let index = c.index-index.ensures ∙ get_or_default c.args.self.now.indexes.items c.args.k c.index-index.result.now 0 (omega (arith, c.requires.within, ap length work.indexes, work.strip.indexes)) in
+    let word = c.requires.word ∙ ap (slice_index c.args.shared.now.opening.words) (sym index) in
     ap (λ (s : SharedContent). next_step s.opening ((c.args.post.now.number, c.args.post.now.steps) ∷ [])) c.requires.of
     ∙ ap (λ k. next_step c.args.shared.now.opening ((c.args.post.now.number, k) ∷ [])) c.requires.next
-    ∙ narrow_next c.args.shared.now.opening c.learn_can_be_worked.ensures c.args.post.now.number c.args.k c.args.self.now c.requires.piece work c.requires.within c.index-index.result.now c.narrowed.result c.shared_word-word.result
-    c.get-mask.result c.index-index.ensures c.get-mask.ensures c.shared_word-word.ensures c.narrowed.ensures
+    ∙ narrow_next c.args.shared.now.opening c.learn_can_be_worked.ensures c.args.post.now.number c.args.k c.args.self.now c.requires.piece work c.requires.within c.index-index.result.now c.narrowed.result c.args.word
+    c.get-mask.result c.index-index.ensures c.get-mask.ensures word c.narrowed.ensures
 
 pub returns-then-remains-clause-work : goal.returns-then-remains-clause-work
 returns-then-remains-clause-work c =

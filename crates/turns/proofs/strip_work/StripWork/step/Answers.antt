@@ -1,9 +1,18 @@
-use Rattle.std.proofs.Common.{◌≡◌, ℕ, length, ◌∷◌, [], ◌≤◌, ◌∙◌, ap, sym, subst, arith}
+use Rattle.std.proofs.Common.{◌≡◌, ℕ, length, get_or, ◌∷◌, [], ◌≤◌, ◌∙◌, ap, sym, subst, arith}
 use Rattle.turns.specs.Rules.{next_step}
 use Rattle.turns.specs.SharedWords.{SharedContent}
 use Rattle.pieces.proofs.Placed.{not_some}
-use Rattle.turns.proofs.StripSteps.{is_last, fold_next}
+use Rattle.turns.proofs.StripSteps.{is_last, is_within, fold_next}
 use Rattle.turns.proofs.strip_work.StripWork.step.Goals as goal
+
+pub shared_word-word-requires : goal.shared_word-word-requires
+shared_word-word-requires c =
+    let job = c.args.self.now in
+    let work = c.requires.work in
+    let many = ap length work.indexes ∙ work.strip.indexes in
+    let k_is = c.steps-k.ensures in
+    is_within c.args.shared.now.opening c.learn_can_be_worked.ensures c.args.post.now.number c.args.post.now.steps job c.requires.piece work
+    (omega (arith, k_is, many, c.len.ensures, job.indexes.ok.0, c.if-k-len.true)) c.index.result.now (c.index.ensures ∙ ap (λ k. get_or job.indexes.items k c.index.result.now) k_is)
 
 pub add-requires-clause-next : goal.add-requires-clause-next
 add-requires-clause-next c =

@@ -2,7 +2,7 @@
 use Rattle.std.proofs.Common.{◌∙◌, [], ◌∷◌, sym, subst}
 use Rattle.maptree.specs.Origins.{AreOuterRuns}
 use Rattle.maptree.proofs.OneRun.{run_found, one_run}
-use Rattle.holdings.proofs.runs.Runs.of_place.Goals as goal
+use Rattle.holdings.proofs.runs.runs_of_place.Goals as goal
 
 pub returns-in-Some : goal.returns-in-Some
 returns-in-Some c =

@@ -1,8 +1,8 @@
 -- The runs of a frame, in either form.
 use Rattle.std.specs.Prelude.{ℕ, List, [], ◌∷◌}
 use Rattle.std.specs.declared.ops.Range.{Range}
-use Rattle.holdings.specs.declared.runs.Form.{Form}
-use Rattle.holdings.specs.declared.runs.Form.TheVariants.{One, Many}
+use Rattle.pieces.specs.declared.runs.Form.{Form}
+use Rattle.pieces.specs.declared.runs.Form.TheVariants.{One, Many}
 
 abbrev pub runs_in : Form → List (Range ℕ)
 runs_in (One run) = run ∷ []
