@@ -1,10 +1,30 @@
--- Where shards stand, as branches of sixteen leaves and leaves of sixteen positions tell it.
+-- Where shards stand, as branches of sixteen leaves and leaves of sixteen positions tell it, and entries with one shard alone.
 use Rattle.std.specs.Prelude.{◌≡◌, ℕ, ◌+◌, ◌-◌, ◌*◌, ◌/◌, ◌%◌, ◌^◌, ◌<◌, ◌≤◌, ◌==◌, Bool, not, nat_lt, zero, suc, if◌then◌else◌, IsTrue, List, length, slice_index}
 use Rattle.std.specs.Int.{div_ceil}
 
 -- the position of what is not there
 abbrev pub nowhere : ℕ
 nowhere = 2 ^ 32 - 1
+
+-- an entry from here on is no number of a block: it has the one shard that is there in its run
+abbrev pub alone : ℕ
+alone = 2 ^ 31
+
+-- the block that an entry names; that of an entry with one shard, as of 0, is the first one, in which nothing is
+abbrev pub block_of : ℕ → ℕ
+block_of entry = if nat_lt entry alone then entry else 0
+
+-- the entry with one shard, at a position; it has the shard's place in a run of 256
+abbrev pub with_one : ℕ → ℕ → ℕ
+with_one position shard = alone + position * 256 + shard % 256
+
+-- the position of a shard by an entry that has it alone
+abbrev pub position_alone : ℕ → ℕ → ℕ
+position_alone entry shard = if nat_lt entry alone then nowhere else (if entry % 256 == shard % 256 then (entry - alone) / 256 else nowhere)
+
+-- the first, or else the other
+abbrev pub or_else : ℕ → ℕ → ℕ
+or_else position other = if position == nowhere then other else position
 
 -- where among numbers in blocks of sixteen that of a key stands, if each run of sixteen keys has such a block
 abbrev pub slot_in : (ℕ → ℕ) → ℕ → ℕ
@@ -16,15 +36,21 @@ number_at block numbers key = slice_index numbers (slot_in block key)
 
 -- the branch of a run of 256 shards
 abbrev pub branch_at : List ℕ → ℕ → ℕ
-branch_at branches run = slice_index branches run
+branch_at branches run = block_of (slice_index branches run)
+
+-- what a branch has for a run of 16 shards
+abbrev pub entry_at : List ℕ → List ℕ → ℕ → ℕ
+entry_at branches leaves run = number_at (branch_at branches) leaves run
 
 -- the leaf of a run of 16 shards
 abbrev pub leaf_at : List ℕ → List ℕ → ℕ → ℕ
-leaf_at branches leaves run = number_at (branch_at branches) leaves run
+leaf_at branches leaves run = block_of (entry_at branches leaves run)
 
--- the position of a shard
+-- the position of a shard: alone in its run of 256, or alone in its run of 16, or in its leaf
 abbrev pub position_at : List ℕ → List ℕ → List ℕ → ℕ → ℕ
-position_at branches leaves positions shard = number_at (leaf_at branches leaves) positions shard
+position_at branches leaves positions shard =
+    or_else (position_alone (slice_index branches (shard / 256)) shard)
+    (or_else (position_alone (entry_at branches leaves (shard / 16)) shard) (number_at (leaf_at branches leaves) positions shard))
 
 -- how many numbers below one pass
 abbrev pub count_up : (ℕ → Bool) → ℕ → ℕ

@@ -15,13 +15,13 @@ most_of d = d.most
 abbrev pub count_of : Directory → ℕ
 count_of d = d.count
 
--- the branch of a run of 256 shards
-abbrev pub branch_in : Directory → ℕ → ℕ
-branch_in d run = leaves.branch_at d.branches.items run
+-- what stands for a run of 256 shards
+abbrev pub first_in : Directory → ℕ → ℕ
+first_in d run = slice_index d.branches.items run
 
--- the leaf of a run of 16 shards
-abbrev pub leaf_in : Directory → ℕ → ℕ
-leaf_in d run = leaves.leaf_at d.branches.items d.leaves.items run
+-- what its branch has for a run of 16 shards
+abbrev pub entry_in : Directory → ℕ → ℕ
+entry_in d run = leaves.entry_at d.branches.items d.leaves.items run
 
 -- the position of a shard
 unfoldable pub position_in : Directory → ℕ → ℕ

@@ -1,7 +1,7 @@
 //! Where the words of each shard stand.
 
 ghost use Rattle.std.specs.Prelude.{◌≡◌, ◌+◌, ◌/◌, ◌%◌, ◌≤◌, ◌^◌, true, length, IsTrue, IfOk, ℕ, ◌<◌, slice_index};
-ghost use Rattle.space.specs.Leaves.{nowhere, IsFound, IsDense, AreNumbers, HaveSpans};
+ghost use Rattle.space.specs.Leaves.{nowhere, alone, block_of, with_one, position_alone, IsFound, IsDense, AreNumbers, HaveSpans};
 
 use std::alloc::{AllocError, Global};
 
@@ -21,11 +21,14 @@ const DENSE_SHARDS: u32 = 1 << 15;
 /// Stands for the position of a shard that is not there.
 const NOWHERE: u32 = u32::MAX;
 
+/// From here on an entry for a run is no number: it has the one shard that is there.
+const ALONE: u32 = 1 << 31;
+
 /// Where the words of each shard stand, counted in shards. A shard gets its position when it is added: the next one.
 ///
 /// Positions stand in leaves of 16 shards each, and branches of 16 leaves each tell which leaf it is. Both are made with
-/// the first of their shards; until then the empty branch and the empty leaf stand for them, which come first and in which
-/// no shard is there.
+/// the second of their shards: one alone stands where the number of its branch or its leaf would. Until then the empty
+/// branch and the empty leaf stand for them, which come first and in which no shard is there.
 #[derive(Drop)]
 pub struct Directory {
     /// How many shards there can be, by number.
@@ -34,9 +37,9 @@ pub struct Directory {
     count: u32,
     /// Whether each run of 16 shards has its leaf, and the leaves stand in the order of the runs.
     is_dense: bool,
-    /// Which branch finds the shards of each run of 256.
+    /// Which branch finds the shards of each run of 256, or its one shard.
     branches: Vec<u32>,
-    /// Which leaf finds the shards of each run of 16 of a branch, branch behind branch.
+    /// Which leaf finds the shards of each run of 16 of a branch, or its one shard, branch behind branch.
     leaves: Vec<u32>,
     /// The positions of the shards of each leaf, leaf behind leaf.
     positions: Vec<u32>,
@@ -50,7 +53,8 @@ pub struct Directory {
 
 impl Directory {
     ghost use Rattle.std.specs.Prelude.{◌≡◌, ℕ, ◌+◌, ◌*◌, ◌/◌, ◌<◌, ◌≤◌, ◌^◌, length, slice_index, IfOk, OnOk, OnErr, IsTrue, ◌↔◌};
-    ghost use Rattle.space.specs.Positions.{most_of, count_of, position_in, branch_in, leaf_in, AreRunsOf, IsAdded, IsSame};
+    ghost use Rattle.space.specs.Positions.{most_of, count_of, position_in, first_in, entry_in, AreRunsOf, IsAdded, IsSame};
+    ghost use Rattle.space.specs.Leaves.{alone};
 
     /// A directory of so many shards, none of which is there.
     ///
@@ -150,16 +154,24 @@ impl Directory {
         requires { shard < most_of self.now }
         ensures { result ≡ position_in self.now shard }
     {
-        let leaf = self.leaf(shard / LEAF_SHARDS) as usize;
-        self.positions[leaf * LEAF_SHARDS + shard % LEAF_SHARDS]
+        let branch = self.branches[shard / BRANCH_SHARDS];
+        if branch >= ALONE {
+            return position_alone(branch, shard);
+        }
+        let run = shard / LEAF_SHARDS;
+        let leaf = self.leaves[branch as usize * BRANCH_LEAVES + run % BRANCH_LEAVES];
+        if leaf >= ALONE {
+            return position_alone(leaf, shard);
+        }
+        self.positions[leaf as usize * LEAF_SHARDS + shard % LEAF_SHARDS]
     }
 
-    /// The leaf of a run of 16 shards.
-    fn leaf(&self, run: usize) -> u32
+    /// What the branch of a run of 16 shards has for it: the number of its leaf, or its one shard.
+    fn entry(&self, run: usize) -> u32
         requires { run * 16 < most_of self.now }
-        ensures { result ≡ leaf_in self.now run }
+        ensures { result ≡ entry_in self.now run }
     {
-        let branch = self.branches[run / BRANCH_LEAVES] as usize;
+        let branch = block_of(self.branches[run / BRANCH_LEAVES]) as usize;
         self.leaves[branch * BRANCH_LEAVES + run % BRANCH_LEAVES]
     }
 
@@ -172,59 +184,72 @@ impl Directory {
         ensures ok { OnOk result (IsAdded self.old self.new shard) }
         ensures err { OnErr result (IsSame self.old self.new) }
     {
-        self.add_branch(shard / BRANCH_SHARDS)?;
-        self.add_leaf(shard / LEAF_SHARDS)?;
+        self.part_branch(shard / BRANCH_SHARDS)?;
+        self.part_leaf(shard / LEAF_SHARDS)?;
         self.put(shard);
         Ok(())
     }
 
-    /// Has a branch of its own for a run of 256 shards, if there is none yet.
+    /// Gives a run of 256 shards a branch, where one shard is there alone.
     #[tactic(auto, unfolding(crate::specs::Positions::position_in))]
-    fn add_branch(&mut self, run: usize) -> Result<(), AllocError>
+    fn part_branch(&mut self, run: usize) -> Result<(), AllocError>
         requires within { run * 256 < most_of self.old }
         ensures same { IsSame self.old self.new }
-        ensures branch { OnOk result (0 < branch_in self.new run) }
+        ensures parted { OnOk result (first_in self.new run < alone) }
     {
-        if self.branches[run] != 0 {
+        let entry = self.branches[run];
+        if entry < ALONE {
             return Ok(());
         }
         let len = self.leaves.len();
         self.leaves.resize(len + BRANCH_LEAVES, 0)?;
+        self.leaves[len + entry as usize % BRANCH_SHARDS / LEAF_SHARDS] = entry;
         self.branches[run] = (len / BRANCH_LEAVES) as u32;
         Ok(())
     }
 
-    /// Has a leaf of its own for a run of 16 shards whose branch is there, if there is none yet.
+    /// Gives a run of 16 shards a leaf, where one shard is there alone but not alone in its run of 256.
     #[tactic(auto, unfolding(crate::specs::Positions::position_in))]
-    fn add_leaf(&mut self, run: usize) -> Result<(), AllocError>
+    fn part_leaf(&mut self, run: usize) -> Result<(), AllocError>
         requires within { run * 16 < most_of self.old }
-        requires branch { 0 < branch_in self.old (run / 16) }
         ensures same { IsSame self.old self.new }
-        ensures leaf { OnOk result (0 < leaf_in self.new run) }
+        ensures branches { first_in self.new (run / 16) ≡ first_in self.old (run / 16) }
+        ensures parted { OnOk result (entry_in self.new run < alone) }
     {
-        let branch = self.branches[run / BRANCH_LEAVES] as usize;
-        let at = branch * BRANCH_LEAVES + run % BRANCH_LEAVES;
-        if self.leaves[at] != 0 {
+        let entry = self.entry(run);
+        if entry < ALONE {
             return Ok(());
         }
+        let branch = self.branches[run / BRANCH_LEAVES] as usize;
         let len = self.positions.len();
         self.positions.resize(len + LEAF_SHARDS, NOWHERE)?;
-        self.leaves[at] = (len / LEAF_SHARDS) as u32;
+        let shard = run * LEAF_SHARDS + entry as usize % LEAF_SHARDS;
+        self.positions[len + entry as usize % LEAF_SHARDS] = position_alone(entry, shard);
+        self.leaves[branch * BRANCH_LEAVES + run % BRANCH_LEAVES] = (len / LEAF_SHARDS) as u32;
         Ok(())
     }
 
-    /// Puts the next position at a shard whose leaf is there.
+    /// Puts the next position at a shard, of whose runs none has one shard alone.
     #[tactic(auto, unfolding(crate::specs::Positions::position_in))]
     fn put(&mut self, shard: usize)
         requires within { shard < most_of self.old }
         requires absent { position_in self.old shard ≡ nowhere }
-        requires leaf { 0 < leaf_in self.old (shard / 16) }
+        requires branch { first_in self.old (shard / 256) < alone }
+        requires leaf { entry_in self.old (shard / 16) < alone }
         ensures { IsAdded self.old self.new shard }
     {
-        let leaf = self.leaf(shard / LEAF_SHARDS) as usize;
-        self.positions[leaf * LEAF_SHARDS + shard % LEAF_SHARDS] = self.count;
-        self.count += 1;
         let run = shard / BRANCH_SHARDS;
+        let branch = self.branches[run] as usize;
+        let at = branch * BRANCH_LEAVES + shard / LEAF_SHARDS % BRANCH_LEAVES;
+        let leaf = self.leaves[at] as usize;
+        if branch == 0 {
+            self.branches[run] = with_one(self.count, shard);
+        } else if leaf == 0 {
+            self.leaves[at] = with_one(self.count, shard);
+        } else {
+            self.positions[leaf * LEAF_SHARDS + shard % LEAF_SHARDS] = self.count;
+        }
+        self.count += 1;
         self.spans[run] = span_with(self.spans[run], (shard % BRANCH_SHARDS) as u32);
     }
 
@@ -301,15 +326,76 @@ impl Directory {
     {
         let mut shard = from;
         while shard < end {
-            let run = shard / LEAF_SHARDS;
-            let upto = ((run + 1) * LEAF_SHARDS).min(end);
-            let first = self.leaf(run) as usize * LEAF_SHARDS + shard % LEAF_SHARDS;
-            shard += dead(&self.positions, live, first, first + (upto - shard));
+            let upto = ((shard / LEAF_SHARDS + 1) * LEAF_SHARDS).min(end);
+            shard = self.next_in_leaf(shard, upto, live);
             if shard < upto {
                 return shard;
             }
         }
         end
+    }
+
+    /// The same of shards of one run of 16.
+    fn next_in_leaf(&self, from: usize, end: usize, live: &[u8]) -> usize
+        requires from { from < end }
+        requires end { end ≤ most_of self.now }
+        requires run { end ≤ (from / 16 + 1) * 16 }
+        requires live { length live.now ≡ count_of self.now }
+        ensures from { from ≤ result }
+        ensures end { result ≤ end }
+        ensures there { result < end → position_in self.now result < count_of self.now }
+        ensures dead { (shard : ℕ) → from ≤ shard → shard < result → slice_index live.now (position_in self.now shard) ≡ 0 }
+    {
+        let leaf = block_of(self.entry(from / LEAF_SHARDS)) as usize;
+        if leaf == 0 {
+            return self.next_without_leaf(from, end, live);
+        }
+        let first = leaf * LEAF_SHARDS + from % LEAF_SHARDS;
+        from + dead(&self.positions, live, first, first + (end - from))
+    }
+
+    /// The same, shard by shard.
+    fn next_without_leaf(&self, from: usize, end: usize, live: &[u8]) -> usize
+        requires from { from ≤ end }
+        requires end { end ≤ most_of self.now }
+        requires live { length live.now ≡ count_of self.now }
+        ensures from { from ≤ result }
+        ensures end { result ≤ end }
+        ensures there { result < end → position_in self.now result < count_of self.now }
+        ensures dead { (shard : ℕ) → from ≤ shard → shard < result → slice_index live.now (position_in self.now shard) ≡ 0 }
+    {
+        let mut shard = from;
+        while shard < end && life_at(live, self.position(shard) as usize) == 0 {
+            shard += 1;
+        }
+        shard
+    }
+}
+
+/// The block that an entry names; the first where it has one shard.
+fn block_of(entry: u32) -> u32
+    ensures { result ≡ block_of entry }
+{
+    if entry < ALONE { entry } else { 0 }
+}
+
+/// The entry with one shard, at a position.
+fn with_one(position: u32, shard: usize) -> u32
+    requires { position < 2 ^ 23 }
+    ensures { result ≡ with_one position shard }
+{
+    ALONE + position * BRANCH_SHARDS as u32 + (shard % BRANCH_SHARDS) as u32
+}
+
+/// The position of a shard by an entry with one shard.
+fn position_alone(entry: u32, shard: usize) -> u32
+    requires { alone ≤ entry }
+    ensures { result ≡ position_alone entry shard }
+{
+    if entry as usize % BRANCH_SHARDS == shard % BRANCH_SHARDS {
+        (entry - ALONE) / BRANCH_SHARDS as u32
+    } else {
+        NOWHERE
     }
 }
 

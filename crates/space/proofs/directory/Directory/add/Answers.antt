@@ -1,11 +1,11 @@
--- Its branch, its leaf and then the shard are added.
+-- No run of the shard has one alone then, and the shard is put.
 use Rattle.std.proofs.Common.{◌∙◌, arith}
 use Rattle.space.proofs.directory.Directory.add.Goals as goal
 
 pub returns-clause-ok : goal.returns-clause-ok
 returns-clause-ok c =
-    let branch = c.in_ok-add_branch.ensures.same in
-    let leaf = c.in_ok-add_leaf.ensures.same in
+    let branch = c.in_ok-part_branch.ensures.same in
+    let leaf = c.in_ok-part_leaf.ensures.same in
     let put = c.put.ensures in
     record {
       most = put.most ∙ leaf.most ∙ branch.most;

@@ -5,6 +5,12 @@ use Rattle.space.specs.Positions.{position_in}
 use Rattle.space.proofs.Leaves.{found_in, spans_in, within_or_past, run_within, outside_span, dead_unless}
 use Rattle.space.proofs.directory.Directory.next.Goals as goal
 
+pub index-requires : goal.index-requires
+index-requires c =
+    let d = c.args.self.now in
+    let run = run_within d.most d.count d.branches.items d.leaves.items d.positions.items (found_in d) (c.next_filled-run.result * 256) (omega (arith, c.if-start-end.false, c.requires.end)) in
+    omega (arith, run, (spans_in d).how_many, d.spans.ok.0)
+
 pub returns-then-start-end-clause-dead : goal.returns-then-start-end-clause-dead
 unfolding position_in
 returns-then-start-end-clause-dead c shard from before =

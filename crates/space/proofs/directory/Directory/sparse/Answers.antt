@@ -3,7 +3,8 @@ use Rattle.std.proofs.Common.{◌≡◌, ◌∙◌, ℕ, sym, ap, length}
 use Rattle.std.specs.Prelude.{replicate}
 use Rattle.std.proofs.lemmas.List.{length-replicate}
 use Rattle.space.proofs.Leaves.{closed_found, closed_spans, closed_dense}
-use Rattle.space.proofs.Leaves.{sparse_directory, no_spans}
+use Rattle.space.proofs.Leaves.{sparse_directory, sparse_nowhere, no_spans}
+use Rattle.space.specs.Positions.{position_in}
 use Rattle.space.proofs.directory.Directory.sparse.Goals as goal
 
 pub invariant_of-result : goal.invariant_of-result
@@ -21,3 +22,10 @@ invariant_of-result c =
           (ap length (c.in_ok-spans.ensures.items_if_clones_equal (λ y is. is)) ∙ length-replicate {A = ℕ} c.div_ceil-runs.result 0 ∙ sym runs));
       dense = closed_dense _ _ _ (λ never. absurd (cc never));
     }
+
+pub returns-clause-none : goal.returns-clause-none
+unfolding position_in
+returns-clause-none c =
+    sparse_nowhere c.args.most c.in_ok-branches.branches.items c.in_ok-leaves.leaves.items c.in_ok-positions.positions.items c.requires.few
+    (c.in_ok-branches.ensures.items_if_clones_equal (λ y is. is) ∙ ap (λ n. replicate n 0) c.div_ceil-runs.ensures) (c.in_ok-leaves.ensures.items_if_clones_equal (λ y is. is))
+    (c.in_ok-positions.ensures.items_if_clones_equal (λ y is. is))
