@@ -52,8 +52,8 @@ FUNCTIONS = 12  # that a profile tells
 # What l4map may take beside the text of its trace: bytes a mapping, bytes an access of a run of accesses, and bytes at
 # all.
 A_MAPPING, AN_ACCESS, BESIDE = 64, 32, 8 << 20
-# A mapping that has a shard of 64 words to itself, with a leaf and a branch of the directory.
-A_SPARSE_MAPPING = A_MAPPING + 512 + 64 + 64
+# A mapping that has a shard of 64 words to itself.
+A_SPARSE_MAPPING = A_MAPPING + 512
 A_ROOT = 32  # a page that a frame has at the start, where there are many
 A_CALL = 65_536  # accesses that are one call at most
 
