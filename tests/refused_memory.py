@@ -6,9 +6,10 @@ a thread.
 
 A run in which something was refused must end as the undisturbed one, or with status 3 and `NoMemory` or `NoWorker` at
 some record, having written exactly the reply lines of the records before it: no line of the audit where memory is
-refused to it. Where a thread is refused to the audit, the audit is made with fewer; where it is refused to a call, that
-is `NoWorker`. No run may hang. Of each trace some run must end before its first record, some at one of its records, and
-some at the audit. Allocations and starts of threads are refused by the preloaded library of support/fail_alloc.c.
+refused to it. Where a thread is refused to the audit, or to the plan of a call, that is made with fewer; where it is
+refused to the work of a call, that is `NoWorker`. No run may hang. Of each trace some run must end before its first
+record, some at one of its records, and some at the audit. Allocations and starts of threads are refused by the
+preloaded library of support/fail_alloc.c.
 """
 
 import os
@@ -19,7 +20,7 @@ from typing import NamedTuple
 from support.program import TOP, Cases, Ended, build_library, program_path, run
 from support.refusals import EXTENTS, fault_of_refused, record_told, runs_refusing
 
-# By how many workers a trace of small phases is worked, each in pieces of one. Fewer than 512 pieces have one worker,
+# By how many workers a trace of small phases is worked, each in pieces of one. Fewer than 128 pieces have one worker,
 # so that these start no threads for a call.
 WORKERS = [["--workers", str(workers), "--piece", "1"] for workers in (1, 4, 64)]
 
