@@ -71,7 +71,7 @@ starts_sync : IsSync starts.the_row
 starts_sync = search (sendable, crosses) depth 20
 
 words_inside_sync : IsSync words_inside.the_row
-words_inside_sync = declared_sync words_inside.the_type (table_sync, (search (sendable, crosses) depth 20, (search (sendable, crosses) depth 20, (search (sendable, crosses) depth 20, (search sendable, (starts_sync, tt))))))
+words_inside_sync = declared_sync words_inside.the_type (table_sync, (search (sendable, crosses) depth 20, (search (sendable, crosses) depth 20, (search sendable, (starts_sync, tt)))))
 
 pub words_sync : IsSync shared_words.the_row
 words_sync = search (words_inside_sync, view_sync)

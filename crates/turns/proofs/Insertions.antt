@@ -60,6 +60,29 @@ done_adders i q counts (es ∷ ess) =
     let rest : c ≤ f = done_adders i (q + 1) counts ess in
     omega arith
 
+take_fewer : (i n m : ℕ) (es : List Effect) → n ≤ m → writers i (take n es) ≤ writers i (take m es)
+take_fewer i zero m es less = let none : writers i (take zero es) ≡ 0 = refl in omega (arith, none)
+take_fewer i (suc n) zero es less = absurd (omega (arith, less))
+take_fewer i (suc n) (suc m) [] less = omega arith
+take_fewer i (suc n) (suc m) (e ∷ es) less =
+    let rest = take_fewer i n m es (omega (arith, less)) in let a : ℕ = writes_here i e in let b : ℕ = writers i (take n es) in let c : ℕ = writers i (take m es) in let less' : b ≤ c = rest in omega arith
+
+-- fewer steps write no more often
+pub done_fewer : (i q : ℕ) (counts more : ℕ → ℕ) (ess : List (List Effect)) → ((p : ℕ) → counts p ≤ more p) → writers i (done_from q counts ess) ≤ writers i (done_from q more ess)
+done_fewer i q counts more [] few = omega arith
+done_fewer i q counts more (es ∷ ess) few =
+    let a : ℕ = writers i (take (counts q) es ++ done_from (q + 1) counts ess) in
+    let b : ℕ = writers i (take (counts q) es) in
+    let c : ℕ = writers i (done_from (q + 1) counts ess) in
+    let d : ℕ = writers i (take (more q) es ++ done_from (q + 1) more ess) in
+    let e : ℕ = writers i (take (more q) es) in
+    let f : ℕ = writers i (done_from (q + 1) more ess) in
+    let split : a ≡ b + c = writers_append i (take (counts q) es) (done_from (q + 1) counts ess) in
+    let split_more : d ≡ e + f = writers_append i (take (more q) es) (done_from (q + 1) more ess) in
+    let here : b ≤ e = take_fewer i (counts q) (more q) es (few q) in
+    let rest : c ≤ f = done_fewer i (q + 1) counts more ess few in
+    omega arith
+
 -- ---- what steps write and add
 
 written_skip : (i j word : ℕ) (es : List Effect) → (if j == i then 1 else 0) + writers i es ≡ 0 → (writers i es ≡ 0) × ((j == i) ≡ false)

@@ -12,12 +12,12 @@ use Rattle.atomic_table.specs.Table.{Allows, Splits}
 use Rattle.atomic_table.specs.Table as table
 use Rattle.atomic_table.proofs.Lists.{at_set, at_snoc, set_again}
 use Rattle.turns.specs.Views.{count_in, names_in, counted, named, AtLeast, told}
-use Rattle.turns.specs.Rules.{word_in, Holds, IsLooked}
+use Rattle.turns.specs.Rules.{word_in, Holds, IsSeen, IsLooked}
 use Rattle.turns.specs.Tables.{Ruled}
 use Rattle.turns.specs.declared.view.Opening.{Opening}
 use Rattle.turns.specs.declared.view.View.{View}
 use Rattle.turns.proofs.Moves.{words_same, still}
-use Rattle.turns.proofs.Sums.{counted_set, named_set, counted_append, named_append}
+use Rattle.turns.proofs.Sums.{only_here, counted_set, named_set, counted_append, named_append}
 use Rattle.turns.proofs.Raising.{map_here}
 
 -- ---- notes
@@ -167,6 +167,24 @@ looks o slots id v held j i of there s h homes at bound =
         },
       ),
     )
+
+-- one of which the seat notes nothing
+pub sees : (o : Opening) (slots id : ℕ) (v : View) (held : List (ℕ × Unit {0})) (j i : ℕ) → v.opening ≡ o → slice_get o.indexes j ≡ Some i
+    → Allows (Ruled o) slots id (v, held) j (λ n. n) (λ found after. (after ≡ (v, held)) × IsSeen i v found)
+sees o slots id v held j i of there s h homes at bound = (
+  v,
+  table.keeps,
+  tt,
+  subst (λ ws. Holds o ws (set s.views id v)) (sym (set-get_or s.words j 0)) (subst (Holds o s.words) (sym (set_again s.views id v at)) h),
+  (
+    refl,
+    record {
+      counts = counted s.views;
+      agree = λ p some. only_here p s.views id v at (h.once p) some;
+      found = ap (λ ws. get_or ws j 0) h.words_are ∙ map_here (word_in o (counted s.views)) o.indexes j i there ∙ ap (λ p. word_in p (counted s.views) i) (sym of);
+    },
+  ),
+)
 
 -- ---- no look is needed to know of a moment
 

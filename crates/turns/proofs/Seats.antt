@@ -6,14 +6,14 @@ use Rattle.atomic_table.specs.Seated.{TableId}
 use Rattle.atomic_table.specs.Table.{State, Me, Allows, Splits, Joins, Seen}
 use Rattle.pieces.specs.Distinct.{is_none_of}
 use Rattle.pieces.specs.Effects.{Effect, done, words_after}
-use Rattle.turns.specs.Rules.{steps_in, word_in, IsNext, IsMade, IsLooked, index_of, made, next_step}
+use Rattle.turns.specs.Rules.{steps_in, word_in, IsNext, IsMade, IsSeen, IsLooked, index_of, made, next_step}
 use Rattle.turns.specs.SharedWords.{SharedContent, AreShared, IsSeat, replaced}
 use Rattle.turns.specs.Views.{count_in, names_in, first_only, others_of, told, joined, spent}
 use Rattle.turns.specs.declared.view.Opening.{Opening}
 use Rattle.turns.specs.Tables.{Ruled}
 use Rattle.turns.specs.declared.view.View.{View}
 use Rattle.turns.proofs.Closing.{closes}
-use Rattle.turns.proofs.Looking.{looks, tells, fewest, fewest_noted, fewest_of}
+use Rattle.turns.proofs.Looking.{sees, looks, tells, fewest, fewest_noted, fewest_of}
 use Rattle.turns.proofs.Replacing.{put_back_words, stays_same}
 use Rattle.turns.proofs.Moves.{allows, deals, takes_back}
 
@@ -87,6 +87,18 @@ may_look s ws is shared slots seat_id id me seat j i at = (
       (λ k. Allows (Ruled s.opening) slots seat_id me j (λ n. n) (λ found after. (after.1 ≡ me.1) × IsLooked k me.0 found after.0))
       (sym (placed s ws is shared id me seat j i at))
       (looks s.opening slots seat_id me.0 me.1 j i seat.opening (ap (λ js. slice_get js j) shared.indexes ∙ at)),
+)
+
+-- and of it note nothing
+pub may_see : (s : SharedContent) (ws is : List ℕ) → AreShared s ws is → (slots seat_id : ℕ) (id : TableId) (me : Me (Unit {0}) View) → IsSeat s id me → (j i : ℕ) → slice_get is j ≡ Some i
+    → (id ≡ s.id) × (j < s.id.words) × Allows (Ruled s.opening) slots seat_id me j (λ n. n) (λ found after. (after ≡ me) × IsSeen (get_or me.0.opening.indexes j 0) me.0 found)
+may_see s ws is shared slots seat_id id me seat j i at = (
+  seat.id,
+  below s ws is shared j i at,
+  subst
+      (λ k. Allows (Ruled s.opening) slots seat_id me j (λ n. n) (λ found after. (after ≡ me) × IsSeen k me.0 found))
+      (sym (placed s ws is shared id me seat j i at))
+      (sees s.opening slots seat_id me.0 me.1 j i seat.opening (ap (λ js. slice_get js j) shared.indexes ∙ at)),
 )
 
 -- it stays one when it looks

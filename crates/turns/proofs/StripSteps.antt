@@ -1,8 +1,8 @@
 -- The steps of a strip, one by one.
-use Rattle.std.proofs.Common.{◌≡◌, ℕ, zero, suc, ◌+◌, ◌<◌, ◌≤◌, Bool, true, false, List, [], ◌∷◌, ◌++◌, length, map, take, get_or, set, min, Option, Some, None, refl, ap, ◌∙◌, sym, subst, arith, nat_lt, length-append, if◌then◌else◌}
+use Rattle.std.proofs.Common.{◌≡◌, ℕ, zero, suc, ◌+◌, ◌<◌, ◌≤◌, Bool, true, false, List, [], ◌∷◌, ◌++◌, length, map, take, get_or, set, min, Option, Some, None, refl, ap, ◌∙◌, sym, subst, arith, length-append, if◌then◌else◌}
 use Rattle.std.specs.Prelude.{slice_get}
 use Rattle.std.specs.List.{zip}
-use Rattle.std.specs.Option.{is_some, option_and_then, option_to_list, option_map}
+use Rattle.std.specs.Option.{is_some, option_and_then, option_map}
 use Rattle.std.proofs.lemmas.Option.{slice_get-map}
 use Rattle.std.proofs.lemmas.List.{take_all}
 use Rattle.std.proofs.lemmas.Grind.{get_or_default_zero}
@@ -12,7 +12,6 @@ use Rattle.space.specs.declared.node.Node.{Node}
 use Rattle.space.specs.Entries.{status_of}
 use Rattle.space.specs.Word.{word_of, entry_of}
 use Rattle.pieces.specs.Contents.{StripContent, IsStrip}
-use Rattle.pieces.specs.DistinctParts.{all_split}
 use Rattle.pieces.specs.Effects.{Effect, adds, writes}
 use Rattle.pieces.specs.Phases.{NamesWords}
 use Rattle.pieces.specs.Steps.{Step, narrow, fold, effect, effects, steps, strip_steps, fold_of, entry_in, narrowed_by, status_in, status_bits}
@@ -20,7 +19,7 @@ use Rattle.pieces.specs.declared.piece.Piece.{Piece}
 use Rattle.pieces.specs.declared.piece.Piece.TheVariants as piece
 use Rattle.pieces.specs.Values.{remains}
 use Rattle.pieces.proofs.Keeping.{IsFront, kept_next, left_out, status_next}
-use Rattle.pieces.proofs.NamedWords.{one_names, indexes_within}
+use Rattle.pieces.proofs.NamedWords.{one_names}
 use Rattle.turns.specs.Rules.{next_step}
 use Rattle.turns.specs.SharedWords.{IsPhase}
 use Rattle.turns.specs.Works.{IsStripWork}
@@ -78,10 +77,14 @@ fold_step w s is k i last at =
     ∙ ap (slice_get (map (effect w) (map (λ e. narrow e.0 e.1) (zip s.indexes s.masks) ++ fold i (status_in w s.indexes) ∷ []))) last
     ∙ behind w s.indexes s.masks (fold i (status_in w s.indexes)) (is.masks ∙ sym is.indexes)
 
--- the words of its nodes are there
-pub index_within : (o : Opening) → IsPhase o → (n : ℕ) (s : StripContent) → slice_get o.pieces n ≡ Some (piece.Strip s) → IsStrip s → (k : ℕ) → k < length s.nodes → get_or s.indexes k 0 < length o.words
-index_within o phase n s of is k less =
-    indexes_within (length o.words) s.indexes (all_split (λ i. nat_lt i (length o.words)) s.indexes (option_to_list s.fold) (names o phase n (piece.Strip s) of)).0 k 0 (omega (arith, less, is.indexes))
+-- the step of a node, at any moment of the strip
+pub node_written : (o : Opening) (n k steps : ℕ) (job : StripWork) → slice_get o.pieces n ≡ Some (piece.Strip job.of.value) → IsStripWork o.words job steps → k < length job.of.value.nodes
+    → (index : ℕ) → index ≡ get_or job.indexes.items k 0
+    → next_step o ((n, k) ∷ []) ≡ Some (writes index (word_of (narrowed_by (get_or job.of.value.masks k no_rights) (entry_in o.words index))))
+node_written o n k steps job of work less index at =
+    let is : index ≡ get_or job.of.value.indexes k 0 = at ∙ ap (λ js. get_or js k 0) work.indexes in
+    next_is o n k (piece.Strip job.of.value) (writes index (word_of (narrowed_by (get_or job.of.value.masks k no_rights) (entry_in o.words index)))) of
+    (narrow_step o.words job.of.value work.strip k no_rights less ∙ ap (λ j. Some (writes j (word_of (narrowed_by (get_or job.of.value.masks k no_rights) (entry_in o.words j))))) (sym is))
 
 -- ---- a node's step
 
@@ -95,9 +98,6 @@ module _ (o : Opening) (phase : IsPhase o) (n k : ℕ) (job : StripWork) (of : s
 
   pub is_index : (index : ℕ) → index ≡ get_or job.indexes.items k index → index ≡ get_or job.of.value.indexes k 0
   is_index index at = at ∙ get_or_default_zero job.indexes.items k index (omega (arith, less, its_length)) ∙ ap (λ js. get_or js k 0) work.indexes
-
-  pub is_within : (index : ℕ) → index ≡ get_or job.indexes.items k index → index < length o.words
-  is_within index at = subst (λ i. i < length o.words) (sym (is_index index at)) (index_within o phase n job.of.value of work.strip k less)
 
   pub narrow_next : (index x word : ℕ) (mask : Rights) → index ≡ get_or job.indexes.items k index → ((d : Rights) → mask ≡ get_or job.masks k d) → word ≡ get_or o.words index 0 → x ≡ word_of (narrowed_by mask (entry_of word))
       → next_step o ((n, k) ∷ []) ≡ Some (writes index x)

@@ -1,8 +1,8 @@
 -- A piece at work: its number, and how many of its steps were done.
-use Rattle.std.specs.Prelude.{◌≡◌, ℕ, [], ◌∷◌, Option}
+use Rattle.std.specs.Prelude.{◌≡◌, ℕ, ◌≤◌, [], ◌∷◌, Option, Some}
 use Rattle.atomic_table.specs.Seated.{TableId}
 use Rattle.atomic_table.specs.Table.{Me}
-use Rattle.pieces.specs.Effects.{Effect}
+use Rattle.pieces.specs.Effects.{Effect, writes}
 use Rattle.turns.specs.Rules.{next_step, word_in}
 use Rattle.turns.specs.SharedWords.{SharedContent, IsSeat}
 use Rattle.turns.specs.declared.view.View.{View}
@@ -27,3 +27,10 @@ pub record IsFound (p : PostContent) (i word : ℕ) : Type 0 where
   pub counts : ℕ → ℕ
   pub own : counts p.number ≡ p.steps
   pub found : word ≡ word_in p.shared.opening counts i
+
+-- the next step of it, or a later one, writes the word at an index
+pub record IsToWrite (p : PostContent) (i : ℕ) : Type 0 where
+  pub step : ℕ
+  pub word : ℕ
+  pub later : p.steps ≤ step
+  pub to_write : next_step p.shared.opening ((p.number, step) ∷ []) ≡ Some (writes i word)

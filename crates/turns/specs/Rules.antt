@@ -78,6 +78,12 @@ pub record IsMade (i : ℕ) (v : View) (word : ℕ) (w : View) : Type 0 where
   pub agree : AgreeWith v counts
   pub found : word ≡ word_in v.opening counts i
 
+-- what a look at the word at an index finds, of which the seat notes nothing: the word with some steps of other pieces
+pub record IsSeen (i : ℕ) (v : View) (word : ℕ) : Type 0 where
+  pub counts : ℕ → ℕ
+  pub agree : AgreeWith v counts
+  pub found : word ≡ word_in v.opening counts i
+
 -- ---- one look
 
 -- what a look at the word at an index found and leaves: that word with so many steps of each piece done

@@ -21,7 +21,7 @@ pub(crate) fn step(link: &Link, hint: usize, post: &mut Post, shared: &SharedWor
         let store = link.store(k);
         let source = shared.word(store.read);
         let hint = hint.wrapping_add(k);
-        let target = shared.shared_word(store.put, hint);
+        let target = post.see(shared, store.put, hint);
         let word = linked(target, source, store.rights);
         post.write(shared, store.put, word, hint);
     }

@@ -26,7 +26,7 @@ impl Model for Post {
 impl Post {
     ghost use Rattle.std.specs.Prelude.{◌≡◌, ◌+◌, ◌^◌, ◌<◌, [], ◌∷◌, Some, slice_index};
     ghost use Rattle.pieces.specs.Effects.{keeps, adds, writes};
-    ghost use Rattle.turns.specs.Posts.{next_of, IsFound};
+    ghost use Rattle.turns.specs.Posts.{next_of, IsFound, IsToWrite};
     ghost use Rattle.turns.specs.SharedWords.{IsSeat};
     ghost use Rattle.turns.specs.Views.{IsNoted};
 
@@ -56,6 +56,17 @@ impl Post {
         ensures { result ≡ self.now.steps }
     {
         self.steps
+    }
+
+    /// Finds the word at an index, which the piece is still to write: it is as it was at opening. This is no step.
+    pub(crate) fn see(&mut self, shared: &SharedWords, index: usize, hint: usize) -> u64
+        requires of { self.old.shared ≡ shared.now }
+        requires to_write { IsToWrite self.old index }
+        ensures same { self.new ≡ self.old }
+        ensures word { result ≡ slice_index self.old.shared.opening.words index }
+    {
+        shared.learn_can_be_worked();
+        shared.see(&mut self.seat, index, hint)
     }
 
     /// The step that finds the word at an index.

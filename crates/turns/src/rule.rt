@@ -41,6 +41,16 @@ impl Play<(), View> for Made {
     ghost then = { λ step me found after. (after.1 ≡ me.1) × IsMade (slice_index me.0.opening.indexes step.word) me.0 found after.0 };
 }
 
+/// A look at a word that leaves the seat as it is.
+pub(crate) struct Seen;
+
+impl Play<(), View> for Seen {
+    ghost use Rattle.std.specs.Prelude.{◌≡◌, slice_index};
+    ghost use Rattle.turns.specs.Rules.{IsSeen};
+
+    ghost then = { λ step me found after. (after ≡ me) × IsSeen (slice_index me.0.opening.indexes step.word) me.0 found };
+}
+
 /// A look at a word. The seat knows from then on how many steps of each piece were done by then.
 pub(crate) struct Looked;
 

@@ -8,7 +8,7 @@ ghost use Rattle.pieces.specs.Distinct.{is_none_of};
 ghost use Rattle.turns.specs.SharedWords.{replaced};
 ghost use Rattle.turns.specs.Tables.{indexes_of, listed};
 
-use crate::rule::{Dealt, Entered, Fixed, Looked, Made, Once, Rule, TakenBack, Told};
+use crate::rule::{Dealt, Entered, Fixed, Looked, Made, Once, Rule, Seen, TakenBack, Told};
 use crate::sharing::Indexes;
 use crate::starts::Starts;
 use crate::view::View;
@@ -30,9 +30,7 @@ pub(crate) struct SharedWords {
     words: Vec<u64>,
     /// Which words are shared.
     indexes: Indexes,
-    /// Those that are listed, as they were at opening: a step finds its own here beside those of the steps around it.
-    listed_words: Vec<u64>,
-    /// How many of these stand in front that one piece alone has a step about. The others rise. No proof rests on it.
+    /// How many of those that are listed stand in front that one piece alone has a step about. The others rise. No proof rests on it.
     /// Where somebody watches, all rise.
     own_words: usize,
     /// Where a look begins to search for its word, where somebody watches.
@@ -44,22 +42,23 @@ impl Model for SharedWords {
 
     ghost Value = { SharedContent };
 
-    ghost use Rattle.std.specs.Prelude.{◌≡◌, length, map, slice_index};
-    ghost use Rattle.turns.specs.Tables.{opened, indexes_of, listed};
+    ghost use Rattle.std.specs.Prelude.{length};
+    ghost use Rattle.turns.specs.Tables.{opened, indexes_of};
     ghost use Rattle.turns.specs.SharedWords.{AreShared};
 
     ghost view = { λ s. record { id = s.table.shared.table_id; opening = opened s.table.shared.key } };
 
-    ghost invariant = { λ s. AreShared (record { id = s.table.shared.table_id; opening = opened s.table.shared.key }) s.words.items (indexes_of (length s.words.items) s.indexes) × (s.listed_words.items ≡ map (slice_index s.words.items) (listed s.indexes)) };
+    ghost invariant = { λ s. AreShared (record { id = s.table.shared.table_id; opening = opened s.table.shared.key }) s.words.items (indexes_of (length s.words.items) s.indexes) };
 }
 
 impl SharedWords {
-    ghost use Rattle.std.specs.Prelude.{◌≡◌, ℕ, ◌<◌, ◌++◌, [], length, slice_index, IfOk};
+    ghost use Rattle.std.specs.Prelude.{◌≡◌, ℕ, ◌<◌, ◌++◌, [], false, length, slice_index, IfOk};
+    ghost use Rattle.pieces.specs.Distinct.{is_none_of};
     ghost use Rattle.std.specs.List.{All};
     ghost use Rattle.std.specs.List.Sorted.{IsStrictlyIncreasing};
     ghost use Rattle.pieces.specs.Effects.{keeps, adds, writes, done, words_after};
     ghost use Rattle.turns.specs.Views.{count_in, names_in, none_done, first_of, behind_first, told, HasOnce};
-    ghost use Rattle.turns.specs.Rules.{IsNext, IsMade, IsLooked, steps_in};
+    ghost use Rattle.turns.specs.Rules.{IsNext, IsMade, IsSeen, IsLooked, steps_in};
     ghost use Rattle.turns.specs.SharedWords.{IsPhase, IsSeat};
     ghost use Rattle.turns.specs.Tables.{indexes_of};
 
@@ -97,7 +96,6 @@ impl SharedWords {
                 table,
                 words,
                 indexes,
-                listed_words,
                 own_words,
                 starts,
             },
@@ -159,7 +157,6 @@ impl SharedWords {
             table,
             mut words,
             indexes,
-            listed_words: _,
             own_words: _,
             starts: _,
         } = self;
@@ -178,6 +175,17 @@ impl SharedWords {
     {
         let at = place(&self.indexes, &self.words, self.own_words, index, hint);
         self.table.shared.load::<Made>(seat, at)
+    }
+
+    /// Finds the word at an index as it is, which is no step of a piece. The seat stays as it is.
+    pub(crate) fn see(&self, seat: &mut Seat, index: usize, hint: usize) -> u64
+        requires seat { IsSeat self.now seat.old.table_id seat.old.me }
+        requires shared { is_none_of self.now.opening.indexes index ≡ false }
+        ensures same { (seat.new.table_id ≡ seat.old.table_id) × (seat.new.me ≡ seat.old.me) }
+        ensures seen { IsSeen index seat.old.me.0 result }
+    {
+        let at = place(&self.indexes, &self.words, self.own_words, index, hint);
+        self.table.shared.load::<Seen>(seat, at)
     }
 
     /// Finds the word at an index as it is, for a watcher. A word that is not shared is as it was at opening: no step
@@ -217,17 +225,6 @@ impl SharedWords {
         self.table.shared.swap::<Made>(seat, at, word)
     }
 
-    /// Has a shared word near, for a step that comes to it soon: a load that tells nothing. The hint says where it stands.
-    pub(crate) fn warm(&self, index: usize, hint: usize) {
-        let at = match &self.indexes {
-            Indexes::All => index,
-            Indexes::Listed(_) => hint,
-        };
-        if at < self.table.word_count() {
-            let _ = self.table.shared.peek(at);
-        }
-    }
-
     /// The pieces can be worked on these words. The function does nothing: its contract is what it tells.
     pub(crate) fn learn_can_be_worked(&self)
         ensures { IsPhase self.now.opening }
@@ -254,18 +251,6 @@ impl SharedWords {
         requires { index < length self.now.opening.words }
         ensures { result ≡ slice_index self.now.opening.words index }
     {
-        self.words[index]
-    }
-
-    /// The same of a word that is shared. The hint says where.
-    pub(crate) fn shared_word(&self, index: usize, hint: usize) -> u64
-        requires { index < length self.now.opening.words }
-        ensures { result ≡ slice_index self.now.opening.words index }
-    {
-        let at = self.indexes.listed();
-        if hint < at.len() && at[hint] == index {
-            return self.listed_words[hint];
-        }
         self.words[index]
     }
 }

@@ -30,7 +30,6 @@ pub(crate) struct StripWork {
 
 impl StripWork {
     ghost use Rattle.std.specs.Prelude.{◌≡◌, ℕ, List, ◌+◌, ◌-◌, ◌<◌, ◌≤◌, Some, length, slice_get, slice_index};
-    ghost use Rattle.std.specs.List.{All};
     ghost use Rattle.pieces.specs.Steps.{steps, status_in};
     ghost use Rattle.pieces.specs.Values.{kept_nodes};
     ghost use Rattle.pieces.specs.declared.piece.Piece.TheVariants as piece;
@@ -96,8 +95,7 @@ impl StripWork {
     {
         let k = post.steps();
         if k < self.indexes.len() {
-            shared.learn_can_be_worked();
-            let word = shared.shared_word(self.indexes[k], self.hint.wrapping_add(k));
+            let word = post.see(shared, self.indexes[k], self.hint.wrapping_add(k));
             self.narrow(post, shared, k, word);
         } else if let Some(index) = self.fold {
             let found = bits(self.status);
@@ -137,30 +135,36 @@ impl StripWork {
         ensures of { self.new.of.value ≡ self.old.of.value }
         ensures work { IsStripWork shared.now.opening.words self.new post.new.steps }
     {
-        shared.learn_can_be_worked();
         let from = post.steps();
         let to = from + AT_ONCE.min(self.indexes.len() - from);
-        let found = self.find_words(shared, from, to);
+        let found = self.find_words(post, shared, from, to);
         for k in from..to {
             self.narrow(post, shared, k, found[k - from]);
         }
     }
 
-    /// The words of the nodes from a position up to another, as they were at opening. Their loads go on side by side, and so
-    /// do those that have the shared words near: swaps would wait for each other.
-    fn find_words(&self, shared: &SharedWords, from: usize, to: usize) -> [u64; AT_ONCE]
+    /// The words of the nodes from a position up to another, which were not narrowed yet: as they were at opening. Their loads go
+    /// on side by side; swaps would wait for each other.
+    fn find_words(
+        &self,
+        post: &mut Post,
+        shared: &SharedWords,
+        from: usize,
+        to: usize,
+    ) -> [u64; AT_ONCE]
+        requires of { post.old.shared ≡ shared.now }
+        requires piece { slice_get shared.now.opening.pieces post.old.number ≡ Some (piece.Strip self.now.of.value) }
+        requires work { IsStripWork shared.now.opening.words self.now post.old.steps }
+        requires to_come { post.old.steps ≤ from }
         requires order { from ≤ to }
         requires few { to ≤ from + 16 }
         requires within { to ≤ length self.now.indexes.items }
-        requires words { All (λ i. i < length shared.now.opening.words) self.now.indexes.items }
-        ensures { (k : ℕ) → from ≤ k → k < to → slice_index result (k - from) ≡ slice_index shared.now.opening.words (slice_index self.now.indexes.items k) }
+        ensures post { post.new ≡ post.old }
+        ensures found { (k : ℕ) → from ≤ k → k < to → slice_index result (k - from) ≡ slice_index shared.now.opening.words (slice_index self.now.indexes.items k) }
     {
         let mut found = [0; AT_ONCE];
         for k in from..to {
-            let index = self.indexes[k];
-            let hint = self.hint.wrapping_add(k);
-            found[k - from] = shared.shared_word(index, hint);
-            shared.warm(index, hint);
+            found[k - from] = post.see(shared, self.indexes[k], self.hint.wrapping_add(k));
         }
         found
     }

@@ -11,11 +11,11 @@ use Rattle.turns.proofs.shared_words.SharedWords.add.Goals as goal
 pub place-at-requires : goal.place-at-requires
 place-at-requires c =
     ap (λ ws. is_none_of (indexes_of (length ws) c.self.inside.indexes) c.args.index) c.deref.ensures.value
-    ∙ step_is_shared _ _ _ c.self.invariant.0 _ _ (subst (λ s. IsSeat s c.args.seat.now.table_id c.args.seat.now.me) (sym c.self.view_is) c.requires.seat) (adds c.args.index c.args.bits) c.requires.next
+    ∙ step_is_shared _ _ _ c.self.invariant _ _ (subst (λ s. IsSeat s c.args.seat.now.table_id c.args.seat.now.me) (sym c.self.view_is) c.requires.seat) (adds c.args.index c.args.bits) c.requires.next
 
 pub fetch_or-requires : goal.fetch_or-requires
 fetch_or-requires c =
-    may _ _ _ c.self.invariant.0 _ _ _ _ (subst (λ s. IsSeat s c.args.seat.now.table_id c.args.seat.now.me) (sym c.self.view_is) c.requires.seat) (adds c.args.index c.args.bits) c.requires.next _
+    may _ _ _ c.self.invariant _ _ _ _ (subst (λ s. IsSeat s c.args.seat.now.table_id c.args.seat.now.me) (sym c.self.view_is) c.requires.seat) (adds c.args.index c.args.bits) c.requires.next _
     (ap (λ ws. slice_get (indexes_of (length ws) c.self.inside.indexes) c.place-at.result) (sym c.deref.ensures.value) ∙ c.place-at.ensures)
 
 pub returns-clause-seat : goal.returns-clause-seat
@@ -25,6 +25,6 @@ pub returns-clause-made : goal.returns-clause-made
 returns-clause-made c =
     subst
     (λ i. IsMade i c.args.seat.now.me.0 c.fetch_or.result c.fetch_or.new.seat.me.0)
-    (placed _ _ _ c.self.invariant.0 _ _ (subst (λ s. IsSeat s c.args.seat.now.table_id c.args.seat.now.me) (sym c.self.view_is) c.requires.seat) _ _
+    (placed _ _ _ c.self.invariant _ _ (subst (λ s. IsSeat s c.args.seat.now.table_id c.args.seat.now.me) (sym c.self.view_is) c.requires.seat) _ _
     (ap (λ ws. slice_get (indexes_of (length ws) c.self.inside.indexes) c.place-at.result) (sym c.deref.ensures.value) ∙ c.place-at.ensures))
     c.fetch_or.ensures.2.1

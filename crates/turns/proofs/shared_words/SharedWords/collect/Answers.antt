@@ -5,5 +5,5 @@ use Rattle.turns.proofs.shared_words.SharedWords.collect.Goals as goal
 
 pub join_seat-requires : goal.join_seat-requires
 join_seat-requires c =
-    joins _ _ _ c.self.invariant.0 _ _ _ _ _ _ (subst (λ s. IsSeat s c.args.seat.now.table_id c.args.seat.now.me) (sym c.self.view_is) c.requires.seat)
+    joins _ _ _ c.self.invariant _ _ _ _ _ _ (subst (λ s. IsSeat s c.args.seat.now.table_id c.args.seat.now.me) (sym c.self.view_is) c.requires.seat)
     (subst (λ s. IsSeat s c.args.other.table_id c.args.other.me) (sym c.self.view_is) c.requires.other)

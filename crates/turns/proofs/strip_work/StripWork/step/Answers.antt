@@ -1,18 +1,32 @@
-use Rattle.std.proofs.Common.{◌≡◌, ℕ, length, get_or, ◌∷◌, [], ◌≤◌, ◌∙◌, ap, sym, subst, arith}
+use Rattle.std.proofs.Common.{◌≡◌, ℕ, length, get_or, ◌∷◌, [], ◌<◌, ◌≤◌, ◌∙◌, ap, sym, subst, arith}
 use Rattle.turns.specs.Rules.{next_step}
 use Rattle.turns.specs.SharedWords.{SharedContent}
 use Rattle.pieces.proofs.Placed.{not_some}
-use Rattle.turns.proofs.StripSteps.{is_last, is_within, fold_next}
+use Rattle.std.proofs.lemmas.List.{get_or_default}
+use Rattle.fpage.specs.Rights.{no_rights}
+use Rattle.pieces.specs.Steps.{entry_in, narrowed_by}
+use Rattle.space.specs.Word.{word_of}
+use Rattle.turns.proofs.StripSteps.{is_last, node_written, fold_next}
 use Rattle.turns.proofs.strip_work.StripWork.step.Goals as goal
 
-pub shared_word-word-requires : goal.shared_word-word-requires
-shared_word-word-requires c =
+pub see-word-requires-clause-to_write : goal.see-word-requires-clause-to_write
+see-word-requires-clause-to_write c =
+    let o = c.args.shared.now.opening in
     let job = c.args.self.now in
-    let work = c.requires.work in
-    let many = ap length work.indexes ∙ work.strip.indexes in
+    let post = c.args.post.now in
+    let index = c.index.result.now in
     let k_is = c.steps-k.ensures in
-    is_within c.args.shared.now.opening c.learn_can_be_worked.ensures c.args.post.now.number c.args.post.now.steps job c.requires.piece work
-    (omega (arith, k_is, many, c.len.ensures, job.indexes.ok.0, c.if-k-len.true)) c.index.result.now (c.index.ensures ∙ ap (λ k. get_or job.indexes.items k c.index.result.now) k_is)
+    let many = ap length c.requires.work.indexes ∙ c.requires.work.strip.indexes in
+    let inside : post.steps < length job.indexes.items = omega (arith, k_is, c.len.ensures, job.indexes.ok.0, c.if-k-len.true) in
+    let at = c.index.ensures ∙ ap (λ k. get_or job.indexes.items k index) k_is ∙ get_or_default job.indexes.items post.steps index 0 inside in
+    record {
+      step = post.steps;
+      word = word_of (narrowed_by (get_or job.of.value.masks post.steps no_rights) (entry_in o.words index));
+      later = omega arith;
+      to_write =
+          ap (λ (s : SharedContent). next_step s.opening ((post.number, post.steps) ∷ [])) c.requires.of
+          ∙ node_written o post.number post.steps post.steps job c.requires.piece c.requires.work (omega (arith, inside, many)) index at;
+    }
 
 pub add-requires-clause-next : goal.add-requires-clause-next
 add-requires-clause-next c =
