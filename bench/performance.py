@@ -31,7 +31,6 @@ from bench import (  # noqa: E402
     ALL_PAGES, FIRST_PAGE, HEADER, PAGES, TOP, accesses, aliases, audit, chain, flush, grants, pager, relay, send, send_fpage, single,
     spread, unmap,
 )  # fmt: skip
-from workers import CALLS, SPACES as REVOKED_SPACES, mapped, revocation  # noqa: E402
 
 RUNS = 3
 RUNS_BESIDE = 7
@@ -169,11 +168,6 @@ class Bench:
             if not filecmp.cmp(self.path("ours.txt"), self.path("plain.txt"), shallow=False):
                 sys.exit(f"performance.py: the programs write different bytes on {trace}")
         return ours, plain
-
-    def clock_of(self, options, records):
-        """The median time by the clock of l4map with some options, in milliseconds."""
-        trace = self.trace(records)
-        return statistics.median(self.run([self.ours[0], *options], trace).clock for _ in range(RUNS))
 
     def least_of_ours(self, records):
         """The least processor time of l4map in a few runs on a trace of one frame, in milliseconds. All is taken back
@@ -340,16 +334,6 @@ def time_of_calls(bench, made, start, calls):
     return taken, 2 * times
 
 
-def workers(bench):
-    """The fourth table: a call that works all mappings of 251 spaces, by the clock."""
-    head("Workers", f"ms a call on {(1 + REVOKED_SPACES) * PAGES:,} mappings")
-    for number in (1, 2, 4):
-        progress(f"{number} workers")
-        options = ["--workers", str(number)]
-        whole, made = bench.clock_of(options, revocation()), bench.clock_of(options, mapped())
-        row(str(number), f"{(whole - made) / len(CALLS):,.1f}")
-
-
 def few_held():
     """Ten pages of a large space, far apart."""
     return [send(0, 1, frame, frame * 104_857) for frame in range(10)]
@@ -367,7 +351,7 @@ def thinly_held(count):
 
 
 def large_spaces(bench):
-    """The fifth table: what spaces of 2^32 bytes cost of which little is held, and one that is held whole."""
+    """The fourth table: what spaces of 2^32 bytes cost of which little is held, and one that is held whole."""
 
     def taken(header, records):
         runs = [bench.run(bench.ours, bench.trace(records, header)) for _ in range(2 * RUNS)]
@@ -400,7 +384,7 @@ def large_spaces(bench):
 
 
 def by_default(bench):
-    """The sixth table: each trace by four workers, the default, beside one."""
+    """The fifth table: each trace by four workers, the default, beside one."""
     head("Trace", "one worker, clock ms", "processor ms", "four workers, clock ms", "processor ms")
     for it in compared():
         progress(f"{it.name}, four workers")
@@ -480,7 +464,7 @@ def main():
             beside(bench, os.path.abspath(other))
             return
         print(f"medians of {RUNS} runs; {version_of_rustc()}; {os.cpu_count()} processors\n")
-        for table in (compare, growth, one_page, workers, large_spaces, by_default):
+        for table in (compare, growth, one_page, large_spaces, by_default):
             table(bench)
             print()
 
