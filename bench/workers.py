@@ -5,9 +5,10 @@
 
 PROGRAM is crates/l4map/out/l4map, which build.sh makes, if it is not given. It writes to a terminal, so that each reply
 comes at once, and a call takes from the reply before it to its own. Printed is a table in Markdown: milliseconds of a
-call by 1, 2, 4 and 64 workers, the median of all but the first of three runs, in turn. One works in place. A size is
-a number of full pieces, of 256 mappings each; phases that fill fewer than the program's constant are worked in place,
-and so are those of runs so short that they make more than four times as many pieces. The kinds:
+call by 1, 2, 4 and 64 workers, in turn. Each is the median of the calls of three runs, without the first call of each.
+One worker works in place. A size is a number of full pieces, of 256 mappings each. Phases that fill fewer than the
+program's constant are worked in place, and so are those of runs so short that they make more than four times as many
+pieces. The kinds:
 
     status      an unmap that takes nothing but the status of so many mappings, the 256 of some frames
     revoke      one that takes a right from so many
