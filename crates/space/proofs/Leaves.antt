@@ -6,9 +6,10 @@ use mathlib.Core.Logic.{∥∥₁_elim}
 use Rattle.std.proofs.Math.Nat.{ℕ_set}
 use Rattle.std.proofs.Math.Bridge.{le_prop}
 use Rattle.std.proofs.lemmas.Bool.{eq-eqb, ne_eqb, eqb-true, ltb-true, ltb-false, lt-ltb}
+use Rattle.std.proofs.lemmas.Bool.Decides.{nat_tests}
 use Rattle.std.proofs.lemmas.Grind.{div_ceil_times}
 use Rattle.std.proofs.lemmas.List.{length-append, length-replicate, length-set, get_or-set_same, get_or-set_other, get_or_past, get_or-replicate, get_or_append_left, get_or-append_right}
-use Rattle.space.specs.Leaves.{nowhere, alone, block_of, with_one, position_alone, or_else, slot_in, number_at, branch_at, entry_at, leaf_at, position_at, count_up, has_block, is_there, AreNumbers, AreInOrder, AreBlocks, AreLaid, laid, ArePlaced, placed, IsDirectory, AreSpans, IsFound, HaveSpans, IsDense}
+use Rattle.space.specs.Leaves.{nowhere, lone_leaf, alone, block_of, with_block, with_leaf, leaf_alone, in_branch, with_one, position_alone, or_else, slot_in, number_at, branch_at, entry_at, leaf_at, position_at, count_up, has_block, is_there, AreNumbers, AreInOrder, AreBlocks, AreLaid, laid, ArePlaced, placed, IsDirectory, AreSpans, IsFound, HaveSpans, IsDense}
 use Rattle.space.specs.declared.directory.Directory.{Directory}
 use Rattle.space.specs.Positions.{most_of, count_of, position_in}
 
@@ -85,73 +86,67 @@ count_less f n k less was =
     let more = count_more f with_it n k less was (ap (λ b. if b then true else f k) (eq-eqb k k refl)) (λ j differ. ap (λ b. if b then true else f j) (ne_eqb j k differ)) in
     omega (arith, more, count_few with_it n)
 
+-- ---- entries that name a block
+
+pub block_low : (limit entry : ℕ) → entry < limit → block_of limit entry ≡ entry
+block_low limit entry low = grind (arith, nat_tests)
+
+pub block_high : (limit entry : ℕ) → limit ≤ entry → block_of limit entry ≡ 0
+block_high limit entry high = grind (arith, nat_tests)
+
+-- an entry that names a block of its own is below the limit
+pub block_is : (limit entry : ℕ) → 0 < block_of limit entry → (entry < limit) × (block_of limit entry ≡ entry)
+block_is limit entry some = grind (arith, nat_tests)
+
+-- ---- entries with one leaf alone
+
+leaf_low : (entry run : ℕ) → entry < lone_leaf → leaf_alone entry run ≡ 0
+leaf_low entry run low = grind (arith, nat_tests)
+
+leaf_high : (entry run : ℕ) → alone ≤ entry → leaf_alone entry run ≡ 0
+leaf_high entry run high = grind (arith, nat_tests)
+
+leaf_other : (entry run : ℕ) → (entry % 256 / 16 ≡ run % 16 → ⊥) → leaf_alone entry run ≡ 0
+leaf_other entry run differ = grind (arith, nat_tests)
+
+-- the entry with a leaf
+leaf_is_there : (leaf run : ℕ) → leaf < 2 ^ 20 → leaf_alone (with_leaf leaf run) run ≡ leaf
+leaf_is_there leaf run few = grind (arith, nat_tests)
+
+leaf_elsewhere : (leaf run i : ℕ) → (i % 16 ≡ run % 16 → ⊥) → leaf_alone (with_leaf leaf run) i ≡ 0
+leaf_elsewhere leaf run i differ = grind (arith, nat_tests)
+
 -- ---- entries with one shard alone
 
-is_low : (entry : ℕ) → entry < alone → nat_lt entry alone ≡ true
-is_low entry low = lt-ltb entry alone low
+alone_low : (entry shard : ℕ) → entry < alone → position_alone entry shard ≡ nowhere
+alone_low entry shard low = grind (arith, nat_tests)
 
-is_high : (entry : ℕ) → alone ≤ entry → nat_lt entry alone ≡ false
-is_high entry high = by (nat_lt entry alone) refl
-  where
-    by : (b : Bool) → nat_lt entry alone ≡ b → nat_lt entry alone ≡ false
-    by true is = absurd (omega (arith, high, ltb-true entry alone is))
-    by false is = is
-
-pub block_low : (entry : ℕ) → entry < alone → block_of entry ≡ entry
-block_low entry low = ap (λ b. if b then entry else 0) (is_low entry low)
-
-pub block_high : (entry : ℕ) → alone ≤ entry → block_of entry ≡ 0
-block_high entry high = ap (λ b. if b then entry else 0) (is_high entry high)
-
--- an entry that names a block of its own has no shard alone
-pub block_is : (entry : ℕ) → 0 < block_of entry → (entry < alone) × (block_of entry ≡ entry)
-block_is entry some = elim (within_or_past entry alone) as (λ _. (entry < alone) × (block_of entry ≡ entry)) [
-  | inl low ↦ (low, block_low entry low)
-  | inr high ↦ absurd (omega (arith, some, block_high entry high))
-]
-
-pub alone_low : (entry shard : ℕ) → entry < alone → position_alone entry shard ≡ nowhere
-alone_low entry shard low = ap (λ b. if b then nowhere else (if entry % 256 == shard % 256 then (entry - alone) / 256 else nowhere)) (is_low entry low)
-
-pub alone_here : (entry shard : ℕ) → alone ≤ entry → entry % 256 ≡ shard % 256 → position_alone entry shard ≡ (entry - alone) / 256
-alone_here entry shard high same =
-    ap (λ b. if b then nowhere else (if entry % 256 == shard % 256 then (entry - alone) / 256 else nowhere)) (is_high entry high)
-    ∙ ap (λ b. if b then (entry - alone) / 256 else nowhere) (eq-eqb (entry % 256) (shard % 256) same)
-
-pub alone_other : (entry shard : ℕ) → (entry % 256 ≡ shard % 256 → ⊥) → position_alone entry shard ≡ nowhere
-alone_other entry shard differ = elim (within_or_past entry alone) as (λ _. position_alone entry shard ≡ nowhere) [
-  | inl low ↦ alone_low entry shard low
-  | inr high ↦
-      ap (λ b. if b then nowhere else (if entry % 256 == shard % 256 then (entry - alone) / 256 else nowhere)) (is_high entry high)
-      ∙ ap (λ b. if b then (entry - alone) / 256 else nowhere) (ne_eqb (entry % 256) (shard % 256) differ)
-]
+alone_other : (entry shard : ℕ) → (entry % 256 ≡ shard % 256 → ⊥) → position_alone entry shard ≡ nowhere
+alone_other entry shard differ = grind (arith, nat_tests)
 
 one_high : (position shard : ℕ) → alone ≤ with_one position shard
 one_high position shard = omega arith
 
 one_is_there : (position shard : ℕ) → position_alone (with_one position shard) shard ≡ position
-one_is_there position shard = alone_here (with_one position shard) shard (one_high position shard) (omega arith) ∙ omega arith
+one_is_there position shard = grind (arith, nat_tests)
 
 one_elsewhere : (position shard other : ℕ) → (other % 256 ≡ shard % 256 → ⊥) → position_alone (with_one position shard) other ≡ nowhere
-one_elsewhere position shard other differ = alone_other (with_one position shard) other (λ same. differ (omega (arith, same)))
+one_elsewhere position shard other differ = grind (arith, nat_tests)
 
-one_no_block : (position shard : ℕ) → block_of (with_one position shard) ≡ 0
-one_no_block position shard = block_high (with_one position shard) (one_high position shard)
+-- ---- what a branch has in place of such an entry: the same leaf, and the same shard
 
-pub or_nowhere : (position other : ℕ) → position ≡ nowhere → or_else position other ≡ other
-or_nowhere position other is = ap (λ b. if b then other else position) (eq-eqb position nowhere is)
+leaf_in_branch : (entry run : ℕ) → lone_leaf ≤ entry → entry % 256 / 16 ≡ run % 16 → block_of alone (in_branch entry) ≡ leaf_alone entry run
+leaf_in_branch entry run high same = grind (arith, nat_tests)
 
-pub or_some : (position other : ℕ) → (position ≡ nowhere → ⊥) → or_else position other ≡ position
-or_some position other there = ap (λ b. if b then other else position) (ne_eqb position nowhere there)
-
-pub or_none : (position other : ℕ) → other ≡ nowhere → or_else position other ≡ position
-or_none position other none = elim (same_or_not position nowhere) as (λ _. or_else position other ≡ position) [
-  | inl same ↦ or_nowhere position other same ∙ none ∙ sym same
-  | inr differ ↦ or_some position other differ
-]
+alone_in_branch : (entry shard : ℕ) → position_alone (in_branch entry) shard ≡ position_alone entry shard
+alone_in_branch entry shard = grind (arith, nat_tests)
 
 same_sources : (p q : ℕ) (r s : ℕ) (m n : ℕ) → p ≡ q → r ≡ s → m ≡ n → or_else p (or_else r m) ≡ or_else q (or_else s n)
 same_sources p q r s m n first entry number = ap (λ x. or_else x (or_else r m)) first ∙ ap (λ x. or_else q (or_else x m)) entry ∙ ap (λ x. or_else q (or_else s x)) number
+
+-- an entry with one shard tells it for a run of 256 as for a run of 16
+alone_moved : (entry low number shard : ℕ) → low < alone → or_else nowhere (or_else (position_alone entry shard) number) ≡ or_else (position_alone entry shard) (or_else (position_alone low shard) number)
+alone_moved entry low number shard small = grind (arith, nat_tests)
 
 -- where entries and numbers of a shard are the same, so is its position
 same_position : (firsts entries numbers branches leaves positions : List ℕ) (shard : ℕ) → slice_index firsts (shard / 256) ≡ slice_index branches (shard / 256)
@@ -168,9 +163,16 @@ same_position firsts entries numbers branches leaves positions shard first entry
 pub by_numbers : (branches leaves positions : List ℕ) (shard : ℕ) → slice_index branches (shard / 256) < alone → entry_at branches leaves (shard / 16) < alone
     → position_at branches leaves positions shard ≡ number_at (leaf_at branches leaves) positions shard
 by_numbers branches leaves positions shard branch_low entry_low =
-    or_nowhere (position_alone (slice_index branches (shard / 256)) shard) (or_else (position_alone (entry_at branches leaves (shard / 16)) shard) (number_at (leaf_at branches leaves) positions shard))
-    (alone_low (slice_index branches (shard / 256)) shard branch_low)
-    ∙ or_nowhere (position_alone (entry_at branches leaves (shard / 16)) shard) (number_at (leaf_at branches leaves) positions shard) (alone_low (entry_at branches leaves (shard / 16)) shard entry_low)
+    grind (arith, nat_tests)
+
+-- the leaf of a run of 16 whose run of 256 has a branch, or nothing
+pub leaf_of_branch : (branches leaves : List ℕ) (run : ℕ) → slice_index branches (run / 16) < lone_leaf → leaf_at branches leaves run ≡ block_of alone (entry_at branches leaves run)
+leaf_of_branch branches leaves run low = omega (arith, leaf_low (slice_index branches (run / 16)) run low)
+
+-- where entries are the same, so is the leaf
+same_leaf : (firsts entries branches leaves : List ℕ) (run : ℕ) → leaf_alone (slice_index firsts (run / 16)) run ≡ leaf_alone (slice_index branches (run / 16)) run
+    → entry_at firsts entries run ≡ entry_at branches leaves run → leaf_at firsts entries run ≡ leaf_at branches leaves run
+same_leaf firsts entries branches leaves run first entry = omega (arith, first, ap (block_of alone) entry)
 
 -- ---- numbers in blocks of sixteen
 
@@ -234,7 +236,7 @@ module _ (absent runs : ℕ) (block : ℕ → ℕ) (numbers : List ℕ) (found :
       omega (arith, run, one, same)
 
   -- how many there can be
-  pub blocks_few : length numbers / 16 ≤ runs + 1
+  blocks_few : length numbers / 16 ≤ runs + 1
   blocks_few = omega (arith, found.how_many, count_few (has_block block) runs)
 
   -- ---- a block is added
@@ -315,6 +317,30 @@ module _ (absent runs : ℕ) (block : ℕ → ℕ) (numbers : List ℕ) (found :
           ap (λ xs. slice_index xs slot) after_is ∙ get_or-set_other numbers (slot_in block key) slot number 0 (λ same. absurd (omega (arith, same, within, some))) ∙ found.empty slot within;
     }
 
+-- ---- a block is added, with one number in it
+module _ (absent runs : ℕ) (block : ℕ → ℕ) (numbers : List ℕ) (found : AreBlocks absent runs block numbers) (run : ℕ) (run_low : run < runs) (none : block run ≡ 0) (after : ℕ → ℕ)
+    (there : after run ≡ length numbers / 16) (elsewhere : (i : ℕ) → (i ≡ run → ⊥) → after i ≡ block i) (key number : ℕ) (of : key / 16 ≡ run) (more : List ℕ)
+    (more_is : more ≡ with_block absent numbers (key % 16) number) where
+  wider : AreBlocks absent runs after (numbers ++ replicate 16 absent)
+  wider = block_added absent runs block numbers found run run_low none after there elsewhere (numbers ++ replicate 16 absent) refl
+
+  own_block : 0 < after (key / 16)
+  own_block = omega (arith, ap after of, there, found.how_many)
+
+  number_is : more ≡ slice_set (numbers ++ replicate 16 absent) (slot_in after key) number
+  number_is = let slot : length numbers + key % 16 ≡ slot_in after key = omega (arith, ap after of, there, found.how_many) in more_is ∙ ap (λ at. slice_set (numbers ++ replicate 16 absent) at number) slot
+
+  one_added : AreBlocks absent runs after more
+  one_added = number_put absent runs after (numbers ++ replicate 16 absent) wider key own_block number more number_is
+
+  one_now : number_at after more key ≡ number
+  one_now = number_there absent runs after (numbers ++ replicate 16 absent) wider key own_block number more number_is
+
+  others_now : (other : ℕ) → (other ≡ key → ⊥) → number_at after more other ≡ number_at block numbers other
+  others_now other differ =
+      numbers_elsewhere absent runs after (numbers ++ replicate 16 absent) wider key own_block number more number_is other differ
+      ∙ same_numbers absent runs block numbers found run run_low none after there elsewhere (numbers ++ replicate 16 absent) refl other
+
 -- ---- a new directory
 
 pub of_branches : (branches leaves positions : List ℕ) → AreLaid branches leaves positions → AreBlocks 0 (length branches) (branch_at branches) leaves
@@ -363,7 +389,7 @@ module _ (most : ℕ) (branches leaves positions : List ℕ) (few : most ≤ 2 ^
       by (inr past) = get_or_past (replicate (div_ceil most 256) 0) run 0 (omega (arith, length-replicate {A = ℕ} (div_ceil most 256) 0, past))
 
   no_branch : (run : ℕ) → branch_at branches run ≡ 0
-  no_branch run = ap block_of (no_entry run)
+  no_branch run = ap (block_of lone_leaf) (no_entry run)
 
   no_branches : AreBlocks 0 (length branches) (branch_at branches) leaves
   no_branches = no_blocks 0 (length branches) (branch_at branches) leaves no_branch leaves_are
@@ -372,7 +398,7 @@ module _ (most : ℕ) (branches leaves positions : List ℕ) (few : most ≤ 2 ^
   no_leaf_entry run = let slot : slot_in (branch_at branches) run ≡ run % 16 = omega (arith, no_branch (run / 16)) in ap (slice_index leaves) slot ∙ no_branches.empty (run % 16) (omega arith)
 
   no_leaf : (run : ℕ) → leaf_at branches leaves run ≡ 0
-  no_leaf run = ap block_of (no_leaf_entry run)
+  no_leaf run = leaf_of_branch branches leaves run (omega (arith, no_entry (run / 16))) ∙ ap (block_of alone) (no_leaf_entry run)
 
   no_leaves : AreBlocks nowhere (length branches * 16) (leaf_at branches leaves) positions
   no_leaves = no_blocks nowhere (length branches * 16) (leaf_at branches leaves) positions no_leaf positions_are
@@ -401,17 +427,17 @@ module _ (most runs : ℕ) (branches leaves positions : List ℕ) (few : most �
   runs_low : length branches ≤ 2 ^ 7
   runs_low = omega (arith, many, runs_are, few, div_ceil_times most 256 (omega arith))
 
-  entry_low : (run : ℕ) → slice_index branches run < alone
-  entry_low run = elim (within_or_past run (length branches)) as (λ _. slice_index branches run < alone) [
+  entry_low : (run : ℕ) → slice_index branches run < lone_leaf
+  entry_low run = elim (within_or_past run (length branches)) as (λ _. slice_index branches run < lone_leaf) [
     | inl low ↦ omega (arith, low, entry_of run low, runs_low)
     | inr past ↦ omega (arith, entry_past run past)
   ]
 
   branch_past : (run : ℕ) → length branches ≤ run → branch_at branches run ≡ 0
-  branch_past run past = ap block_of (entry_past run past)
+  branch_past run past = ap (block_of lone_leaf) (entry_past run past)
 
   branch_of : (run : ℕ) → run < length branches → branch_at branches run ≡ run + 1
-  branch_of run low = block_low (slice_index branches run) (entry_low run) ∙ entry_of run low
+  branch_of run low = block_low lone_leaf (slice_index branches run) (entry_low run) ∙ entry_of run low
 
   of_all_branches : AreBlocks 0 (length branches) (branch_at branches) leaves
   of_all_branches = all_blocks 0 (length branches) (branch_at branches) leaves branch_of branch_past (omega (arith, leaves_are.how_many, many)) leaves_are.none
@@ -433,10 +459,10 @@ module _ (most runs : ℕ) (branches leaves positions : List ℕ) (few : most �
   ]
 
   pub leaf_of : AreInOrder branches leaves
-  leaf_of run low = block_low (entry_at branches leaves run) (leaf_entry_low run) ∙ leaf_entry_of run low
+  leaf_of run low = leaf_of_branch branches leaves run (entry_low (run / 16)) ∙ block_low alone (entry_at branches leaves run) (leaf_entry_low run) ∙ leaf_entry_of run low
 
   leaf_past : (run : ℕ) → length branches * 16 ≤ run → leaf_at branches leaves run ≡ 0
-  leaf_past run past = ap block_of (leaf_entry_past run past)
+  leaf_past run past = leaf_of_branch branches leaves run (entry_low (run / 16)) ∙ ap (block_of alone) (leaf_entry_past run past)
 
   long : length positions ≡ (length branches * 16 + 1) * 16
   long = ap length positions_are ∙ length-replicate ((runs * 16 + 1) * 16) nowhere ∙ ap (λ n. (n * 16 + 1) * 16) (sym many)
@@ -449,7 +475,7 @@ module _ (most runs : ℕ) (branches leaves positions : List ℕ) (few : most �
   of_all_leaves = all_blocks nowhere (length branches * 16) (leaf_at branches leaves) positions leaf_of leaf_past long (λ slot less. filled slot (omega (arith, less, long)))
 
   pub dense_nowhere : (shard : ℕ) → position_at branches leaves positions shard ≡ nowhere
-  dense_nowhere = none_at branches leaves positions entry_low leaf_entry_low filled of_all_leaves.within
+  dense_nowhere = none_at branches leaves positions (λ run. omega (arith, entry_low run)) leaf_entry_low filled of_all_leaves.within
 
   pub dense_directory : IsDirectory most 0 branches leaves positions
   dense_directory = of_no_shards most branches leaves positions (omega (arith, few)) (many ∙ runs_are) of_all_branches of_all_leaves dense_nowhere
@@ -489,8 +515,26 @@ module _ (most count : ℕ) (branches leaves positions : List ℕ) (found : IsDi
       let slot : slot_in (branch_at branches) run ≡ run % 16 = omega (arith, none) in
       ap (slice_index leaves) slot ∙ branch_blocks.empty (run % 16) (omega arith)
 
-  pub no_leaf_of : (run : ℕ) → branch_at branches run ≡ 0 → leaf_at branches leaves (run * 16) ≡ 0
-  no_leaf_of run none = let of : run * 16 / 16 ≡ run = omega arith in ap block_of (no_entry_of (run * 16) (ap (branch_at branches) of ∙ none))
+  -- its leaf is the one of the run of 256
+  pub leaf_without_branch : (run : ℕ) → lone_leaf ≤ slice_index branches (run / 16) → leaf_at branches leaves run ≡ leaf_alone (slice_index branches (run / 16)) run
+  leaf_without_branch run high = omega (arith, ap (block_of alone) (no_entry_of run (block_high lone_leaf (slice_index branches (run / 16)) high)))
+
+  pub no_leaf_of : (run : ℕ) → slice_index branches (run / 16) ≡ 0 → leaf_at branches leaves run ≡ 0
+  no_leaf_of run none =
+      leaf_of_branch branches leaves run (omega (arith, none)) ∙ ap (block_of alone) (no_entry_of run (ap (block_of lone_leaf) none))
+
+  -- where leaves stand in order, no run of 256 has one leaf or one shard alone: of two runs of 16 one would have no leaf
+  pub never_in_order : (run : ℕ) → run < length branches → lone_leaf ≤ slice_index branches run → AreInOrder branches leaves → ⊥
+  never_in_order run low high order = elim (same_or_not (slice_index branches run % 256 / 16) 0) as (λ _. ⊥) [
+    | inl same ↦ absurd (omega (arith, order (run * 16 + 1) (omega (arith, low)), no_leaf (run * 16 + 1) (omega arith) (λ is. absurd (omega (arith, is, same)))))
+    | inr differ ↦ absurd (omega (arith, order (run * 16) (omega (arith, low)), no_leaf (run * 16) (omega arith) (λ is. differ (omega (arith, is)))))
+  ]
+    where
+      no_leaf : (i : ℕ) → i / 16 ≡ run → (slice_index branches run % 256 / 16 ≡ i % 16 → ⊥) → leaf_at branches leaves i ≡ 0
+      no_leaf i of differ =
+          leaf_without_branch i (subst (λ r. lone_leaf ≤ slice_index branches r) (sym of) high)
+          ∙ ap (λ r. leaf_alone (slice_index branches r) i) of
+          ∙ leaf_other (slice_index branches run) i differ
 
   -- a run of 16 with an entry of its own has a branch
   pub branch_if : (run : ℕ) → 0 < entry_at branches leaves run → 0 < branch_at branches (run / 16)
@@ -502,32 +546,62 @@ module _ (most count : ℕ) (branches leaves positions : List ℕ) (found : IsDi
       let slot : slot_in (leaf_at branches leaves) shard ≡ shard % 16 = omega (arith, none) in
       ap (slice_index positions) slot ∙ leaf_blocks.empty (shard % 16) (omega arith)
 
-  -- the position of a shard whose run of 256 has no branch
-  pub by_branch : (shard : ℕ) → branch_at branches (shard / 256) ≡ 0 → position_at branches leaves positions shard ≡ position_alone (slice_index branches (shard / 256)) shard
-  by_branch shard none =
+  -- the position of a shard whose run of 256 has one shard alone
+  pub by_branch : (shard : ℕ) → alone ≤ slice_index branches (shard / 256) → position_at branches leaves positions shard ≡ position_alone (slice_index branches (shard / 256)) shard
+  by_branch shard high =
       let of : shard / 16 / 16 ≡ shard / 256 = omega arith in
-      let nothing : entry_at branches leaves (shard / 16) ≡ 0 = no_entry_of (shard / 16) (ap (branch_at branches) of ∙ none) in
-      let rest = or_nowhere (position_alone (entry_at branches leaves (shard / 16)) shard) (number_at (leaf_at branches leaves) positions shard)
-      (alone_low (entry_at branches leaves (shard / 16)) shard (omega (arith, nothing))) in
-      or_none (position_alone (slice_index branches (shard / 256)) shard) (or_else (position_alone (entry_at branches leaves (shard / 16)) shard) (number_at (leaf_at branches leaves) positions shard))
-      (rest ∙ no_number shard (ap block_of nothing))
+      let first : alone ≤ slice_index branches (shard / 16 / 16) = subst (λ run. alone ≤ slice_index branches run) (sym of) high in
+      let nothing : entry_at branches leaves (shard / 16) ≡ 0 = no_entry_of (shard / 16) (block_high lone_leaf (slice_index branches (shard / 16 / 16)) (omega (arith, first))) in
+      let no_leaf : leaf_at branches leaves (shard / 16) ≡ 0 = leaf_without_branch (shard / 16) (omega (arith, first)) ∙ leaf_high (slice_index branches (shard / 16 / 16)) (shard / 16) first in
+      grind (arith, nat_tests, nothing, no_number shard no_leaf)
 
   -- of one whose run of 16 has no leaf
   pub by_entry : (shard : ℕ) → slice_index branches (shard / 256) < alone → leaf_at branches leaves (shard / 16) ≡ 0
       → position_at branches leaves positions shard ≡ position_alone (entry_at branches leaves (shard / 16)) shard
-  by_entry shard low none =
-      or_nowhere (position_alone (slice_index branches (shard / 256)) shard) (or_else (position_alone (entry_at branches leaves (shard / 16)) shard) (number_at (leaf_at branches leaves) positions shard))
-      (alone_low (slice_index branches (shard / 256)) shard low)
-      ∙ or_none (position_alone (entry_at branches leaves (shard / 16)) shard) (number_at (leaf_at branches leaves) positions shard) (no_number shard none)
+  by_entry shard low none = grind (arith, nat_tests, no_number shard none)
+
+  -- a run of 16 with a leaf has no shard alone
+  pub none_alone : (run : ℕ) → 0 < leaf_at branches leaves run → (slice_index branches (run / 16) < alone) × (entry_at branches leaves run < alone)
+  none_alone run some = elim (within_or_past (slice_index branches (run / 16)) lone_leaf) as (λ _. (slice_index branches (run / 16) < alone) × (entry_at branches leaves run < alone)) [
+    | inl low ↦ (omega (arith, low), (block_is alone (entry_at branches leaves run) (omega (arith, some, leaf_of_branch branches leaves run low))).0)
+    | inr high ↦
+        let nothing = no_entry_of run (block_high lone_leaf (slice_index branches (run / 16)) high) in
+        let is = leaf_without_branch run high in
+        elim (within_or_past (slice_index branches (run / 16)) alone) as (λ _. (slice_index branches (run / 16) < alone) × (entry_at branches leaves run < alone)) [
+          | inl low ↦ (low, omega (arith, nothing))
+          | inr one ↦ absurd (omega (arith, some, is, leaf_high (slice_index branches (run / 16)) run one))
+        ]
+  ]
+
+  -- and one with a shard alone has no leaf
+  pub no_leaf_beside : (run : ℕ) → alone ≤ entry_at branches leaves run → leaf_at branches leaves run ≡ 0
+  no_leaf_beside run high = elim (same_or_not (leaf_at branches leaves run) 0) as (λ _. leaf_at branches leaves run ≡ 0) [
+    | inl same ↦ same
+    | inr differ ↦ absurd (omega (arith, high, (none_alone run (positive (leaf_at branches leaves run) differ)).1))
+  ]
 
   -- of one whose run of 16 has a leaf
   pub by_leaf : (shard : ℕ) → 0 < leaf_at branches leaves (shard / 16) → position_at branches leaves positions shard ≡ number_at (leaf_at branches leaves) positions shard
   by_leaf shard some =
-      let entry = block_is (entry_at branches leaves (shard / 16)) some in
+      let low = none_alone (shard / 16) some in
       let of : shard / 16 / 16 ≡ shard / 256 = omega arith in
-      let branch = branch_if (shard / 16) (omega (arith, some, entry.1)) in
-      let first = block_is (slice_index branches (shard / 16 / 16)) branch in
-      by_numbers branches leaves positions shard (subst (λ run. slice_index branches run < alone) of first.0) entry.0
+      by_numbers branches leaves positions shard (subst (λ run. slice_index branches run < alone) of low.0) low.1
+
+  -- of one whose run of 256 has one leaf alone
+  lone_leaf_is : (shard : ℕ) → lone_leaf ≤ slice_index branches (shard / 256) → leaf_at branches leaves (shard / 16) ≡ leaf_alone (slice_index branches (shard / 256)) (shard / 16)
+  lone_leaf_is shard high =
+      let of : shard / 16 / 16 ≡ shard / 256 = omega arith in
+      leaf_without_branch (shard / 16) (subst (λ run. lone_leaf ≤ slice_index branches run) (sym of) high) ∙ ap (λ run. leaf_alone (slice_index branches run) (shard / 16)) of
+
+  pub lone_leaf_within : (shard : ℕ) → lone_leaf ≤ slice_index branches (shard / 256) → leaf_alone (slice_index branches (shard / 256)) (shard / 16) * 16 + shard % 16 < length positions
+  lone_leaf_within shard high = omega (arith, lone_leaf_is shard high, leaf_blocks.within (shard / 16))
+
+  pub by_lone_leaf : (shard : ℕ) → lone_leaf ≤ slice_index branches (shard / 256) → slice_index branches (shard / 256) < alone
+      → position_at branches leaves positions shard ≡ slice_index positions (leaf_alone (slice_index branches (shard / 256)) (shard / 16) * 16 + shard % 16)
+  by_lone_leaf shard high low =
+      let of : shard / 16 / 16 ≡ shard / 256 = omega arith in
+      let nothing : entry_at branches leaves (shard / 16) ≡ 0 = no_entry_of (shard / 16) (ap (branch_at branches) of ∙ block_high lone_leaf (slice_index branches (shard / 256)) high) in
+      by_numbers branches leaves positions shard low (omega (arith, nothing)) ∙ ap (λ n. slice_index positions (n * 16 + shard % 16)) (lone_leaf_is shard high)
 
   -- where leaves stand in order, so do positions
   pub slot_in_order : AreInOrder branches leaves → (shard : ℕ) → shard < most → slot_in (leaf_at branches leaves) shard ≡ 16 + shard
@@ -570,19 +644,24 @@ module _ (most count : ℕ) (branches leaves positions : List ℕ) (found : IsDi
   pub fewer_there : (shard : ℕ) → shard < most → position_at branches leaves positions shard ≡ nowhere → count < most
   fewer_there shard low absent = omega (arith, so_many, count_less (is_there branches leaves positions) most shard low (ap (λ n. not (n == nowhere)) absent))
 
-  -- ---- a run of 256 gets a branch, which has the one shard that is there
-  module _ (run : ℕ) (run_low : run < length branches) (entry : ℕ) (entry_is : slice_index branches run ≡ entry) (high : alone ≤ entry)
-      (key : ℕ) (key_is : key ≡ run * 16 + entry % 256 / 16) (after middle more : List ℕ)
-      (after_is : after ≡ slice_set branches run (length leaves / 16)) (middle_is : middle ≡ leaves ++ replicate 16 0)
-      (more_is : more ≡ slice_set middle (length leaves + entry % 256 / 16) entry) where
+  pub few_branches : length leaves < 2 ^ 20
+  few_branches = omega (arith, blocks_few 0 (length branches) (branch_at branches) leaves branch_blocks, runs_few)
+
+  pub few_leaves : length positions < 2 ^ 24
+  few_leaves = omega (arith, blocks_few nowhere (length branches * 16) (leaf_at branches leaves) positions leaf_blocks, runs_few)
+
+  -- ---- a run of 256 gets a branch, which has the one leaf or the one shard that is there
+  module _ (run : ℕ) (run_low : run < length branches) (entry : ℕ) (entry_is : slice_index branches run ≡ entry) (high : lone_leaf ≤ entry) (after more : List ℕ)
+      (after_is : after ≡ slice_set branches run (length leaves / 16)) (more_is : more ≡ with_block 0 leaves (entry % 256 / 16) (in_branch entry)) where
+    -- the run of 16 that it has
+    abbrev key : ℕ
+    key = run * 16 + entry % 256 / 16
+
     none : branch_at branches run ≡ 0
-    none = ap block_of entry_is ∙ block_high entry high
+    none = ap (block_of lone_leaf) entry_is ∙ block_high lone_leaf entry high
 
     pub as_many : length after ≡ length branches
     as_many = ap length after_is ∙ length-set branches run (length leaves / 16)
-
-    few_branches : length leaves / 16 < alone
-    few_branches = omega (arith, blocks_few 0 (length branches) (branch_at branches) leaves branch_blocks, runs_few)
 
     first_now : slice_index after run ≡ length leaves / 16
     first_now = ap (λ xs. slice_index xs run) after_is ∙ get_or-set_same branches run (length leaves / 16) 0 run_low
@@ -591,45 +670,47 @@ module _ (most count : ℕ) (branches leaves positions : List ℕ) (found : IsDi
     firsts_elsewhere i differ = ap (λ xs. slice_index xs i) after_is ∙ get_or-set_other branches run i (length leaves / 16) 0 (λ same. differ same)
 
     branch_there : branch_at after run ≡ length leaves / 16
-    branch_there = ap block_of first_now ∙ block_low (length leaves / 16) few_branches
+    branch_there = ap (block_of lone_leaf) first_now ∙ block_low lone_leaf (length leaves / 16) (omega (arith, few_branches))
 
     branches_elsewhere : (i : ℕ) → (i ≡ run → ⊥) → branch_at after i ≡ branch_at branches i
-    branches_elsewhere i differ = ap block_of (firsts_elsewhere i differ)
-
-    middle_blocks : AreBlocks 0 (length branches) (branch_at after) middle
-    middle_blocks = block_added 0 (length branches) (branch_at branches) leaves branch_blocks run run_low none (branch_at after) branch_there branches_elsewhere middle middle_is
-
-    middle_same : (i : ℕ) → number_at (branch_at after) middle i ≡ entry_at branches leaves i
-    middle_same = same_numbers 0 (length branches) (branch_at branches) leaves branch_blocks run run_low none (branch_at after) branch_there branches_elsewhere middle middle_is
+    branches_elsewhere i differ = ap (block_of lone_leaf) (firsts_elsewhere i differ)
 
     key_run : key / 16 ≡ run
-    key_run = omega (arith, key_is)
+    key_run = omega arith
 
-    key_block : branch_at after (key / 16) ≡ length leaves / 16
-    key_block = ap (branch_at after) key_run ∙ branch_there
+    more_put : more ≡ with_block 0 leaves (key % 16) (in_branch entry)
+    more_put = let place : entry % 256 / 16 ≡ key % 16 = omega arith in more_is ∙ ap (λ n. with_block 0 leaves n (in_branch entry)) place
 
-    key_own : 0 < branch_at after (key / 16)
-    key_own = omega (arith, key_block, branch_blocks.how_many)
+    with_branch : AreBlocks 0 (length branches) (branch_at after) more
+    with_branch =
+        one_added 0 (length branches) (branch_at branches) leaves branch_blocks run run_low none (branch_at after) branch_there branches_elsewhere key (in_branch entry) key_run more more_put
 
-    slot : length leaves + entry % 256 / 16 ≡ slot_in (branch_at after) key
-    slot = omega (arith, key_block, key_is, branch_blocks.how_many)
-
-    more_put : more ≡ slice_set middle (slot_in (branch_at after) key) entry
-    more_put = more_is ∙ ap (λ at. slice_set middle at entry) slot
-
-    entry_there : entry_at after more key ≡ entry
-    entry_there = number_there 0 (length branches) (branch_at after) middle middle_blocks key key_own entry more more_put
+    entry_there : entry_at after more key ≡ in_branch entry
+    entry_there =
+        one_now 0 (length branches) (branch_at branches) leaves branch_blocks run run_low none (branch_at after) branch_there branches_elsewhere key (in_branch entry) key_run more more_put
 
     entries_elsewhere : (i : ℕ) → (i ≡ key → ⊥) → entry_at after more i ≡ entry_at branches leaves i
-    entries_elsewhere i differ = numbers_elsewhere 0 (length branches) (branch_at after) middle middle_blocks key key_own entry more more_put i differ ∙ middle_same i
+    entries_elsewhere =
+        others_now 0 (length branches) (branch_at branches) leaves branch_blocks run run_low none (branch_at after) branch_there branches_elsewhere key (in_branch entry) key_run more more_put
 
     was_none : (i : ℕ) → i / 16 ≡ run → entry_at branches leaves i ≡ 0
     was_none i same = no_entry_of i (ap (branch_at branches) same ∙ none)
 
+    -- of a run of 16 of the run
+    same_leaf_here : (i : ℕ) → i / 16 ≡ run → leaf_at after more i ≡ leaf_at branches leaves i
+    same_leaf_here i here =
+        let now = leaf_of_branch after more i (omega (arith, ap (slice_index after) here, first_now, few_branches)) in
+        let was = leaf_without_branch i (omega (arith, ap (slice_index branches) here, entry_is, high)) ∙ ap (λ e. leaf_alone e i) (ap (slice_index branches) here ∙ entry_is) in
+        let last : block_of alone (entry_at after more i) ≡ leaf_alone entry i = elim (same_or_not i key) as (λ _. block_of alone (entry_at after more i) ≡ leaf_alone entry i) [
+          | inl same ↦ ap (block_of alone) (ap (entry_at after more) same ∙ entry_there) ∙ leaf_in_branch entry i high (omega (arith, same))
+          | inr differ ↦ ap (block_of alone) (entries_elsewhere i differ ∙ was_none i here) ∙ sym (leaf_other entry i (λ same. differ (omega (arith, same, here))))
+        ] in
+        now ∙ last ∙ sym was
+
     same_leaves : (i : ℕ) → leaf_at after more i ≡ leaf_at branches leaves i
-    same_leaves i = elim (same_or_not i key) as (λ _. leaf_at after more i ≡ leaf_at branches leaves i) [
-      | inl same ↦ ap (leaf_at after more) same ∙ ap block_of entry_there ∙ block_high entry high ∙ sym (ap block_of (was_none i (omega (arith, same, key_run))))
-      | inr differ ↦ ap block_of (entries_elsewhere i differ)
+    same_leaves i = elim (same_or_not (i / 16) run) as (λ _. leaf_at after more i ≡ leaf_at branches leaves i) [
+      | inl here ↦ same_leaf_here i here
+      | inr apart ↦ same_leaf after more branches leaves i (ap (λ e. leaf_alone e i) (firsts_elsewhere (i / 16) apart)) (entries_elsewhere i (λ same. apart (omega (arith, same))))
     ]
 
     same_in_leaves : (shard : ℕ) → number_at (leaf_at after more) positions shard ≡ number_at (leaf_at branches leaves) positions shard
@@ -639,54 +720,93 @@ module _ (most count : ℕ) (branches leaves positions : List ℕ) (found : IsDi
     same_here : (shard : ℕ) → shard / 256 ≡ run → position_at after more positions shard ≡ position_at branches leaves positions shard
     same_here shard here =
         let nothing : entry_at branches leaves (shard / 16) ≡ 0 = was_none (shard / 16) (omega (arith, here)) in
-        let no_leaf : number_at (leaf_at branches leaves) positions shard ≡ nowhere = no_number shard (ap block_of nothing) in
-        let before : position_at branches leaves positions shard ≡ position_alone entry shard =
-        by_branch shard (ap (branch_at branches) here ∙ none) ∙ ap (λ e. position_alone e shard) (ap (slice_index branches) here ∙ entry_is) in
-        let first : position_at after more positions shard ≡ or_else (position_alone (entry_at after more (shard / 16)) shard) (number_at (leaf_at after more) positions shard) =
-        or_nowhere (position_alone (slice_index after (shard / 256)) shard) (or_else (position_alone (entry_at after more (shard / 16)) shard) (number_at (leaf_at after more) positions shard))
-        (alone_low (slice_index after (shard / 256)) shard (omega (arith, ap (slice_index after) here, first_now, few_branches))) in
-        let alone_is : or_else (position_alone (entry_at after more (shard / 16)) shard) (number_at (leaf_at after more) positions shard) ≡ position_alone (entry_at after more (shard / 16)) shard =
-        or_none (position_alone (entry_at after more (shard / 16)) shard) (number_at (leaf_at after more) positions shard) (same_in_leaves shard ∙ no_leaf) in
+        let first : slice_index branches (shard / 256) ≡ entry = ap (slice_index branches) here ∙ entry_is in
+        let first_small : slice_index after (shard / 256) < alone = omega (arith, ap (slice_index after) here, first_now, few_branches) in
         let last : position_alone (entry_at after more (shard / 16)) shard ≡ position_alone entry shard = elim (same_or_not (shard / 16) key) as (λ _. position_alone (entry_at after more (shard / 16)) shard ≡ position_alone entry shard) [
-          | inl same ↦ ap (λ e. position_alone e shard) (ap (entry_at after more) same ∙ entry_there)
+          | inl same ↦ ap (λ e. position_alone e shard) (ap (entry_at after more) same ∙ entry_there) ∙ alone_in_branch entry shard
           | inr differ ↦
               alone_low (entry_at after more (shard / 16)) shard (omega (arith, entries_elsewhere (shard / 16) differ, nothing))
-              ∙ sym (alone_other entry shard (λ same. differ (omega (arith, same, here, key_is))))
+              ∙ sym (alone_other entry shard (λ same. differ (omega (arith, same, here))))
         ] in
-        first ∙ alone_is ∙ last ∙ sym before
+        same_sources (position_alone (slice_index after (shard / 256)) shard) nowhere (position_alone (entry_at after more (shard / 16)) shard) (position_alone entry shard)
+        (number_at (leaf_at after more) positions shard) (number_at (leaf_at branches leaves) positions shard) (alone_low (slice_index after (shard / 256)) shard first_small) last (same_in_leaves shard)
+        ∙ alone_moved entry (entry_at branches leaves (shard / 16)) (number_at (leaf_at branches leaves) positions shard) shard (omega (arith, nothing))
+        ∙ ap (λ e. or_else (position_alone e shard) (or_else (position_alone (entry_at branches leaves (shard / 16)) shard) (number_at (leaf_at branches leaves) positions shard))) (sym first)
 
     pub same_by_branch : (shard : ℕ) → position_at after more positions shard ≡ position_at branches leaves positions shard
     same_by_branch shard = elim (same_or_not (shard / 256) run) as (λ _. position_at after more positions shard ≡ position_at branches leaves positions shard) [
       | inl here ↦ same_here shard here
       | inr apart ↦
-          same_position after more positions branches leaves positions shard (firsts_elsewhere (shard / 256) apart) (entries_elsewhere (shard / 16) (λ same. apart (omega (arith, same, key_is))))
+          same_position after more positions branches leaves positions shard (firsts_elsewhere (shard / 256) apart) (entries_elsewhere (shard / 16) (λ same. apart (omega (arith, same))))
           (same_in_leaves shard)
     ]
 
     pub branch_parted : IsDirectory most count after more positions
     branch_parted =
-        same_places after more positions as_many (rw as_many (number_put 0 (length branches) (branch_at after) middle middle_blocks key key_own entry more more_put))
+        same_places after more positions as_many (rw as_many with_branch)
         (rw as_many (same_blocks nowhere (length branches * 16) (leaf_at branches leaves) (leaf_at after more) positions leaf_blocks same_leaves)) same_by_branch
 
-    pub first_parted : slice_index after run < alone
+    pub first_parted : slice_index after run < lone_leaf
     first_parted = omega (arith, first_now, few_branches)
 
   -- ---- a run of 16 gets a leaf, which has the one shard that is there
+  module _ (run : ℕ) (run_low : run < length branches * 16) (entry key : ℕ) (key_is : key ≡ run * 16 + entry % 16) (firsts entries more : List ℕ)
+      (none : leaf_at branches leaves run ≡ 0) (there : leaf_at firsts entries run ≡ length positions / 16)
+      (elsewhere : (i : ℕ) → (i ≡ run → ⊥) → leaf_at firsts entries i ≡ leaf_at branches leaves i)
+      (more_is : more ≡ with_block nowhere positions (entry % 16) (position_alone entry key)) where
+    run_of_key : key / 16 ≡ run
+    run_of_key = omega (arith, key_is)
+
+    more_numbers : more ≡ with_block nowhere positions (key % 16) (position_alone entry key)
+    more_numbers = let place : entry % 16 ≡ key % 16 = omega (arith, key_is) in more_is ∙ ap (λ n. with_block nowhere positions n (position_alone entry key)) place
+
+    with_new_leaf : AreBlocks nowhere (length branches * 16) (leaf_at firsts entries) more
+    with_new_leaf =
+        one_added nowhere (length branches * 16) (leaf_at branches leaves) positions leaf_blocks run run_low none (leaf_at firsts entries) there elsewhere key (position_alone entry key) run_of_key more more_numbers
+
+    number_now : number_at (leaf_at firsts entries) more key ≡ position_alone entry key
+    number_now =
+        one_now nowhere (length branches * 16) (leaf_at branches leaves) positions leaf_blocks run run_low none (leaf_at firsts entries) there elsewhere key (position_alone entry key) run_of_key more more_numbers
+
+    others_numbers : (shard : ℕ) → (shard ≡ key → ⊥) → number_at (leaf_at firsts entries) more shard ≡ number_at (leaf_at branches leaves) positions shard
+    others_numbers =
+        others_now nowhere (length branches * 16) (leaf_at branches leaves) positions leaf_blocks run run_low none (leaf_at firsts entries) there elsewhere key (position_alone entry key) run_of_key more more_numbers
+
+    -- of a shard of the run
+    same_in_run : slice_index firsts (run / 16) < alone → entry_at firsts entries run < alone → (shard : ℕ) → shard / 16 ≡ run → position_at branches leaves positions shard ≡ position_alone entry shard
+        → position_at firsts entries more shard ≡ position_at branches leaves positions shard
+    same_in_run first_small entry_small shard here before =
+        let of : run / 16 ≡ shard / 256 = omega (arith, here) in
+        let nothing : number_at (leaf_at branches leaves) positions shard ≡ nowhere = no_number shard (ap (leaf_at branches leaves) here ∙ none) in
+        let now = by_numbers firsts entries more shard (subst (λ r. slice_index firsts r < alone) of first_small) (subst (λ r. entry_at firsts entries r < alone) (sym here) entry_small) in
+        let last : number_at (leaf_at firsts entries) more shard ≡ position_alone entry shard = elim (same_or_not shard key) as (λ _. number_at (leaf_at firsts entries) more shard ≡ position_alone entry shard) [
+          | inl same ↦ ap (number_at (leaf_at firsts entries) more) same ∙ number_now ∙ sym (ap (position_alone entry) same)
+          | inr differ ↦ others_numbers shard differ ∙ nothing ∙ sym (alone_other entry shard (λ same. differ (omega (arith, same, here, key_is))))
+        ] in
+        now ∙ last ∙ sym before
+
+    -- of another
+    same_beside : (shard : ℕ) → (shard / 16 ≡ run → ⊥) → position_alone (slice_index firsts (shard / 256)) shard ≡ position_alone (slice_index branches (shard / 256)) shard
+        → entry_at firsts entries (shard / 16) ≡ entry_at branches leaves (shard / 16) → position_at firsts entries more shard ≡ position_at branches leaves positions shard
+    same_beside shard apart first same =
+        same_sources (position_alone (slice_index firsts (shard / 256)) shard) (position_alone (slice_index branches (shard / 256)) shard)
+        (position_alone (entry_at firsts entries (shard / 16)) shard) (position_alone (entry_at branches leaves (shard / 16)) shard)
+        (number_at (leaf_at firsts entries) more shard) (number_at (leaf_at branches leaves) positions shard)
+        first (ap (λ e. position_alone e shard) same) (others_numbers shard (λ is. apart (omega (arith, is, key_is))))
+
+  -- where the shard is alone in the run but not alone in its run of 256
   module _ (run : ℕ) (run_low : run < length branches * 16) (entry : ℕ) (entry_is : entry_at branches leaves run ≡ entry) (high : alone ≤ entry)
-      (key : ℕ) (key_is : key ≡ run * 16 + entry % 16) (after middle more : List ℕ)
-      (after_is : after ≡ slice_set leaves (slot_in (branch_at branches) run) (length positions / 16)) (middle_is : middle ≡ positions ++ replicate 16 nowhere)
-      (more_is : more ≡ slice_set middle (length positions + entry % 16) (position_alone entry key)) where
-    pub branch_own : 0 < branch_at branches (run / 16)
+      (key : ℕ) (key_is : key ≡ run * 16 + entry % 16) (after more : List ℕ)
+      (after_is : after ≡ slice_set leaves (slot_in (branch_at branches) run) (length positions / 16))
+      (more_is : more ≡ with_block nowhere positions (entry % 16) (position_alone entry key)) where
+    branch_own : 0 < branch_at branches (run / 16)
     branch_own = branch_if run (omega (arith, entry_is, high))
 
-    first_low : slice_index branches (run / 16) < alone
-    first_low = (block_is (slice_index branches (run / 16)) branch_own).0
+    first_low : slice_index branches (run / 16) < lone_leaf
+    first_low = (block_is lone_leaf (slice_index branches (run / 16)) branch_own).0
 
     leaf_none : leaf_at branches leaves run ≡ 0
-    leaf_none = ap block_of entry_is ∙ block_high entry high
-
-    few_leaves : length positions / 16 < alone
-    few_leaves = omega (arith, blocks_few nowhere (length branches * 16) (leaf_at branches leaves) positions leaf_blocks, runs_few)
+    leaf_none = no_leaf_beside run (omega (arith, entry_is, high))
 
     entry_now : entry_at branches after run ≡ length positions / 16
     entry_now = number_there 0 (length branches) (branch_at branches) leaves branch_blocks run branch_own (length positions / 16) after after_is
@@ -695,64 +815,131 @@ module _ (most count : ℕ) (branches leaves positions : List ℕ) (found : IsDi
     others_entries = numbers_elsewhere 0 (length branches) (branch_at branches) leaves branch_blocks run branch_own (length positions / 16) after after_is
 
     leaf_there : leaf_at branches after run ≡ length positions / 16
-    leaf_there = ap block_of entry_now ∙ block_low (length positions / 16) few_leaves
+    leaf_there = leaf_of_branch branches after run first_low ∙ ap (block_of alone) entry_now ∙ block_low alone (length positions / 16) (omega (arith, few_leaves))
 
     leaves_elsewhere : (i : ℕ) → (i ≡ run → ⊥) → leaf_at branches after i ≡ leaf_at branches leaves i
-    leaves_elsewhere i differ = ap block_of (others_entries i differ)
+    leaves_elsewhere i differ = same_leaf branches after branches leaves i refl (others_entries i differ)
 
-    middle_leaves : AreBlocks nowhere (length branches * 16) (leaf_at branches after) middle
-    middle_leaves = block_added nowhere (length branches * 16) (leaf_at branches leaves) positions leaf_blocks run run_low leaf_none (leaf_at branches after) leaf_there leaves_elsewhere middle middle_is
+    pub entry_parted : entry_at branches after run < alone
+    entry_parted = omega (arith, entry_now, few_leaves)
 
-    middle_numbers : (shard : ℕ) → number_at (leaf_at branches after) middle shard ≡ number_at (leaf_at branches leaves) positions shard
-    middle_numbers = same_numbers nowhere (length branches * 16) (leaf_at branches leaves) positions leaf_blocks run run_low leaf_none (leaf_at branches after) leaf_there leaves_elsewhere middle middle_is
-
-    leaf_of_key : leaf_at branches after (key / 16) ≡ length positions / 16
-    leaf_of_key = let of : key / 16 ≡ run = omega (arith, key_is) in ap (leaf_at branches after) of ∙ leaf_there
-
-    own_leaf : 0 < leaf_at branches after (key / 16)
-    own_leaf = omega (arith, leaf_of_key, leaf_blocks.how_many)
-
-    more_numbers : more ≡ slice_set middle (slot_in (leaf_at branches after) key) (position_alone entry key)
-    more_numbers =
-        let at : length positions + entry % 16 ≡ slot_in (leaf_at branches after) key = omega (arith, leaf_of_key, key_is, leaf_blocks.how_many) in
-        more_is ∙ ap (λ n. slice_set middle n (position_alone entry key)) at
-
-    number_now : number_at (leaf_at branches after) more key ≡ position_alone entry key
-    number_now = number_there nowhere (length branches * 16) (leaf_at branches after) middle middle_leaves key own_leaf (position_alone entry key) more more_numbers
-
-    others_numbers : (shard : ℕ) → (shard ≡ key → ⊥) → number_at (leaf_at branches after) more shard ≡ number_at (leaf_at branches leaves) positions shard
-    others_numbers shard differ =
-        numbers_elsewhere nowhere (length branches * 16) (leaf_at branches after) middle middle_leaves key own_leaf (position_alone entry key) more more_numbers shard differ ∙ middle_numbers shard
-
-    -- of a shard of the run
-    same_in_run : (shard : ℕ) → shard / 16 ≡ run → position_at branches after more shard ≡ position_at branches leaves positions shard
-    same_in_run shard here =
-        let of : run / 16 ≡ shard / 256 = omega (arith, here) in
-        let low : slice_index branches (shard / 256) < alone = subst (λ r. slice_index branches r < alone) of first_low in
-        let nothing : number_at (leaf_at branches leaves) positions shard ≡ nowhere = no_number shard (ap (leaf_at branches leaves) here ∙ leaf_none) in
-        let before : position_at branches leaves positions shard ≡ position_alone entry shard =
-        by_entry shard low (ap (leaf_at branches leaves) here ∙ leaf_none) ∙ ap (λ e. position_alone e shard) (ap (entry_at branches leaves) here ∙ entry_is) in
-        let now = by_numbers branches after more shard low (omega (arith, ap (entry_at branches after) here, entry_now, few_leaves)) in
-        let last : number_at (leaf_at branches after) more shard ≡ position_alone entry shard = elim (same_or_not shard key) as (λ _. number_at (leaf_at branches after) more shard ≡ position_alone entry shard) [
-          | inl same ↦ ap (number_at (leaf_at branches after) more) same ∙ number_now ∙ sym (ap (position_alone entry) same)
-          | inr differ ↦ others_numbers shard differ ∙ nothing ∙ sym (alone_other entry shard (λ same. differ (omega (arith, same, here, key_is))))
-        ] in
-        now ∙ last ∙ sym before
+    pub leaf_some : 0 < leaf_at branches after run
+    leaf_some = omega (arith, leaf_there, leaf_blocks.how_many)
 
     pub same_by_leaf : (shard : ℕ) → position_at branches after more shard ≡ position_at branches leaves positions shard
     same_by_leaf shard = elim (same_or_not (shard / 16) run) as (λ _. position_at branches after more shard ≡ position_at branches leaves positions shard) [
-      | inl here ↦ same_in_run shard here
+      | inl here ↦
+          let of : run / 16 ≡ shard / 256 = omega (arith, here) in
+          let before : position_at branches leaves positions shard ≡ position_alone entry shard =
+          by_entry shard (omega (arith, ap (slice_index branches) of, first_low)) (ap (leaf_at branches leaves) here ∙ leaf_none) ∙ ap (λ e. position_alone e shard) (ap (entry_at branches leaves) here ∙ entry_is) in
+          same_in_run run run_low entry key key_is branches after more leaf_none leaf_there leaves_elsewhere more_is (omega (arith, first_low)) entry_parted shard here before
       | inr apart ↦
-          same_position branches after more branches leaves positions shard refl (others_entries (shard / 16) apart) (others_numbers shard (λ same. apart (omega (arith, same, key_is))))
+          same_beside run run_low entry key key_is branches after more leaf_none leaf_there leaves_elsewhere more_is shard apart refl (others_entries (shard / 16) apart)
     ]
 
     pub leaf_parted : IsDirectory most count branches after more
     leaf_parted =
         same_places branches after more refl (number_put 0 (length branches) (branch_at branches) leaves branch_blocks run branch_own (length positions / 16) after after_is)
-        (number_put nowhere (length branches * 16) (leaf_at branches after) middle middle_leaves key own_leaf (position_alone entry key) more more_numbers) same_by_leaf
+        (with_new_leaf run run_low entry key key_is branches after more leaf_none leaf_there leaves_elsewhere more_is) same_by_leaf
 
-    pub entry_parted : entry_at branches after run < alone
-    entry_parted = omega (arith, entry_now, few_leaves)
+  -- ---- a run of 256 without a branch gets another entry that names none
+  module _ (run : ℕ) (run_low : run < length branches) (no_branch_there : branch_at branches run ≡ 0) (entry : ℕ) (high : lone_leaf ≤ entry) (after : List ℕ) (after_is : after ≡ slice_set branches run entry) where
+    pub still_many : length after ≡ length branches
+    still_many = ap length after_is ∙ length-set branches run entry
+
+    first_is : slice_index after run ≡ entry
+    first_is = ap (λ xs. slice_index xs run) after_is ∙ get_or-set_same branches run entry 0 run_low
+
+    others_firsts : (i : ℕ) → (i ≡ run → ⊥) → slice_index after i ≡ slice_index branches i
+    others_firsts i differ = ap (λ xs. slice_index xs i) after_is ∙ get_or-set_other branches run i entry 0 (λ same. differ same)
+
+    branches_same : (i : ℕ) → branch_at after i ≡ branch_at branches i
+    branches_same i = elim (same_or_not i run) as (λ _. branch_at after i ≡ branch_at branches i) [
+      | inl same ↦ ap (block_of lone_leaf) (ap (slice_index after) same ∙ first_is) ∙ block_high lone_leaf entry high ∙ sym (ap (branch_at branches) same ∙ no_branch_there)
+      | inr differ ↦ ap (block_of lone_leaf) (others_firsts i differ)
+    ]
+
+    entries_same : (i : ℕ) → entry_at after leaves i ≡ entry_at branches leaves i
+    entries_same i = ap (λ n. slice_index leaves (n * 16 + i % 16)) (branches_same (i / 16))
+
+    branches_laid : AreBlocks 0 (length after) (branch_at after) leaves
+    branches_laid = rw still_many (same_blocks 0 (length branches) (branch_at branches) (branch_at after) leaves branch_blocks branches_same)
+
+  -- where a run of 16 has the one shard of its run of 256, it gets a leaf that is alone there
+  module _ (run : ℕ) (run_low : run < length branches * 16) (entry : ℕ) (entry_is : slice_index branches (run / 16) ≡ entry) (high : alone ≤ entry) (of_run : entry % 256 / 16 ≡ run % 16)
+      (key : ℕ) (key_is : key ≡ run * 16 + entry % 16) (after more : List ℕ)
+      (after_is : after ≡ slice_set branches (run / 16) (with_leaf (length positions / 16) run))
+      (more_is : more ≡ with_block nowhere positions (entry % 16) (position_alone entry key)) where
+    whole_run_low : run / 16 < length branches
+    whole_run_low = omega (arith, run_low)
+
+    no_branch_yet : branch_at branches (run / 16) ≡ 0
+    no_branch_yet = ap (block_of lone_leaf) entry_is ∙ block_high lone_leaf entry (omega (arith, high))
+
+    pub lone_many : length after ≡ length branches
+    lone_many = still_many (run / 16) whole_run_low no_branch_yet (with_leaf (length positions / 16) run) (omega arith) after after_is
+
+    lone_is : slice_index after (run / 16) ≡ with_leaf (length positions / 16) run
+    lone_is = first_is (run / 16) whole_run_low no_branch_yet (with_leaf (length positions / 16) run) (omega arith) after after_is
+
+    firsts_beside : (i : ℕ) → (i ≡ run / 16 → ⊥) → slice_index after i ≡ slice_index branches i
+    firsts_beside = others_firsts (run / 16) whole_run_low no_branch_yet (with_leaf (length positions / 16) run) (omega arith) after after_is
+
+    entries_as_they_were : (i : ℕ) → entry_at after leaves i ≡ entry_at branches leaves i
+    entries_as_they_were = entries_same (run / 16) whole_run_low no_branch_yet (with_leaf (length positions / 16) run) (omega arith) after after_is
+
+    nothing_in_branch : entry_at branches leaves run ≡ 0
+    nothing_in_branch = no_entry_of run no_branch_yet
+
+    no_leaf_yet : (i : ℕ) → i / 16 ≡ run / 16 → leaf_alone (slice_index branches (i / 16)) i ≡ 0
+    no_leaf_yet i same = ap (λ e. leaf_alone e i) (ap (slice_index branches) same ∙ entry_is) ∙ leaf_high entry i high
+
+    lone_none : leaf_at branches leaves run ≡ 0
+    lone_none = omega (arith, no_leaf_yet run refl, ap (block_of alone) nothing_in_branch)
+
+    lone_there : leaf_at after leaves run ≡ length positions / 16
+    lone_there =
+        omega (arith, ap (λ e. leaf_alone e run) lone_is ∙ leaf_is_there (length positions / 16) run (omega (arith, few_leaves)), ap (block_of alone) (entries_as_they_were run ∙ nothing_in_branch))
+
+    lone_elsewhere : (i : ℕ) → (i ≡ run → ⊥) → leaf_at after leaves i ≡ leaf_at branches leaves i
+    lone_elsewhere i differ = elim (same_or_not (i / 16) (run / 16)) as (λ _. leaf_at after leaves i ≡ leaf_at branches leaves i) [
+      | inl same ↦
+          same_leaf after leaves branches leaves i
+          (ap (λ e. leaf_alone e i) (ap (slice_index after) same ∙ lone_is) ∙ leaf_elsewhere (length positions / 16) run i (λ is. differ (omega (arith, is, same))) ∙ sym (no_leaf_yet i same))
+          (entries_as_they_were i)
+      | inr apart ↦ same_leaf after leaves branches leaves i (ap (λ e. leaf_alone e i) (firsts_beside (i / 16) apart)) (entries_as_they_were i)
+    ]
+
+    pub lone_some : 0 < leaf_at after leaves run
+    lone_some = omega (arith, lone_there, leaf_blocks.how_many)
+
+    lone_low : slice_index after (run / 16) < alone
+    lone_low = omega (arith, lone_is, few_leaves)
+
+    -- no shard outside of the run is there
+    alone_beside : (shard : ℕ) → (shard / 16 ≡ run → ⊥) → position_alone (slice_index after (shard / 256)) shard ≡ position_alone (slice_index branches (shard / 256)) shard
+    alone_beside shard apart = elim (same_or_not (shard / 256) (run / 16)) as (λ _. position_alone (slice_index after (shard / 256)) shard ≡ position_alone (slice_index branches (shard / 256)) shard) [
+      | inl same ↦
+          alone_low (slice_index after (shard / 256)) shard (subst (λ r. slice_index after r < alone) (sym same) lone_low)
+          ∙ sym (ap (λ e. position_alone e shard) (ap (slice_index branches) same ∙ entry_is) ∙ alone_other entry shard (λ is. apart (omega (arith, is, same, of_run))))
+      | inr differ ↦ ap (λ e. position_alone e shard) (firsts_beside (shard / 256) differ)
+    ]
+
+    pub same_by_lone : (shard : ℕ) → position_at after leaves more shard ≡ position_at branches leaves positions shard
+    same_by_lone shard = elim (same_or_not (shard / 16) run) as (λ _. position_at after leaves more shard ≡ position_at branches leaves positions shard) [
+      | inl here ↦
+          let of : run / 16 ≡ shard / 256 = omega (arith, here) in
+          let first : slice_index branches (shard / 256) ≡ entry = ap (slice_index branches) (sym of) ∙ entry_is in
+          let before : position_at branches leaves positions shard ≡ position_alone entry shard = by_branch shard (omega (arith, first, high)) ∙ ap (λ e. position_alone e shard) first in
+          same_in_run run run_low entry key key_is after leaves more lone_none lone_there lone_elsewhere more_is lone_low (omega (arith, entries_as_they_were run, nothing_in_branch)) shard here before
+      | inr apart ↦
+          same_beside run run_low entry key key_is after leaves more lone_none lone_there lone_elsewhere more_is shard apart (alone_beside shard apart) (entries_as_they_were (shard / 16))
+    ]
+
+    pub lone_parted : IsDirectory most count after leaves more
+    lone_parted =
+        same_places after leaves more lone_many (branches_laid (run / 16) whole_run_low no_branch_yet (with_leaf (length positions / 16) run) (omega arith) after after_is)
+        (rw lone_many (with_new_leaf run run_low entry key key_is after leaves more lone_none lone_there lone_elsewhere more_is)) same_by_lone
 
   -- ---- a shard has the next position
   module _ (shard : ℕ) (shard_low : shard < most) (absent : position_at branches leaves positions shard ≡ nowhere) (firsts entries numbers : List ℕ)
@@ -814,59 +1001,61 @@ module _ (most count : ℕ) (branches leaves positions : List ℕ) (found : IsDi
     low_count : count < 2 ^ 23
     low_count = omega (arith, fewer_there shard shard_low absent, found.few)
 
+    none_before : branch_at branches (shard / 256) ≡ 0
+    none_before = ap (block_of lone_leaf) none
+
     pub alone_many : length after ≡ length branches
-    alone_many = ap length after_is ∙ length-set branches (shard / 256) (with_one count shard)
+    alone_many = still_many (shard / 256) (run_within shard shard_low) none_before (with_one count shard) (omega arith) after after_is
 
-    first_is : slice_index after (shard / 256) ≡ with_one count shard
-    first_is = ap (λ xs. slice_index xs (shard / 256)) after_is ∙ get_or-set_same branches (shard / 256) (with_one count shard) 0 (run_within shard shard_low)
+    alone_is : slice_index after (shard / 256) ≡ with_one count shard
+    alone_is = first_is (shard / 256) (run_within shard shard_low) none_before (with_one count shard) (omega arith) after after_is
 
-    others_firsts : (i : ℕ) → (i ≡ shard / 256 → ⊥) → slice_index after i ≡ slice_index branches i
-    others_firsts i differ = ap (λ xs. slice_index xs i) after_is ∙ get_or-set_other branches (shard / 256) i (with_one count shard) 0 (λ same. differ same)
+    firsts_as_before : (i : ℕ) → (i ≡ shard / 256 → ⊥) → slice_index after i ≡ slice_index branches i
+    firsts_as_before = others_firsts (shard / 256) (run_within shard shard_low) none_before (with_one count shard) (omega arith) after after_is
 
-    branches_same : (i : ℕ) → branch_at after i ≡ branch_at branches i
-    branches_same i = elim (same_or_not i (shard / 256)) as (λ _. branch_at after i ≡ branch_at branches i) [
-      | inl same ↦ ap block_of (ap (slice_index after) same ∙ first_is) ∙ one_no_block count shard ∙ sym (ap block_of (ap (slice_index branches) same ∙ none))
-      | inr differ ↦ ap block_of (others_firsts i differ)
-    ]
+    all_entries_same : (i : ℕ) → entry_at after leaves i ≡ entry_at branches leaves i
+    all_entries_same = entries_same (shard / 256) (run_within shard shard_low) none_before (with_one count shard) (omega arith) after after_is
 
-    entries_same : (i : ℕ) → entry_at after leaves i ≡ entry_at branches leaves i
-    entries_same i = ap (λ n. slice_index leaves (n * 16 + i % 16)) (branches_same (i / 16))
+    all_leaves_same : (i : ℕ) → leaf_at after leaves i ≡ leaf_at branches leaves i
+    all_leaves_same i = same_leaf after leaves branches leaves i (by (same_or_not (i / 16) (shard / 256))) (all_entries_same i)
+      where
+        by : (i / 16 ≡ shard / 256) ⊎ (i / 16 ≡ shard / 256 → ⊥) → leaf_alone (slice_index after (i / 16)) i ≡ leaf_alone (slice_index branches (i / 16)) i
+        by (inl same) =
+            ap (λ e. leaf_alone e i) (ap (slice_index after) same ∙ alone_is) ∙ leaf_high (with_one count shard) i (one_high count shard)
+            ∙ sym (ap (λ e. leaf_alone e i) (ap (slice_index branches) same ∙ none))
+        by (inr differ) = ap (λ e. leaf_alone e i) (firsts_as_before (i / 16) differ)
 
     numbers_same : (other : ℕ) → number_at (leaf_at after leaves) positions other ≡ number_at (leaf_at branches leaves) positions other
-    numbers_same other = ap (λ n. slice_index positions (n * 16 + other % 16)) (ap block_of (entries_same (other / 16)))
+    numbers_same other = ap (λ n. slice_index positions (n * 16 + other % 16)) (all_leaves_same (other / 16))
 
     pub alone_there : position_at after leaves positions shard ≡ count
-    alone_there =
-        let is : position_alone (slice_index after (shard / 256)) shard ≡ count = ap (λ e. position_alone e shard) first_is ∙ one_is_there count shard in
-        or_some (position_alone (slice_index after (shard / 256)) shard) (or_else (position_alone (entry_at after leaves (shard / 16)) shard) (number_at (leaf_at after leaves) positions shard))
-        (λ away. absurd (omega (arith, is, away, low_count)))
-        ∙ is
+    alone_there = grind (arith, nat_tests, ap (λ e. position_alone e shard) alone_is ∙ one_is_there count shard, low_count)
 
     pub alone_elsewhere : (other : ℕ) → (other ≡ shard → ⊥) → position_at after leaves positions other ≡ position_at branches leaves positions other
     alone_elsewhere other differ =
         let first : position_alone (slice_index after (other / 256)) other ≡ position_alone (slice_index branches (other / 256)) other =
         elim (same_or_not (other / 256) (shard / 256)) as (λ _. position_alone (slice_index after (other / 256)) other ≡ position_alone (slice_index branches (other / 256)) other) [
           | inl here ↦
-              ap (λ e. position_alone e other) (ap (slice_index after) here ∙ first_is) ∙ one_elsewhere count shard other (λ same. differ (omega (arith, same, here)))
+              ap (λ e. position_alone e other) (ap (slice_index after) here ∙ alone_is) ∙ one_elsewhere count shard other (λ same. differ (omega (arith, same, here)))
               ∙ sym (alone_low (slice_index branches (other / 256)) other (omega (arith, ap (slice_index branches) here, none)))
-          | inr apart ↦ ap (λ e. position_alone e other) (others_firsts (other / 256) apart)
+          | inr apart ↦ ap (λ e. position_alone e other) (firsts_as_before (other / 256) apart)
         ] in
         same_sources (position_alone (slice_index after (other / 256)) other) (position_alone (slice_index branches (other / 256)) other)
         (position_alone (entry_at after leaves (other / 16)) other) (position_alone (entry_at branches leaves (other / 16)) other)
         (number_at (leaf_at after leaves) positions other) (number_at (leaf_at branches leaves) positions other)
-        first (ap (λ e. position_alone e other) (entries_same (other / 16))) (numbers_same other)
+        first (ap (λ e. position_alone e other) (all_entries_same (other / 16))) (numbers_same other)
 
     pub alone_added : IsDirectory most (count + 1) after leaves positions
     alone_added = record {
       few = found.few;
       runs = alone_many ∙ found.runs;
-      are_laid = laid (rw alone_many (same_blocks 0 (length branches) (branch_at branches) (branch_at after) leaves branch_blocks branches_same))
-          (rw alone_many (same_blocks nowhere (length branches * 16) (leaf_at branches leaves) (leaf_at after leaves) positions leaf_blocks (λ i. ap block_of (entries_same i))));
+      are_laid = laid (branches_laid (shard / 256) (run_within shard shard_low) none_before (with_one count shard) (omega arith) after after_is)
+          (rw alone_many (same_blocks nowhere (length branches * 16) (leaf_at branches leaves) (leaf_at after leaves) positions leaf_blocks all_leaves_same));
       are_placed = placed_more shard shard_low absent after leaves positions alone_there alone_elsewhere;
     }
 
   -- alone in its run of 16
-  module _ (shard : ℕ) (shard_low : shard < most) (absent : position_at branches leaves positions shard ≡ nowhere) (first_small : slice_index branches (shard / 256) < alone)
+  module _ (shard : ℕ) (shard_low : shard < most) (absent : position_at branches leaves positions shard ≡ nowhere) (first_small : slice_index branches (shard / 256) < lone_leaf)
       (some : 0 < slice_index branches (shard / 256)) (none : entry_at branches leaves (shard / 16) ≡ 0) (after : List ℕ)
       (after_is : after ≡ slice_set leaves (slot_in (branch_at branches) (shard / 16)) (with_one count shard)) where
     small_count : count < 2 ^ 23
@@ -875,7 +1064,7 @@ module _ (most count : ℕ) (branches leaves positions : List ℕ) (found : IsDi
     has_branch : 0 < branch_at branches (shard / 16 / 16)
     has_branch =
         let of : shard / 16 / 16 ≡ shard / 256 = omega arith in
-        omega (arith, ap (branch_at branches) of, block_low (slice_index branches (shard / 256)) first_small, some)
+        omega (arith, ap (branch_at branches) of, block_low lone_leaf (slice_index branches (shard / 256)) first_small, some)
 
     entry_is_one : entry_at branches after (shard / 16) ≡ with_one count shard
     entry_is_one = number_there 0 (length branches) (branch_at branches) leaves branch_blocks (shard / 16) has_branch (with_one count shard) after after_is
@@ -885,17 +1074,15 @@ module _ (most count : ℕ) (branches leaves positions : List ℕ) (found : IsDi
 
     leaves_as_before : (i : ℕ) → leaf_at branches after i ≡ leaf_at branches leaves i
     leaves_as_before i = elim (same_or_not i (shard / 16)) as (λ _. leaf_at branches after i ≡ leaf_at branches leaves i) [
-      | inl same ↦ ap block_of (ap (entry_at branches after) same ∙ entry_is_one) ∙ one_no_block count shard ∙ sym (ap block_of (ap (entry_at branches leaves) same ∙ none))
-      | inr differ ↦ ap block_of (entries_as_before i differ)
+      | inl same ↦
+          let now = ap (block_of alone) (ap (entry_at branches after) same ∙ entry_is_one) ∙ block_high alone (with_one count shard) (one_high count shard) in
+          let before = ap (block_of alone) (ap (entry_at branches leaves) same ∙ none) in
+          omega (arith, now, before)
+      | inr differ ↦ same_leaf branches after branches leaves i refl (entries_as_before i differ)
     ]
 
     pub beside_there : position_at branches after positions shard ≡ count
-    beside_there =
-        let is : position_alone (entry_at branches after (shard / 16)) shard ≡ count = ap (λ e. position_alone e shard) entry_is_one ∙ one_is_there count shard in
-        or_nowhere (position_alone (slice_index branches (shard / 256)) shard) (or_else (position_alone (entry_at branches after (shard / 16)) shard) (number_at (leaf_at branches after) positions shard))
-        (alone_low (slice_index branches (shard / 256)) shard first_small)
-        ∙ or_some (position_alone (entry_at branches after (shard / 16)) shard) (number_at (leaf_at branches after) positions shard) (λ away. absurd (omega (arith, is, away, small_count)))
-        ∙ is
+    beside_there = grind (arith, nat_tests, ap (λ e. position_alone e shard) entry_is_one ∙ one_is_there count shard, first_small, small_count)
 
     pub beside_elsewhere : (other : ℕ) → (other ≡ shard → ⊥) → position_at branches after positions other ≡ position_at branches leaves positions other
     beside_elsewhere other differ =
@@ -923,16 +1110,11 @@ module _ (most count : ℕ) (branches leaves positions : List ℕ) (found : IsDi
   -- in its leaf
   module _ (shard : ℕ) (shard_low : shard < most) (absent : position_at branches leaves positions shard ≡ nowhere) (some : 0 < leaf_at branches leaves (shard / 16)) (after : List ℕ)
       (after_is : after ≡ slice_set positions (slot_in (leaf_at branches leaves) shard) count) where
-    with_leaf : (slice_index branches (shard / 256) < alone) × (entry_at branches leaves (shard / 16) < alone)
-    with_leaf =
-        let entry = block_is (entry_at branches leaves (shard / 16)) some in
-        let of : shard / 16 / 16 ≡ shard / 256 = omega arith in
-        let branch = branch_if (shard / 16) (omega (arith, some, entry.1)) in
-        (subst (λ run. slice_index branches run < alone) of ((block_is (slice_index branches (shard / 16 / 16)) branch).0), entry.0)
-
     pub shard_there : position_at branches leaves after shard ≡ count
     shard_there =
-        by_numbers branches leaves after shard with_leaf.0 with_leaf.1
+        let low = none_alone (shard / 16) some in
+        let of : shard / 16 / 16 ≡ shard / 256 = omega arith in
+        by_numbers branches leaves after shard (subst (λ run. slice_index branches run < alone) of low.0) low.1
         ∙ number_there nowhere (length branches * 16) (leaf_at branches leaves) positions leaf_blocks shard some count after after_is
 
     pub shards_elsewhere : (other : ℕ) → (other ≡ shard → ⊥) → position_at branches leaves after other ≡ position_at branches leaves positions other
@@ -953,14 +1135,14 @@ module _ (most count : ℕ) (branches leaves positions : List ℕ) (found : IsDi
 pub data IsPut (count shard : ℕ) (branches leaves positions firsts entries numbers : List ℕ) : Type 0 where
   put_alone : slice_index branches (shard / 256) ≡ 0 → firsts ≡ slice_set branches (shard / 256) (with_one count shard) → entries ≡ leaves → numbers ≡ positions
       → IsPut count shard branches leaves positions firsts entries numbers
-  put_beside : 0 < slice_index branches (shard / 256) → entry_at branches leaves (shard / 16) ≡ 0 → firsts ≡ branches
+  put_beside : 0 < slice_index branches (shard / 256) → slice_index branches (shard / 256) < lone_leaf → entry_at branches leaves (shard / 16) ≡ 0 → firsts ≡ branches
       → entries ≡ slice_set leaves (slot_in (branch_at branches) (shard / 16)) (with_one count shard) → numbers ≡ positions
       → IsPut count shard branches leaves positions firsts entries numbers
   put_in_leaf : 0 < leaf_at branches leaves (shard / 16) → firsts ≡ branches → entries ≡ leaves → numbers ≡ slice_set positions (slot_in (leaf_at branches leaves) shard) count
       → IsPut count shard branches leaves positions firsts entries numbers
 
 module _ (most count : ℕ) (branches leaves positions : List ℕ) (found : IsDirectory most count branches leaves positions) (shard : ℕ) (shard_low : shard < most)
-    (absent : position_at branches leaves positions shard ≡ nowhere) (first_small : slice_index branches (shard / 256) < alone) (firsts entries numbers : List ℕ) where
+    (absent : position_at branches leaves positions shard ≡ nowhere) (firsts entries numbers : List ℕ) where
   -- where each shard is then
   at_rest : (f e n : List ℕ) → firsts ≡ f → entries ≡ e → numbers ≡ n → (other : ℕ) → position_at firsts entries numbers other ≡ position_at f e n other
   at_rest f e n firsts_are entries_are numbers_are other =
@@ -969,16 +1151,16 @@ module _ (most count : ℕ) (branches leaves positions : List ℕ) (found : IsDi
   pub put_there : IsPut count shard branches leaves positions firsts entries numbers → position_at firsts entries numbers shard ≡ count
   put_there (put_alone none firsts_are entries_are numbers_are) =
       at_rest firsts leaves positions refl entries_are numbers_are shard ∙ alone_there most count branches leaves positions found shard shard_low absent none firsts firsts_are
-  put_there (put_beside some none firsts_are entries_are numbers_are) =
-      at_rest branches entries positions firsts_are refl numbers_are shard ∙ beside_there most count branches leaves positions found shard shard_low absent first_small some none entries entries_are
+  put_there (put_beside some low none firsts_are entries_are numbers_are) =
+      at_rest branches entries positions firsts_are refl numbers_are shard ∙ beside_there most count branches leaves positions found shard shard_low absent low some none entries entries_are
   put_there (put_in_leaf some firsts_are entries_are numbers_are) =
       at_rest branches leaves numbers firsts_are entries_are refl shard ∙ shard_there most count branches leaves positions found shard shard_low absent some numbers numbers_are
 
   pub put_elsewhere : IsPut count shard branches leaves positions firsts entries numbers → (other : ℕ) → (other ≡ shard → ⊥) → position_at firsts entries numbers other ≡ position_at branches leaves positions other
   put_elsewhere (put_alone none firsts_are entries_are numbers_are) other differ =
       at_rest firsts leaves positions refl entries_are numbers_are other ∙ alone_elsewhere most count branches leaves positions found shard shard_low absent none firsts firsts_are other differ
-  put_elsewhere (put_beside some none firsts_are entries_are numbers_are) other differ =
-      at_rest branches entries positions firsts_are refl numbers_are other ∙ beside_elsewhere most count branches leaves positions found shard shard_low absent first_small some none entries entries_are other differ
+  put_elsewhere (put_beside some low none firsts_are entries_are numbers_are) other differ =
+      at_rest branches entries positions firsts_are refl numbers_are other ∙ beside_elsewhere most count branches leaves positions found shard shard_low absent low some none entries entries_are other differ
   put_elsewhere (put_in_leaf some firsts_are entries_are numbers_are) other differ =
       at_rest branches leaves numbers firsts_are entries_are refl other ∙ shards_elsewhere most count branches leaves positions found shard shard_low absent some numbers numbers_are other differ
 
@@ -990,24 +1172,26 @@ module _ (most count : ℕ) (branches leaves positions : List ℕ) (found : IsDi
   pub put_added : IsPut count shard branches leaves positions firsts entries numbers → IsDirectory most (count + 1) firsts entries numbers
   put_added (put_alone none firsts_are entries_are numbers_are) =
       moved_to firsts leaves positions refl entries_are numbers_are (alone_added most count branches leaves positions found shard shard_low absent none firsts firsts_are)
-  put_added (put_beside some none firsts_are entries_are numbers_are) =
-      moved_to branches entries positions firsts_are refl numbers_are (beside_added most count branches leaves positions found shard shard_low absent first_small some none entries entries_are)
+  put_added (put_beside some low none firsts_are entries_are numbers_are) =
+      moved_to branches entries positions firsts_are refl numbers_are (beside_added most count branches leaves positions found shard shard_low absent low some none entries entries_are)
   put_added (put_in_leaf some firsts_are entries_are numbers_are) =
       moved_to branches leaves numbers firsts_are entries_are refl (shard_added most count branches leaves positions found shard shard_low absent some numbers numbers_are)
 
   pub put_many : IsPut count shard branches leaves positions firsts entries numbers → length firsts ≡ length branches
   put_many (put_alone none firsts_are entries_are numbers_are) = alone_many most count branches leaves positions found shard shard_low absent none firsts firsts_are
-  put_many (put_beside some _ firsts_are entries_are numbers_are) = ap length firsts_are
+  put_many (put_beside _ _ _ firsts_are _ _) = ap length firsts_are
   put_many (put_in_leaf some firsts_are entries_are numbers_are) = ap length firsts_are
 
   -- where leaves stand in order, it is put in its leaf
   pub put_order : IsPut count shard branches leaves positions firsts entries numbers → AreInOrder branches leaves → AreInOrder firsts entries
   put_order (put_alone none firsts_are entries_are numbers_are) order =
       let of : shard / 16 / 16 ≡ shard / 256 = omega arith in
-      let nothing = no_entry_of most count branches leaves positions found (shard / 16) (ap (branch_at branches) of ∙ ap block_of none) in
-      absurd (omega (arith, order (shard / 16) (omega (arith, run_within most count branches leaves positions found shard shard_low)), ap block_of nothing))
-  put_order (put_beside some none firsts_are entries_are numbers_are) order =
-      absurd (omega (arith, order (shard / 16) (omega (arith, run_within most count branches leaves positions found shard shard_low)), ap block_of none))
+      let nothing = no_leaf_of most count branches leaves positions found (shard / 16) (ap (slice_index branches) of ∙ none) in
+      absurd (omega (arith, order (shard / 16) (omega (arith, run_within most count branches leaves positions found shard shard_low)), nothing))
+  put_order (put_beside some low none firsts_are entries_are numbers_are) order =
+      let of : shard / 16 / 16 ≡ shard / 256 = omega arith in
+      let nothing = leaf_of_branch branches leaves (shard / 16) (subst (λ run. slice_index branches run < lone_leaf) (sym of) low) ∙ ap (block_of alone) none in
+      absurd (omega (arith, order (shard / 16) (omega (arith, run_within most count branches leaves positions found shard shard_low)), nothing))
   put_order (put_in_leaf some firsts_are entries_are numbers_are) order = subst (λ xs. AreInOrder xs entries) (sym firsts_are) (subst (AreInOrder branches) (sym entries_are) order)
 
 -- ---- of a directory that there is

@@ -1,18 +1,34 @@
--- Where shards stand, as branches of sixteen leaves and leaves of sixteen positions tell it, and entries with one shard alone.
-use Rattle.std.specs.Prelude.{◌≡◌, ℕ, ◌+◌, ◌-◌, ◌*◌, ◌/◌, ◌%◌, ◌^◌, ◌<◌, ◌≤◌, ◌==◌, Bool, not, nat_lt, zero, suc, if◌then◌else◌, IsTrue, List, length, slice_index}
+-- Where shards stand, as branches of sixteen leaves and leaves of sixteen positions tell it, and entries with one leaf or one shard alone.
+use Rattle.std.specs.Prelude.{◌≡◌, ℕ, ◌+◌, ◌-◌, ◌*◌, ◌/◌, ◌%◌, ◌^◌, ◌<◌, ◌≤◌, ◌==◌, Bool, not, nat_lt, zero, suc, if◌then◌else◌, IsTrue, List, ◌++◌, replicate, length, slice_index, slice_set}
 use Rattle.std.specs.Int.{div_ceil}
 
 -- the position of what is not there
 abbrev pub nowhere : ℕ
 nowhere = 2 ^ 32 - 1
 
--- an entry from here on is no number of a block: it has the one shard that is there in its run
+-- an entry for a run of 256 shards from here on is no number of a branch: it has the one leaf of the run
+abbrev pub lone_leaf : ℕ
+lone_leaf = 2 ^ 30
+
+-- an entry from here on is no number of a block and no leaf: it has the one shard that is there in its run
 abbrev pub alone : ℕ
 alone = 2 ^ 31
 
--- the block that an entry names; that of an entry with one shard, as of 0, is the first one, in which nothing is
-abbrev pub block_of : ℕ → ℕ
-block_of entry = if nat_lt entry alone then entry else 0
+-- the block that an entry names, if it is below a limit; that of another, as of 0, is the first one, in which nothing is
+abbrev pub block_of : ℕ → ℕ → ℕ
+block_of limit entry = if nat_lt entry limit then entry else 0
+
+-- the entry with one leaf, of a run of 16 shards; it has the run's place in a run of 256
+abbrev pub with_leaf : ℕ → ℕ → ℕ
+with_leaf leaf run = lone_leaf + leaf * 256 + run % 16 * 16
+
+-- the leaf of a run of 16 shards by an entry that has one leaf
+abbrev pub leaf_alone : ℕ → ℕ → ℕ
+leaf_alone entry run = if nat_lt entry lone_leaf then 0 else (if nat_lt entry alone then (if entry % 256 / 16 == run % 16 then (entry - lone_leaf) / 256 else 0) else 0)
+
+-- what a branch has for the one leaf or the one shard of such an entry
+abbrev pub in_branch : ℕ → ℕ
+in_branch entry = if nat_lt entry alone then (entry - lone_leaf) / 256 else entry
 
 -- the entry with one shard, at a position; it has the shard's place in a run of 256
 abbrev pub with_one : ℕ → ℕ → ℕ
@@ -36,21 +52,25 @@ number_at block numbers key = slice_index numbers (slot_in block key)
 
 -- the branch of a run of 256 shards
 abbrev pub branch_at : List ℕ → ℕ → ℕ
-branch_at branches run = block_of (slice_index branches run)
+branch_at branches run = block_of lone_leaf (slice_index branches run)
 
 -- what a branch has for a run of 16 shards
 abbrev pub entry_at : List ℕ → List ℕ → ℕ → ℕ
 entry_at branches leaves run = number_at (branch_at branches) leaves run
 
--- the leaf of a run of 16 shards
+-- the leaf of a run of 16 shards: alone in its run of 256, or in a branch; one of these is 0
 abbrev pub leaf_at : List ℕ → List ℕ → ℕ → ℕ
-leaf_at branches leaves run = block_of (entry_at branches leaves run)
+leaf_at branches leaves run = leaf_alone (slice_index branches (run / 16)) run + block_of alone (entry_at branches leaves run)
 
 -- the position of a shard: alone in its run of 256, or alone in its run of 16, or in its leaf
 abbrev pub position_at : List ℕ → List ℕ → List ℕ → ℕ → ℕ
 position_at branches leaves positions shard =
     or_else (position_alone (slice_index branches (shard / 256)) shard)
     (or_else (position_alone (entry_at branches leaves (shard / 16)) shard) (number_at (leaf_at branches leaves) positions shard))
+
+-- numbers, and one block more behind them, with a number at one place of it and a filler at the others
+abbrev pub with_block : ℕ → List ℕ → ℕ → ℕ → List ℕ
+with_block filler numbers place number = slice_set (numbers ++ replicate 16 filler) (length numbers + place) number
 
 -- how many numbers below one pass
 abbrev pub count_up : (ℕ → Bool) → ℕ → ℕ

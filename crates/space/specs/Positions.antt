@@ -23,6 +23,10 @@ first_in d run = slice_index d.branches.items run
 abbrev pub entry_in : Directory → ℕ → ℕ
 entry_in d run = leaves.entry_at d.branches.items d.leaves.items run
 
+-- its leaf
+abbrev pub leaf_in : Directory → ℕ → ℕ
+leaf_in d run = leaves.leaf_at d.branches.items d.leaves.items run
+
 -- the position of a shard
 unfoldable pub position_in : Directory → ℕ → ℕ
 position_in d shard = leaves.position_at d.branches.items d.leaves.items d.positions.items shard

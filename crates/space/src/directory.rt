@@ -1,15 +1,18 @@
 //! Where the words of each shard stand.
 
-ghost use Rattle.std.specs.Prelude.{◌≡◌, ◌+◌, ◌/◌, ◌%◌, ◌≤◌, ◌^◌, true, length, IsTrue, IfOk, ℕ, ◌<◌, slice_index};
-ghost use Rattle.space.specs.Leaves.{nowhere, alone, block_of, with_one, position_alone, IsFound, IsDense, AreNumbers, HaveSpans};
+ghost use Rattle.std.specs.Prelude.{◌≡◌, ◌+◌, ◌/◌, ◌%◌, ◌≤◌, ◌^◌, true, length, IsTrue, IfOk, OnOk, OnErr, ℕ, ◌<◌, slice_index};
+ghost use Rattle.space.specs.Leaves.{nowhere, lone_leaf, alone, block_of, with_block, with_leaf, leaf_alone, in_branch, with_one, position_alone, IsFound, IsDense, AreNumbers, HaveSpans};
 
 use std::alloc::{AllocError, Global};
 
+/// How many numbers stand in a block: in a leaf the positions of its shards, in a branch the entries of its leaves.
+const BLOCK: usize = 16;
+
 /// How many shards one leaf finds.
-const LEAF_SHARDS: usize = 16;
+const LEAF_SHARDS: usize = BLOCK;
 
 /// How many leaves one branch finds.
-const BRANCH_LEAVES: usize = 16;
+const BRANCH_LEAVES: usize = BLOCK;
 
 /// How many shards the leaves of one branch find.
 pub const BRANCH_SHARDS: usize = 256;
@@ -21,14 +24,19 @@ const DENSE_SHARDS: u32 = 1 << 15;
 /// Stands for the position of a shard that is not there.
 const NOWHERE: u32 = u32::MAX;
 
-/// From here on an entry for a run is no number: it has the one shard that is there.
+/// From here on an entry for a run of 256 shards is no number of a branch: it has the one leaf of the run.
+const LONE_LEAF: u32 = 1 << 30;
+
+/// From here on an entry for a run is no number and no leaf: it has the one shard that is there.
 const ALONE: u32 = 1 << 31;
 
 /// Where the words of each shard stand, counted in shards. A shard gets its position when it is added: the next one.
 ///
-/// Positions stand in leaves of 16 shards each, and branches of 16 leaves each tell which leaf it is. Both are made with
-/// the second of their shards: one alone stands where the number of its branch or its leaf would. Until then the empty
-/// branch and the empty leaf stand for them, which come first and in which no shard is there.
+/// Positions stand in leaves of 16 shards each, and branches of 16 leaves each tell which leaf it is. A leaf is made
+/// with the second shard of its run of 16, and a branch with the first shard of a second run of 16. Until then one
+/// shard alone stands where the number of its leaf or its branch would, and one leaf alone where that of its branch
+/// would. The empty branch and the empty leaf stand for those that are not made: they come first, and no shard is there
+/// in them.
 #[derive(Drop)]
 pub struct Directory {
     /// How many shards there can be, by number.
@@ -37,7 +45,7 @@ pub struct Directory {
     count: u32,
     /// Whether each run of 16 shards has its leaf, and the leaves stand in the order of the runs.
     is_dense: bool,
-    /// Which branch finds the shards of each run of 256, or its one shard.
+    /// Which branch finds the shards of each run of 256, or its one leaf or its one shard.
     branches: Vec<u32>,
     /// Which leaf finds the shards of each run of 16 of a branch, or its one shard, branch behind branch.
     leaves: Vec<u32>,
@@ -53,8 +61,8 @@ pub struct Directory {
 
 impl Directory {
     ghost use Rattle.std.specs.Prelude.{◌≡◌, ℕ, ◌+◌, ◌*◌, ◌/◌, ◌<◌, ◌≤◌, ◌^◌, length, slice_index, IfOk, OnOk, OnErr, IsTrue, ◌↔◌};
-    ghost use Rattle.space.specs.Positions.{most_of, count_of, position_in, first_in, entry_in, AreRunsOf, IsAdded, IsSame};
-    ghost use Rattle.space.specs.Leaves.{alone};
+    ghost use Rattle.space.specs.Positions.{most_of, count_of, position_in, first_in, entry_in, leaf_in, AreRunsOf, IsAdded, IsSame};
+    ghost use Rattle.space.specs.Leaves.{lone_leaf, alone};
 
     /// A directory of so many shards, none of which is there.
     ///
@@ -155,8 +163,8 @@ impl Directory {
         ensures { result ≡ position_in self.now shard }
     {
         let branch = self.branches[shard / BRANCH_SHARDS];
-        if branch >= ALONE {
-            return position_alone(branch, shard);
+        if branch >= LONE_LEAF {
+            return self.position_without_branch(branch, shard);
         }
         let run = shard / LEAF_SHARDS;
         let leaf = self.leaves[branch as usize * BRANCH_LEAVES + run % BRANCH_LEAVES];
@@ -166,13 +174,40 @@ impl Directory {
         self.positions[leaf as usize * LEAF_SHARDS + shard % LEAF_SHARDS]
     }
 
+    /// The same, by the entry of a run of 256 that has one leaf or one shard.
+    #[tactic(auto, unfolding(crate::specs::Positions::position_in))]
+    fn position_without_branch(&self, entry: u32, shard: usize) -> u32
+        requires within { shard < most_of self.now }
+        requires entry { entry ≡ first_in self.now (shard / 256) }
+        requires none { lone_leaf ≤ entry }
+        ensures { result ≡ position_in self.now shard }
+    {
+        if entry >= ALONE {
+            return position_alone(entry, shard);
+        }
+        let leaf = leaf_alone(entry, shard / LEAF_SHARDS);
+        self.positions[leaf as usize * LEAF_SHARDS + shard % LEAF_SHARDS]
+    }
+
     /// What the branch of a run of 16 shards has for it: the number of its leaf, or its one shard.
     fn entry(&self, run: usize) -> u32
         requires { run * 16 < most_of self.now }
         ensures { result ≡ entry_in self.now run }
     {
-        let branch = block_of(self.branches[run / BRANCH_LEAVES]) as usize;
+        let branch = block_of(self.branches[run / BRANCH_LEAVES], LONE_LEAF) as usize;
         self.leaves[branch * BRANCH_LEAVES + run % BRANCH_LEAVES]
+    }
+
+    /// The leaf of a run of 16 shards; the empty one where it has none.
+    fn leaf(&self, run: usize) -> u32
+        requires { run * 16 < most_of self.now }
+        ensures { result ≡ leaf_in self.now run }
+    {
+        let first = self.branches[run / BRANCH_LEAVES];
+        if first >= LONE_LEAF {
+            return leaf_alone(first, run);
+        }
+        block_of(self.entry(run), ALONE)
     }
 
     /// Adds a shard that is not there, at the position behind the others.
@@ -184,27 +219,59 @@ impl Directory {
         ensures ok { OnOk result (IsAdded self.old self.new shard) }
         ensures err { OnErr result (IsSame self.old self.new) }
     {
-        self.part_branch(shard / BRANCH_SHARDS)?;
+        self.part_run(shard / LEAF_SHARDS)?;
         self.part_leaf(shard / LEAF_SHARDS)?;
         self.put(shard);
         Ok(())
     }
 
-    /// Gives a run of 256 shards a branch, where one shard is there alone.
+    /// Makes way for one more shard of a run of 16 whose run of 256 has one leaf or one shard. If the one shard is of
+    /// this run of 16, the run gets a leaf. If what is there is of another, the run of 256 gets a branch.
+    fn part_run(&mut self, run: usize) -> Result<(), AllocError>
+        requires within { run * 16 < most_of self.old }
+        ensures same { IsSame self.old self.new }
+        ensures parted { OnOk result (leaf_in self.new run ≡ 0 → first_in self.new (run / 16) < lone_leaf) }
+    {
+        let entry = self.branches[run / BRANCH_LEAVES];
+        if entry < LONE_LEAF || self.leaf(run) != 0 {
+            return Ok(());
+        }
+        if entry >= ALONE && entry as usize % BRANCH_SHARDS / LEAF_SHARDS == run % BRANCH_LEAVES {
+            self.part_lone_leaf(run)
+        } else {
+            self.part_branch(run / BRANCH_LEAVES)
+        }
+    }
+
+    /// Gives a run of 256 shards a branch, where one leaf or one shard is there alone.
     #[tactic(auto, unfolding(crate::specs::Positions::position_in))]
     fn part_branch(&mut self, run: usize) -> Result<(), AllocError>
         requires within { run * 256 < most_of self.old }
+        requires none { lone_leaf ≤ first_in self.old run }
         ensures same { IsSame self.old self.new }
-        ensures parted { OnOk result (first_in self.new run < alone) }
+        ensures parted { OnOk result (first_in self.new run < lone_leaf) }
     {
         let entry = self.branches[run];
-        if entry < ALONE {
-            return Ok(());
-        }
-        let len = self.leaves.len();
-        self.leaves.resize(len + BRANCH_LEAVES, 0)?;
-        self.leaves[len + entry as usize % BRANCH_SHARDS / LEAF_SHARDS] = entry;
-        self.branches[run] = (len / BRANCH_LEAVES) as u32;
+        let place = entry as usize % BRANCH_SHARDS / LEAF_SHARDS;
+        let branch = push_block(&mut self.leaves, 0, place, in_branch(entry))?;
+        self.branches[run] = branch;
+        Ok(())
+    }
+
+    /// Gives a run of 16 shards a leaf, where one shard is there alone in its run of 256. Then the leaf is alone there.
+    #[tactic(auto, unfolding(crate::specs::Positions::position_in))]
+    fn part_lone_leaf(&mut self, run: usize) -> Result<(), AllocError>
+        requires within { run * 16 < most_of self.old }
+        requires one { alone ≤ first_in self.old (run / 16) }
+        requires of_run { first_in self.old (run / 16) % 256 / 16 ≡ run % 16 }
+        ensures same { IsSame self.old self.new }
+        ensures parted { OnOk result (0 < leaf_in self.new run) }
+    {
+        let entry = self.branches[run / BRANCH_LEAVES];
+        let place = entry as usize % LEAF_SHARDS;
+        let position = position_alone(entry, run * LEAF_SHARDS + place);
+        let leaf = push_block(&mut self.positions, NOWHERE, place, position)?;
+        self.branches[run / BRANCH_LEAVES] = with_leaf(leaf, run);
         Ok(())
     }
 
@@ -212,8 +279,9 @@ impl Directory {
     #[tactic(auto, unfolding(crate::specs::Positions::position_in))]
     fn part_leaf(&mut self, run: usize) -> Result<(), AllocError>
         requires within { run * 16 < most_of self.old }
+        requires branch { leaf_in self.old run ≡ 0 → first_in self.old (run / 16) < lone_leaf }
         ensures same { IsSame self.old self.new }
-        ensures branches { first_in self.new (run / 16) ≡ first_in self.old (run / 16) }
+        ensures branch { OnOk result (leaf_in self.new run ≡ 0 → first_in self.new (run / 16) < lone_leaf) }
         ensures parted { OnOk result (entry_in self.new run < alone) }
     {
         let entry = self.entry(run);
@@ -221,33 +289,32 @@ impl Directory {
             return Ok(());
         }
         let branch = self.branches[run / BRANCH_LEAVES] as usize;
-        let len = self.positions.len();
-        self.positions.resize(len + LEAF_SHARDS, NOWHERE)?;
-        let shard = run * LEAF_SHARDS + entry as usize % LEAF_SHARDS;
-        self.positions[len + entry as usize % LEAF_SHARDS] = position_alone(entry, shard);
-        self.leaves[branch * BRANCH_LEAVES + run % BRANCH_LEAVES] = (len / LEAF_SHARDS) as u32;
+        let place = entry as usize % LEAF_SHARDS;
+        let position = position_alone(entry, run * LEAF_SHARDS + place);
+        let leaf = push_block(&mut self.positions, NOWHERE, place, position)?;
+        self.leaves[branch * BRANCH_LEAVES + run % BRANCH_LEAVES] = leaf;
         Ok(())
     }
 
-    /// Puts the next position at a shard, of whose runs none has one shard alone.
+    /// Puts the next position at a shard. For its runs neither another shard stands alone nor a leaf of other shards.
     #[tactic(auto, unfolding(crate::specs::Positions::position_in))]
     fn put(&mut self, shard: usize)
         requires within { shard < most_of self.old }
         requires absent { position_in self.old shard ≡ nowhere }
-        requires branch { first_in self.old (shard / 256) < alone }
+        requires branch { leaf_in self.old (shard / 16) ≡ 0 → first_in self.old (shard / 256) < lone_leaf }
         requires leaf { entry_in self.old (shard / 16) < alone }
         ensures { IsAdded self.old self.new shard }
     {
         let run = shard / BRANCH_SHARDS;
         let branch = self.branches[run] as usize;
-        let at = branch * BRANCH_LEAVES + shard / LEAF_SHARDS % BRANCH_LEAVES;
-        let leaf = self.leaves[at] as usize;
-        if branch == 0 {
-            self.branches[run] = with_one(self.count, shard);
-        } else if leaf == 0 {
-            self.leaves[at] = with_one(self.count, shard);
-        } else {
+        let leaf = self.leaf(shard / LEAF_SHARDS) as usize;
+        if leaf != 0 {
             self.positions[leaf * LEAF_SHARDS + shard % LEAF_SHARDS] = self.count;
+        } else if branch == 0 {
+            self.branches[run] = with_one(self.count, shard);
+        } else {
+            let at = branch * BRANCH_LEAVES + shard / LEAF_SHARDS % BRANCH_LEAVES;
+            self.leaves[at] = with_one(self.count, shard);
         }
         self.count += 1;
         self.spans[run] = span_with(self.spans[run], (shard % BRANCH_SHARDS) as u32);
@@ -346,7 +413,7 @@ impl Directory {
         ensures there { result < end → position_in self.now result < count_of self.now }
         ensures dead { (shard : ℕ) → from ≤ shard → shard < result → slice_index live.now (position_in self.now shard) ≡ 0 }
     {
-        let leaf = block_of(self.entry(from / LEAF_SHARDS)) as usize;
+        let leaf = self.leaf(from / LEAF_SHARDS) as usize;
         if leaf == 0 {
             return self.next_without_leaf(from, end, live);
         }
@@ -372,11 +439,65 @@ impl Directory {
     }
 }
 
-/// The block that an entry names; the first where it has one shard.
-fn block_of(entry: u32) -> u32
-    ensures { result ≡ block_of entry }
+/// Puts one block more behind some numbers, with a number at one place of it and a filler at the others. Returns which
+/// block it is.
+///
+/// Fails where memory is refused; then the numbers are what they were.
+fn push_block(
+    numbers: &mut Vec<u32>,
+    filler: u32,
+    place: usize,
+    number: u32,
+) -> Result<u32, AllocError>
+    requires few { length numbers.old.items < 2 ^ 24 }
+    requires place { place < 16 }
+    ensures block { IfOk result (λ block. block ≡ length numbers.old.items / 16) }
+    ensures ok { OnOk result (numbers.new.items ≡ with_block filler numbers.old.items place number) }
+    ensures err { OnErr result (numbers.new.items ≡ numbers.old.items) }
 {
-    if entry < ALONE { entry } else { 0 }
+    let len = numbers.len();
+    numbers.resize(len + BLOCK, filler)?;
+    numbers[len + place] = number;
+    Ok((len / BLOCK) as u32)
+}
+
+/// The block that an entry below a limit names; the first for another.
+fn block_of(entry: u32, limit: u32) -> u32
+    ensures { result ≡ block_of limit entry }
+{
+    if entry < limit { entry } else { 0 }
+}
+
+/// The entry with one leaf, of a run of 16 shards.
+fn with_leaf(leaf: u32, run: usize) -> u32
+    requires { leaf < 2 ^ 20 }
+    ensures { result ≡ with_leaf leaf run }
+{
+    LONE_LEAF + leaf * BRANCH_SHARDS as u32 + (run % BRANCH_LEAVES * LEAF_SHARDS) as u32
+}
+
+/// The leaf of a run of 16 shards by an entry with one leaf or one shard; the empty one where it has none.
+fn leaf_alone(entry: u32, run: usize) -> u32
+    requires { lone_leaf ≤ entry }
+    ensures { result ≡ leaf_alone entry run }
+{
+    if entry < ALONE && entry as usize % BRANCH_SHARDS / LEAF_SHARDS == run % BRANCH_LEAVES {
+        (entry - LONE_LEAF) / BRANCH_SHARDS as u32
+    } else {
+        0
+    }
+}
+
+/// What a branch has for the leaf or the shard of an entry that has it alone.
+fn in_branch(entry: u32) -> u32
+    requires { lone_leaf ≤ entry }
+    ensures { result ≡ in_branch entry }
+{
+    if entry < ALONE {
+        (entry - LONE_LEAF) / BRANCH_SHARDS as u32
+    } else {
+        entry
+    }
 }
 
 /// The entry with one shard, at a position.

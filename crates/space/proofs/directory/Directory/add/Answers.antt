@@ -4,12 +4,12 @@ use Rattle.space.proofs.directory.Directory.add.Goals as goal
 
 pub returns-clause-ok : goal.returns-clause-ok
 returns-clause-ok c =
-    let branch = c.in_ok-part_branch.ensures.same in
+    let run = c.in_ok-part_run.ensures.same in
     let leaf = c.in_ok-part_leaf.ensures.same in
     let put = c.put.ensures in
     record {
-      most = put.most ∙ leaf.most ∙ branch.most;
-      count = omega (arith, put.count, leaf.count, branch.count);
-      there = put.there ∙ leaf.count ∙ branch.count;
-      elsewhere = λ other differ. put.elsewhere other differ ∙ leaf.positions other ∙ branch.positions other;
+      most = put.most ∙ leaf.most ∙ run.most;
+      count = omega (arith, put.count, leaf.count, run.count);
+      there = put.there ∙ leaf.count ∙ run.count;
+      elsewhere = λ other differ. put.elsewhere other differ ∙ leaf.positions other ∙ run.positions other;
     }

@@ -1,13 +1,18 @@
 -- The shard gets the next position.
 use Rattle.std.proofs.Common.{◌≡◌, ◌∙◌, ◌≤◌, refl, sym, ap, arith, ◌+◌, ◌*◌, ◌/◌, ◌%◌, slice_index, slice_set}
 use Rattle.std.proofs.lemmas.List.{get_or_default}
-use Rattle.space.specs.Leaves.{with_one, slot_in, branch_at, entry_at, leaf_at}
+use Rattle.space.specs.Leaves.{lone_leaf, alone, slot_in, branch_at, entry_at, leaf_at}
 use Rattle.space.proofs.Leaves.{closed_found, closed_spans, closed_dense}
-use Rattle.space.proofs.Leaves.{positive, block_low, found_in, spans_in, dense_in, fewer_there, run_within, leaf_within, position_within, more_spans}
+use Rattle.space.proofs.Leaves.{positive, block_low, leaf_of_branch, found_in, spans_in, dense_in, fewer_there, run_within, leaf_within, position_within, more_spans}
 use Rattle.space.proofs.Leaves.{IsPut, put_alone, put_beside, put_in_leaf, put_there, put_elsewhere, put_added, put_many, put_order}
 use Rattle.space.specs.Positions.{position_in}
 use Rattle.space.proofs.directory.Directory.put.Goals as goal
-use Rattle.space.proofs.directory.Directory.put.Goals.{then-branch-eq0, else-branch-eq0+then-leaf-eq0, else-branch-eq0+else-leaf-eq0}
+use Rattle.space.proofs.directory.Directory.put.Goals.{then-leaf-ne0, else-leaf-ne0+then-branch-eq0, else-leaf-ne0+else-branch-eq0}
+
+pub index_mut-requires : goal.index_mut-requires
+index_mut-requires c =
+    let d = c.args.self.now in
+    omega (arith, c.leaf-leaf.ensures, position_within d.most d.count d.branches.items d.leaves.items d.positions.items (found_in d) c.args.shard, d.positions.ok.0)
 
 pub with_one-requires : goal.with_one-requires
 unfolding position_in
@@ -15,42 +20,27 @@ with_one-requires c =
     let d = c.args.self.now in
     omega (arith, fewer_there d.most d.count d.branches.items d.leaves.items d.positions.items (found_in d) c.args.shard c.requires.within c.requires.absent, (found_in d).few)
 
-pub index_mut-requires : goal.index_mut-requires
-index_mut-requires c =
+pub index_mut-requires-then-branch-eq0 : goal.index_mut-requires-then-branch-eq0
+index_mut-requires-then-branch-eq0 c =
     let d = c.args.self.now in
     omega (arith, run_within d.most d.count d.branches.items d.leaves.items d.positions.items (found_in d) c.args.shard c.requires.within, d.branches.ok.0)
 
-pub with_one-requires-then-leaf-eq0 : goal.with_one-requires-then-leaf-eq0
+pub with_one-requires-else-branch-eq0 : goal.with_one-requires-else-branch-eq0
 unfolding position_in
-with_one-requires-then-leaf-eq0 c =
+with_one-requires-else-branch-eq0 c =
     let d = c.args.self.now in
     omega (arith, fewer_there d.most d.count d.branches.items d.leaves.items d.positions.items (found_in d) c.args.shard c.requires.within c.requires.absent, (found_in d).few)
 
-pub index_mut-requires-then-leaf-eq0 : goal.index_mut-requires-then-leaf-eq0
-index_mut-requires-then-leaf-eq0 c =
+pub index_mut-requires-else-branch-eq0 : goal.index_mut-requires-else-branch-eq0
+index_mut-requires-else-branch-eq0 c =
     let d = c.args.self.now in
     let run = run_within d.most d.count d.branches.items d.leaves.items d.positions.items (found_in d) c.args.shard c.requires.within in
     let of : c.args.shard / 256 ≡ c.args.shard / 16 / 16 = omega arith in
     let first = c.index.ensures ∙ get_or_default d.branches.items (c.args.shard / 256) c.index.result.now 0 run in
+    let low = c.requires.branch (sym c.leaf-leaf.ensures ∙ c.if-leaf-ne0.false) in
     let branch : branch_at d.branches.items (c.args.shard / 16 / 16) ≡ c.index.result.now =
-    ap (branch_at d.branches.items) (sym of) ∙ block_low (slice_index d.branches.items (c.args.shard / 256)) c.requires.branch ∙ sym first in
+    ap (branch_at d.branches.items) (sym of) ∙ block_low lone_leaf (slice_index d.branches.items (c.args.shard / 256)) low ∙ sym first in
     omega (arith, branch, leaf_within d.most d.count d.branches.items d.leaves.items d.positions.items (found_in d) (c.args.shard / 16), d.leaves.ok.0)
-
-pub index_mut-requires-else-leaf-eq0 : goal.index_mut-requires-else-leaf-eq0
-index_mut-requires-else-leaf-eq0 c =
-    let d = c.args.self.now in
-    let run = run_within d.most d.count d.branches.items d.leaves.items d.positions.items (found_in d) c.args.shard c.requires.within in
-    let of : c.args.shard / 256 ≡ c.args.shard / 16 / 16 = omega arith in
-    let first = c.index.ensures ∙ get_or_default d.branches.items (c.args.shard / 256) c.index.result.now 0 run in
-    let branch : branch_at d.branches.items (c.args.shard / 16 / 16) ≡ c.index.result.now =
-    ap (branch_at d.branches.items) (sym of) ∙ block_low (slice_index d.branches.items (c.args.shard / 256)) c.requires.branch ∙ sym first in
-    let slot : c.index.result.now * 16 + c.args.shard / 16 % 16 ≡ slot_in (branch_at d.branches.items) (c.args.shard / 16) = omega (arith, branch) in
-    let entry : c.index-2.result.now ≡ entry_at d.branches.items d.leaves.items (c.args.shard / 16) =
-    c.index-2.ensures
-    ∙ get_or_default d.leaves.items (c.index.result.now * 16 + c.args.shard / 16 % 16) c.index-2.result.now 0 (omega (arith, slot, leaf_within d.most d.count d.branches.items d.leaves.items d.positions.items (found_in d) (c.args.shard / 16)))
-    ∙ ap (slice_index d.leaves.items) slot in
-    let leaf : leaf_at d.branches.items d.leaves.items (c.args.shard / 16) ≡ c.index-2.result.now = block_low (entry_at d.branches.items d.leaves.items (c.args.shard / 16)) c.requires.leaf ∙ sym entry in
-    omega (arith, leaf, position_within d.most d.count d.branches.items d.leaves.items d.positions.items (found_in d) c.args.shard, d.positions.ok.0)
 
 pub overflow_add-self : goal.overflow_add-self
 unfolding position_in
@@ -58,13 +48,13 @@ overflow_add-self c =
     let d = c.args.self.now in
     omega (arith, fewer_there d.most d.count d.branches.items d.leaves.items d.positions.items (found_in d) c.args.shard c.requires.within c.requires.absent, (found_in d).few)
 
-pub index-requires-3 : goal.index-requires-3
-index-requires-3 c =
+pub index_mut-requires-2 : goal.index_mut-requires-2
+index_mut-requires-2 c =
     let d = c.args.self.now in
     omega (arith, run_within d.most d.count d.branches.items d.leaves.items d.positions.items (found_in d) c.args.shard c.requires.within, (spans_in d).how_many, d.spans.ok.0)
 
-pub index_mut-requires-2 : goal.index_mut-requires-2
-index_mut-requires-2 c =
+pub index-requires-2 : goal.index-requires-2
+index-requires-2 c =
     let d = c.args.self.now in
     omega (arith, run_within d.most d.count d.branches.items d.leaves.items d.positions.items (found_in d) c.args.shard c.requires.within, (spans_in d).how_many, d.spans.ok.0)
 
@@ -72,79 +62,75 @@ pub invariant_of-self : goal.invariant_of-self
 unfolding position_in
 invariant_of-self c =
     let d = c.args.self.now in
-    let s = c.if-branch-eq0.self in
+    let s = c.if-leaf-ne0.self in
     let run = run_within d.most d.count d.branches.items d.leaves.items d.positions.items (found_in d) c.args.shard c.requires.within in
     let of : c.args.shard / 256 ≡ c.args.shard / 16 / 16 = omega arith in
     let first = c.index.ensures ∙ get_or_default d.branches.items (c.args.shard / 256) c.index.result.now 0 run in
-    let branch : branch_at d.branches.items (c.args.shard / 16 / 16) ≡ c.index.result.now =
-    ap (branch_at d.branches.items) (sym of) ∙ block_low (slice_index d.branches.items (c.args.shard / 256)) c.requires.branch ∙ sym first in
-    let slot : c.index.result.now * 16 + c.args.shard / 16 % 16 ≡ slot_in (branch_at d.branches.items) (c.args.shard / 16) = omega (arith, branch) in
-    let entry : c.index-2.result.now ≡ entry_at d.branches.items d.leaves.items (c.args.shard / 16) =
-    c.index-2.ensures
-    ∙ get_or_default d.leaves.items (c.index.result.now * 16 + c.args.shard / 16 % 16) c.index-2.result.now 0 (omega (arith, slot, leaf_within d.most d.count d.branches.items d.leaves.items d.positions.items (found_in d) (c.args.shard / 16)))
-    ∙ ap (slice_index d.leaves.items) slot in
-    let leaf : leaf_at d.branches.items d.leaves.items (c.args.shard / 16) ≡ c.index-2.result.now = block_low (entry_at d.branches.items d.leaves.items (c.args.shard / 16)) c.requires.leaf ∙ sym entry in
-    let is : IsPut d.count c.args.shard d.branches.items d.leaves.items d.positions.items s.1.1.1.1.0.items s.1.1.1.1.1.0.items s.1.1.1.1.1.1.0.items = elim c.if-branch-eq0.branch as (λ _. IsPut d.count c.args.shard d.branches.items d.leaves.items d.positions.items s.1.1.1.1.0.items s.1.1.1.1.1.0.items s.1.1.1.1.1.1.0.items) [
-      | then-branch-eq0 w ↦
+    let is : IsPut d.count c.args.shard d.branches.items d.leaves.items d.positions.items s.1.1.1.1.0.items s.1.1.1.1.1.0.items s.1.1.1.1.1.1.0.items = elim c.if-leaf-ne0.branch as (λ _. IsPut d.count c.args.shard d.branches.items d.leaves.items d.positions.items s.1.1.1.1.0.items s.1.1.1.1.1.0.items s.1.1.1.1.1.1.0.items) [
+      | then-leaf-ne0 w ↦
+          put_in_leaf (positive (leaf_at d.branches.items d.leaves.items (c.args.shard / 16)) (λ none. w.if-leaf-ne0.true (c.leaf-leaf.ensures ∙ none)))
+          (ap (λ v. v.1.1.1.1.0.items) w.self-is) (ap (λ v. v.1.1.1.1.1.0.items) w.self-is)
+          (ap (λ v. v.1.1.1.1.1.1.0.items) w.self-is ∙ ap (λ n. slice_set d.positions.items (n * 16 + c.args.shard % 16) d.count) c.leaf-leaf.ensures)
+      | else-leaf-ne0+then-branch-eq0 w ↦
           put_alone (sym first ∙ w.if-branch-eq0.true) (ap (λ v. v.1.1.1.1.0.items) w.self-is ∙ ap (slice_set d.branches.items (c.args.shard / 256)) w.with_one.ensures)
           (ap (λ v. v.1.1.1.1.1.0.items) w.self-is) (ap (λ v. v.1.1.1.1.1.1.0.items) w.self-is)
-      | else-branch-eq0+then-leaf-eq0 w ↦
-          put_beside (positive (slice_index d.branches.items (c.args.shard / 256)) (λ none. w.if-branch-eq0.false (first ∙ none))) (sym entry ∙ w.if-leaf-eq0.true)
+      | else-leaf-ne0+else-branch-eq0 w ↦
+          let no_leaf : leaf_at d.branches.items d.leaves.items (c.args.shard / 16) ≡ 0 = sym c.leaf-leaf.ensures ∙ w.if-leaf-ne0.false in
+          let low = c.requires.branch no_leaf in
+          let branch : branch_at d.branches.items (c.args.shard / 16 / 16) ≡ c.index.result.now =
+          ap (branch_at d.branches.items) (sym of) ∙ block_low lone_leaf (slice_index d.branches.items (c.args.shard / 256)) low ∙ sym first in
+          let slot : c.index.result.now * 16 + c.args.shard / 16 % 16 ≡ slot_in (branch_at d.branches.items) (c.args.shard / 16) = omega (arith, branch) in
+          put_beside (positive (slice_index d.branches.items (c.args.shard / 256)) (λ none. w.if-branch-eq0.false (first ∙ none))) low
+          (sym (block_low alone (entry_at d.branches.items d.leaves.items (c.args.shard / 16)) c.requires.leaf) ∙ sym (leaf_of_branch d.branches.items d.leaves.items (c.args.shard / 16) (omega (arith, ap (slice_index d.branches.items) of, low))) ∙ no_leaf)
           (ap (λ v. v.1.1.1.1.0.items) w.self-is)
-          (ap (λ v. v.1.1.1.1.1.0.items) w.self-is ∙ ap (λ at. slice_set d.leaves.items at w.with_one-then-leaf-eq0.result) slot ∙ ap (slice_set d.leaves.items (slot_in (branch_at d.branches.items) (c.args.shard / 16))) w.with_one-then-leaf-eq0.ensures)
+          (ap (λ v. v.1.1.1.1.1.0.items) w.self-is ∙ ap (λ at. slice_set d.leaves.items at w.with_one-else-branch-eq0.result) slot ∙ ap (slice_set d.leaves.items (slot_in (branch_at d.branches.items) (c.args.shard / 16))) w.with_one-else-branch-eq0.ensures)
           (ap (λ v. v.1.1.1.1.1.1.0.items) w.self-is)
-      | else-branch-eq0+else-leaf-eq0 w ↦
-          put_in_leaf (positive (leaf_at d.branches.items d.leaves.items (c.args.shard / 16)) (λ none. w.if-leaf-eq0.false (sym leaf ∙ none)))
-          (ap (λ v. v.1.1.1.1.0.items) w.self-is) (ap (λ v. v.1.1.1.1.1.0.items) w.self-is)
-          (ap (λ v. v.1.1.1.1.1.1.0.items) w.self-is ∙ ap (λ n. slice_set d.positions.items (n * 16 + c.args.shard % 16) d.count) (sym leaf))
     ] in
-    let span = c.index-3.ensures ∙ get_or_default d.spans.items (c.args.shard / 256) c.index-3.result.now 0 (omega (arith, run, (spans_in d).how_many)) in
+    let span = c.index-2.ensures ∙ get_or_default d.spans.items (c.args.shard / 256) c.index-2.result.now 0 (omega (arith, run, (spans_in d).how_many)) in
     let later : (slice_index d.spans.items (c.args.shard / 256) ≡ 0 → ⊥) → c.span_with.result % 256 ≤ slice_index d.spans.items (c.args.shard / 256) % 256 =
     λ some. omega (arith, span, c.span_with.ensures.not_later (λ none. some (sym span ∙ none))) in
     record {
-      found = closed_found (put_added d.most d.count d.branches.items d.leaves.items d.positions.items (found_in d) c.args.shard c.requires.within c.requires.absent c.requires.branch _ _ _ is);
+      found = closed_found (put_added d.most d.count d.branches.items d.leaves.items d.positions.items (found_in d) c.args.shard c.requires.within c.requires.absent _ _ _ is);
       within =
           closed_spans
           (more_spans d.branches.items d.leaves.items d.positions.items _ _ _ d.spans.items (spans_in d)
-          (put_many d.most d.count d.branches.items d.leaves.items d.positions.items (found_in d) c.args.shard c.requires.within c.requires.absent c.requires.branch _ _ _ is) c.args.shard c.span_with.result run
-          (put_elsewhere d.most d.count d.branches.items d.leaves.items d.positions.items (found_in d) c.args.shard c.requires.within c.requires.absent c.requires.branch _ _ _ is)
+          (put_many d.most d.count d.branches.items d.leaves.items d.positions.items (found_in d) c.args.shard c.requires.within c.requires.absent _ _ _ is) c.args.shard c.span_with.result run
+          (put_elsewhere d.most d.count d.branches.items d.leaves.items d.positions.items (found_in d) c.args.shard c.requires.within c.requires.absent _ _ _ is)
           c.span_with.ensures.first c.span_with.ensures.end later (omega (arith, span, c.span_with.ensures.not_sooner)));
-      dense = closed_dense _ _ _ (λ dense. put_order d.most d.count d.branches.items d.leaves.items d.positions.items (found_in d) c.args.shard c.requires.within c.requires.absent c.requires.branch _ _ _ is (dense_in d dense));
+      dense = closed_dense _ _ _ (λ dense. put_order d.most d.count d.branches.items d.leaves.items d.positions.items (found_in d) c.args.shard c.requires.within c.requires.absent _ _ _ is (dense_in d dense));
     }
 
 pub returns : goal.returns
 unfolding position_in
 returns c =
     let d = c.args.self.now in
-    let s = c.if-branch-eq0.self in
+    let s = c.if-leaf-ne0.self in
     let run = run_within d.most d.count d.branches.items d.leaves.items d.positions.items (found_in d) c.args.shard c.requires.within in
     let of : c.args.shard / 256 ≡ c.args.shard / 16 / 16 = omega arith in
     let first = c.index.ensures ∙ get_or_default d.branches.items (c.args.shard / 256) c.index.result.now 0 run in
-    let branch : branch_at d.branches.items (c.args.shard / 16 / 16) ≡ c.index.result.now =
-    ap (branch_at d.branches.items) (sym of) ∙ block_low (slice_index d.branches.items (c.args.shard / 256)) c.requires.branch ∙ sym first in
-    let slot : c.index.result.now * 16 + c.args.shard / 16 % 16 ≡ slot_in (branch_at d.branches.items) (c.args.shard / 16) = omega (arith, branch) in
-    let entry : c.index-2.result.now ≡ entry_at d.branches.items d.leaves.items (c.args.shard / 16) =
-    c.index-2.ensures
-    ∙ get_or_default d.leaves.items (c.index.result.now * 16 + c.args.shard / 16 % 16) c.index-2.result.now 0 (omega (arith, slot, leaf_within d.most d.count d.branches.items d.leaves.items d.positions.items (found_in d) (c.args.shard / 16)))
-    ∙ ap (slice_index d.leaves.items) slot in
-    let leaf : leaf_at d.branches.items d.leaves.items (c.args.shard / 16) ≡ c.index-2.result.now = block_low (entry_at d.branches.items d.leaves.items (c.args.shard / 16)) c.requires.leaf ∙ sym entry in
-    let is : IsPut d.count c.args.shard d.branches.items d.leaves.items d.positions.items s.1.1.1.1.0.items s.1.1.1.1.1.0.items s.1.1.1.1.1.1.0.items = elim c.if-branch-eq0.branch as (λ _. IsPut d.count c.args.shard d.branches.items d.leaves.items d.positions.items s.1.1.1.1.0.items s.1.1.1.1.1.0.items s.1.1.1.1.1.1.0.items) [
-      | then-branch-eq0 w ↦
+    let is : IsPut d.count c.args.shard d.branches.items d.leaves.items d.positions.items s.1.1.1.1.0.items s.1.1.1.1.1.0.items s.1.1.1.1.1.1.0.items = elim c.if-leaf-ne0.branch as (λ _. IsPut d.count c.args.shard d.branches.items d.leaves.items d.positions.items s.1.1.1.1.0.items s.1.1.1.1.1.0.items s.1.1.1.1.1.1.0.items) [
+      | then-leaf-ne0 w ↦
+          put_in_leaf (positive (leaf_at d.branches.items d.leaves.items (c.args.shard / 16)) (λ none. w.if-leaf-ne0.true (c.leaf-leaf.ensures ∙ none)))
+          (ap (λ v. v.1.1.1.1.0.items) w.self-is) (ap (λ v. v.1.1.1.1.1.0.items) w.self-is)
+          (ap (λ v. v.1.1.1.1.1.1.0.items) w.self-is ∙ ap (λ n. slice_set d.positions.items (n * 16 + c.args.shard % 16) d.count) c.leaf-leaf.ensures)
+      | else-leaf-ne0+then-branch-eq0 w ↦
           put_alone (sym first ∙ w.if-branch-eq0.true) (ap (λ v. v.1.1.1.1.0.items) w.self-is ∙ ap (slice_set d.branches.items (c.args.shard / 256)) w.with_one.ensures)
           (ap (λ v. v.1.1.1.1.1.0.items) w.self-is) (ap (λ v. v.1.1.1.1.1.1.0.items) w.self-is)
-      | else-branch-eq0+then-leaf-eq0 w ↦
-          put_beside (positive (slice_index d.branches.items (c.args.shard / 256)) (λ none. w.if-branch-eq0.false (first ∙ none))) (sym entry ∙ w.if-leaf-eq0.true)
+      | else-leaf-ne0+else-branch-eq0 w ↦
+          let no_leaf : leaf_at d.branches.items d.leaves.items (c.args.shard / 16) ≡ 0 = sym c.leaf-leaf.ensures ∙ w.if-leaf-ne0.false in
+          let low = c.requires.branch no_leaf in
+          let branch : branch_at d.branches.items (c.args.shard / 16 / 16) ≡ c.index.result.now =
+          ap (branch_at d.branches.items) (sym of) ∙ block_low lone_leaf (slice_index d.branches.items (c.args.shard / 256)) low ∙ sym first in
+          let slot : c.index.result.now * 16 + c.args.shard / 16 % 16 ≡ slot_in (branch_at d.branches.items) (c.args.shard / 16) = omega (arith, branch) in
+          put_beside (positive (slice_index d.branches.items (c.args.shard / 256)) (λ none. w.if-branch-eq0.false (first ∙ none))) low
+          (sym (block_low alone (entry_at d.branches.items d.leaves.items (c.args.shard / 16)) c.requires.leaf) ∙ sym (leaf_of_branch d.branches.items d.leaves.items (c.args.shard / 16) (omega (arith, ap (slice_index d.branches.items) of, low))) ∙ no_leaf)
           (ap (λ v. v.1.1.1.1.0.items) w.self-is)
-          (ap (λ v. v.1.1.1.1.1.0.items) w.self-is ∙ ap (λ at. slice_set d.leaves.items at w.with_one-then-leaf-eq0.result) slot ∙ ap (slice_set d.leaves.items (slot_in (branch_at d.branches.items) (c.args.shard / 16))) w.with_one-then-leaf-eq0.ensures)
+          (ap (λ v. v.1.1.1.1.1.0.items) w.self-is ∙ ap (λ at. slice_set d.leaves.items at w.with_one-else-branch-eq0.result) slot ∙ ap (slice_set d.leaves.items (slot_in (branch_at d.branches.items) (c.args.shard / 16))) w.with_one-else-branch-eq0.ensures)
           (ap (λ v. v.1.1.1.1.1.1.0.items) w.self-is)
-      | else-branch-eq0+else-leaf-eq0 w ↦
-          put_in_leaf (positive (leaf_at d.branches.items d.leaves.items (c.args.shard / 16)) (λ none. w.if-leaf-eq0.false (sym leaf ∙ none)))
-          (ap (λ v. v.1.1.1.1.0.items) w.self-is) (ap (λ v. v.1.1.1.1.1.0.items) w.self-is)
-          (ap (λ v. v.1.1.1.1.1.1.0.items) w.self-is ∙ ap (λ n. slice_set d.positions.items (n * 16 + c.args.shard % 16) d.count) (sym leaf))
     ] in
     record {
       most = refl;
       count = refl;
-      there = put_there d.most d.count d.branches.items d.leaves.items d.positions.items (found_in d) c.args.shard c.requires.within c.requires.absent c.requires.branch _ _ _ is;
-      elsewhere = put_elsewhere d.most d.count d.branches.items d.leaves.items d.positions.items (found_in d) c.args.shard c.requires.within c.requires.absent c.requires.branch _ _ _ is;
+      there = put_there d.most d.count d.branches.items d.leaves.items d.positions.items (found_in d) c.args.shard c.requires.within c.requires.absent _ _ _ is;
+      elsewhere = put_elsewhere d.most d.count d.branches.items d.leaves.items d.positions.items (found_in d) c.args.shard c.requires.within c.requires.absent _ _ _ is;
     }
