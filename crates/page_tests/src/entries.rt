@@ -197,6 +197,72 @@ fn shards_of_one_leaf_of_one_branch_and_of_two_are_found(rt: HostRuntime) -> Res
     Ok(())
 }
 
+#[test]
+fn each_shard_is_found_whatever_is_made_after_it(rt: HostRuntime) -> Result<(), Fail> {
+    // Pages of a shard each, in the order in which they are set.
+    let pages = [
+        // Two shards of one run of 16, one of another run of the same 256, and more of both.
+        200, 330, 2_570, 470, 2_650, 6_401,
+        // Four shards of one run of 16 before one of another.
+        19_210, 19_270, 19_455, 18_560, 32_767,
+        // Two runs of 16 with one shard each, and the last two shards.
+        38_400, 44_800, 1_048_575, 1_048_450,
+    ];
+    // Pages of other shards, in the same leaves and at the same places in other leaves.
+    let absent = [
+        5, 260, 1_224, 1_354, 16_584, 18_186, 20_234, 45_056, 1_047_551, 1_032_191,
+    ];
+    let mut shards = Shards::new(rt.alloc(), 3, BITS)?;
+    for page in pages {
+        hold_itself(&mut shards, page)?;
+        // The pages up to this one are held, and those behind it are not.
+        let mut is_set = true;
+        for other in pages {
+            let held = (is_set, if is_set { Some(other) } else { None });
+            assert_equal(&rt, held_at(&shards, other), held, other);
+            is_set &= other != page;
+        }
+        for other in absent {
+            assert_equal(&rt, held_at(&shards, other), (false, None), other);
+        }
+    }
+    Ok(())
+}
+
+/// Makes the shard of a page of space 1, and has the page hold the frame of its own number, if there is such a page.
+fn hold_itself(shards: &mut Shards, page: u32) -> Result<(), NoMemory>
+    requires { IsFalse (is_taken shards.old) }
+    ensures { IsFalse (is_taken shards.new) }
+{
+    let place = Place { space: 1, page };
+    if 1 < shards.spaces() && shards.bits() == BITS && page < 1 << (BITS - 12) {
+        shards.make(&[place])?;
+        if shards.has(place) {
+            let entry = Entry {
+                frame: page,
+                rights: Rights::all(),
+                status: Rights::none(),
+            };
+            shards.set(place, Some(entry));
+        }
+    }
+    Ok(())
+}
+
+/// Whether the shard of a page of space 1 is there, and the frame that the page holds, if there is such a page.
+fn held_at(shards: &Shards, page: u32) -> (bool, Option<u32>)
+    requires { IsFalse (is_taken shards.now) }
+{
+    let place = Place { space: 1, page };
+    if 1 >= shards.spaces() || page >= 1 << (shards.bits() - 12) {
+        return (false, None);
+    }
+    (
+        shards.has(place),
+        shards.get(place).map(|entry| entry.frame),
+    )
+}
+
 /// Three spaces, of which the second has four shards: two of one leaf, one of another leaf of the same branch, and one
 /// of another branch.
 fn four_shards_of_space_1(alloc: Global) -> Result<Shards, NoMemory>
