@@ -1,6 +1,7 @@
 use crate::piece::Piece;
 use fpage::Rights;
 use space::Slice;
+use std::alloc::Global;
 use std::marker::Model;
 use std::snapshot::Snapshot;
 
@@ -10,13 +11,18 @@ use std::snapshot::Snapshot;
 #[derive(Drop)]
 pub struct Done {
     number: usize,
-    kept: Slice,
-    status: Rights,
-    answers: Vec<bool>,
+    found: Found,
     of: Snapshot<Piece>,
     words: Snapshot<Vec<u64>>,
-    /// The indexes that the piece had, if they were handed back.
-    indexes: Option<Vec<usize>>,
+}
+
+/// What a piece found out. No piece has both.
+#[derive(Drop)]
+enum Found {
+    /// The nodes that are kept, and a status.
+    Nodes(Slice, Rights),
+    /// Answers.
+    Answers(Vec<bool>),
 }
 
 impl Model for Done {
@@ -24,11 +30,12 @@ impl Model for Done {
 
     ghost Value = { DoneContent };
 
-    ghost use Rattle.pieces.specs.Dones.{IsDone, found_as};
+    ghost use Rattle.pieces.specs.Dones.{IsDone};
+    ghost use Rattle.pieces.specs.Forms.{value_in};
 
-    ghost view = { λ d. record { number = d.number; found = found_as d.kept d.status d.answers; of = d.of.value; words = d.words.value.items } };
+    ghost view = { λ d. record { number = d.number; found = value_in d.found; of = d.of.value; words = d.words.value.items } };
 
-    ghost invariant = { λ d. IsDone (record { number = d.number; found = found_as d.kept d.status d.answers; of = d.of.value; words = d.words.value.items }) };
+    ghost invariant = { λ d. IsDone (record { number = d.number; found = value_in d.found; of = d.of.value; words = d.words.value.items }) };
 }
 
 impl Done {
@@ -48,24 +55,17 @@ impl Done {
         requires { found_as kept status answers ≡ value words.value.items of.value }
         ensures { result ≡ record { number = number; found = found_as kept status answers; of = of.value; words = words.value.items } }
     {
+        let found = if answers.is_empty() {
+            Found::Nodes(kept, status)
+        } else {
+            Found::Answers(answers)
+        };
         Done {
             number,
-            kept,
-            status,
-            answers,
+            found,
             of,
             words,
-            indexes: None,
         }
-    }
-
-    /// The same, with the indexes that the piece had, if it had some. So they go back to the caller, who frees them with the nodes that
-    /// stand beside them in memory: no worker has to.
-    pub fn with_indexes(mut self, indexes: Option<Vec<usize>>) -> Done
-        ensures { result ≡ self }
-    {
-        self.indexes = indexes;
-        self
     }
 
     /// The number of the piece.
@@ -80,29 +80,37 @@ impl Done {
     pub fn status(&self) -> Rights
         ensures { result ≡ self.now.found.status }
     {
-        self.status
+        match &self.found {
+            Found::Nodes(_, status) => *status,
+            Found::Answers(_) => Rights::none(),
+        }
     }
 
     /// For each access of a touch whether it may be made, in order.
     pub fn answers(&self) -> &[bool]
         ensures { result.now ≡ self.now.found.answers }
     {
-        &self.answers
+        match &self.found {
+            Found::Nodes(_, _) => &[],
+            Found::Answers(answers) => answers,
+        }
     }
 
-    /// The nodes of a strip that are kept, in order.
-    pub fn into_kept(self) -> Slice
+    /// The nodes of a strip that are kept, in order. This takes no memory.
+    pub fn into_kept(self, alloc: Global) -> Slice
         ensures { result.nodes.items ≡ self.found.kept }
     {
         let Done {
             number: _,
-            kept,
-            status: _,
-            answers: _,
+            found,
             of: _,
             words: _,
-            indexes: _,
         } = self;
-        kept
+        match found {
+            Found::Nodes(kept, _) => kept,
+            Found::Answers(_) => Slice {
+                nodes: Vec::new(alloc),
+            },
+        }
     }
 }

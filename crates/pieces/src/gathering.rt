@@ -67,7 +67,7 @@ pub fn gather(alloc: Global, given: Vec<Done>, pieces: usize) -> Result<Gathered
 {
     match found(alloc, &given, pieces) {
         Ok(mut gathered) => {
-            take_slices(&mut gathered.slices, given);
+            take_slices(alloc, &mut gathered.slices, given);
             Ok(gathered)
         }
         Err(fault) => Err(GatherError { fault, given }),
@@ -180,13 +180,13 @@ fn empty_slices(alloc: Global, n: usize) -> Result<Vec<Slice>, AllocError>
 }
 
 /// Puts the nodes of each piece at its number.
-fn take_slices(slices: &mut [Slice], mut given: Vec<Done>)
+fn take_slices(alloc: Global, slices: &mut [Slice], mut given: Vec<Done>)
     requires within { has_stranger (length slices.old) given.items ≡ false }
     requires empty { nodes_of slices.old ≡ map (λ v. v.kept) (all_found (length slices.old) []) }
     ensures { nodes_of slices.new ≡ map (λ v. v.kept) (all_found (length slices.old) given.items) }
 {
     while let Some(done) = given.pop() {
         let number = done.number();
-        slices[number] = done.into_kept();
+        slices[number] = done.into_kept(alloc);
     }
 }

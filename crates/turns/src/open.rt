@@ -14,7 +14,7 @@ use crate::shared_words::{Seat, SharedWords};
 use crate::sharing::{Indexes, shared_indexes, watched_indexes};
 use crate::turn::Turn;
 use crate::watcher::Watcher;
-use pieces::{Done, Piece, changed_words, learn_are_pieces};
+use pieces::{Done, Piece, Shedding, changed_words, learn_are_pieces};
 use space::NoMemory;
 use std::alloc::{AllocError, Global};
 use std::marker::Model;
@@ -241,7 +241,8 @@ fn deal(
 {
     let mut turns = Vec::with_capacity(alloc, pieces.len())?;
     let mut hint: usize = 0;
-    for piece in pieces {
+    let mut left = Shedding::new(pieces);
+    while let Some(piece) = left.next() {
         let own = shared.deal(&mut seat);
         let number = turns.len();
         let next = hint.wrapping_add(changed_words(&piece));

@@ -23,7 +23,7 @@ pub(crate) struct StripWork {
     /// The union of the status that was found.
     status: Rights,
     /// Where the words of its nodes are shared: a hint.
-    hint: usize,
+    hint: u32,
     /// The strip.
     of: Snapshot<Strip>,
 }
@@ -50,7 +50,7 @@ impl StripWork {
             fold,
             kept: 0,
             status: Rights::none(),
-            hint,
+            hint: u32::try_from(hint).unwrap_or(u32::MAX),
             of,
         }
     }
@@ -64,15 +64,20 @@ impl StripWork {
         self.indexes.len() + folds
     }
 
-    /// What it found out, when all its steps were done: the nodes that are kept, and their status. Its indexes come with it.
-    pub(crate) fn into_found(self) -> (Slice, Rights, Vec<usize>)
+    /// Where the word of the node at a position is shared: a hint.
+    fn hint(&self, k: usize) -> usize {
+        (self.hint as usize).wrapping_add(k)
+    }
+
+    /// What it found out, when all its steps were done: the nodes that are kept, and their status.
+    pub(crate) fn into_found(self) -> (Slice, Rights)
         ensures kept { (w : List ℕ) (k : ℕ) → IsStripWork w self k → length self.of.value.nodes ≤ k → result.0.nodes.items ≡ kept_nodes w self.of.value }
         ensures status { (w : List ℕ) (k : ℕ) → IsStripWork w self k → length self.of.value.nodes ≤ k → result.1 ≡ status_in w self.of.value.indexes }
     {
         let StripWork {
             mut slice,
             masks: _,
-            indexes,
+            indexes: _,
             fold: _,
             kept,
             status,
@@ -80,7 +85,7 @@ impl StripWork {
             of: _,
         } = self;
         slice.nodes.truncate(kept);
-        (slice, status, indexes)
+        (slice, status)
     }
 
     /// The next step: a word loses rights; behind the last, the fold word gains the status that was found.
@@ -95,11 +100,11 @@ impl StripWork {
     {
         let k = post.steps();
         if k < self.indexes.len() {
-            let word = post.see(shared, self.indexes[k], self.hint.wrapping_add(k));
+            let word = post.see(shared, self.indexes[k], self.hint(k));
             self.narrow(post, shared, k, word);
         } else if let Some(index) = self.fold {
             let found = bits(self.status);
-            post.add(shared, index, found, self.hint);
+            post.add(shared, index, found, self.hint(0));
         }
     }
 
@@ -164,7 +169,7 @@ impl StripWork {
     {
         let mut found = [0; AT_ONCE];
         for k in from..to {
-            found[k - from] = post.see(shared, self.indexes[k], self.hint.wrapping_add(k));
+            found[k - from] = post.see(shared, self.indexes[k], self.hint(k));
         }
         found
     }
@@ -184,7 +189,7 @@ impl StripWork {
         shared.learn_can_be_worked();
         let index = self.indexes[k];
         let mask = self.masks.get(k);
-        let hint = self.hint.wrapping_add(k);
+        let hint = self.hint(k);
         let found = post.write(shared, index, narrowed(word, mask), hint);
         self.status = self.status.join(status(found));
         if remains(found, mask) {

@@ -132,9 +132,9 @@ impl Turn {
         if !ended {
             return (seat, None);
         }
-        let (kept, status, answers, indexes) = Box::into_inner(work).into_found(alloc);
+        let (kept, status, answers) = Box::into_inner(work).into_found(alloc);
         let done = Done::new(number, kept, status, answers, of, shared.opening());
-        (seat, Some(done.with_indexes(indexes)))
+        (seat, Some(done))
     }
 
     /// Whether all steps of its piece were done.

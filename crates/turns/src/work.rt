@@ -56,19 +56,18 @@ impl Work {
         }
     }
 
-    /// What the piece found out, when all its steps were done: the nodes that it keeps, the status that it found, and its answers. A
-    /// strip's indexes come with it.
-    pub(crate) fn into_found(self, alloc: Global) -> (Slice, Rights, Vec<bool>, Option<Vec<usize>>)
+    /// What the piece found out, when all its steps were done: the nodes that it keeps, the status that it found, and its answers.
+    pub(crate) fn into_found(self, alloc: Global) -> (Slice, Rights, Vec<bool>)
         ensures { (w : List ℕ) (p : Piece) → IsWork w p self (step_count w p) → found_as result.0 result.1 result.2 ≡ value w p }
     {
         match self {
             Work::Strip(strip) => {
-                let (kept, status, indexes) = strip.into_found();
-                (kept, status, Vec::new(alloc), Some(indexes))
+                let (kept, status) = strip.into_found();
+                (kept, status, Vec::new(alloc))
             }
-            Work::Link(_, _) => (no_nodes(alloc), Rights::none(), Vec::new(alloc), None),
-            Work::Move(_, _) => (no_nodes(alloc), Rights::none(), Vec::new(alloc), None),
-            Work::Touch(touch) => (no_nodes(alloc), Rights::none(), touch.into_answers(), None),
+            Work::Link(_, _) => (no_nodes(alloc), Rights::none(), Vec::new(alloc)),
+            Work::Move(_, _) => (no_nodes(alloc), Rights::none(), Vec::new(alloc)),
+            Work::Touch(touch) => (no_nodes(alloc), Rights::none(), touch.into_answers()),
         }
     }
 
