@@ -1,12 +1,12 @@
 -- One turn more, of the first of the pieces that are left.
-use Rattle.std.proofs.Common.{◌≡◌, ℕ, zero, suc, ◌+◌, ◌-◌, ◌<◌, ◌≤◌, ◌++◌, List, ◌∷◌, [], length, drop, Option, Some, ◌∙◌, ap, sym, subst, arith, refl}
+use Rattle.std.proofs.Common.{◌≡◌, ℕ, zero, suc, ◌+◌, ◌-◌, ◌<◌, ◌≤◌, ◌++◌, List, ◌∷◌, [], length, drop, Some, ◌∙◌, ap, sym, subst, arith}
 use Rattle.std.specs.Prelude.{slice_get}
 use Rattle.std.proofs.lemmas.List.{length-append}
 use Rattle.std.specs.List.{All}
 use Rattle.pieces.specs.declared.piece.Piece.{Piece}
 use Rattle.turns.specs.Posts.{PostContent}
 use Rattle.turns.specs.Turns.{new_turns}
-use Rattle.turns.proofs.Dealing.{left, all_left, first_left, others_left, turns_more, turns_length, turns_of}
+use Rattle.turns.proofs.Dealing.{left, all_left, first_left, others_left, turns_more, turns_of}
 use Rattle.turns.proofs.open.deal.Goals as goal
 
 -- the first of what is left of a list

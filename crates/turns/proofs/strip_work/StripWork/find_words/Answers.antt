@@ -1,5 +1,5 @@
 -- The word of a node that was not narrowed yet.
-use Rattle.std.proofs.Common.{◌≡◌, ◌≤◌, ◌∷◌, [], ◌∙◌, length, get_or, ap, sym, subst, arith}
+use Rattle.std.proofs.Common.{◌∷◌, [], ◌∙◌, length, get_or, ap, sym, subst, arith}
 use Rattle.std.proofs.lemmas.List.{get_or_default}
 use Rattle.fpage.specs.Rights.{no_rights}
 use Rattle.pieces.specs.Steps.{entry_in, narrowed_by}

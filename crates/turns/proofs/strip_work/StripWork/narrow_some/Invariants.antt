@@ -1,5 +1,5 @@
 -- The steps so far.
-use Rattle.std.proofs.Common.{◌≡◌, length}
+use Rattle.std.proofs.Common.{◌≡◌}
 use Rattle.turns.specs.Works.{IsStripWork}
 use Rattle.turns.proofs.strip_work.StripWork.narrow_some.Given as goal
 

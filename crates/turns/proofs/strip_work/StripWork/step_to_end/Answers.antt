@@ -1,5 +1,5 @@
 -- Some nodes more.
-use Rattle.std.proofs.Common.{◌≡◌, ◌∙◌, length, refl, ap, sym, arith}
+use Rattle.std.proofs.Common.{◌∙◌, length, refl, ap, arith}
 use Rattle.pieces.specs.Contents.{StripContent}
 use Rattle.pieces.specs.Steps.{fold_of, status_in}
 use Rattle.turns.specs.Posts.{PostContent}
