@@ -13,6 +13,9 @@ use std::alloc::{AllocError, Global};
 use std::marker::Model;
 use turns::Turn;
 
+/// How many turns a worker steals from one deque before it goes on to the next.
+const STOLEN_IN_A_ROW: usize = 16;
+
 /// What a worker holds: its own deque, the right to steal from each deque, and the turns that it has worked to their end.
 #[derive(Drop)]
 pub struct Worker<N: Which, M: Crewed> {
@@ -105,7 +108,7 @@ impl<N: Which, M: Crewed> Worker<N, M> {
         Ok(())
     }
 
-    /// Tries to steal once from each of the others. Answers whether there may be more.
+    /// Steals from each of the others. Answers whether there may be more.
     fn steal_round<G: Gate>(&mut self, state: &SharedState<'_, N, M, G>) -> Result<bool, AllocError>
         ensures { self.new.own ≡ self.old.own }
     {
@@ -113,9 +116,29 @@ impl<N: Which, M: Crewed> Worker<N, M> {
         let mut found = false;
         for ahead in 1..workers {
             let number = (self.number() + ahead) % workers;
-            if self.steal_from(state, number)? {
+            if self.steal_some(state, number)? {
                 found = true;
             }
+        }
+        Ok(found)
+    }
+
+    /// Steals turns from the deque of the worker with this number, one after another, until some are worked or none is left.
+    /// Words of pieces side by side share cache lines. Answers whether there may be more.
+    fn steal_some<G: Gate>(
+        &mut self,
+        state: &SharedState<'_, N, M, G>,
+        number: usize,
+    ) -> Result<bool, AllocError>
+        requires { number < length M.crew }
+        ensures { self.new.own ≡ self.old.own }
+    {
+        let mut found = false;
+        for _ in 0..STOLEN_IN_A_ROW {
+            if !self.steal_from(state, number)? {
+                break;
+            }
+            found = true;
         }
         Ok(found)
     }
