@@ -4,11 +4,8 @@ ghost use Rattle.std.specs.Prelude.{◌≡◌};
 
 use std::marker::Model;
 
-/// After how many elements room is given back.
-const SHED: usize = 1024;
-
-/// The elements of a list, the first of which is taken each time. On the way the room of those that were taken is given back,
-/// so that it serves what is made of them. A contract sees the elements that are left.
+/// The elements of a list, the first of which is taken each time. Whenever half of its room is unused, that is given back, so
+/// that it serves what is made of the elements. A contract sees those that are left.
 #[derive(Drop)]
 pub struct Shedding<T> {
     /// The elements that are left, the next one last.
@@ -40,7 +37,7 @@ impl<T> Shedding<T> {
         ensures { MatchOption result ((self.old ≡ []) × (self.new ≡ [])) (λ first. self.old ≡ first ∷ self.new) }
     {
         let first = self.reversed.pop();
-        if self.reversed.len() % SHED == 0 {
+        if self.reversed.len() <= self.reversed.capacity() / 2 {
             self.reversed.shrink_to_fit();
         }
         first
