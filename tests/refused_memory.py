@@ -20,7 +20,7 @@ from typing import NamedTuple
 from support.program import TOP, Cases, Ended, build_library, program_path, run
 from support.refusals import EXTENTS, fault_of_refused, record_told, runs_refusing
 
-# By how many workers a trace of small phases is worked, each in pieces of one. Fewer than 128 pieces have one worker,
+# By how many workers a trace of small phases is worked, each in pieces of one. Fewer than 256 pieces have one worker,
 # so that these start no threads for a call.
 WORKERS = [["--workers", str(workers), "--piece", "1"] for workers in (1, 4, 64)]
 

@@ -28,7 +28,7 @@ use std::thread::Threads;
 use trace::{Failed, ReadError, Reply, Sink, Source, TraceReader, read_to_end};
 
 /// How many full pieces a phase must fill for several workers to share it (measured in docs/PERFORMANCE.md).
-const LEAST_SHARED: usize = 128;
+const LEAST_SHARED: usize = 256;
 
 /// The numbers of the last line of a run.
 #[derive(Clone, Copy, Debug, PartialEq, Eq)]
