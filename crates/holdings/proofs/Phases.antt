@@ -9,6 +9,7 @@ pub mod Linked
 pub mod Moved
 pub mod KeptNodes
 pub mod Beside
+pub mod InParts
 pub mod Whole
 pub mod WorkedPhase
 pub mod FaultsAmong

@@ -24,7 +24,6 @@ pub struct Link {
 ///
 /// Refused, where memory is: `NoMemory`.
 pub fn link_all(
-    alloc: Global,
     shards: &Shards,
     trees: &mut [Tree],
     transfers: &[Transfer],
@@ -34,15 +33,12 @@ pub fn link_all(
     requires linkable { AreLinkable trees.old (links_of shards.now transfers.now) }
     ensures { OnOk result (AreLinked (links_of shards.now transfers.now) trees.old trees.new) }
 {
-    if let [transfer] = transfers {
-        // A list of one link would cost more than the link.
-        return match new_link(shards, *transfer) {
-            Some(link) => insert_links(trees, &[link]),
-            None => Ok(()),
-        };
+    for transfer in transfers {
+        if let Some(link) = new_link(shards, *transfer) {
+            derive(&mut trees[link.frame as usize], link.source, link.target)?;
+        }
     }
-    let links = new_links(alloc, shards, transfers)?;
-    insert_links(trees, &links)
+    Ok(())
 }
 
 /// The link of a transfer, if it goes and its source is held, as the words stand.
@@ -81,17 +77,4 @@ pub fn new_links(
         }
     }
     Ok(links)
-}
-
-/// Puts new mappings into the trees, each into the tree of its frame.
-///
-/// Refused, where memory is: `NoMemory`.
-fn insert_links(trees: &mut [Tree], links: &[Link]) -> Result<(), NoMemory>
-    requires { AreLinkable trees.old links.now }
-    ensures { OnOk result (AreLinked links.now trees.old trees.new) }
-{
-    for link in links {
-        derive(&mut trees[link.frame as usize], link.source, link.target)?;
-    }
-    Ok(())
 }

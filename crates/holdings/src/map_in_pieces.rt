@@ -1,9 +1,13 @@
 //! The pages of a MapItem, worked as one phase by pieces.
 
-ghost use Rattle.std.specs.Prelude.{◌≡◌, IfOk, IsFalse};
+ghost use Rattle.std.specs.Prelude.{◌≡◌, ◌≤◌, true, IfOk, IsFalse};
 ghost use Rattle.std.specs.List.{All};
 ghost use Rattle.space.specs.Shards.{IsPlace, is_taken};
 ghost use Rattle.holdings.specs.Inner.Words.{IsThere};
+ghost use Rattle.pieces.specs.Contents.{puts_of};
+ghost use Rattle.pieces.specs.Distinct.{are_distinct};
+ghost use Rattle.pieces.specs.declared.piece.Piece.TheVariants as variant;
+ghost use Rattle.holdings.specs.Inner.Phases.{ArePieces};
 ghost use Rattle.holdings.specs.Inner.Planning.{stores_of};
 
 use crate::holdings::Holdings;
@@ -15,8 +19,8 @@ use crate::writes::write_phase;
 use crew::{CrewError, Workers};
 use fpage::Rights;
 use maptree::Tree;
-use pieces::{Store, links};
-use space::{Place, Shards};
+use pieces::{Piece, Store, links};
+use space::{NoMemory, Place, Shards};
 use std::alloc::{AllocError, Global};
 
 impl Holdings {
@@ -46,12 +50,41 @@ impl Holdings {
         } = self;
         make_targets(&mut shards, transfers)?;
         let counts = TransferCounts::of_all(&shards, transfers);
-        let stores = stores(alloc, &shards, transfers, rights)?;
-        let pieces = links(alloc, stores, workers.piece_length())?;
-        link_all(alloc, &shards, &mut trees, transfers)?;
+        let most = workers.piece_length();
+        let pieces = link_pieces(alloc, &shards, transfers, rights, most)?;
+        link_all(&shards, &mut trees, transfers)?;
         write_phase(alloc, &mut shards, pieces, workers)?;
         Ok((Holdings { shards, trees }, counts))
     }
+}
+
+/// The pieces of the transfers whose source is held, in their order: of so many transfers each, so that no list of all
+/// stores is made.
+///
+/// Refused, where memory is: `NoMemory`.
+fn link_pieces(
+    alloc: Global,
+    shards: &Shards,
+    transfers: &[Transfer],
+    rights: Rights,
+    most: usize,
+) -> Result<Vec<Piece>, NoMemory>
+    requires present { IsFalse (is_taken shards.now) }
+    requires places { All (λ t. IsPlace shards.now t.source × IsThere shards.now t.target) transfers.now }
+    requires most { 1 ≤ most }
+    requires distinct { are_distinct (puts_of (stores_of shards.now rights transfers.now)) ≡ true }
+    ensures { IfOk result (λ pieces. ArePieces variant.Link (stores_of shards.now rights transfers.now) pieces.items) }
+{
+    let mut pieces = Vec::with_capacity(alloc, transfers.len().div_ceil(most))?;
+    let mut rest = transfers;
+    while !rest.is_empty() {
+        let (first, others) = rest.split_at(most.min(rest.len()));
+        let stores = stores(alloc, shards, first, rights)?;
+        let mut its_pieces = links(alloc, stores, most)?;
+        pieces.append(&mut its_pieces)?;
+        rest = others;
+    }
+    Ok(pieces)
 }
 
 /// The stores of the transfers whose source is held, by the words of their pages.

@@ -1,9 +1,13 @@
 //! Pages that move to other places, moved as one phase by pieces.
 
-ghost use Rattle.std.specs.Prelude.{◌≡◌, IfOk, IsFalse};
+ghost use Rattle.std.specs.Prelude.{◌≡◌, ◌≤◌, true, IfOk, IsFalse};
 ghost use Rattle.std.specs.List.{All};
 ghost use Rattle.space.specs.Shards.{IsPlace, is_taken};
 ghost use Rattle.holdings.specs.Inner.Words.{IsThere};
+ghost use Rattle.pieces.specs.Contents.{ends_of};
+ghost use Rattle.pieces.specs.Distinct.{are_distinct};
+ghost use Rattle.pieces.specs.declared.piece.Piece.TheVariants as variant;
+ghost use Rattle.holdings.specs.Inner.Phases.{ArePieces};
 ghost use Rattle.holdings.specs.Inner.Planning.{word_pairs};
 
 use crate::holdings::Holdings;
@@ -14,8 +18,8 @@ use crate::transfer_counts::TransferCounts;
 use crate::writes::write_phase;
 use crew::{CrewError, Workers};
 use maptree::Tree;
-use pieces::{Pair, moves};
-use space::{Place, Shards};
+use pieces::{Pair, Piece, moves};
+use space::{NoMemory, Place, Shards};
 use std::alloc::{AllocError, Global};
 
 impl Holdings {
@@ -45,12 +49,39 @@ impl Holdings {
         } = self;
         make_targets(&mut shards, transfers)?;
         let counts = TransferCounts::of_all(&shards, transfers);
-        let pairs = pairs(alloc, &shards, transfers)?;
-        let pieces = moves(alloc, pairs, workers.piece_length())?;
+        let pieces = move_pieces(alloc, &shards, transfers, workers.piece_length())?;
         rename_all(alloc, &shards, &mut trees, transfers)?;
         write_phase(alloc, &mut shards, pieces, workers)?;
         Ok((Holdings { shards, trees }, counts))
     }
+}
+
+/// The pieces of the transfers whose source is held, in their order: of so many transfers each, so that no list of all
+/// pairs is made.
+///
+/// Refused, where memory is: `NoMemory`.
+fn move_pieces(
+    alloc: Global,
+    shards: &Shards,
+    transfers: &[Transfer],
+    most: usize,
+) -> Result<Vec<Piece>, NoMemory>
+    requires present { IsFalse (is_taken shards.now) }
+    requires places { All (λ t. IsPlace shards.now t.source × IsThere shards.now t.target) transfers.now }
+    requires most { 1 ≤ most }
+    requires distinct { are_distinct (ends_of (word_pairs shards.now transfers.now)) ≡ true }
+    ensures { IfOk result (λ pieces. ArePieces variant.Move (word_pairs shards.now transfers.now) pieces.items) }
+{
+    let mut pieces = Vec::with_capacity(alloc, transfers.len().div_ceil(most))?;
+    let mut rest = transfers;
+    while !rest.is_empty() {
+        let (first, others) = rest.split_at(most.min(rest.len()));
+        let pairs = pairs(alloc, shards, first)?;
+        let mut its_pieces = moves(alloc, pairs, most)?;
+        pieces.append(&mut its_pieces)?;
+        rest = others;
+    }
+    Ok(pieces)
 }
 
 /// The transfers whose source is held, by the words of their pages.

@@ -15,7 +15,7 @@ use Rattle.pieces.specs.Steps.{effect, effects, store_step, pair_steps, access_s
 use Rattle.pieces.specs.Applied.{worked}
 use Rattle.pieces.specs.Values.{value, kept_nodes, remains}
 use Rattle.pieces.specs.Gathering.{union_of}
-use Rattle.pieces.specs.Laws.{joined_strips}
+use Rattle.pieces.specs.Laws.{joined, joined_strips}
 use Rattle.pieces.specs.declared.link.Store.{Store}
 use Rattle.pieces.specs.declared.moving.Pair.{Pair}
 use Rattle.pieces.specs.declared.touch.WordAccess.{WordAccess}
@@ -26,55 +26,58 @@ use Rattle.pieces.proofs.AllSteps.{worked_all}
 -- ---- lists in pieces
 
 module _ {A B : Type 0} where
-  -- what is made of lists joined is joined of what is made of each: then it is so of pieces too
-  pub flat_pieces : (f : List A → List B) → f [] ≡ [] → ((xs ys : List A) → f (xs ++ ys) ≡ f xs ++ f ys) → (n most : ℕ) (xs : List A) → 1 ≤ most → length xs ≤ n → flat_map f (pieces n most xs) ≡ f xs
-  flat_pieces f none joins zero most [] some upto = sym none
-  flat_pieces f none joins (suc n) most [] some upto = sym none
-  flat_pieces f none joins zero most (x ∷ xs) some upto = absurd (omega (arith, upto))
-  flat_pieces f none joins (suc n) most (x ∷ xs) some upto =
-      let l = length-drop most (x ∷ xs) in
-      ap (λ ys. f (take most (x ∷ xs)) ++ ys) (flat_pieces f none joins n most (drop most (x ∷ xs)) some (omega (arith, l, some, upto)))
-      ∙ sym (joins (take most (x ∷ xs)) (drop most (x ∷ xs))) ∙ ap f (take-append-drop most (x ∷ xs))
+  -- what is made of lists joined is joined of what is made of each
+  pub flat_parts : (f : List A → List B) → f [] ≡ [] → ((xs ys : List A) → f (xs ++ ys) ≡ f xs ++ f ys) → (parts : List (List A)) → flat_map f parts ≡ f (joined parts)
+  flat_parts f none joins [] = sym none
+  flat_parts f none joins (xs ∷ parts) = ap (λ ys. f xs ++ ys) (flat_parts f none joins parts) ∙ sym (joins xs (joined parts))
 
   pub flat_of_map : {C : Type 0} (g : C → A) (f : A → List B) (cs : List C) → flat_map f (map g cs) ≡ flat_map (λ c. f (g c)) cs
   flat_of_map g f [] = refl
   flat_of_map g f (c ∷ cs) = ap (λ ys. f (g c) ++ ys) (flat_of_map g f cs)
 
+-- a list in pieces is these joined
+pub joined_pieces : {A : Type 0} (n most : ℕ) (xs : List A) → 1 ≤ most → length xs ≤ n → joined (pieces n most xs) ≡ xs
+joined_pieces zero most [] some upto = refl
+joined_pieces (suc n) most [] some upto = refl
+joined_pieces zero most (x ∷ xs) some upto = absurd (omega (arith, upto))
+joined_pieces (suc n) most (x ∷ xs) some upto =
+    let l = length-drop most (x ∷ xs) in
+    ap (λ ys. take most (x ∷ xs) ++ ys) (joined_pieces n most (drop most (x ∷ xs)) some (omega (arith, l, some, upto))) ∙ take-append-drop most (x ∷ xs)
+
 -- pieces whose effects are joined work as one
 in_pieces : {A : Type 0} (make : List A → Piece) (w : List ℕ) → effects w (make []) ≡ [] → ((xs ys : List A) → effects w (make (xs ++ ys)) ≡ effects w (make xs) ++ effects w (make ys))
-    → (most : ℕ) → 1 ≤ most → (xs : List A) → worked w (map make (pieces (length xs) most xs)) ≡ worked w (make xs ∷ [])
-in_pieces make w none joins most some xs =
-    worked_all w (map make (pieces (length xs) most xs))
-    ∙ ap (words_after w) (flat_of_map make (effects w) (pieces (length xs) most xs) ∙ flat_pieces (λ ys. effects w (make ys)) none joins (length xs) most xs some (omega arith) ∙ sym (append-nil (effects w (make xs))))
-    ∙ sym (worked_all w (make xs ∷ []))
+    → (parts : List (List A)) → worked w (map make parts) ≡ worked w (make (joined parts) ∷ [])
+in_pieces make w none joins parts =
+    worked_all w (map make parts)
+    ∙ ap (words_after w) (flat_of_map make (effects w) parts ∙ flat_parts (λ ys. effects w (make ys)) none joins parts ∙ sym (append-nil (effects w (make (joined parts)))))
+    ∙ sym (worked_all w (make (joined parts) ∷ []))
 
-pub touches_in_pieces : (w : List ℕ) (most : ℕ) → 1 ≤ most → (xs : List WordAccess) → worked w (map piece.Touch (pieces (length xs) most xs)) ≡ worked w (piece.Touch xs ∷ [])
-touches_in_pieces w most some xs =
-    in_pieces piece.Touch w refl (λ xs ys. ap (map (effect w)) (flat_map-append (access_steps w) xs ys) ∙ map-append (effect w) (flat_map (access_steps w) xs) (flat_map (access_steps w) ys)) most some xs
+pub touches_in_pieces : (w : List ℕ) (parts : List (List WordAccess)) → worked w (map piece.Touch parts) ≡ worked w (piece.Touch (joined parts) ∷ [])
+touches_in_pieces w =
+    in_pieces piece.Touch w refl (λ xs ys. ap (map (effect w)) (flat_map-append (access_steps w) xs ys) ∙ map-append (effect w) (flat_map (access_steps w) xs) (flat_map (access_steps w) ys))
 
-pub links_in_pieces : (w : List ℕ) (most : ℕ) → 1 ≤ most → (xs : List Store) → worked w (map piece.Link (pieces (length xs) most xs)) ≡ worked w (piece.Link xs ∷ [])
-links_in_pieces w most some xs =
-    in_pieces piece.Link w refl (λ xs ys. ap (map (effect w)) (map-append (store_step w) xs ys) ∙ map-append (effect w) (map (store_step w) xs) (map (store_step w) ys)) most some xs
+pub links_in_pieces : (w : List ℕ) (parts : List (List Store)) → worked w (map piece.Link parts) ≡ worked w (piece.Link (joined parts) ∷ [])
+links_in_pieces w =
+    in_pieces piece.Link w refl (λ xs ys. ap (map (effect w)) (map-append (store_step w) xs ys) ∙ map-append (effect w) (map (store_step w) xs) (map (store_step w) ys))
 
-pub moves_in_pieces : (w : List ℕ) (most : ℕ) → 1 ≤ most → (xs : List Pair) → worked w (map piece.Move (pieces (length xs) most xs)) ≡ worked w (piece.Move xs ∷ [])
-moves_in_pieces w most some xs =
-    in_pieces piece.Move w refl (λ xs ys. ap (map (effect w)) (flat_map-append (pair_steps w) xs ys) ∙ map-append (effect w) (flat_map (pair_steps w) xs) (flat_map (pair_steps w) ys)) most some xs
+pub moves_in_pieces : (w : List ℕ) (parts : List (List Pair)) → worked w (map piece.Move parts) ≡ worked w (piece.Move (joined parts) ∷ [])
+moves_in_pieces w =
+    in_pieces piece.Move w refl (λ xs ys. ap (map (effect w)) (flat_map-append (pair_steps w) xs ys) ∙ map-append (effect w) (flat_map (pair_steps w) xs) (flat_map (pair_steps w) ys))
 
-pub answers_in_pieces : (w : List ℕ) (most : ℕ) → 1 ≤ most → (xs : List WordAccess) → flat_map (λ p. (value w p).answers) (map piece.Touch (pieces (length xs) most xs)) ≡ map (may_access w) xs
-answers_in_pieces w most some xs =
-    flat_of_map piece.Touch (λ p. (value w p).answers) (pieces (length xs) most xs) ∙ flat_pieces (map (may_access w)) refl (map-append (may_access w)) (length xs) most xs some (omega arith)
+pub answers_in_pieces : (w : List ℕ) (parts : List (List WordAccess)) → flat_map (λ p. (value w p).answers) (map piece.Touch parts) ≡ map (may_access w) (joined parts)
+answers_in_pieces w parts = flat_of_map piece.Touch (λ p. (value w p).answers) parts ∙ flat_parts (map (may_access w)) refl (map-append (may_access w)) parts
 
 -- where lists in pieces change words, and where these hold pages
-pub links_change : (most : ℕ) → 1 ≤ most → (xs : List Store) → (flat_map changes (map piece.Link (pieces (length xs) most xs)) ≡ puts_of xs) × (flat_map held (map piece.Link (pieces (length xs) most xs)) ≡ map (λ s. s.read) xs)
-links_change most some xs = (
-  flat_of_map piece.Link changes (pieces (length xs) most xs) ∙ flat_pieces puts_of refl (map-append (λ s. s.put)) (length xs) most xs some (omega arith),
-  flat_of_map piece.Link held (pieces (length xs) most xs) ∙ flat_pieces (map (λ s. s.read)) refl (map-append (λ s. s.read)) (length xs) most xs some (omega arith),
+pub links_change : (parts : List (List Store)) → (flat_map changes (map piece.Link parts) ≡ puts_of (joined parts)) × (flat_map held (map piece.Link parts) ≡ map (λ s. s.read) (joined parts))
+links_change parts = (
+  flat_of_map piece.Link changes parts ∙ flat_parts puts_of refl (map-append (λ s. s.put)) parts,
+  flat_of_map piece.Link held parts ∙ flat_parts (map (λ s. s.read)) refl (map-append (λ s. s.read)) parts,
 )
 
-pub moves_change : (most : ℕ) → 1 ≤ most → (xs : List Pair) → (flat_map changes (map piece.Move (pieces (length xs) most xs)) ≡ ends_of xs) × (flat_map held (map piece.Move (pieces (length xs) most xs)) ≡ map (λ p. p.taken) xs)
-moves_change most some xs = (
-  flat_of_map piece.Move changes (pieces (length xs) most xs) ∙ flat_pieces ends_of refl (flat_map-append (λ p. p.taken ∷ p.put ∷ [])) (length xs) most xs some (omega arith),
-  flat_of_map piece.Move held (pieces (length xs) most xs) ∙ flat_pieces (map (λ p. p.taken)) refl (map-append (λ p. p.taken)) (length xs) most xs some (omega arith),
+pub moves_change : (parts : List (List Pair)) → (flat_map changes (map piece.Move parts) ≡ ends_of (joined parts)) × (flat_map held (map piece.Move parts) ≡ map (λ p. p.taken) (joined parts))
+moves_change parts = (
+  flat_of_map piece.Move changes parts ∙ flat_parts ends_of refl (flat_map-append (λ p. p.taken ∷ p.put ∷ [])) parts,
+  flat_of_map piece.Move held parts ∙ flat_parts (map (λ p. p.taken)) refl (map-append (λ p. p.taken)) parts,
 )
 
 -- ---- strips

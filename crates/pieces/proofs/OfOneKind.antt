@@ -11,7 +11,7 @@ use Rattle.pieces.specs.Steps.{entry_in}
 use Rattle.pieces.specs.declared.touch.WordAccess.{WordAccess}
 use Rattle.pieces.specs.declared.piece.Piece.{Piece}
 use Rattle.pieces.specs.declared.piece.Piece.TheVariants as piece
-use Rattle.pieces.proofs.InPieces.{flat_pieces, flat_of_map}
+use Rattle.pieces.proofs.InPieces.{flat_parts, flat_of_map, joined_pieces}
 
 pub none_folded : {A : Type 0} (make : A → Piece) → ((x : A) → folds (make x) ≡ []) → (xs : List A) → flat_map folds (map make xs) ≡ []
 none_folded make none [] = refl
@@ -52,7 +52,7 @@ accesses_can w some packs xs within most at_least =
     record {
       some = some;
       packs = packs;
-      within = ap (list_all (λ i. nat_lt i (length w))) (flat_of_map piece.Touch named parts ∙ flat_pieces (map (λ x. x.index)) refl (map-append (λ x. x.index)) (length xs) most xs at_least (omega arith)) ∙ within;
+      within = ap (list_all (λ i. nat_lt i (length w))) (flat_of_map piece.Touch named parts ∙ flat_parts (map (λ x. x.index)) refl (map-append (λ x. x.index)) parts ∙ ap (map (λ x. x.index)) (joined_pieces (length xs) most xs at_least (omega arith))) ∙ within;
       entries = ap (list_all (λ i. is_some (entry_in w i))) (none_held parts);
       distinct = ap are_distinct (none_changed parts);
       apart = ap (list_all (is_none_of (flat_map changes (map piece.Touch parts)))) (none_folded piece.Touch (λ x. refl) parts);

@@ -1,7 +1,6 @@
 -- What is so of all pieces that are worked.
 use Rattle.std.specs.Prelude.{◌≡◌, ℕ, ◌<◌, ◌≤◌, Bool, true, false, List, [], ◌∷◌, ◌++◌, length, map, Option, None, slice_index, slice_get, Some, bit_or}
 use Rattle.std.specs.List.{All, AllPass, flat_map, list_all, list_any}
-use Rattle.space.specs.Slices.{pieces}
 use Rattle.pieces.specs.Effects.{Effect, writes, gained, word_after, words_after, writes_at, adds_at}
 use Rattle.pieces.specs.Contents.{StripContent, IsStrip, puts_of, ends_of}
 use Rattle.pieces.specs.Distinct.{is_none_of, are_distinct}
@@ -98,31 +97,35 @@ OthersFindTheSame = (w : List ℕ) (ps qs : List Piece) → All IsPiece (ps ++ q
 
 -- ---- the length of pieces
 
+-- some lists, one behind another
+abbrev pub joined : {A : Type 0} → List (List A) → List A
+joined parts = flat_map (λ part. part) parts
+
 -- accesses in pieces do to words what they do in one
 abbrev pub TouchesInPieces : Type 0
 TouchesInPieces =
-    (w : List ℕ) (most : ℕ) → 1 ≤ most → (xs : List WordAccess) → let ps = map piece.Touch (pieces (length xs) most xs) in
-    (worked w ps ≡ worked w (piece.Touch xs ∷ [])) × (flat_map (λ p. (value w p).answers) ps ≡ (value w (piece.Touch xs)).answers)
+    (w : List ℕ) (parts : List (List WordAccess)) → let ps = map piece.Touch parts in
+    (worked w ps ≡ worked w (piece.Touch (joined parts) ∷ [])) × (flat_map (λ p. (value w p).answers) ps ≡ (value w (piece.Touch (joined parts))).answers)
 
 -- and so do stores
 abbrev pub LinksInPieces : Type 0
-LinksInPieces = (w : List ℕ) (most : ℕ) → 1 ≤ most → (xs : List Store) → worked w (map piece.Link (pieces (length xs) most xs)) ≡ worked w (piece.Link xs ∷ [])
+LinksInPieces = (w : List ℕ) (parts : List (List Store)) → worked w (map piece.Link parts) ≡ worked w (piece.Link (joined parts) ∷ [])
 
 -- and pairs
 abbrev pub MovesInPieces : Type 0
-MovesInPieces = (w : List ℕ) (most : ℕ) → 1 ≤ most → (xs : List Pair) → worked w (map piece.Move (pieces (length xs) most xs)) ≡ worked w (piece.Move xs ∷ [])
+MovesInPieces = (w : List ℕ) (parts : List (List Pair)) → worked w (map piece.Move parts) ≡ worked w (piece.Move (joined parts) ∷ [])
 
 -- stores in pieces put where the list does, and read where it does
 abbrev pub LinksInPiecesChange : Type 0
 LinksInPiecesChange =
-    (most : ℕ) → 1 ≤ most → (xs : List Store) → let ps = map piece.Link (pieces (length xs) most xs) in
-    (flat_map changes ps ≡ puts_of xs) × (flat_map held ps ≡ map (λ s. s.read) xs)
+    (parts : List (List Store)) → let ps = map piece.Link parts in
+    (flat_map changes ps ≡ puts_of (joined parts)) × (flat_map held ps ≡ map (λ s. s.read) (joined parts))
 
 -- pairs in pieces take and put where the list does
 abbrev pub MovesInPiecesChange : Type 0
 MovesInPiecesChange =
-    (most : ℕ) → 1 ≤ most → (xs : List Pair) → let ps = map piece.Move (pieces (length xs) most xs) in
-    (flat_map changes ps ≡ ends_of xs) × (flat_map held ps ≡ map (λ p. p.taken) xs)
+    (parts : List (List Pair)) → let ps = map piece.Move parts in
+    (flat_map changes ps ≡ ends_of (joined parts)) × (flat_map held ps ≡ map (λ p. p.taken) (joined parts))
 
 -- ---- accesses
 

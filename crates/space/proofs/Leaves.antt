@@ -9,9 +9,9 @@ use Rattle.std.proofs.lemmas.Bool.{eq-eqb, ne_eqb, eqb-true, ltb-true, ltb-false
 use Rattle.std.proofs.lemmas.Bool.Decides.{nat_tests}
 use Rattle.std.proofs.lemmas.Grind.{div_ceil_times}
 use Rattle.std.proofs.lemmas.List.{length-append, length-replicate, length-set, get_or-set_same, get_or-set_other, get_or_past, get_or-replicate, get_or_append_left, get_or-append_right}
-use Rattle.space.specs.Leaves.{nowhere, lone_leaf, alone, block_of, with_block, with_leaf, leaf_alone, in_branch, with_one, position_alone, or_else, slot_in, number_at, branch_at, entry_at, leaf_at, position_at, count_up, has_block, is_there, AreNumbers, AreInOrder, AreBlocks, AreLaid, laid, ArePlaced, placed, IsDirectory, AreSpans, IsFound, HaveSpans, IsDense}
+use Rattle.space.specs.Leaves.{nowhere, lone_leaf, alone, block_of, with_block, with_leaf, leaf_alone, in_branch, with_one, position_alone, or_else, slot_in, number_at, branch_at, entry_at, leaf_at, position_at, count_up, has_block, is_there, AreNumbers, AreInOrder, AreBlocks, AreLaid, laid, ArePlaced, placed, IsDirectory, IsFound, IsDense}
 use Rattle.space.specs.declared.directory.Directory.{Directory}
-use Rattle.space.specs.Positions.{most_of, count_of, position_in}
+use Rattle.space.specs.Positions.{most_of, count_of, position_in, AreRuns, AreRunsOf}
 
 pub same_or_not : (i j : ℕ) → (i ≡ j) ⊎ (i ≡ j → ⊥)
 same_or_not i j = by (i == j) refl
@@ -415,7 +415,7 @@ module _ (most : ℕ) (branches leaves positions : List ℕ) (few : most ≤ 2 ^
 -- one with a leaf for each run
 module _ (most runs : ℕ) (branches leaves positions : List ℕ) (few : most ≤ 2 ^ 15) (runs_are : runs ≡ div_ceil most 256) (branches_are : AreNumbers 0 runs branches)
     (leaves_are : AreNumbers 16 (runs * 16) leaves) (positions_are : positions ≡ replicate ((runs * 16 + 1) * 16) nowhere) where
-  pub many : length branches ≡ runs
+  many : length branches ≡ runs
   many = omega (arith, branches_are.how_many)
 
   entry_past : (run : ℕ) → length branches ≤ run → slice_index branches run ≡ 0
@@ -660,7 +660,7 @@ module _ (most count : ℕ) (branches leaves positions : List ℕ) (found : IsDi
     none : branch_at branches run ≡ 0
     none = ap (block_of lone_leaf) entry_is ∙ block_high lone_leaf entry high
 
-    pub as_many : length after ≡ length branches
+    as_many : length after ≡ length branches
     as_many = ap length after_is ∙ length-set branches run (length leaves / 16)
 
     first_now : slice_index after run ≡ length leaves / 16
@@ -876,7 +876,7 @@ module _ (most count : ℕ) (branches leaves positions : List ℕ) (found : IsDi
     no_branch_yet : branch_at branches (run / 16) ≡ 0
     no_branch_yet = ap (block_of lone_leaf) entry_is ∙ block_high lone_leaf entry (omega (arith, high))
 
-    pub lone_many : length after ≡ length branches
+    lone_many : length after ≡ length branches
     lone_many = still_many (run / 16) whole_run_low no_branch_yet (with_leaf (length positions / 16) run) (omega arith) after after_is
 
     lone_is : slice_index after (run / 16) ≡ with_leaf (length positions / 16) run
@@ -1004,7 +1004,7 @@ module _ (most count : ℕ) (branches leaves positions : List ℕ) (found : IsDi
     none_before : branch_at branches (shard / 256) ≡ 0
     none_before = ap (block_of lone_leaf) none
 
-    pub alone_many : length after ≡ length branches
+    alone_many : length after ≡ length branches
     alone_many = still_many (shard / 256) (run_within shard shard_low) none_before (with_one count shard) (omega arith) after after_is
 
     alone_is : slice_index after (shard / 256) ≡ with_one count shard
@@ -1177,11 +1177,6 @@ module _ (most count : ℕ) (branches leaves positions : List ℕ) (found : IsDi
   put_added (put_in_leaf some firsts_are entries_are numbers_are) =
       moved_to branches leaves numbers firsts_are entries_are refl (shard_added most count branches leaves positions found shard shard_low absent some numbers numbers_are)
 
-  pub put_many : IsPut count shard branches leaves positions firsts entries numbers → length firsts ≡ length branches
-  put_many (put_alone none firsts_are entries_are numbers_are) = alone_many most count branches leaves positions found shard shard_low absent none firsts firsts_are
-  put_many (put_beside _ _ _ firsts_are _ _) = ap length firsts_are
-  put_many (put_in_leaf some firsts_are entries_are numbers_are) = ap length firsts_are
-
   -- where leaves stand in order, it is put in its leaf
   pub put_order : IsPut count shard branches leaves positions firsts entries numbers → AreInOrder branches leaves → AreInOrder firsts entries
   put_order (put_alone none firsts_are entries_are numbers_are) order =
@@ -1199,20 +1194,17 @@ module _ (most count : ℕ) (branches leaves positions : List ℕ) (found : IsDi
 pub closed_found : {most count : ℕ} {branches leaves positions : List ℕ} → IsDirectory most count branches leaves positions → IsFound most count branches leaves positions
 closed_found is = ∣ is ∣₁
 
-pub closed_spans : {branches leaves positions spans : List ℕ} → AreSpans branches leaves positions spans → HaveSpans branches leaves positions spans
-closed_spans are = ∣ are ∣₁
-
 pub closed_dense : (is_dense : Bool) (branches leaves : List ℕ) → (IsTrue is_dense → AreInOrder branches leaves) → IsDense is_dense branches leaves
 closed_dense is_dense branches leaves are = ∣ are ∣₁
 
 pub found_in : (d : Directory) → IsDirectory d.most d.count d.branches.items d.leaves.items d.positions.items
 found_in d = ∥∥₁_elim {P = IsDirectory d.most d.count d.branches.items d.leaves.items d.positions.items} d.found (hlevel (ℕ_set, le_prop)) (λ (is : IsDirectory d.most d.count d.branches.items d.leaves.items d.positions.items). is)
 
-pub spans_in : (d : Directory) → AreSpans d.branches.items d.leaves.items d.positions.items d.spans.items
-spans_in d = ∥∥₁_elim {P = AreSpans d.branches.items d.leaves.items d.positions.items d.spans.items} d.within (hlevel (ℕ_set, le_prop)) (λ (are : AreSpans d.branches.items d.leaves.items d.positions.items d.spans.items). are)
-
 pub dense_in : (d : Directory) → IsTrue d.is_dense → AreInOrder d.branches.items d.leaves.items
 dense_in d = ∥∥₁_elim {P = (IsTrue d.is_dense → AreInOrder d.branches.items d.leaves.items)} d.dense (hlevel (ℕ_set, le_prop)) (λ (are : (IsTrue d.is_dense → AreInOrder d.branches.items d.leaves.items)). are)
+
+pub runs_in : (d : Directory) (live runs : List ℕ) → AreRunsOf d live runs → AreRuns d live runs
+runs_in d live runs are = ∥∥₁_elim {P = AreRuns d live runs} are (hlevel (ℕ_set, le_prop)) (λ (is : AreRuns d live runs). is)
 
 pub few_there_in : (d : Directory) → count_of d ≤ most_of d
 few_there_in d = few_there d.most d.count d.branches.items d.leaves.items d.positions.items (found_in d)
@@ -1235,80 +1227,3 @@ live_within d live how_many shard some = elim (within_or_past (position_in d sha
 pub apart_in : (d : Directory) (j k : ℕ) → position_in d j < count_of d → position_in d j ≡ position_in d k → j ≡ k
 unfolding position_in
 apart_in d j k there same = apart d.most d.count d.branches.items d.leaves.items d.positions.items (found_in d) j k there same
-
--- ---- the first of each run, and the end
-
--- of a directory without shards
-pub no_spans : (most : ℕ) (branches leaves positions spans : List ℕ) → IsDirectory most 0 branches leaves positions → length spans ≡ length branches → AreSpans branches leaves positions spans
-no_spans most branches leaves positions spans found how_many = record {
-  how_many = how_many;
-  from_first = λ shard there. let low = below most 0 branches leaves positions found shard there in absurd (omega (arith, low));
-  to_end = λ shard there. let low = below most 0 branches leaves positions found shard there in absurd (omega (arith, low));
-}
-
--- where each shard is where it was
-pub same_spans : (branches leaves positions after more_leaves more spans : List ℕ) → AreSpans branches leaves positions spans → length after ≡ length branches
-    → ((shard : ℕ) → position_at after more_leaves more shard ≡ position_at branches leaves positions shard) → AreSpans after more_leaves more spans
-same_spans branches leaves positions after more_leaves more spans are count same = record {
-  how_many = are.how_many ∙ sym count;
-  from_first = λ shard there. are.from_first shard (λ is. there (same shard ∙ is));
-  to_end = λ shard there. are.to_end shard (λ is. there (same shard ∙ is));
-}
-
--- of a run whose span is 0 no shard is there
-pub none_of_run : (branches leaves positions spans : List ℕ) → AreSpans branches leaves positions spans → (shard : ℕ) → slice_index spans (shard / 256) ≡ 0 → position_at branches leaves positions shard ≡ nowhere
-none_of_run branches leaves positions spans are shard empty = elim (same_or_not (position_at branches leaves positions shard) nowhere) as (λ _. position_at branches leaves positions shard ≡ nowhere) [
-  | inl same ↦ same
-  | inr differ ↦ absurd (omega (arith, empty, are.to_end shard differ))
-]
-
--- where a shard is added
-module _ (branches leaves positions firsts entries numbers spans : List ℕ) (are : AreSpans branches leaves positions spans) (as_many : length firsts ≡ length branches) (shard span : ℕ)
-    (within : shard / 256 < length branches) (elsewhere : (other : ℕ) → (other ≡ shard → ⊥) → position_at firsts entries numbers other ≡ position_at branches leaves positions other)
-    (first : span % 256 ≤ shard % 256) (end : shard % 256 < span / 256) (not_later : (slice_index spans (shard / 256) ≡ 0 → ⊥) → span % 256 ≤ slice_index spans (shard / 256) % 256)
-    (not_sooner : slice_index spans (shard / 256) / 256 ≤ span / 256) where
-  now : slice_index (slice_set spans (shard / 256) span) (shard / 256) ≡ span
-  now = get_or-set_same spans (shard / 256) span 0 (omega (arith, within, are.how_many))
-
-  -- the span of another shard that is there
-  other_span : (other : ℕ) → (other ≡ shard → ⊥) → (position_at firsts entries numbers other ≡ nowhere → ⊥)
-      → (slice_index (slice_set spans (shard / 256) span) (other / 256) % 256 ≤ other % 256) × (other % 256 < slice_index (slice_set spans (shard / 256) span) (other / 256) / 256)
-  other_span other differ there =
-      let was_there : position_at branches leaves positions other ≡ nowhere → ⊥ = λ is. there (elsewhere other differ ∙ is) in
-      let from = are.from_first other was_there in
-      let to = are.to_end other was_there in
-      elim (same_or_not (other / 256) (shard / 256)) as
-      (λ _. (slice_index (slice_set spans (shard / 256) span) (other / 256) % 256 ≤ other % 256) × (other % 256 < slice_index (slice_set spans (shard / 256) span) (other / 256) / 256)) [
-        | inl same ↦
-            let is = ap (slice_index (slice_set spans (shard / 256) span)) same ∙ now in
-            let was = ap (slice_index spans) same in
-            let later = not_later (λ empty. was_there (none_of_run branches leaves positions spans are other (was ∙ empty))) in
-            (omega (arith, is, was, from, later), omega (arith, is, was, to, not_sooner))
-        | inr apart ↦
-            let is = get_or-set_other spans (shard / 256) (other / 256) span 0 (λ same. apart same) in
-            (omega (arith, is, from), omega (arith, is, to))
-      ]
-
-  pub more_spans : AreSpans firsts entries numbers (slice_set spans (shard / 256) span)
-  more_spans = record {
-    how_many = length-set spans (shard / 256) span ∙ are.how_many ∙ sym as_many;
-    from_first = λ other there. elim (same_or_not other shard) as (λ _. slice_index (slice_set spans (shard / 256) span) (other / 256) % 256 ≤ other % 256) [
-      | inl same ↦ let is = ap (λ n. slice_index (slice_set spans (shard / 256) span) (n / 256)) same ∙ now in omega (arith, is, first, same)
-      | inr differ ↦ (other_span other differ there).0
-    ];
-    to_end = λ other there. elim (same_or_not other shard) as (λ _. other % 256 < slice_index (slice_set spans (shard / 256) span) (other / 256) / 256) [
-      | inl same ↦ let is = ap (λ n. slice_index (slice_set spans (shard / 256) span) (n / 256)) same ∙ now in omega (arith, is, end, same)
-      | inr differ ↦ (other_span other differ there).1
-    ];
-  }
-
--- no shard is there before the first of its run, and none from the end on
-pub outside_span : (branches leaves positions spans : List ℕ) → AreSpans branches leaves positions spans → (shard : ℕ)
-    → (shard % 256 < slice_index spans (shard / 256) % 256) ⊎ (slice_index spans (shard / 256) / 256 ≤ shard % 256) → position_at branches leaves positions shard ≡ nowhere
-outside_span branches leaves positions spans are shard outside = elim (same_or_not (position_at branches leaves positions shard) nowhere) as (λ _. position_at branches leaves positions shard ≡ nowhere) [
-  | inl same ↦ same
-  | inr differ ↦ elim outside as (λ _. position_at branches leaves positions shard ≡ nowhere) [
-    | inl low ↦ absurd (omega (arith, low, are.from_first shard differ))
-    | inr high ↦ absurd (omega (arith, high, are.to_end shard differ))
-  ]
-]

@@ -2,6 +2,7 @@ pub mod Places
 pub mod Words
 pub mod RightsLeft
 pub mod Leaves
+pub mod RunBits
 pub mod Directories
 pub mod Eights
 pub mod ShardWords

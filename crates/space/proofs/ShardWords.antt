@@ -4,8 +4,9 @@ use Rattle.std.specs.Option.{option_map_or}
 use Rattle.std.specs.Prelude.{replicate, is_some}
 use Rattle.std.specs.List.{AllPass}
 use Rattle.std.specs.Vec.{with_item}
-use Rattle.std.specs.Int.{div_ceil}
+use Rattle.std.specs.Int.{bit_at, div_ceil}
 use Rattle.std.proofs.lemmas.Nat.{mul-le}
+use Rattle.std.proofs.lemmas.Nat.Bits.{bit_at_ones}
 use Rattle.std.proofs.lemmas.Grind.{div_ceil_times}
 use Rattle.std.proofs.lemmas.Bool.{eq-eqb, eqb-true}
 use Rattle.std.proofs.lemmas.Option.{same_Some}
@@ -17,12 +18,13 @@ use Rattle.space.specs.declared.shards.Shards.{Shards}
 use Rattle.space.specs.Word.{word_of, entry_of, is_pack, FrameFits}
 use Rattle.space.specs.Directory.{pages_of, shards_of, shard_of, offset_of, AreLive, AreWords}
 use Rattle.space.specs.declared.directory.Directory.{Directory}
-use Rattle.space.specs.Positions.{nowhere, most_of, count_of, position_in, AreRunsOf, IsAdded, IsSame}
+use Rattle.space.specs.Positions.{nowhere, most_of, count_of, position_in, AreRuns, AreRunsOf, IsAdded, IsSame}
+use Rattle.space.specs.Runs.{IsRevived}
 use Rattle.space.specs.Shards.{IsPlace, HasWord, index_of, word_count, words_of, entry_at, are_beside, IsSetAt}
 use Rattle.space.specs.ShardLaws.{HeldHaveWords, WordsAreTheirOwn, EntriesFit, AreAllWords, IsWithWords, ShardsHaveWords, WordsHaveShards}
 use Rattle.space.proofs.Words.{pack_gives_back, unpack_gives_back, unpacked_fits}
 use Rattle.space.proofs.Directories.{shard_found, same_shard, shard_in_space, same_parts, pages_are, few_pages}
-use Rattle.space.proofs.Leaves.{few_there_in, found_in, within_or_past, same_or_not, apart_in, below_in}
+use Rattle.space.proofs.Leaves.{few_there_in, found_in, within_or_past, same_or_not, apart_in, below_in, dead_unless, runs_in}
 
 -- the shard of a place is one that the directory can have
 pub shard_can : (s : Shards) (p : Place) → IsPlace s p → shard_of s.bits p < most_of s.directory
@@ -127,56 +129,112 @@ live_revived live words k within are i none = elim (same_or_not k (i / 64)) as (
 
 -- ---- runs of shards
 
-module _ (d : Directory) (live runs : List ℕ) where
-  -- where none is dead
-  pub runs_of_all : length runs ≡ div_ceil (most_of d) 256 → ((k : ℕ) → k < length runs → slice_index runs k ≡ 1) → AreRunsOf d live runs
-  runs_of_all how_many all shard less none =
-      let within : shard / 256 < length runs = omega (arith, how_many, less, div_ceil_times (most_of d) 256 (omega arith)) in
-      let one = all (shard / 256) within in
-      absurd (omega (arith, one, none))
+-- where each run may have live shards
+pub runs_of_all : (d : Directory) (live runs : List ℕ) → length runs ≡ div_ceil (most_of d) 256 → ((k : ℕ) → k < length runs → slice_index runs k ≡ 2 ^ 32 - 1) → AreRunsOf d live runs
+runs_of_all d live runs how_many all = ∣ record {
+  dead = λ shard less none. never shard less (shard / 16 % 16) (omega arith) none;
+  absent = λ shard less none. never shard less (16 + shard / 16 % 16) (omega arith) none;
+} ∣₁
+  where
+    never : {A : Type 0} (shard : ℕ) → shard < most_of d → (i : ℕ) → i < 32 → bit_at (slice_index runs (shard / 256)) i ≡ 0 → A
+    never shard less i low none =
+        let within : shard / 256 < length runs = omega (arith, how_many, less, div_ceil_times (most_of d) 256 (omega arith)) in
+        let one = ap (λ n. bit_at n i) (all (shard / 256) within) ∙ bit_at_ones 32 i low in
+        absurd (omega (arith, one, none))
 
-  module _ (are : AreRunsOf d live runs) where
-    -- where a run is not dead any more
-    pub runs_revived : (run : ℕ) → run < length runs → AreRunsOf d live (slice_set runs run 1)
-    runs_revived run within shard less none = elim (same_or_not run (shard / 256)) as (λ _. slice_index live (position_in d shard) ≡ 0) [
-      | inl same ↦ let one = ap (slice_index (slice_set runs run 1)) (sym same) ∙ get_or-set_same runs run 1 0 within in absurd (omega (arith, one, none))
-      | inr differ ↦ are shard less (sym (get_or-set_other runs run (shard / 256) 1 0 (λ same. differ (sym same))) ∙ none)
-    ]
+-- a bit is 0 where it was, if another number took the place of one all whose bits it has
+bit_kept : (runs : List ℕ) (run now : ℕ) → run < length runs → ((i : ℕ) → bit_at now i ≡ 0 → bit_at (slice_index runs run) i ≡ 0)
+    → (k i : ℕ) → bit_at (slice_index (slice_set runs run now) k) i ≡ 0 → bit_at (slice_index runs k) i ≡ 0
+bit_kept runs run now within others k i none = elim (same_or_not run k) as (λ _. bit_at (slice_index runs k) i ≡ 0) [
+  | inl same ↦
+      let is : slice_index (slice_set runs run now) k ≡ now = ap (slice_index (slice_set runs run now)) (sym same) ∙ get_or-set_same runs run now 0 within in
+      ap (λ n. bit_at (slice_index runs n) i) (sym same) ∙ others i (ap (λ n. bit_at n i) (sym is) ∙ none)
+  | inr differ ↦ ap (λ n. bit_at n i) (sym (get_or-set_other runs run k now 0 (λ same. differ (sym same)))) ∙ none
+]
 
-    -- where a shard of a live run is not dead any more
-    pub shard_revived : (shard : ℕ) → position_in d shard < count_of d → (slice_index runs (shard / 256) ≡ 0 → ⊥) → AreRunsOf d (slice_set live (position_in d shard) 1) runs
-    shard_revived shard there live_run other less none =
-        let differ : position_in d other ≡ position_in d shard → ⊥ = λ same. live_run (ap (λ k. slice_index runs (k / 256)) (apart_in d shard other there (sym same)) ∙ none) in
-        get_or-set_other live (position_in d shard) (position_in d other) 1 0 differ ∙ are other less none
+module _ (d : Directory) (live runs : List ℕ) (closed : AreRunsOf d live runs) where
+  are : AreRuns d live runs
+  are = runs_in d live runs closed
 
-    -- where a shard is dead now
-    pub shard_dead : (position : ℕ) → AreRunsOf d (slice_set live position 0) runs
-    shard_dead position other less none = elim (same_or_not position (position_in d other)) as (λ _. slice_index (slice_set live position 0) (position_in d other) ≡ 0) [
+  -- where each run of 16 that has any shard is live
+  pub all_revived : (live_now runs_now : List ℕ) → length live_now ≡ count_of d → ((k : ℕ) → IsRevived (slice_index runs k) (slice_index runs_now k)) → AreRunsOf d live_now runs_now
+  all_revived live_now runs_now how_many each = ∣ record {
+    dead = λ shard less none. dead_unless d live_now how_many shard (are.absent shard less ((each (shard / 256)).life (shard / 16 % 16) (omega arith) none));
+    absent = λ shard less none. are.absent shard less ((each (shard / 256)).there (16 + shard / 16 % 16) none);
+  } ∣₁
+
+  -- where a run has bits more
+  pub runs_revived : (run now : ℕ) → run < length runs → ((i : ℕ) → bit_at now i ≡ 0 → bit_at (slice_index runs run) i ≡ 0) → AreRunsOf d live (slice_set runs run now)
+  runs_revived run now within others = ∣ record {
+    dead = λ shard less none. are.dead shard less (bit_kept runs run now within others (shard / 256) (shard / 16 % 16) none);
+    absent = λ shard less none. are.absent shard less (bit_kept runs run now within others (shard / 256) (16 + shard / 16 % 16) none);
+  } ∣₁
+
+  -- where a shard of a live run of 16 is not dead any more
+  pub shard_revived : (shard : ℕ) → position_in d shard < count_of d → (bit_at (slice_index runs (shard / 256)) (shard / 16 % 16) ≡ 0 → ⊥) → AreRunsOf d (slice_set live (position_in d shard) 1) runs
+  shard_revived shard there life = ∣ record {
+    dead = λ other less none.
+        let differ : position_in d other ≡ position_in d shard → ⊥ = λ same. life (ap (λ k. bit_at (slice_index runs (k / 256)) (k / 16 % 16)) (apart_in d shard other there (sym same)) ∙ none) in
+        get_or-set_other live (position_in d shard) (position_in d other) 1 0 differ ∙ are.dead other less none;
+    absent = are.absent;
+  } ∣₁
+
+  -- where a shard is dead now
+  pub shard_dead : (position : ℕ) → AreRunsOf d (slice_set live position 0) runs
+  shard_dead position = ∣ record {
+    dead = λ other less none. elim (same_or_not position (position_in d other)) as (λ _. slice_index (slice_set live position 0) (position_in d other) ≡ 0) [
       | inl same ↦ elim (within_or_past position (length live)) as (λ _. slice_index (slice_set live position 0) (position_in d other) ≡ 0) [
         | inl within ↦ ap (slice_index (slice_set live position 0)) (sym same) ∙ get_or-set_same live position 0 0 within
         | inr past ↦ get_or_past (slice_set live position 0) (position_in d other) 0 (omega (arith, past, same, length-set live position 0))
       ]
-      | inr differ ↦ get_or-set_other live position (position_in d other) 0 0 (λ same. differ (sym same)) ∙ are other less none
-    ]
+      | inr differ ↦ get_or-set_other live position (position_in d other) 0 0 (λ same. differ (sym same)) ∙ are.dead other less none
+    ];
+    absent = are.absent;
+  } ∣₁
 
-    -- where each shard is where it was
-    pub runs_same : (now : Directory) → IsSame d now → (live_now : List ℕ) → live_now ≡ live → AreRunsOf now live_now runs
-    runs_same now same live_now live_is shard less none =
-        ap (λ xs. slice_index xs (position_in now shard)) live_is ∙ ap (slice_index live) (same.positions shard) ∙ are shard (rw (← same.most) less) none
+  -- where a run of 16 whose shards are all dead loses its bit
+  pub run_dead : (run now : ℕ) → run / 16 < length runs → ((i : ℕ) → i < 32 → (i ≡ run % 16 → ⊥) → bit_at now i ≡ bit_at (slice_index runs (run / 16)) i)
+      → ((shard : ℕ) → shard / 16 ≡ run → shard < most_of d → slice_index live (position_in d shard) ≡ 0) → AreRunsOf d live (slice_set runs (run / 16) now)
+  run_dead run now within others all = ∣ record {
+    dead = λ shard less none. elim (same_or_not (shard / 16) run) as (λ _. slice_index live (position_in d shard) ≡ 0) [
+      | inl same ↦ all shard same less
+      | inr differ ↦ are.dead shard less (was (shard / 256) (shard / 16 % 16) (omega arith) (λ number leaf. differ (omega (arith, number, leaf))) none)
+    ];
+    absent = λ shard less none. are.absent shard less (was (shard / 256) (16 + shard / 16 % 16) (omega arith) (λ number leaf. absurd (omega (arith, leaf))) none);
+  } ∣₁
+    where
+      was : (k i : ℕ) → i < 32 → (run / 16 ≡ k → i ≡ run % 16 → ⊥) → bit_at (slice_index (slice_set runs (run / 16) now) k) i ≡ 0 → bit_at (slice_index runs k) i ≡ 0
+      was k i low other none = elim (same_or_not (run / 16) k) as (λ _. bit_at (slice_index runs k) i ≡ 0) [
+        | inl same ↦
+            let is : slice_index (slice_set runs (run / 16) now) k ≡ now = ap (slice_index (slice_set runs (run / 16) now)) (sym same) ∙ get_or-set_same runs (run / 16) now 0 within in
+            ap (λ n. bit_at (slice_index runs n) i) (sym same) ∙ sym (others i low (other same)) ∙ ap (λ n. bit_at n i) (sym is) ∙ none
+        | inr differ ↦ ap (λ n. bit_at n i) (sym (get_or-set_other runs (run / 16) k now 0 (λ same. differ (sym same)))) ∙ none
+      ]
 
-    -- where a live shard is added
-    pub runs_longer : (now : Directory) (shard : ℕ) → IsAdded d now shard → length live ≡ count_of d → shard / 256 < length runs → (live_now : List ℕ) → live_now ≡ live ++ 1 ∷ [] → AreRunsOf now live_now (slice_set runs (shard / 256) 1)
-    runs_longer now shard added how_many within live_now live_is other less none =
-        let apart : shard / 256 ≡ other / 256 → ⊥ = λ same. let one = ap (slice_index (slice_set runs (shard / 256) 1)) (sym same) ∙ get_or-set_same runs (shard / 256) 1 0 within in absurd (omega (arith, one, none)) in
-        let stood = added.elsewhere other (λ same. apart (ap (λ k. k / 256) (sym same))) in
-        let dead = are other (rw (← added.most) less) (sym (get_or-set_other runs (shard / 256) (other / 256) 1 0 (λ same. apart (sym same))) ∙ none) in
+  -- where each shard is where it was
+  pub runs_same : (now : Directory) → IsSame d now → (live_now : List ℕ) → live_now ≡ live → AreRunsOf now live_now runs
+  runs_same now same live_now live_is = ∣ record {
+    dead = λ shard less none. ap (λ xs. slice_index xs (position_in now shard)) live_is ∙ ap (slice_index live) (same.positions shard) ∙ are.dead shard (rw (← same.most) less) none;
+    absent = λ shard less none. same.positions shard ∙ are.absent shard (rw (← same.most) less) none;
+  } ∣₁
+
+  -- where a live shard is added, of a run of 16 that has both bits
+  pub runs_longer : (now : Directory) (shard : ℕ) → IsAdded d now shard → length live ≡ count_of d → (bit_at (slice_index runs (shard / 256)) (shard / 16 % 16) ≡ 0 → ⊥)
+      → (bit_at (slice_index runs (shard / 256)) (16 + shard / 16 % 16) ≡ 0 → ⊥) → (live_now : List ℕ) → live_now ≡ live ++ 1 ∷ [] → AreRunsOf now live_now runs
+  runs_longer now shard added how_many life there live_now live_is = ∣ record {
+    dead = λ other less none.
+        let stood = added.elsewhere other (λ same. life (ap (λ k. bit_at (slice_index runs (k / 256)) (k / 16 % 16)) (sym same) ∙ none)) in
+        let dead = are.dead other (rw (← added.most) less) none in
         ap (λ xs. slice_index xs (position_in now other)) live_is ∙ ap (slice_index (live ++ 1 ∷ [])) stood
         ∙ (elim (within_or_past (position_in d other) (count_of d)) as (λ _. slice_index (live ++ 1 ∷ []) (position_in d other) ≡ 0) [
           | inl there ↦ get_or_append_left live (1 ∷ []) 0 (position_in d other) (omega (arith, there, how_many)) ∙ dead
           | inr past ↦
               let away = away_from d other past in
               get_or_past (live ++ 1 ∷ []) (position_in d other) 0 (omega (arith, away, how_many, length-append live (1 ∷ []), few_there_in d, (found_in d).few))
-        ])
+        ]);
+    absent = λ other less none.
+        added.elsewhere other (λ same. there (ap (λ k. bit_at (slice_index runs (k / 256)) (16 + k / 16 % 16)) (sym same) ∙ none)) ∙ are.absent other (rw (← added.most) less) none;
+  } ∣₁
 
 -- ---- the words of shards
 
@@ -419,8 +477,8 @@ words_have_shards s present words count packs = by s.words refl
         let how_many : length (replicate (count_of s.directory) 1) ≡ count_of s.directory = length-replicate {A = ℕ} (count_of s.directory) 1 in
         let live = with_items s.live (replicate (count_of s.directory) 1) (omega (arith, how_many, s.counted, s.live.ok.0, s.live.ok.1)) in
         let all : AreLive live.items u = live_all (count_of s.directory) live.items u count how_many (λ k less. get_or-replicate (count_of s.directory) k 1 0 (omega (arith, less, how_many))) in
-        let many_runs : length (replicate (length s.runs.items) 1) ≡ length s.runs.items = length-replicate {A = ℕ} (length s.runs.items) 1 in
-        let runs = with_items s.runs (replicate (length s.runs.items) 1) (omega (arith, many_runs, s.runs.ok.0, s.runs.ok.1)) in
+        let many_runs : length (replicate (length s.runs.items) (2 ^ 32 - 1)) ≡ length s.runs.items = length-replicate {A = ℕ} (length s.runs.items) (2 ^ 32 - 1) in
+        let runs = with_items s.runs (replicate (length s.runs.items) (2 ^ 32 - 1)) (omega (arith, many_runs, s.runs.ok.0, s.runs.ok.1)) in
         let each_run : length runs.items ≡ div_ceil (most_of s.directory) 256 = many_runs ∙ s.each_run in
         let new : Shards = record {
           spaces = s.spaces;
@@ -435,7 +493,7 @@ words_have_shards s present words count packs = by s.words refl
           counted = how_many;
           dead = λ x x_is. subst (AreLive live.items) (same_Some u x x_is) all;
           each_run = each_run;
-          dead_runs = runs_of_all s.directory live.items runs.items each_run (λ k less. get_or-replicate (length s.runs.items) k 1 0 (omega (arith, less, many_runs)));
+          dead_runs = runs_of_all s.directory live.items runs.items each_run (λ k less. get_or-replicate (length s.runs.items) k (2 ^ 32 - 1) 0 (omega (arith, less, many_runs)));
         } in (
           new,
           record {

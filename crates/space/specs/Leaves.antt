@@ -121,19 +121,10 @@ pub record IsDirectory (most count : ℕ) (branches leaves positions : List ℕ)
   pub are_laid : AreLaid branches leaves positions
   pub are_placed : ArePlaced most count branches leaves positions
 
--- each shard that is there is not before the first of its run, and before the end
-pub record AreSpans (branches leaves positions spans : List ℕ) : Type 0 where
-  pub how_many : length spans ≡ length branches
-  pub from_first : (shard : ℕ) → (position_at branches leaves positions shard ≡ nowhere → ⊥) → slice_index spans (shard / 256) % 256 ≤ shard % 256
-  pub to_end : (shard : ℕ) → (position_at branches leaves positions shard ≡ nowhere → ⊥) → shard % 256 < slice_index spans (shard / 256) / 256
-
 -- the same, closed: who has a directory need not look into it
 
 abbrev pub IsFound : ℕ → ℕ → List ℕ → List ℕ → List ℕ → Type 0
 IsFound most count branches leaves positions = ∥ IsDirectory most count branches leaves positions ∥₁
-
-abbrev pub HaveSpans : List ℕ → List ℕ → List ℕ → List ℕ → Type 0
-HaveSpans branches leaves positions spans = ∥ AreSpans branches leaves positions spans ∥₁
 
 abbrev pub IsDense : Bool → List ℕ → List ℕ → Type 0
 IsDense is_dense branches leaves = ∥ (IsTrue is_dense → AreInOrder branches leaves) ∥₁

@@ -4,6 +4,7 @@ pub mod EntryLaws
 pub mod Directory
 pub mod Leaves
 pub mod Positions
+pub mod Runs
 pub mod Entries
 pub mod Shards
 pub mod ShardLaws

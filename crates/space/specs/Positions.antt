@@ -1,5 +1,6 @@
 -- The directory of shards: which are there, and where.
-use Rattle.std.specs.Prelude.{◌≡◌, ℕ, ◌+◌, ◌/◌, ◌<◌, List, slice_index}
+use Rattle.std.specs.Prelude.{◌≡◌, ℕ, ◌+◌, ◌/◌, ◌%◌, ◌<◌, List, slice_index}
+use Rattle.std.specs.Int.{bit_at}
 use Rattle.space.specs.declared.directory.Directory.{Directory}
 use Rattle.space.specs.Leaves as leaves
 
@@ -44,6 +45,11 @@ pub record IsAdded (old new : Directory) (shard : ℕ) : Type 0 where
   pub there : position_in new shard ≡ count_of old
   pub elsewhere : (other : ℕ) → (other ≡ shard → ⊥) → position_in new other ≡ position_in old other
 
--- all shards of a run are dead where 0 stands for it
+-- where bit j below 16 of a run's number is 0, the shards of its run j of 16 are dead; where bit 16 + j is, none is there
+pub record AreRuns (d : Directory) (live runs : List ℕ) : Type 0 where
+  pub dead : (shard : ℕ) → shard < most_of d → bit_at (slice_index runs (shard / 256)) (shard / 16 % 16) ≡ 0 → slice_index live (position_in d shard) ≡ 0
+  pub absent : (shard : ℕ) → shard < most_of d → bit_at (slice_index runs (shard / 256)) (16 + shard / 16 % 16) ≡ 0 → position_in d shard ≡ nowhere
+
+-- the same, closed: who has shards need not look into it
 abbrev pub AreRunsOf : Directory → List ℕ → List ℕ → Type 0
-AreRunsOf d live runs = (shard : ℕ) → shard < most_of d → slice_index runs (shard / 256) ≡ 0 → slice_index live (position_in d shard) ≡ 0
+AreRunsOf d live runs = ∥ AreRuns d live runs ∥₁

@@ -1,15 +1,16 @@
 //! Where the words of each shard stand.
 
-ghost use Rattle.std.specs.Prelude.{◌≡◌, ◌+◌, ◌/◌, ◌%◌, ◌≤◌, ◌^◌, true, length, IsTrue, IfOk, OnOk, OnErr, ℕ, ◌<◌, slice_index};
-ghost use Rattle.space.specs.Leaves.{nowhere, lone_leaf, alone, block_of, with_block, with_leaf, leaf_alone, in_branch, with_one, position_alone, IsFound, IsDense, AreNumbers, HaveSpans};
+ghost use Rattle.std.specs.Prelude.{◌≡◌, ◌+◌, ◌/◌, ◌%◌, ◌≤◌, ◌^◌, length, IsTrue, IfOk, OnOk, OnErr, ℕ, ◌<◌, slice_index};
+ghost use Rattle.space.specs.Leaves.{nowhere, lone_leaf, alone, block_of, with_block, with_leaf, leaf_alone, in_branch, with_one, position_alone, IsFound, IsDense, AreNumbers};
 
+use crate::runs::next_with_life;
 use std::alloc::{AllocError, Global};
 
 /// How many numbers stand in a block: in a leaf the positions of its shards, in a branch the entries of its leaves.
 const BLOCK: usize = 16;
 
 /// How many shards one leaf finds.
-const LEAF_SHARDS: usize = BLOCK;
+pub const LEAF_SHARDS: usize = BLOCK;
 
 /// How many leaves one branch finds.
 const BRANCH_LEAVES: usize = BLOCK;
@@ -51,11 +52,7 @@ pub struct Directory {
     leaves: Vec<u32>,
     /// The positions of the shards of each leaf, leaf behind leaf.
     positions: Vec<u32>,
-    /// Of the shards of each run of 256 that are there, within the run: the first, and 256 times the end of the last; 0
-    /// where none is.
-    spans: Vec<u32>,
     ghost found: { IsFound most count branches.items leaves.items positions.items },
-    ghost within: { HaveSpans branches.items leaves.items positions.items spans.items },
     ghost dense: { IsDense is_dense branches.items leaves.items },
 }
 
@@ -92,7 +89,6 @@ impl Directory {
         let branches = numbers_in_order(alloc, 0, runs)?;
         let leaves = numbers_in_order(alloc, BRANCH_LEAVES, runs * BRANCH_LEAVES)?;
         let positions = vec![in alloc; NOWHERE; (runs * BRANCH_LEAVES + 1) * LEAF_SHARDS]?;
-        let spans = vec![in alloc; 0; runs]?;
         Ok(Directory {
             most,
             count: 0,
@@ -100,7 +96,6 @@ impl Directory {
             branches,
             leaves,
             positions,
-            spans,
         })
     }
 
@@ -116,7 +111,6 @@ impl Directory {
         let branches = vec![in alloc; 0; runs]?;
         let leaves = vec![in alloc; 0; BRANCH_LEAVES]?;
         let positions = vec![in alloc; NOWHERE; LEAF_SHARDS]?;
-        let spans = vec![in alloc; 0; runs]?;
         Ok(Directory {
             most,
             count: 0,
@@ -124,7 +118,6 @@ impl Directory {
             branches,
             leaves,
             positions,
-            spans,
         })
     }
 
@@ -317,16 +310,16 @@ impl Directory {
             self.leaves[at] = with_one(self.count, shard);
         }
         self.count += 1;
-        self.spans[run] = span_with(self.spans[run], (shard % BRANCH_SHARDS) as u32);
     }
 
-    /// The first live shard from one on, or the end of those that are asked for. What stands at the position of a shard in
-    /// `live` is 0 where the shard is dead, and what stands in `runs` for a run of 256 where all of them are: such a run is
-    /// passed over. Of each other those before the first that is there and behind the last are passed over.
-    pub fn next(&self, from: usize, end: usize, live: &[u8], runs: &[u8]) -> usize
+    /// The first live shard from one on, or the end of those that are asked for. What stands at the position of a shard
+    /// in `live` is 0 where the shard is dead. `runs` has a number for each run of 256 shards, which tells which of its
+    /// runs of 16 may have a live shard. The others are passed over.
+    pub fn next(&self, from: usize, end: usize, live: &[u8], runs: &[u32]) -> usize
         requires from { from ≤ end }
         requires end { end ≤ most_of self.now }
         requires live { length live.now ≡ count_of self.now }
+        requires all_runs { most_of self.now ≤ length runs.now * 256 }
         requires runs { AreRunsOf self.now live.now runs.now }
         ensures from { from ≤ result }
         ensures end { result ≤ end }
@@ -335,75 +328,23 @@ impl Directory {
     {
         let mut shard = from;
         while shard < end {
-            let run = self.next_filled(shard / BRANCH_SHARDS, end.div_ceil(BRANCH_SHARDS));
-            let start = run * BRANCH_SHARDS;
-            if start >= end {
+            let run = next_with_life(runs, shard / LEAF_SHARDS, end.div_ceil(LEAF_SHARDS));
+            let first = shard.max(run * LEAF_SHARDS);
+            if first >= end {
                 return end;
             }
-            let run_end = (start + BRANCH_SHARDS).min(end);
-            if life_at(runs, run) == 0 {
-                shard = run_end;
-                continue;
+            let upto = ((run + 1) * LEAF_SHARDS).min(end);
+            let found = self.next_in_leaf(first, upto, live);
+            if found < upto {
+                return found;
             }
-            let span = self.spans[run] as usize;
-            let first = shard.max(start + span % BRANCH_SHARDS);
-            let behind = run_end.min(start + span / BRANCH_SHARDS);
-            if first < behind {
-                let found = self.next_in_run(first, behind, live);
-                if found < behind {
-                    return found;
-                }
-            }
-            shard = run_end;
+            shard = upto;
         }
         end
     }
 
-    /// The first run of 256 from one on, and before an end, of which a shard is there; the end where there is none. It
-    /// looks at eight at once.
-    fn next_filled(&self, from: usize, end: usize) -> usize
-        requires from { from ≤ end }
-        requires end { end ≤ length self.now.spans.items }
-        ensures from { from ≤ result }
-        ensures end { result ≤ end }
-        ensures skipped { (shard : ℕ) → from ≤ shard / 256 → shard / 256 < result → position_in self.now shard ≡ nowhere }
-    {
-        if from < end && self.spans[from] != 0 {
-            return from;
-        }
-        let mut run = from;
-        while end - run >= 8 && are_empty(&self.spans, run) {
-            run += 8;
-        }
-        while run < end && self.spans[run] == 0 {
-            run += 1;
-        }
-        run
-    }
-
-    /// The first live shard from one on, or the end, of shards of one run of 256, leaf by leaf.
-    pub fn next_in_run(&self, from: usize, end: usize, live: &[u8]) -> usize
-        requires from { from < end }
-        requires end { end ≤ most_of self.now }
-        requires live { length live.now ≡ count_of self.now }
-        ensures from { from ≤ result }
-        ensures end { result ≤ end }
-        ensures there { result < end → position_in self.now result < count_of self.now }
-        ensures dead { (shard : ℕ) → from ≤ shard → shard < result → slice_index live.now (position_in self.now shard) ≡ 0 }
-    {
-        let mut shard = from;
-        while shard < end {
-            let upto = ((shard / LEAF_SHARDS + 1) * LEAF_SHARDS).min(end);
-            shard = self.next_in_leaf(shard, upto, live);
-            if shard < upto {
-                return shard;
-            }
-        }
-        end
-    }
-
-    /// The same of shards of one run of 16.
-    fn next_in_leaf(&self, from: usize, end: usize, live: &[u8]) -> usize
+    /// The first live shard from one on, or the end, of shards of one run of 16.
+    pub fn next_in_leaf(&self, from: usize, end: usize, live: &[u8]) -> usize
         requires from { from < end }
         requires end { end ≤ most_of self.now }
         requires run { end ≤ (from / 16 + 1) * 16 }
@@ -518,30 +459,6 @@ fn position_alone(entry: u32, shard: usize) -> u32
     } else {
         NOWHERE
     }
-}
-
-/// Whether no shard is there of eight runs from one on, whose spans these are.
-fn are_empty(spans: &[u32], run: usize) -> bool
-    requires { run + 8 ≤ length spans.now }
-    ensures { result ≡ true → (k : ℕ) → run ≤ k → k < run + 8 → slice_index spans.now k ≡ 0 }
-{
-    let front = spans[run] | spans[run + 1] | spans[run + 2] | spans[run + 3];
-    let behind = spans[run + 4] | spans[run + 5] | spans[run + 6] | spans[run + 7];
-    front | behind == 0
-}
-
-/// The span of a run of which one shard more is there.
-fn span_with(span: u32, at: u32) -> u32
-    requires { at < 256 }
-    ensures first { result % 256 ≤ at }
-    ensures end { at < result / 256 }
-    ensures not_later { (span ≡ 0 → ⊥) → result % 256 ≤ span % 256 }
-    ensures not_sooner { span / 256 ≤ result / 256 }
-{
-    if span == 0 {
-        return (at + 1) * 256 + at;
-    }
-    (span / 256).max(at + 1) * 256 + (span % 256).min(at)
 }
 
 /// How many positions from one on, and before an end, are those of no live shard.

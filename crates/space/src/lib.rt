@@ -7,6 +7,7 @@ mod error;
 mod laws;
 mod node;
 mod place;
+mod runs;
 mod shards;
 mod slice;
 mod status;

@@ -4,9 +4,10 @@ ghost use Rattle.std.specs.Int.{div_ceil};
 ghost use Rattle.space.specs.Directory.{AreLimits, AreLive, AreWords, offset_of, shards_of};
 ghost use Rattle.space.specs.Positions.{most_of, count_of, AreRunsOf};
 
-use crate::directory::{BRANCH_SHARDS, Directory};
+use crate::directory::{BRANCH_SHARDS, Directory, LEAF_SHARDS};
 use crate::error::NoMemory;
 use crate::place::{Entry, Place};
+use crate::runs::{LEAVES, has_life, revive_runs, with_life, without_life};
 use crate::status::Status;
 use crate::word::{has_any, narrowed_word, pack, unpack, word_bits};
 use fpage::Rights;
@@ -81,8 +82,9 @@ pub struct Shards {
     words: Option<Vec<u64>>,
     /// For each shard that is there, 0 if it is dead, and else 1.
     live: Vec<u8>,
-    /// For each run of 256 shards, 0 if all of them are dead, and else 1.
-    runs: Vec<u8>,
+    /// For each run of 256 shards a number with two bits for each of its runs of 16. Bit `j`, below 16, is 1 if the run
+    /// `j` of 16 may have a live shard. Bit `16 + j` is 1 if it has a shard.
+    runs: Vec<u32>,
     ghost limits: { AreLimits spaces bits },
     ghost most: { most_of directory ≡ spaces * shards_of bits },
     ghost packed: { ForSome words (AreWords (count_of directory)) },
@@ -235,7 +237,8 @@ impl Shards {
         self.directory.add(shard)?;
         add_absent(words);
         self.live.push_reserved(1);
-        self.runs[shard / BRANCH_SHARDS] = 1;
+        let run = shard / BRANCH_SHARDS;
+        self.runs[run] = with_life(self.runs[run], shard / LEAF_SHARDS % LEAVES);
         Ok(())
     }
 
@@ -250,7 +253,7 @@ impl Shards {
     }
 
     /// The first page of a space, from a page on and before an end, whose shard is there and not dead; the end where there
-    /// is none. No page before it is held. What is not there is passed over in runs of 16,384 pages.
+    /// is none. No page before it is held. Runs of 1,024 pages that have no live shard are passed over.
     pub fn first_from(&self, place: Place, end: u32) -> u32
         requires place { IsPlace self.now place }
         requires from { place.page ≤ end }
@@ -342,26 +345,29 @@ impl Shards {
             page = page_behind_shard(first).min(end);
         }
         let before = self.shards_before(space);
-        let first = (before + place.page as usize / SHARD_PAGES) / BRANCH_SHARDS;
-        let behind = (before + (end as usize).div_ceil(SHARD_PAGES)).div_ceil(BRANCH_SHARDS);
+        let first = (before + place.page as usize / SHARD_PAGES) / LEAF_SHARDS;
+        let behind = (before + (end as usize).div_ceil(SHARD_PAGES)).div_ceil(LEAF_SHARDS);
         for run in first..behind {
             self.look_over_run(run);
         }
     }
 
-    /// Has a run of 256 shards dead, if all of these are.
+    /// Has a run of 16 shards dead, if all its shards are.
     fn look_over_run(&mut self, run: usize)
         requires present { IsFalse (is_taken self.old) }
         ensures made { IsMade self.old self.new }
         ensures layout { IsLaidOutAs self.old self.new }
         ensures present { IsFalse (is_taken self.new) }
     {
-        let from = run.saturating_mul(BRANCH_SHARDS);
-        let end = from
-            .saturating_add(BRANCH_SHARDS)
-            .min(self.directory.most());
-        if from < end && self.directory.next_in_run(from, end, &self.live) == end {
-            self.runs[run] = 0;
+        let from = run.saturating_mul(LEAF_SHARDS);
+        let end = from.saturating_add(LEAF_SHARDS).min(self.directory.most());
+        if from >= end {
+            return;
+        }
+        let number = self.runs[run / LEAVES];
+        let leaf = run % LEAVES;
+        if has_life(number, leaf) && self.directory.next_in_leaf(from, end, &self.live) == end {
+            self.runs[run / LEAVES] = without_life(number, leaf);
         }
     }
 
@@ -376,7 +382,7 @@ impl Shards {
     {
         let start = self.start_of_shard(place);
         let words = self.words.as_ref().unwrap();
-        if zeros(words, start, start + SHARD_PAGES) == SHARD_PAGES {
+        if holds_nothing(words, start) {
             self.live[start / SHARD_PAGES] = 0;
         }
     }
@@ -548,7 +554,8 @@ impl Shards {
     {
         let shard = self.shard(place);
         let position = self.directory.position(shard) as usize;
-        self.runs[shard / BRANCH_SHARDS] = 1;
+        let run = shard / BRANCH_SHARDS;
+        self.runs[run] = with_life(self.runs[run], shard / LEAF_SHARDS % LEAVES);
         self.live[position] = 1;
     }
 
@@ -678,7 +685,7 @@ impl Shards {
         ensures layout { IsLaidOutAs self.old self.new }
     {
         revive_all(&mut self.live);
-        revive_all(&mut self.runs);
+        revive_runs(&mut self.runs);
         self.words = Some(words);
     }
 }
@@ -717,6 +724,14 @@ fn add_absent(words: &mut Vec<u64>)
 {
     let added = words.resize(words.len() + SHARD_PAGES, 0);
     prove!(added.is_ok());
+}
+
+/// Whether the words of a shard, which begin at `start`, are all 0.
+fn holds_nothing(words: &[u64], start: usize) -> bool
+    requires { start + 64 ≤ length words.now }
+    ensures { result ≡ true → (i : ℕ) → start ≤ i → i < start + 64 → slice_index words.now i ≡ 0 }
+{
+    zeros(words, start, start + SHARD_PAGES) == SHARD_PAGES
 }
 
 /// How many words from one on, and before an end, are 0. It looks at eight at once.

@@ -1,8 +1,9 @@
 -- New mappings put into the trees of their frames one by one; and the target that is told for a source.
-use Rattle.std.proofs.Common.{◌≡◌, ℕ, zero, suc, ◌+◌, ◌<◌, ◌≤◌, true, false, Bool, ◌||◌, ◌&&◌, ◌==◌, List, [], ◌∷◌, ◌++◌, length, take, get_or, Option, Some, None, refl, sym, ap, ◌∙◌, arith, ◌⊎◌, inl, inr, if◌then◌else◌, cond}
+use Rattle.std.proofs.Common.{◌≡◌, ℕ, zero, suc, ◌+◌, ◌<◌, ◌≤◌, true, false, Bool, ◌||◌, ◌&&◌, ◌==◌, List, [], ◌∷◌, ◌++◌, length, take, get_or, Option, Some, None, refl, sym, ap, ◌∙◌, subst, arith, ◌⊎◌, inl, inr, if◌then◌else◌, cond}
 use Rattle.std.specs.Prelude.{count_by}
 use Rattle.std.proofs.lemmas.Bool.{or_parts, eq-eqb, eqb-true, cases_eq, false_from_ne_true}
-use Rattle.std.proofs.lemmas.List.{take_more}
+use Rattle.std.proofs.Math.Seq.{get_or-append_seam, take-append_seam, take-append-add}
+use Rattle.std.proofs.lemmas.List.{length-append, take_more}
 use Rattle.std.proofs.lemmas.List.Sums.{sum_by-cons}
 use Rattle.std.proofs.lemmas.List.Folds.{list_any_more, list_any_none}
 use Rattle.std.proofs.lemmas.List.Elements.{All-more, All-from_get_or}
@@ -140,6 +141,37 @@ module _ (old : List Shape) (ls : List Link) (can : AreLinkable old ls) (i : ℕ
           kept l apart (cases_eq l.frame the_link.frame) ∙ before.there k d less))
           (ap (λ os. origin_in os the_link.target) set.there ∙ derived.there);
     }
+
+-- the same of one behind others
+module _ (old : List Shape) (before after : List Link) (l : Link) (can : AreLinkable old (before ++ l ∷ after)) (mid : List Shape) (linked : AreLinked before old mid) where
+  abbrev all : List Link
+  all = before ++ l ∷ after
+
+  abbrev at : ℕ
+  at = length before
+
+  here : get_or all at no_link ≡ l
+  here = get_or-append_seam before l after no_link
+
+  within : at < length all
+  within = let joined = length-append before (l ∷ after) in omega (arith, joined)
+
+  so_far : AreLinked (take at all) old mid
+  so_far = subst (λ ls. AreLinked ls old mid) (sym (take-append_seam before (l ∷ after))) linked
+
+  pub next_frame : l.frame < length mid
+  next_frame = subst (λ (m : Link). m.frame < length mid) here (frame_there old all can at no_link within mid so_far)
+
+  pub next_source : stands_in (links_in mid l.frame) l.source ≡ true
+  next_source = subst (λ (m : Link). stands_in (links_in mid m.frame) m.source ≡ true) here (source_there old all can at no_link within mid so_far)
+
+  pub next_target : stands_in (links_in mid l.frame) l.target ≡ false
+  next_target = subst (λ (m : Link). stands_in (links_in mid m.frame) m.target ≡ false) here (target_free old all can at no_link within mid so_far)
+
+  pub next_linked : (new : List Shape) (links : Origins) → IsTreeSet mid new l.frame links → IsDerived (links_in mid l.frame) links l.source l.target → AreLinked (before ++ l ∷ []) old new
+  next_linked new links set derived =
+      subst (λ ls. AreLinked ls old new) (take-append-add before (l ∷ after) 1)
+      (one_linked old all can at no_link within mid so_far new links (subst (λ (m : Link). IsTreeSet mid new m.frame links) (sym here) set) (subst (λ (m : Link). IsDerived (links_in mid m.frame) links m.source m.target) (sym here) derived))
 
 -- ---- the target that is told for a source
 

@@ -1,5 +1,5 @@
 -- The pieces of accesses, of a MapItem and of a GrantItem can be worked beside one another.
-use Rattle.std.proofs.Common.{◌≡◌, ℕ, zero, suc, ◌<◌, ◌≤◌, nat_lt, true, false, Bool, not, List, [], ◌∷◌, length, map, get_or, refl, sym, ap, ◌∙◌, arith, if◌then◌else◌}
+use Rattle.std.proofs.Common.{◌≡◌, ℕ, zero, suc, ◌<◌, ◌≤◌, nat_lt, true, false, Bool, not, List, [], ◌∷◌, length, map, get_or, refl, sym, ap, ◌∙◌, subst, arith, if◌then◌else◌}
 use Rattle.std.specs.Prelude.{is_some, ◌==◌}
 use Rattle.std.specs.List.{All, list_all, flat_map}
 use Rattle.std.proofs.lemmas.Bool.{and_from, ne_eqb, eq-eqb, lt-ltb}
@@ -18,12 +18,14 @@ use Rattle.pieces.specs.Contents.{puts_of, ends_of}
 use Rattle.pieces.specs.Distinct.{is_none_of, are_distinct}
 use Rattle.pieces.specs.Phases.{CanBeWorked, changes, held, named}
 use Rattle.pieces.specs.Steps.{entry_in}
+use Rattle.pieces.specs.declared.piece.Piece.{Piece}
 use Rattle.pieces.specs.declared.piece.Piece.TheVariants as piece
-use Rattle.pieces.proofs.InPieces.{flat_pieces, flat_of_map, links_change, moves_change}
+use Rattle.pieces.proofs.InPieces.{flat_parts, flat_of_map, links_change, moves_change}
 use Rattle.pieces.proofs.OfOneKind.{none_folded, none_touch, not_touches, accesses_can}
 use Rattle.holdings.specs.declared.transfer.Transfer.{Transfer}
 use Rattle.holdings.specs.Sending.{ArePaired}
 use Rattle.holdings.specs.Inner.Held.{has_entry}
+use Rattle.holdings.specs.Inner.Phases.{ArePieces}
 use Rattle.holdings.specs.Inner.Planning.{word_access, store_of, stores_of, word_pair, word_pairs}
 use Rattle.holdings.specs.Inner.Words.{AreWordsOf, IsThere}
 use Rattle.holdings.proofs.Contents.WordChanges.{there_if_held}
@@ -103,21 +105,21 @@ module _ (s : Shards) (w : List ℕ) (are : AreWordsOf s w) (some_there : 0 < wo
       by false _ rest = rest
       by true none rest = and_from _ _ none rest
 
-  pub links_can : (rights : Rights) (from to : ℕ) (ts : List Transfer) → ArePaired from to ts → EndsStand s ts → (most : ℕ) → 1 ≤ most
-      → CanBeWorked w (map piece.Link (pieces (length (stores_of s rights ts)) most (stores_of s rights ts)))
-  links_can rights from to ts paired places most some =
-      let xs = stores_of s rights ts in
-      let parts = pieces (length xs) most xs in
-      let changed = links_change most some xs in
-      record {
+  pub links_can : (rights : Rights) (from to : ℕ) (ts : List Transfer) → ArePaired from to ts → EndsStand s ts → (ps : List Piece) → ArePieces piece.Link (stores_of s rights ts) ps → CanBeWorked w ps
+  links_can rights from to ts paired places ps cut =
+      let parts = cut.parts in
+      let changed = links_change parts in
+      subst (CanBeWorked w) (sym cut.are)
+      (record {
         some = some_words;
         packs = are.packs;
-        within = ap (list_all (λ i. nat_lt i (length w))) (flat_of_map piece.Link named parts ∙ flat_pieces (flat_map (λ x. x.read ∷ x.put ∷ [])) refl (flat_map-append (λ x. x.read ∷ x.put ∷ [])) (length xs) most xs some (omega arith)) ∙ stores_within rights ts places;
-        entries = ap (list_all (λ i. is_some (entry_in w i))) changed.1 ∙ reads_held rights ts places;
-        distinct = ap are_distinct changed.0 ∙ puts_distinct rights from to ts paired places;
+        within = ap (list_all (λ i. nat_lt i (length w)))
+            (flat_of_map piece.Link named parts ∙ flat_parts (flat_map (λ x. x.read ∷ x.put ∷ [])) refl (flat_map-append (λ x. x.read ∷ x.put ∷ [])) parts ∙ ap (flat_map (λ x. x.read ∷ x.put ∷ [])) cut.joined) ∙ stores_within rights ts places;
+        entries = ap (list_all (λ i. is_some (entry_in w i))) (changed.1 ∙ ap (map (λ x. x.read)) cut.joined) ∙ reads_held rights ts places;
+        distinct = ap are_distinct (changed.0 ∙ ap puts_of cut.joined) ∙ puts_distinct rights from to ts paired places;
         apart = ap (list_all (is_none_of (flat_map changes (map piece.Link parts)))) (none_folded piece.Link (λ x. refl) parts);
         alike = not_touches (map piece.Link parts) (none_touch piece.Link (λ x. refl) parts);
-      }
+      })
 
   -- ---- moves
 
@@ -176,21 +178,20 @@ module _ (s : Shards) (w : List ℕ) (are : AreWordsOf s w) (some_there : 0 < wo
           (apart_from (get_or ts k d).source t.source at.0 there (paired.2 k d less).0, other_words (get_or ts k d).target t.source at.1 both.0 (λ same. differ (sym paired.0 ∙ sym same ∙ spaces.1)))) in
           and_from _ _ (and_from _ _ (ap not (other_words t.target t.source both.1 both.0 (λ same. differ (sym paired.0 ∙ sym same ∙ paired.1)))) source) (and_from _ _ target rest)
 
-  pub moves_can : (from to : ℕ) → (from ≡ to → ⊥) → (ts : List Transfer) → ArePaired from to ts → EndsStand s ts → (most : ℕ) → 1 ≤ most
-      → CanBeWorked w (map piece.Move (pieces (length (word_pairs s ts)) most (word_pairs s ts)))
-  moves_can from to differ ts paired places most some =
-      let xs = word_pairs s ts in
-      let parts = pieces (length xs) most xs in
-      let changed = moves_change most some xs in
-      record {
+  pub moves_can : (from to : ℕ) → (from ≡ to → ⊥) → (ts : List Transfer) → ArePaired from to ts → EndsStand s ts → (ps : List Piece) → ArePieces piece.Move (word_pairs s ts) ps → CanBeWorked w ps
+  moves_can from to differ ts paired places ps cut =
+      let parts = cut.parts in
+      let changed = moves_change parts in
+      subst (CanBeWorked w) (sym cut.are)
+      (record {
         some = some_words;
         packs = are.packs;
-        within = ap (list_all (λ i. nat_lt i (length w))) (flat_of_map piece.Move named parts ∙ flat_pieces ends_of refl (flat_map-append (λ x. x.taken ∷ x.put ∷ [])) (length xs) most xs some (omega arith)) ∙ pairs_within ts places;
-        entries = ap (list_all (λ i. is_some (entry_in w i))) changed.1 ∙ takes_held ts places;
-        distinct = ap are_distinct changed.0 ∙ ends_distinct from to differ ts paired places;
+        within = ap (list_all (λ i. nat_lt i (length w))) (flat_of_map piece.Move named parts ∙ flat_parts ends_of refl (flat_map-append (λ x. x.taken ∷ x.put ∷ [])) parts ∙ ap ends_of cut.joined) ∙ pairs_within ts places;
+        entries = ap (list_all (λ i. is_some (entry_in w i))) (changed.1 ∙ ap (map (λ x. x.taken)) cut.joined) ∙ takes_held ts places;
+        distinct = ap are_distinct (changed.0 ∙ ap ends_of cut.joined) ∙ ends_distinct from to differ ts paired places;
         apart = ap (list_all (is_none_of (flat_map changes (map piece.Move parts)))) (none_folded piece.Move (λ x. refl) parts);
         alike = not_touches (map piece.Move parts) (none_touch piece.Move (λ x. refl) parts);
-      }
+      })
 
   -- ---- as one piece
 

@@ -1,16 +1,12 @@
 -- The phase of a MapItem.
-use Rattle.std.proofs.Common.{◌≡◌, ℕ, ◌≤◌, true, List, [], length, map, sym, ap, ◌∙◌, subst}
+use Rattle.std.proofs.Common.{◌≡◌, true, List, [], sym, ◌∙◌, subst}
 use Rattle.fpage.specs.declared.rights.Rights.{Rights}
 use Rattle.space.specs.declared.shards.Shards.{Shards}
 use Rattle.space.specs.Shards.{HasWord}
 use Rattle.std.specs.List.{All}
-use Rattle.space.specs.Slices.{pieces}
 use Rattle.maptree.specs.Origins.{Shape}
-use Rattle.pieces.specs.Applied.{worked}
 use Rattle.pieces.specs.Contents.{puts_of}
 use Rattle.pieces.specs.Distinct.{are_distinct}
-use Rattle.pieces.specs.Phases.{CanBeWorked}
-use Rattle.pieces.specs.declared.link.Store.{Store}
 use Rattle.pieces.specs.declared.piece.Piece.{Piece}
 use Rattle.pieces.specs.declared.piece.Piece.TheVariants as piece
 use Rattle.fpage.specs.declared.item.ItemKind.TheVariants.{Map}
@@ -22,10 +18,10 @@ use Rattle.holdings.specs.declared.transfer.Transfer.{Transfer}
 use Rattle.holdings.specs.declared.transfer_counts.TransferCounts.{TransferCounts}
 use Rattle.holdings.specs.Inner.Held.{contents_of, holdings_in, layout_in, limits_in}
 use Rattle.holdings.specs.Inner.Links.{AreLinkable, AreLinked, links_of}
-use Rattle.holdings.specs.Inner.Phases.{IsPhaseLeft}
+use Rattle.holdings.specs.Inner.Phases.{ArePieces, IsPhaseLeft}
 use Rattle.holdings.specs.Inner.Planning.{counts_in, stores_of}
 use Rattle.holdings.specs.Inner.Sound.{AreSound}
-use Rattle.holdings.specs.Inner.Words.{CanBeWorkedIn, IsWith, IsWritten}
+use Rattle.holdings.specs.Inner.Words.{CanBeWorkedIn, IsWritten}
 use Rattle.holdings.proofs.Contents.Layouts.{same_grows, same_layout}
 use Rattle.holdings.proofs.Contents.SameEntries.{AreMadeFrom, mapped_from}
 use Rattle.holdings.proofs.Maps.MapWords.{linkable}
@@ -44,33 +40,26 @@ module _ (s : Shards) (trees : List Shape) (sound : AreSound s trees) (old : Con
   pub new_linkable : (now : List Shape) → now ≡ trees → (ls : List Link) → ls ≡ links_of s ts → AreLinkable now ls
   new_linkable now now_is ls ls_are = subst (λ us. AreLinkable us ls) (sym now_is) (subst (AreLinkable trees) (sym ls_are) (linkable s trees sound rights ts planned ready))
 
-  module _ (xs : List Store) (xs_are : xs ≡ stores_of s rights ts) where
-    pub stores_distinct : are_distinct (puts_of xs) ≡ true
-    stores_distinct =
-        let own = own_words s sound.kept.fits.present in
-        ap (λ ys. are_distinct (puts_of ys)) xs_are ∙ puts_distinct s own.0 own.1 sound.kept.fits.some rights planned.from planned.to ts planned.paired (both_ends s trees sound ts planned.within targets)
+  pub stores_distinct : are_distinct (puts_of (stores_of s rights ts)) ≡ true
+  stores_distinct = let own = own_words s sound.kept.fits.present in puts_distinct s own.0 own.1 sound.kept.fits.some rights planned.from planned.to ts planned.paired (both_ends s trees sound ts planned.within targets)
 
-    module _ (most : ℕ) (some : 1 ≤ most) (ps : List Piece) (ps_are : ps ≡ map piece.Link (pieces (length xs) most xs)) where
-      same_pieces : map piece.Link (pieces (length (stores_of s rights ts)) most (stores_of s rights ts)) ≡ ps
-      same_pieces = ap (λ ys. map piece.Link (pieces (length ys) most ys)) (sym xs_are) ∙ sym ps_are
+  module _ (ps : List Piece) (cut : ArePieces piece.Link (stores_of s rights ts) ps) where
+    pub stores_can : CanBeWorkedIn s ps
+    stores_can w words = (stores_are_mapped s trees sound rights ts planned ready targets w words ps cut).0
 
-      pub stores_can : CanBeWorkedIn s ps
-      stores_can w words = subst (CanBeWorked w) same_pieces (stores_are_mapped s trees sound rights ts planned ready targets w words most some).0
+    module _ (ls : List Link) (ls_are : ls ≡ links_of s ts) (now : List Shape) (now_is : now ≡ trees) (ahead : List Shape) (linked : AreLinked ls now ahead) (n : Shards) (done : IsWritten s n ps) where
+      phase_left : IsPhaseLeft (limits_in s trees) (map_transfers (holdings_in s trees) (record { kind = Map; rights = rights; pairs = [] }) ts (holdings_in s trees)) n ahead
+      phase_left =
+          (stores_are_mapped s trees sound rights ts planned ready targets done.words done.are ps cut).1 ahead
+          (subst (λ ks. AreLinked ks trees ahead) ls_are (subst (λ us. AreLinked ls us ahead) now_is linked)) n done.with
 
-      module _ (ls : List Link) (ls_are : ls ≡ links_of s ts) (now : List Shape) (now_is : now ≡ trees) (ahead : List Shape) (linked : AreLinked ls now ahead) (n : Shards) (done : IsWritten s n ps) where
-        phase_left : IsPhaseLeft (limits_in s trees) (map_transfers (holdings_in s trees) (record { kind = Map; rights = rights; pairs = [] }) ts (holdings_in s trees)) n ahead
-        phase_left =
-            (stores_are_mapped s trees sound rights ts planned ready targets done.words done.are most some).1 ahead
-            (subst (λ ks. AreLinked ks trees ahead) ls_are (subst (λ us. AreLinked ls us ahead) now_is linked)) n
-            (subst (λ qs. IsWith s (worked done.words qs) n) (sym same_pieces) done.with)
+      pub mapped_sound : AreSound n ahead
+      mapped_sound = phase_left.sound
 
-        pub mapped_sound : AreSound n ahead
-        mapped_sound = phase_left.sound
-
-        pub are_mapped : (counts : TransferCounts) → counts_of counts ≡ counts_in s ts → AreMapped old ts rights (contents_of n ahead, counts)
-        are_mapped counts counted =
-            mapped_from old s trees made ts rights (contents_of n ahead, counts) (record {
-              left = λ i. record { limits = phase_left.limits_stay i; holdings = phase_left.left i; layout = layout_in n };
-              grows = same_grows (layout_in s) (layout_in n) (same_layout s n done.with.layout);
-              counted = counted ∙ counted_by_words s trees ts planned.within;
-            })
+      pub are_mapped : (counts : TransferCounts) → counts_of counts ≡ counts_in s ts → AreMapped old ts rights (contents_of n ahead, counts)
+      are_mapped counts counted =
+          mapped_from old s trees made ts rights (contents_of n ahead, counts) (record {
+            left = λ i. record { limits = phase_left.limits_stay i; holdings = phase_left.left i; layout = layout_in n };
+            grows = same_grows (layout_in s) (layout_in n) (same_layout s n done.with.layout);
+            counted = counted ∙ counted_by_words s trees ts planned.within;
+          })

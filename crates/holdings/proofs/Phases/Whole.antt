@@ -1,19 +1,25 @@
 -- Whole phases: the lemmas of accesses, strips, links and moves, as the laws say them.
-use Rattle.std.proofs.Common.{◌≡◌, ℕ, List, [], ◌∷◌, length, map, get_or, refl, sym, ap, ◌∙◌, subst}
+use Rattle.std.proofs.Common.{◌≡◌, ℕ, List, [], ◌∷◌, length, map, get_or, refl, sym, ap, ◌∙◌, subst, arith}
 use Rattle.std.specs.List.{All}
 use Rattle.space.specs.declared.shards.Shards.{Shards}
 use Rattle.space.specs.Shards.{HasWord, IsLaidOutAs}
 use Rattle.maptree.specs.Origins.{Shape}
+use Rattle.space.specs.Slices.{pieces}
+use Rattle.pieces.specs.Applied.{worked}
 use Rattle.pieces.specs.Contents.{StripContent}
+use Rattle.pieces.specs.Steps.{may_access}
 use Rattle.pieces.specs.Values.{value, kept_nodes}
 use Rattle.pieces.specs.Gathering.{union_of}
+use Rattle.pieces.specs.declared.link.Store.{Store}
+use Rattle.pieces.specs.declared.moving.Pair.{Pair}
+use Rattle.pieces.specs.declared.piece.Piece.{Piece}
 use Rattle.pieces.specs.declared.piece.Piece.TheVariants as piece
 use Rattle.pieces.proofs.InOrder.{words_in_order, answers_one_by_one}
-use Rattle.pieces.proofs.InPieces.{touches_in_pieces, answers_in_pieces, links_in_pieces, moves_in_pieces}
+use Rattle.pieces.proofs.InPieces.{joined_pieces, touches_in_pieces, answers_in_pieces, links_in_pieces, moves_in_pieces}
 use Rattle.holdings.specs.Sending.{IsTransferWithin}
 use Rattle.holdings.specs.declared.transfer.Transfer.{Transfer}
 use Rattle.holdings.specs.Inner.Held.{holdings_of, limits_in}
-use Rattle.holdings.specs.Inner.Phases.{TouchesAreAccesses, PlannedStripsAreStrips, StoresAreMapped, PairsAreMoved}
+use Rattle.holdings.specs.Inner.Phases.{ArePieces, TouchesAreAccesses, PlannedStripsAreStrips, StoresAreMapped, PairsAreMoved}
 use Rattle.holdings.specs.Inner.Planning.{word_access, stores_of, word_pairs, strips_of_runs}
 use Rattle.holdings.specs.Inner.Sound.{IsSound, AreSound}
 use Rattle.holdings.specs.Inner.Words.{IsWith}
@@ -42,9 +48,11 @@ pub touches_are_accesses : TouchesAreAccesses
 touches_are_accesses s trees sound w are ts within there most some =
     let limits = limits_in s trees in
     let xs = map (word_access s) ts in
-    let whole = touches_in_pieces w most some xs ∙ words_in_order w are.packs xs in (
+    let parts = pieces (length xs) most xs in
+    let all = joined_pieces (length xs) most xs some (omega arith) in
+    let whole = touches_in_pieces w parts ∙ ap (λ ys. worked w (piece.Touch ys ∷ [])) all ∙ words_in_order w are.packs xs in (
       touches_can s w are sound.kept.fits.some ts (λ k d less. record { place = place_within limits s trees sound.kept.fits (get_or ts k d).0 (within k d less); word = there k d less }) most some,
-      answers_in_pieces w most some xs ∙ answers_one_by_one w are.packs xs ∙ all_answered limits trees ts within s there sound w are,
+      answers_in_pieces w parts ∙ ap (map (may_access w)) all ∙ answers_one_by_one w are.packs xs ∙ all_answered limits trees ts within s there sound w are,
       λ new with.
           let left = all_accessed limits trees ts within s there sound w are new (subst (λ v. IsWith s v new) whole with) in
           let same = same_limits s new trees with.layout in
@@ -82,20 +90,27 @@ planned_strips_are_strips s trees sound set plans planned revoked flush w are = 
 
 -- ---- links and moves
 
+-- pieces that have these work as one that has them
+links_worked : (w : List ℕ) (xs : List Store) (ps : List Piece) → ArePieces piece.Link xs ps → worked w ps ≡ worked w (piece.Link xs ∷ [])
+links_worked w xs ps cut = ap (worked w) cut.are ∙ links_in_pieces w cut.parts ∙ ap (λ ys. worked w (piece.Link ys ∷ [])) cut.joined
+
+moves_worked : (w : List ℕ) (xs : List Pair) (ps : List Piece) → ArePieces piece.Move xs ps → worked w ps ≡ worked w (piece.Move xs ∷ [])
+moves_worked w xs ps cut = ap (worked w) cut.are ∙ moves_in_pieces w cut.parts ∙ ap (λ ys. worked w (piece.Move ys ∷ [])) cut.joined
+
 pub stores_are_mapped : StoresAreMapped
-stores_are_mapped s trees sound rights ts planned ready targets w are most some =
+stores_are_mapped s trees sound rights ts planned ready targets w are ps cut =
     let ends = both_ends s trees sound ts planned.within targets in (
-      links_can s w are sound.kept.fits.some rights planned.from planned.to ts planned.paired ends most some,
+      links_can s w are sound.kept.fits.some rights planned.from planned.to ts planned.paired ends ps cut,
       λ ahead linked new with.
-          let all = all_linked s trees sound rights ts planned ready targets ahead w are linked (link_can s w are sound.kept.fits.some rights planned.from planned.to ts planned.paired ends) new (subst (λ v. IsWith s v new) (links_in_pieces w most some (stores_of s rights ts)) with) in
+          let all = all_linked s trees sound rights ts planned ready targets ahead w are linked (link_can s w are sound.kept.fits.some rights planned.from planned.to ts planned.paired ends) new (subst (λ v. IsWith s v new) (links_worked w (stores_of s rights ts) ps cut) with) in
           record { left = all.left; limits_stay = all.same_limits; sound = all.is_sound },
     )
 
 pub pairs_are_moved : PairsAreMoved
-pairs_are_moved s trees sound ts planned all_go free targets w are most some =
+pairs_are_moved s trees sound ts planned all_go free targets w are ps cut =
     let ends = both_ends s trees sound ts planned.within targets in (
-      moves_can s w are sound.kept.fits.some planned.from planned.to planned.differ ts planned.paired ends most some,
+      moves_can s w are sound.kept.fits.some planned.from planned.to planned.differ ts planned.paired ends ps cut,
       λ after renamed new with.
-          let all = pairs_moved s trees sound ts planned all_go free targets w are (move_can s w are sound.kept.fits.some planned.from planned.to planned.differ ts planned.paired ends) new (subst (λ v. IsWith s v new) (moves_in_pieces w most some (word_pairs s ts)) with) after renamed in
+          let all = pairs_moved s trees sound ts planned all_go free targets w are (move_can s w are sound.kept.fits.some planned.from planned.to planned.differ ts planned.paired ends) new (subst (λ v. IsWith s v new) (moves_worked w (word_pairs s ts) ps cut) with) after renamed in
           record { left = all.left; limits_stay = all.limits_stay; sound = all.is_sound },
     )

@@ -15,6 +15,7 @@ use Rattle.model.specs.Definitions.Holdings.{PlaceSet, Holdings}
 use Rattle.model.specs.Definitions.Strip.{strip, strip_word}
 use Rattle.pieces.specs.Applied.{worked}
 use Rattle.pieces.specs.Gathering.{union_of}
+use Rattle.pieces.specs.Laws.{joined}
 use Rattle.pieces.specs.Phases.{CanBeWorked, IsPiece}
 use Rattle.pieces.specs.Values.{value}
 use Rattle.pieces.specs.declared.piece.Piece.{Piece}
@@ -36,6 +37,12 @@ pub record IsPhaseLeft (limits : Limits) (holdings : Holdings) (shards : Shards)
   pub left : holdings_in shards trees ≡ holdings
   pub limits_stay : limits_in shards trees ≡ limits
   pub sound : AreSound shards trees
+
+-- pieces that have these, in this order
+pub record ArePieces {A : Type 0} (make : List A → Piece) (xs : List A) (ps : List Piece) : Type 0 where
+  pub parts : List (List A)
+  pub are : ps ≡ map make parts
+  pub joined : joined parts ≡ xs
 
 -- accesses in pieces are those accesses in list order
 abbrev pub TouchesAreAccesses : Type 0
@@ -65,17 +72,15 @@ PlannedStripsAreStrips =
 -- the stores of a MapItem, in pieces, are its pages mapped, where the trees have the new mappings
 abbrev pub StoresAreMapped : Type 0
 StoresAreMapped =
-    (s : Shards) (trees : List Shape) → AreSound s trees → (rights : Rights) (ts : List Transfer) → ArePlanned (limits_in s trees) ts → AreReady (holdings_in s trees) rights ts → All (λ t. HasWord s t.target) ts → (w : List ℕ) → AreWordsOf s w → (most : ℕ) → 1 ≤ most
-    → let ps = map piece.Link (pieces (length (stores_of s rights ts)) most (stores_of s rights ts)) in
-    CanBeWorked w ps
+    (s : Shards) (trees : List Shape) → AreSound s trees → (rights : Rights) (ts : List Transfer) → ArePlanned (limits_in s trees) ts → AreReady (holdings_in s trees) rights ts → All (λ t. HasWord s t.target) ts → (w : List ℕ) → AreWordsOf s w
+    → (ps : List Piece) → ArePieces piece.Link (stores_of s rights ts) ps → CanBeWorked w ps
     × ((ahead : List Shape) → AreLinked (links_of s ts) trees ahead → (new : Shards) → IsWith s (worked w ps) new
     → IsPhaseLeft (limits_in s trees) (map_transfers (holdings_in s trees) (record { kind = Map; rights = rights; pairs = [] }) ts (holdings_in s trees)) new ahead)
 
 -- the pairs of a GrantItem, in pieces, are its pages moved, where the trees have the new places
 abbrev pub PairsAreMoved : Type 0
 PairsAreMoved =
-    (s : Shards) (trees : List Shape) → AreSound s trees → (ts : List Transfer) → ArePlanned (limits_in s trees) ts → AllGo ts → AreFree (holdings_in s trees) ts → All (λ t. HasWord s t.target) ts → (w : List ℕ) → AreWordsOf s w → (most : ℕ) → 1 ≤ most
-    → let ps = map piece.Move (pieces (length (word_pairs s ts)) most (word_pairs s ts)) in
-    CanBeWorked w ps
+    (s : Shards) (trees : List Shape) → AreSound s trees → (ts : List Transfer) → ArePlanned (limits_in s trees) ts → AllGo ts → AreFree (holdings_in s trees) ts → All (λ t. HasWord s t.target) ts → (w : List ℕ) → AreWordsOf s w
+    → (ps : List Piece) → ArePieces piece.Move (word_pairs s ts) ps → CanBeWorked w ps
     × ((after : List Shape) → AreRenamed (λ p. last_target (links_of s ts) p None) (links_of s ts) trees after → (new : Shards) → IsWith s (worked w ps) new
     → IsPhaseLeft (limits_in s trees) (renamed (moving_of (holdings_in s trees) ts) (holdings_in s trees)) new after)

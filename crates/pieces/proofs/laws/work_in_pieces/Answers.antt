@@ -5,7 +5,7 @@ use Rattle.pieces.proofs.WholeStrips.{strips_in_pieces}
 use Rattle.pieces.proofs.laws.work_in_pieces.Goals as goal
 
 pub returns-clause-touches_in_pieces : goal.returns-clause-touches_in_pieces
-returns-clause-touches_in_pieces c = λ w most some xs. (touches_in_pieces w most some xs, answers_in_pieces w most some xs)
+returns-clause-touches_in_pieces c = λ w parts. (touches_in_pieces w parts, answers_in_pieces w parts)
 
 pub returns-clause-links_in_pieces : goal.returns-clause-links_in_pieces
 returns-clause-links_in_pieces c = links_in_pieces

@@ -10,14 +10,13 @@ use Rattle.holdings.proofs.Phases.MapPhase.{new_linkable, stores_distinct, store
 use Rattle.holdings.proofs.Contents.SameEntries.{made_from, made_says, made_there, sound_stays}
 use Rattle.holdings.proofs.holdings.Holdings.map_in_pieces.Goals as goal
 
-pub stores-requires-clause-places : goal.stores-requires-clause-places
-stores-requires-clause-places g c =
+pub link_pieces-requires-clause-places : goal.link_pieces-requires-clause-places
+link_pieces-requires-clause-places g c =
     made_there c.self.inside.shards c.make_targets.new.shards c.self.inside.trees.items c.in_ok-make_targets.ensures.made c.args.self c.self.view_is c.args.transfers.now c.requires.planned.within c.in_ok-make_targets.ensures.there
 
-pub links-requires-clause-distinct : goal.links-requires-clause-distinct
-links-requires-clause-distinct g c =
+pub link_pieces-requires-clause-distinct : goal.link_pieces-requires-clause-distinct
+link_pieces-requires-clause-distinct g c =
     stores_distinct c.make_targets.new.shards c.self.inside.trees.items (sound_stays c.self.inside.shards c.make_targets.new.shards c.self.inside.trees.items (made_says c.self.inside.shards c.make_targets.new.shards c.in_ok-make_targets.ensures.made c.in_ok-make_targets.ensures.present) c.self.invariant) c.args.self (made_from c.self.inside.shards c.make_targets.new.shards c.self.inside.trees.items c.in_ok-make_targets.ensures.made c.in_ok-make_targets.ensures.present c.args.self c.self.view_is) c.args.rights c.args.transfers.now c.requires.planned c.requires.ready c.in_ok-make_targets.ensures.there
-    c.in_ok-stores.stores.items c.in_ok-stores.ensures
 
 pub link_all-requires-clause-linkable : goal.link_all-requires-clause-linkable
 link_all-requires-clause-linkable g c =
@@ -27,14 +26,14 @@ link_all-requires-clause-linkable g c =
 pub write_phase-requires-clause-can : goal.write_phase-requires-clause-can
 write_phase-requires-clause-can g c =
     stores_can c.make_targets.new.shards c.self.inside.trees.items (sound_stays c.self.inside.shards c.make_targets.new.shards c.self.inside.trees.items (made_says c.self.inside.shards c.make_targets.new.shards c.in_ok-make_targets.ensures.made c.in_ok-make_targets.ensures.present) c.self.invariant) c.args.self (made_from c.self.inside.shards c.make_targets.new.shards c.self.inside.trees.items c.in_ok-make_targets.ensures.made c.in_ok-make_targets.ensures.present c.args.self c.self.view_is) c.args.rights c.args.transfers.now c.requires.planned c.requires.ready c.in_ok-make_targets.ensures.there
-    c.in_ok-stores.stores.items c.in_ok-stores.ensures c.piece_length.result c.piece_length.ensures.some c.in_ok-pieces.pieces.items c.in_ok-pieces.ensures
+    c.in_ok-pieces.pieces.items c.in_ok-pieces.ensures
 
 pub invariant_of-result : goal.invariant_of-result
 invariant_of-result g c =
     let count : length c.link_all.new.trees ≡ c.self.inside.trees.len = omega (arith, c.link_all.auto.trees, ap length c.deref_mut.ensures.value, c.self.inside.trees.ok.0) in
     subst (AreSound c.write_phase.new.shards) (sym (with_items_is c.self.inside.trees c.link_all.new.trees count))
     (mapped_sound c.make_targets.new.shards c.self.inside.trees.items (sound_stays c.self.inside.shards c.make_targets.new.shards c.self.inside.trees.items (made_says c.self.inside.shards c.make_targets.new.shards c.in_ok-make_targets.ensures.made c.in_ok-make_targets.ensures.present) c.self.invariant) c.args.self (made_from c.self.inside.shards c.make_targets.new.shards c.self.inside.trees.items c.in_ok-make_targets.ensures.made c.in_ok-make_targets.ensures.present c.args.self c.self.view_is) c.args.rights c.args.transfers.now c.requires.planned c.requires.ready c.in_ok-make_targets.ensures.there
-    c.in_ok-stores.stores.items c.in_ok-stores.ensures c.piece_length.result c.piece_length.ensures.some c.in_ok-pieces.pieces.items c.in_ok-pieces.ensures
+    c.in_ok-pieces.pieces.items c.in_ok-pieces.ensures
     (links_of c.make_targets.new.shards c.args.transfers.now) refl c.deref_mut.result.now c.deref_mut.ensures.value c.link_all.new.trees c.in_ok-link_all.ensures
     c.write_phase.new.shards c.in_ok-write_phase.ensures.written)
 
@@ -43,6 +42,6 @@ returns-clause-mapped g c =
     let count : length c.link_all.new.trees ≡ c.self.inside.trees.len = omega (arith, c.link_all.auto.trees, ap length c.deref_mut.ensures.value, c.self.inside.trees.ok.0) in
     subst (λ (now : List Shape). AreMapped c.args.self c.args.transfers.now c.args.rights (contents_of c.write_phase.new.shards now, c.of_all-counts.result)) (sym (with_items_is c.self.inside.trees c.link_all.new.trees count))
     (are_mapped c.make_targets.new.shards c.self.inside.trees.items (sound_stays c.self.inside.shards c.make_targets.new.shards c.self.inside.trees.items (made_says c.self.inside.shards c.make_targets.new.shards c.in_ok-make_targets.ensures.made c.in_ok-make_targets.ensures.present) c.self.invariant) c.args.self (made_from c.self.inside.shards c.make_targets.new.shards c.self.inside.trees.items c.in_ok-make_targets.ensures.made c.in_ok-make_targets.ensures.present c.args.self c.self.view_is) c.args.rights c.args.transfers.now c.requires.planned c.requires.ready c.in_ok-make_targets.ensures.there
-    c.in_ok-stores.stores.items c.in_ok-stores.ensures c.piece_length.result c.piece_length.ensures.some c.in_ok-pieces.pieces.items c.in_ok-pieces.ensures
+    c.in_ok-pieces.pieces.items c.in_ok-pieces.ensures
     (links_of c.make_targets.new.shards c.args.transfers.now) refl c.deref_mut.result.now c.deref_mut.ensures.value c.link_all.new.trees c.in_ok-link_all.ensures
     c.write_phase.new.shards c.in_ok-write_phase.ensures.written c.of_all-counts.result c.of_all-counts.ensures)

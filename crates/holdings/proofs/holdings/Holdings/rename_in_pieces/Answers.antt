@@ -10,14 +10,13 @@ use Rattle.holdings.proofs.Phases.MovePhase.{trees_movable, pairs_distinct, pair
 use Rattle.holdings.proofs.Contents.SameEntries.{made_from, made_says, made_there, sound_stays}
 use Rattle.holdings.proofs.holdings.Holdings.rename_in_pieces.Goals as goal
 
-pub pairs-requires-clause-places : goal.pairs-requires-clause-places
-pairs-requires-clause-places g c =
+pub move_pieces-requires-clause-places : goal.move_pieces-requires-clause-places
+move_pieces-requires-clause-places g c =
     made_there c.self.inside.shards c.make_targets.new.shards c.self.inside.trees.items c.in_ok-make_targets.ensures.made c.args.self c.self.view_is c.args.transfers.now c.requires.planned.within c.in_ok-make_targets.ensures.there
 
-pub moves-requires-clause-distinct : goal.moves-requires-clause-distinct
-moves-requires-clause-distinct g c =
+pub move_pieces-requires-clause-distinct : goal.move_pieces-requires-clause-distinct
+move_pieces-requires-clause-distinct g c =
     pairs_distinct c.make_targets.new.shards c.self.inside.trees.items (sound_stays c.self.inside.shards c.make_targets.new.shards c.self.inside.trees.items (made_says c.self.inside.shards c.make_targets.new.shards c.in_ok-make_targets.ensures.made c.in_ok-make_targets.ensures.present) c.self.invariant) c.args.self (made_from c.self.inside.shards c.make_targets.new.shards c.self.inside.trees.items c.in_ok-make_targets.ensures.made c.in_ok-make_targets.ensures.present c.args.self c.self.view_is) c.args.transfers.now c.requires.planned c.requires.all_go c.requires.free c.in_ok-make_targets.ensures.there
-    c.in_ok-pairs.pairs.items c.in_ok-pairs.ensures
 
 pub rename_all-requires-clause-movable : goal.rename_all-requires-clause-movable
 rename_all-requires-clause-movable g c =
@@ -27,14 +26,14 @@ rename_all-requires-clause-movable g c =
 pub write_phase-requires-clause-can : goal.write_phase-requires-clause-can
 write_phase-requires-clause-can g c =
     pairs_can c.make_targets.new.shards c.self.inside.trees.items (sound_stays c.self.inside.shards c.make_targets.new.shards c.self.inside.trees.items (made_says c.self.inside.shards c.make_targets.new.shards c.in_ok-make_targets.ensures.made c.in_ok-make_targets.ensures.present) c.self.invariant) c.args.self (made_from c.self.inside.shards c.make_targets.new.shards c.self.inside.trees.items c.in_ok-make_targets.ensures.made c.in_ok-make_targets.ensures.present c.args.self c.self.view_is) c.args.transfers.now c.requires.planned c.requires.all_go c.requires.free c.in_ok-make_targets.ensures.there
-    c.in_ok-pairs.pairs.items c.in_ok-pairs.ensures c.piece_length.result c.piece_length.ensures.some c.in_ok-pieces.pieces.items c.in_ok-pieces.ensures
+    c.in_ok-pieces.pieces.items c.in_ok-pieces.ensures
 
 pub invariant_of-result : goal.invariant_of-result
 invariant_of-result g c =
     let count : length c.rename_all.new.trees ≡ c.self.inside.trees.len = omega (arith, c.rename_all.auto.trees, ap length c.deref_mut.ensures.value, c.self.inside.trees.ok.0) in
     subst (AreSound c.write_phase.new.shards) (sym (with_items_is c.self.inside.trees c.rename_all.new.trees count))
     (moved_sound c.make_targets.new.shards c.self.inside.trees.items (sound_stays c.self.inside.shards c.make_targets.new.shards c.self.inside.trees.items (made_says c.self.inside.shards c.make_targets.new.shards c.in_ok-make_targets.ensures.made c.in_ok-make_targets.ensures.present) c.self.invariant) c.args.self (made_from c.self.inside.shards c.make_targets.new.shards c.self.inside.trees.items c.in_ok-make_targets.ensures.made c.in_ok-make_targets.ensures.present c.args.self c.self.view_is) c.args.transfers.now c.requires.planned c.requires.all_go c.requires.free c.in_ok-make_targets.ensures.there
-    c.in_ok-pairs.pairs.items c.in_ok-pairs.ensures c.piece_length.result c.piece_length.ensures.some c.in_ok-pieces.pieces.items c.in_ok-pieces.ensures
+    c.in_ok-pieces.pieces.items c.in_ok-pieces.ensures
     (links_of c.make_targets.new.shards c.args.transfers.now) refl c.deref_mut.result.now c.deref_mut.ensures.value c.rename_all.new.trees c.in_ok-rename_all.ensures
     c.write_phase.new.shards c.in_ok-write_phase.ensures.written)
 
@@ -43,6 +42,6 @@ returns-clause-moved g c =
     let count : length c.rename_all.new.trees ≡ c.self.inside.trees.len = omega (arith, c.rename_all.auto.trees, ap length c.deref_mut.ensures.value, c.self.inside.trees.ok.0) in
     subst (λ (now : List Shape). AreMoved c.args.self c.args.transfers.now (contents_of c.write_phase.new.shards now, c.of_all-counts.result)) (sym (with_items_is c.self.inside.trees c.rename_all.new.trees count))
     (are_moved c.make_targets.new.shards c.self.inside.trees.items (sound_stays c.self.inside.shards c.make_targets.new.shards c.self.inside.trees.items (made_says c.self.inside.shards c.make_targets.new.shards c.in_ok-make_targets.ensures.made c.in_ok-make_targets.ensures.present) c.self.invariant) c.args.self (made_from c.self.inside.shards c.make_targets.new.shards c.self.inside.trees.items c.in_ok-make_targets.ensures.made c.in_ok-make_targets.ensures.present c.args.self c.self.view_is) c.args.transfers.now c.requires.planned c.requires.all_go c.requires.free c.in_ok-make_targets.ensures.there
-    c.in_ok-pairs.pairs.items c.in_ok-pairs.ensures c.piece_length.result c.piece_length.ensures.some c.in_ok-pieces.pieces.items c.in_ok-pieces.ensures
+    c.in_ok-pieces.pieces.items c.in_ok-pieces.ensures
     (links_of c.make_targets.new.shards c.args.transfers.now) refl c.deref_mut.result.now c.deref_mut.ensures.value c.rename_all.new.trees c.in_ok-rename_all.ensures
     c.write_phase.new.shards c.in_ok-write_phase.ensures.written c.of_all-counts.result c.of_all-counts.ensures)

@@ -1,8 +1,6 @@
 -- Each run has a leaf, and no shard is there.
-use Rattle.std.proofs.Common.{◌∙◌, ℕ, sym, ap, length}
-use Rattle.std.proofs.lemmas.List.{length-replicate}
-use Rattle.space.proofs.Leaves.{closed_found, closed_spans, closed_dense}
-use Rattle.space.proofs.Leaves.{dense_directory, dense_nowhere, leaf_of, many, no_spans}
+use Rattle.space.proofs.Leaves.{closed_found, closed_dense}
+use Rattle.space.proofs.Leaves.{dense_directory, dense_nowhere, leaf_of}
 use Rattle.space.specs.Positions.{position_in}
 use Rattle.space.proofs.directory.Directory.dense.Goals as goal
 
@@ -13,13 +11,8 @@ invariant_of-result c =
     let leaves = c.in_ok-leaves.leaves.items in
     let positions = c.in_ok-positions.ensures.items_if_clones_equal (λ y is. is) in
     let found = dense_directory c.args.most runs branches leaves c.in_ok-positions.positions.items c.requires.few c.div_ceil-runs.ensures c.in_ok-branches.ensures c.in_ok-leaves.ensures positions in
-    let as_many = many c.args.most runs branches leaves c.in_ok-positions.positions.items c.requires.few c.div_ceil-runs.ensures c.in_ok-branches.ensures c.in_ok-leaves.ensures positions in
     record {
       found = closed_found (found);
-      within =
-          closed_spans
-          (no_spans c.args.most branches leaves c.in_ok-positions.positions.items c.in_ok-spans.spans.items found
-          (ap length (c.in_ok-spans.ensures.items_if_clones_equal (λ y is. is)) ∙ length-replicate {A = ℕ} runs 0 ∙ sym as_many));
       dense = closed_dense _ _ _ (λ _. leaf_of c.args.most runs branches leaves c.in_ok-positions.positions.items c.requires.few c.div_ceil-runs.ensures c.in_ok-branches.ensures c.in_ok-leaves.ensures positions);
     }
 

@@ -1,95 +1,48 @@
--- No shard before the first of its run is there, and none behind the last, so none of these is live.
-use Rattle.std.proofs.Common.{◌≡◌, ◌∙◌, sym, ap, arith, ◌<◌, ◌*◌, ◌/◌, length, slice_index, inl, inr}
-use Rattle.std.proofs.lemmas.List.{get_or_default}
-use Rattle.space.specs.Positions.{position_in}
-use Rattle.space.proofs.Leaves.{found_in, spans_in, within_or_past, run_within, outside_span, dead_unless}
+-- The runs of 16 that are passed over have no live shard.
+use Rattle.std.proofs.Common.{◌≡◌, ◌∙◌, ap, arith, ℕ, ◌/◌, ◌%◌, ◌<◌, ◌≤◌, List, slice_index, inl, inr}
+use Rattle.std.specs.Int.{bit_at}
+use Rattle.space.specs.declared.directory.Directory.{Directory}
+use Rattle.space.specs.Positions.{most_of, position_in, AreRunsOf}
+use Rattle.space.proofs.Leaves.{runs_in, within_or_past}
 use Rattle.space.proofs.directory.Directory.next.Goals as goal
 
-pub index-requires : goal.index-requires
-index-requires c =
-    let d = c.args.self.now in
-    let run = run_within d.most d.count d.branches.items d.leaves.items d.positions.items (found_in d) (c.next_filled-run.result * 256) (omega (arith, c.if-start-end.false, c.requires.end)) in
-    omega (arith, run, (spans_in d).how_many, d.spans.ok.0)
+passed : (d : Directory) (live runs : List ℕ) → AreRunsOf d live runs → (from upto : ℕ) → ((run : ℕ) → from / 16 ≤ run → run < upto → bit_at (slice_index runs (run / 16)) (run % 16) ≡ 0)
+    → (shard : ℕ) → shard < most_of d → from ≤ shard → shard / 16 < upto → slice_index live (position_in d shard) ≡ 0
+passed d live runs are from upto dead shard less past before =
+    let of : shard / 256 ≡ shard / 16 / 16 = omega arith in
+    (runs_in d live runs are).dead shard less (ap (λ k. bit_at (slice_index runs k) (shard / 16 % 16)) of ∙ dead (shard / 16) (omega (arith, past)) before)
 
-pub returns-then-start-end-clause-dead : goal.returns-then-start-end-clause-dead
-unfolding position_in
-returns-then-start-end-clause-dead c shard from before =
+pub returns-then-first-end-clause-dead : goal.returns-then-first-end-clause-dead
+returns-then-first-end-clause-dead c shard from before =
     elim (within_or_past shard c.loop-shard.shard) as (λ _. slice_index c.args.live.now (position_in c.args.self.now shard) ≡ 0) [
       | inl earlier ↦ c.loop-shard.invariant.dead shard from earlier
-      | inr past ↦ dead_unless c.args.self.now c.args.live.now c.requires.live shard (c.next_filled-run.ensures.skipped shard (omega (arith, past)) (omega (arith, before, c.if-start-end.true)))
+      | inr past ↦
+          passed c.args.self.now c.args.live.now c.args.runs.now c.requires.runs c.loop-shard.shard c.next_with_life-run.result c.next_with_life-run.ensures.dead shard (omega (arith, before, c.requires.end)) past
+          (omega (arith, before, past, c.if-first-end.true, c.max-first.ensures, c.loop-shard-test.true))
     ]
 
-pub returns-then-found-behind-clause-dead : goal.returns-then-found-behind-clause-dead
-unfolding position_in
-returns-then-found-behind-clause-dead c shard from before =
-    let d = c.args.self.now in
-    let s = c.loop-shard.shard in
-    let run = c.next_filled-run.result in
-    let run_low : run < length d.branches.items = omega (arith, run_within d.most d.count d.branches.items d.leaves.items d.positions.items (found_in d) (run * 256) (omega (arith, c.if-start-end.false, c.requires.end))) in
-    let span : c.index.result.now ≡ slice_index d.spans.items run = c.index.ensures ∙ get_or_default d.spans.items run c.index.result.now 0 (omega (arith, run_low, (spans_in d).how_many)) in
-    elim (within_or_past shard s) as (λ _. slice_index c.args.live.now (position_in d shard) ≡ 0) [
+pub returns-then-found-upto-clause-dead : goal.returns-then-found-upto-clause-dead
+returns-then-found-upto-clause-dead c shard from before =
+    elim (within_or_past shard c.loop-shard.shard) as (λ _. slice_index c.args.live.now (position_in c.args.self.now shard) ≡ 0) [
       | inl earlier ↦ c.loop-shard.invariant.dead shard from earlier
-      | inr past ↦ elim (within_or_past (shard / 256) run) as (λ _. slice_index c.args.live.now (position_in d shard) ≡ 0) [
-        | inl lower ↦ dead_unless d c.args.live.now c.requires.live shard (c.next_filled-run.ensures.skipped shard (omega (arith, past)) lower)
-        | inr on ↦
-            let here : shard / 256 ≡ run = omega (arith, on, before, c.if-found-behind.true, c.min-behind.ensures, c.min-run_end.ensures) in
-            let span_here = span ∙ sym (ap (slice_index d.spans.items) here) in
-            elim (within_or_past shard c.max-first.result) as (λ _. slice_index c.args.live.now (position_in d shard) ≡ 0) [
-              | inl low ↦ dead_unless d c.args.live.now c.requires.live shard (outside_span d.branches.items d.leaves.items d.positions.items d.spans.items (spans_in d) shard (inl (omega (arith, low, past, here, span_here, c.max-first.ensures))))
-              | inr high ↦ c.next_in_run-found.ensures.dead shard high before
-            ]
+      | inr past ↦ elim (within_or_past (shard / 16) c.next_with_life-run.result) as (λ _. slice_index c.args.live.now (position_in c.args.self.now shard) ≡ 0) [
+        | inl lower ↦
+            passed c.args.self.now c.args.live.now c.args.runs.now c.requires.runs c.loop-shard.shard c.next_with_life-run.result c.next_with_life-run.ensures.dead shard
+            (omega (arith, before, c.if-found-upto.true, c.min-upto.ensures, c.requires.end)) past lower
+        | inr on ↦ c.next_in_leaf-found.ensures.dead shard (omega (arith, on, past, c.max-first.ensures)) before
       ]
     ]
 
-pub loop-shard-preserved-else-found-behind : goal.loop-shard-preserved-else-found-behind
-unfolding position_in
-loop-shard-preserved-else-found-behind c =
-    let d = c.args.self.now in
-    let s = c.loop-shard.shard in
-    let run = c.next_filled-run.result in
-    let run_low : run < length d.branches.items = omega (arith, run_within d.most d.count d.branches.items d.leaves.items d.positions.items (found_in d) (run * 256) (omega (arith, c.if-start-end.false, c.requires.end))) in
-    let span : c.index.result.now ≡ slice_index d.spans.items run = c.index.ensures ∙ get_or_default d.spans.items run c.index.result.now 0 (omega (arith, run_low, (spans_in d).how_many)) in
-    record {
-      from = omega (arith, c.loop-shard.invariant.from, c.loop-shard-test.true, c.next_filled-run.ensures.from, c.min-run_end.ensures);
-      dead = λ shard from before. elim (within_or_past shard s) as (λ _. slice_index c.args.live.now (position_in d shard) ≡ 0) [
-        | inl earlier ↦ c.loop-shard.invariant.dead shard from earlier
-        | inr past ↦ elim (within_or_past (shard / 256) run) as (λ _. slice_index c.args.live.now (position_in d shard) ≡ 0) [
-          | inl lower ↦ dead_unless d c.args.live.now c.requires.live shard (c.next_filled-run.ensures.skipped shard (omega (arith, past)) lower)
-          | inr on ↦
-              let here : shard / 256 ≡ run = omega (arith, on, before, c.min-run_end.ensures) in
-              let span_here = span ∙ sym (ap (slice_index d.spans.items) here) in
-              elim (within_or_past shard c.max-first.result) as (λ _. slice_index c.args.live.now (position_in d shard) ≡ 0) [
-                | inl low ↦ dead_unless d c.args.live.now c.requires.live shard (outside_span d.branches.items d.leaves.items d.positions.items d.spans.items (spans_in d) shard (inl (omega (arith, low, past, here, span_here, c.max-first.ensures))))
-                | inr high ↦ elim (within_or_past shard c.min-behind.result) as (λ _. slice_index c.args.live.now (position_in d shard) ≡ 0) [
-                  | inl inside ↦ c.next_in_run-found.ensures.dead shard high (omega (arith, inside, c.if-found-behind.false))
-                  | inr behind ↦ dead_unless d c.args.live.now c.requires.live shard (outside_span d.branches.items d.leaves.items d.positions.items d.spans.items (spans_in d) shard (inr (omega (arith, behind, before, here, span_here, c.min-behind.ensures))))
-                ]
-              ]
-        ]
-      ];
-    }
-
 pub loop-shard-preserved : goal.loop-shard-preserved
-unfolding position_in
-loop-shard-preserved c =
-    let d = c.args.self.now in
-    let s = c.loop-shard.shard in
-    let run = c.next_filled-run.result in
-    let run_low : run < length d.branches.items = omega (arith, run_within d.most d.count d.branches.items d.leaves.items d.positions.items (found_in d) (run * 256) (omega (arith, c.if-start-end.false, c.requires.end))) in
-    let span : c.index.result.now ≡ slice_index d.spans.items run = c.index.ensures ∙ get_or_default d.spans.items run c.index.result.now 0 (omega (arith, run_low, (spans_in d).how_many)) in
-    record {
-      from = omega (arith, c.loop-shard.invariant.from, c.loop-shard-test.true, c.next_filled-run.ensures.from, c.min-run_end.ensures);
-      dead = λ shard from before. elim (within_or_past shard s) as (λ _. slice_index c.args.live.now (position_in d shard) ≡ 0) [
-        | inl earlier ↦ c.loop-shard.invariant.dead shard from earlier
-        | inr past ↦ elim (within_or_past (shard / 256) run) as (λ _. slice_index c.args.live.now (position_in d shard) ≡ 0) [
-          | inl lower ↦ dead_unless d c.args.live.now c.requires.live shard (c.next_filled-run.ensures.skipped shard (omega (arith, past)) lower)
-          | inr on ↦
-              let here : shard / 256 ≡ run = omega (arith, on, before, c.min-run_end.ensures) in
-              let span_here = span ∙ sym (ap (slice_index d.spans.items) here) in
-              elim (within_or_past shard c.max-first.result) as (λ _. slice_index c.args.live.now (position_in d shard) ≡ 0) [
-                | inl low ↦ dead_unless d c.args.live.now c.requires.live shard (outside_span d.branches.items d.leaves.items d.positions.items d.spans.items (spans_in d) shard (inl (omega (arith, low, past, here, span_here, c.max-first.ensures))))
-                | inr high ↦ dead_unless d c.args.live.now c.requires.live shard (outside_span d.branches.items d.leaves.items d.positions.items d.spans.items (spans_in d) shard (inr (omega (arith, high, before, here, span_here, c.if-first-behind.false, c.min-behind.ensures))))
-              ]
-        ]
-      ];
-    }
+loop-shard-preserved c = record {
+  from = omega (arith, c.loop-shard.invariant.from, c.max-first.ensures, c.min-upto.ensures, c.if-first-end.false);
+  dead = λ shard from before. elim (within_or_past shard c.loop-shard.shard) as (λ _. slice_index c.args.live.now (position_in c.args.self.now shard) ≡ 0) [
+    | inl earlier ↦ c.loop-shard.invariant.dead shard from earlier
+    | inr past ↦ elim (within_or_past (shard / 16) c.next_with_life-run.result) as (λ _. slice_index c.args.live.now (position_in c.args.self.now shard) ≡ 0) [
+      | inl lower ↦
+          passed c.args.self.now c.args.live.now c.args.runs.now c.requires.runs c.loop-shard.shard c.next_with_life-run.result c.next_with_life-run.ensures.dead shard
+          (omega (arith, before, c.min-upto.ensures, c.requires.end)) past lower
+      | inr on ↦ c.next_in_leaf-found.ensures.dead shard (omega (arith, on, past, c.max-first.ensures)) (omega (arith, before, c.if-found-upto.false))
+    ]
+  ];
+}

@@ -1,10 +1,10 @@
 -- The shard gets the next position.
-use Rattle.std.proofs.Common.{◌≡◌, ◌∙◌, ◌≤◌, refl, sym, ap, arith, ◌+◌, ◌*◌, ◌/◌, ◌%◌, slice_index, slice_set}
+use Rattle.std.proofs.Common.{◌≡◌, ◌∙◌, refl, sym, ap, arith, ◌+◌, ◌*◌, ◌/◌, ◌%◌, slice_index, slice_set}
 use Rattle.std.proofs.lemmas.List.{get_or_default}
 use Rattle.space.specs.Leaves.{lone_leaf, alone, slot_in, branch_at, entry_at, leaf_at}
-use Rattle.space.proofs.Leaves.{closed_found, closed_spans, closed_dense}
-use Rattle.space.proofs.Leaves.{positive, block_low, leaf_of_branch, found_in, spans_in, dense_in, fewer_there, run_within, leaf_within, position_within, more_spans}
-use Rattle.space.proofs.Leaves.{IsPut, put_alone, put_beside, put_in_leaf, put_there, put_elsewhere, put_added, put_many, put_order}
+use Rattle.space.proofs.Leaves.{closed_found, closed_dense}
+use Rattle.space.proofs.Leaves.{positive, block_low, leaf_of_branch, found_in, dense_in, fewer_there, run_within, leaf_within, position_within}
+use Rattle.space.proofs.Leaves.{IsPut, put_alone, put_beside, put_in_leaf, put_there, put_elsewhere, put_added, put_order}
 use Rattle.space.specs.Positions.{position_in}
 use Rattle.space.proofs.directory.Directory.put.Goals as goal
 use Rattle.space.proofs.directory.Directory.put.Goals.{then-leaf-ne0, else-leaf-ne0+then-branch-eq0, else-leaf-ne0+else-branch-eq0}
@@ -48,16 +48,6 @@ overflow_add-self c =
     let d = c.args.self.now in
     omega (arith, fewer_there d.most d.count d.branches.items d.leaves.items d.positions.items (found_in d) c.args.shard c.requires.within c.requires.absent, (found_in d).few)
 
-pub index_mut-requires-2 : goal.index_mut-requires-2
-index_mut-requires-2 c =
-    let d = c.args.self.now in
-    omega (arith, run_within d.most d.count d.branches.items d.leaves.items d.positions.items (found_in d) c.args.shard c.requires.within, (spans_in d).how_many, d.spans.ok.0)
-
-pub index-requires-2 : goal.index-requires-2
-index-requires-2 c =
-    let d = c.args.self.now in
-    omega (arith, run_within d.most d.count d.branches.items d.leaves.items d.positions.items (found_in d) c.args.shard c.requires.within, (spans_in d).how_many, d.spans.ok.0)
-
 pub invariant_of-self : goal.invariant_of-self
 unfolding position_in
 invariant_of-self c =
@@ -86,17 +76,8 @@ invariant_of-self c =
           (ap (λ v. v.1.1.1.1.1.0.items) w.self-is ∙ ap (λ at. slice_set d.leaves.items at w.with_one-else-branch-eq0.result) slot ∙ ap (slice_set d.leaves.items (slot_in (branch_at d.branches.items) (c.args.shard / 16))) w.with_one-else-branch-eq0.ensures)
           (ap (λ v. v.1.1.1.1.1.1.0.items) w.self-is)
     ] in
-    let span = c.index-2.ensures ∙ get_or_default d.spans.items (c.args.shard / 256) c.index-2.result.now 0 (omega (arith, run, (spans_in d).how_many)) in
-    let later : (slice_index d.spans.items (c.args.shard / 256) ≡ 0 → ⊥) → c.span_with.result % 256 ≤ slice_index d.spans.items (c.args.shard / 256) % 256 =
-    λ some. omega (arith, span, c.span_with.ensures.not_later (λ none. some (sym span ∙ none))) in
     record {
       found = closed_found (put_added d.most d.count d.branches.items d.leaves.items d.positions.items (found_in d) c.args.shard c.requires.within c.requires.absent _ _ _ is);
-      within =
-          closed_spans
-          (more_spans d.branches.items d.leaves.items d.positions.items _ _ _ d.spans.items (spans_in d)
-          (put_many d.most d.count d.branches.items d.leaves.items d.positions.items (found_in d) c.args.shard c.requires.within c.requires.absent _ _ _ is) c.args.shard c.span_with.result run
-          (put_elsewhere d.most d.count d.branches.items d.leaves.items d.positions.items (found_in d) c.args.shard c.requires.within c.requires.absent _ _ _ is)
-          c.span_with.ensures.first c.span_with.ensures.end later (omega (arith, span, c.span_with.ensures.not_sooner)));
       dense = closed_dense _ _ _ (λ dense. put_order d.most d.count d.branches.items d.leaves.items d.positions.items (found_in d) c.args.shard c.requires.within c.requires.absent _ _ _ is (dense_in d dense));
     }
 

@@ -1,9 +1,8 @@
 -- No shard is there.
-use Rattle.std.proofs.Common.{◌≡◌, ◌∙◌, ℕ, sym, ap, length}
+use Rattle.std.proofs.Common.{◌∙◌, ap}
 use Rattle.std.specs.Prelude.{replicate}
-use Rattle.std.proofs.lemmas.List.{length-replicate}
-use Rattle.space.proofs.Leaves.{closed_found, closed_spans, closed_dense}
-use Rattle.space.proofs.Leaves.{sparse_directory, sparse_nowhere, no_spans}
+use Rattle.space.proofs.Leaves.{closed_found, closed_dense}
+use Rattle.space.proofs.Leaves.{sparse_directory, sparse_nowhere}
 use Rattle.space.specs.Positions.{position_in}
 use Rattle.space.proofs.directory.Directory.sparse.Goals as goal
 
@@ -13,13 +12,8 @@ invariant_of-result c =
     let leaves = c.in_ok-leaves.ensures.items_if_clones_equal (λ y is. is) in
     let positions = c.in_ok-positions.ensures.items_if_clones_equal (λ y is. is) in
     let found = sparse_directory c.args.most c.in_ok-branches.branches.items c.in_ok-leaves.leaves.items c.in_ok-positions.positions.items c.requires.few branches leaves positions in
-    let runs : length c.in_ok-branches.branches.items ≡ c.div_ceil-runs.result = ap length (c.in_ok-branches.ensures.items_if_clones_equal (λ y is. is)) ∙ length-replicate {A = ℕ} c.div_ceil-runs.result 0 in
     record {
       found = closed_found (found);
-      within =
-          closed_spans
-          (no_spans c.args.most c.in_ok-branches.branches.items c.in_ok-leaves.leaves.items c.in_ok-positions.positions.items c.in_ok-spans.spans.items found
-          (ap length (c.in_ok-spans.ensures.items_if_clones_equal (λ y is. is)) ∙ length-replicate {A = ℕ} c.div_ceil-runs.result 0 ∙ sym runs));
       dense = closed_dense _ _ _ (λ never. absurd (cc never));
     }
 

@@ -1,17 +1,17 @@
 -- The words of the new shard stand behind the others, and each is 0.
-use Rattle.std.proofs.Common.{◌≡◌, ◌∙◌, refl, sym, ap, subst, arith, ℕ, inl, ◌+◌, ◌*◌, ◌/◌, ◌<◌, ◌++◌, ◌∷◌, [], length, slice_index}
+use Rattle.std.proofs.Common.{◌≡◌, ◌∙◌, refl, sym, ap, subst, arith, ℕ, inl, ◌+◌, ◌*◌, ◌/◌, ◌%◌, ◌<◌, ◌++◌, ◌∷◌, [], length, slice_index, slice_set}
 use Rattle.std.specs.Prelude.{replicate}
 use Rattle.std.specs.Option.{option_copied_mut}
 use Rattle.std.proofs.lemmas.Option.{same_Some}
-use Rattle.std.proofs.lemmas.List.{length-append, length-set, length-replicate}
+use Rattle.std.proofs.lemmas.List.{length-append, length-set, length-replicate, get_or_default, get_or-set_same}
 use Rattle.std.specs.List.{AllPass}
-use Rattle.std.specs.Int.{div_ceil}
+use Rattle.std.specs.Int.{bit_at, div_ceil}
 use Rattle.std.proofs.lemmas.Grind.{div_ceil_times}
 use Rattle.space.specs.Word.{entry_of, is_pack}
 use Rattle.space.specs.Directory.{AreLive, AreWords, shard_of, offset_of}
 use Rattle.space.specs.Positions.{count_of, most_of, position_in, IsAdded}
 use Rattle.space.specs.Shards.{index_of}
-use Rattle.space.proofs.ShardWords.{nowhere_unless, entry_read, read_now, index_kept, only_added, packs_longer, same_live, live_longer, shard_can, runs_longer, runs_same}
+use Rattle.space.proofs.ShardWords.{nowhere_unless, entry_read, read_now, index_kept, only_added, packs_longer, same_live, live_longer, shard_can, runs_longer, runs_revived, runs_same}
 use Rattle.space.proofs.shards.Shards.add.Goals as goal
 
 pub invariant_of-self-2-clause-packed : goal.invariant_of-self-2-clause-packed
@@ -50,7 +50,7 @@ index_mut-requires c =
 pub invariant_of-self-2-clause-each_run : goal.invariant_of-self-2-clause-each_run
 invariant_of-self-2-clause-each_run c =
     let s = c.args.self.now in
-    length-set s.runs.items (c.shard-shard.result / 256) 1 ∙ s.each_run ∙ ap (λ n. div_ceil n 256) (sym c.in_ok-add.ensures.ok.most)
+    length-set s.runs.items (c.shard-shard.result / 256) c.with_life.result ∙ s.each_run ∙ ap (λ n. div_ceil n 256) (sym c.in_ok-add.ensures.ok.most)
 
 pub invariant_of-self-2-clause-dead_runs : goal.invariant_of-self-2-clause-dead_runs
 invariant_of-self-2-clause-dead_runs c =
@@ -58,7 +58,15 @@ invariant_of-self-2-clause-dead_runs c =
     let now = c.push_reserved.ensures.items ∙ ap (λ xs. xs ++ 1 ∷ []) c.reserve-2.ensures.items in
     let most = shard_can s c.args.place (record { space = c.requires.place.space; page = c.requires.place.page }) in
     let within : c.shard-shard.result / 256 < length s.runs.items = omega (arith, most, c.shard-shard.ensures.shard, s.each_run, div_ceil_times (most_of s.directory) 256 (omega arith)) in
-    runs_longer s.directory s.live.items s.runs.items s.dead_runs c.add.new.self c.shard-shard.result c.in_ok-add.ensures.ok s.counted within c.push_reserved.new.self.items now
+    let shard = c.shard-shard.result in
+    let old : slice_index s.runs.items (shard / 256) ≡ c.index.result.now = sym (c.index.ensures ∙ get_or_default s.runs.items (shard / 256) c.index.result.now 0 within) in
+    let number = c.with_life.result in
+    let runs = slice_set s.runs.items (shard / 256) number in
+    let is : slice_index runs (shard / 256) ≡ number = get_or-set_same s.runs.items (shard / 256) number 0 within in
+    let are = runs_revived s.directory s.live.items s.runs.items s.dead_runs (shard / 256) number within (λ i none. ap (λ n. bit_at n i) old ∙ c.with_life.ensures.others i none) in
+    runs_longer s.directory s.live.items runs are c.add.new.self shard c.in_ok-add.ensures.ok s.counted
+    (λ none. absurd (omega (arith, ap (λ n. bit_at n (shard / 16 % 16)) is, c.with_life.ensures.life, none)))
+    (λ none. absurd (omega (arith, ap (λ n. bit_at n (16 + shard / 16 % 16)) is, c.with_life.ensures.there, none))) c.push_reserved.new.self.items now
 
 pub returns-clause-made : goal.returns-clause-made
 returns-clause-made c =

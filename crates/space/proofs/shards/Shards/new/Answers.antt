@@ -26,7 +26,10 @@ invariant_of-result c =
       packed = λ words is. subst (AreWords (count_of d)) (same_Some c.new-2.result words is)
           (record { count = omega (arith, ap length items, c.in_ok-directory.ensures.count); packs = subst (AllPass is_pack) (sym items) (λ k d less. absurd (omega (arith, less))) });
       each_run = ap length (c.in_ok-runs.ensures.items_if_clones_equal (λ y is. is)) ∙ length-replicate {A = ℕ} c.div_ceil.result 0 ∙ c.div_ceil.ensures ∙ ap (λ n. div_ceil n 256) c.most.ensures;
-      dead_runs = λ shard less none. ap (λ xs. slice_index xs (position_in d shard)) c.new-3.ensures.items ∙ get_or_past [] (position_in d shard) 0 (omega arith);
+      dead_runs = ∣ record {
+        dead = λ shard less none. ap (λ xs. slice_index xs (position_in d shard)) c.new-3.ensures.items ∙ get_or_past [] (position_in d shard) 0 (omega arith);
+        absent = λ shard less none. c.in_ok-directory.ensures.none shard;
+      } ∣₁;
       counted = ap length c.new-3.ensures.items ∙ sym c.in_ok-directory.ensures.count;
       dead = λ words is i none. get_or_past words.items i 0 (omega (arith, ap (λ (v : Vec ℕ Global). length v.items) (same_Some c.new-2.result words is), ap length items));
     }

@@ -1,7 +1,8 @@
 -- The shard of the page is live, and so is its run.
-use Rattle.std.proofs.Common.{◌≡◌, ◌∙◌, ◌<◌, ◌/◌, sym, subst, arith, length, slice_set}
+use Rattle.std.proofs.Common.{◌≡◌, ◌∙◌, ◌<◌, ◌/◌, ◌%◌, sym, ap, subst, arith, length, slice_index, slice_set}
+use Rattle.std.specs.Int.{bit_at}
 use Rattle.std.proofs.lemmas.Grind.{div_ceil_times}
-use Rattle.std.proofs.lemmas.List.{length-set, get_or-set_same}
+use Rattle.std.proofs.lemmas.List.{length-set, get_or_default, get_or-set_same}
 use Rattle.space.specs.Positions.{AreRunsOf, count_of, most_of, position_in}
 use Rattle.space.proofs.ShardWords.{live_revived, runs_revived, shard_can, shard_revived}
 use Rattle.space.proofs.shards.Shards.revive.Goals as goal
@@ -17,16 +18,19 @@ invariant_of-self c =
     let at : position ≡ position_in s.directory shard = c.position-position.ensures in
     let there : position_in s.directory shard < count_of s.directory = subst (λ k. position_in s.directory k < count_of s.directory) (sym c.shard-shard.ensures.shard) (omega (arith, c.requires.has)) in
     let here : position < length s.live.items = omega (arith, there, at, s.counted) in
-    let one = get_or-set_same s.runs.items (shard / 256) 1 0 within in
+    let old : slice_index s.runs.items (shard / 256) ≡ c.index.result.now = sym (c.index.ensures ∙ get_or_default s.runs.items (shard / 256) c.index.result.now 0 within) in
+    let number = c.with_life.result in
+    let runs = slice_set s.runs.items (shard / 256) number in
+    let now : slice_index runs (shard / 256) ≡ number = get_or-set_same s.runs.items (shard / 256) number 0 within in
+    let are = runs_revived s.directory s.live.items s.runs.items s.dead_runs (shard / 256) number within (λ i none. ap (λ n. bit_at n i) old ∙ c.with_life.ensures.others i none) in
     record {
       limits = s.limits;
       most = s.most;
       packed = s.packed;
       counted = length-set s.live.items position 1 ∙ s.counted;
       dead = λ words is. live_revived s.live.items words position here (s.dead words is);
-      each_run = length-set s.runs.items (shard / 256) 1 ∙ s.each_run;
+      each_run = length-set s.runs.items (shard / 256) number ∙ s.each_run;
       dead_runs =
-          subst (λ k. AreRunsOf s.directory (slice_set s.live.items k 1) (slice_set s.runs.items (shard / 256) 1)) (sym at)
-          (shard_revived s.directory s.live.items (slice_set s.runs.items (shard / 256) 1) (runs_revived s.directory s.live.items s.runs.items s.dead_runs (shard / 256) within) shard there
-          (λ none. absurd (omega (arith, one, none))));
+          subst (λ k. AreRunsOf s.directory (slice_set s.live.items k 1) runs) (sym at)
+          (shard_revived s.directory s.live.items runs are shard there (λ none. absurd (omega (arith, ap (λ n. bit_at n (shard / 16 % 16)) now, c.with_life.ensures.life, none))));
     }

@@ -1,0 +1,81 @@
+-- The next transfers give pieces of their own.
+use Rattle.std.proofs.Common.{◌≡◌, ◌∙◌, ◌++◌, ◌∷◌, [], Bool, List, length, map, true, false, take, drop, refl, sym, ap, subst, arith, if◌then◌else◌}
+use Rattle.std.proofs.lemmas.Bool.{eqb-true}
+use Rattle.std.proofs.lemmas.List.Elements.{All-drop}
+use Rattle.std.proofs.lemmas.Grind.{flat_map-append}
+use Rattle.std.proofs.lemmas.List.{take-append-drop}
+use Rattle.std.specs.List.{All}
+use Rattle.space.specs.Shards.{IsPlace}
+use Rattle.space.specs.Slices.{pieces}
+use Rattle.space.specs.declared.shards.Shards.{Shards}
+use Rattle.pieces.specs.Contents.{ends_of}
+use Rattle.pieces.specs.Distinct.{are_distinct}
+use Rattle.pieces.specs.DistinctParts.{distinct_split}
+use Rattle.pieces.specs.declared.moving.Pair.{Pair}
+use Rattle.pieces.specs.declared.piece.Piece.{Piece}
+use Rattle.pieces.specs.declared.piece.Piece.TheVariants as piece
+use Rattle.holdings.specs.declared.transfer.Transfer.{Transfer}
+use Rattle.holdings.specs.Inner.Held.{has_entry}
+use Rattle.holdings.specs.Inner.Planning.{word_pair, word_pairs}
+use Rattle.holdings.specs.Inner.Words.{IsThere}
+use Rattle.holdings.proofs.Phases.InParts.{IsCutUpTo, none_cut, more_cut, all_cut}
+use Rattle.holdings.proofs.moves_in_pieces.move_pieces.Goals as goal
+
+-- the pairs of transfers, and of others behind them
+both : (s : Shards) (ts us : List Transfer) → word_pairs s (ts ++ us) ≡ word_pairs s ts ++ word_pairs s us
+both s [] us = refl
+both s (t ∷ ts) us = by (has_entry s t.source) (both s ts us)
+  where
+    by : (b : Bool) → word_pairs s (ts ++ us) ≡ word_pairs s ts ++ word_pairs s us
+        → (if b then word_pair s t ∷ word_pairs s (ts ++ us) else word_pairs s (ts ++ us)) ≡ (if b then word_pair s t ∷ word_pairs s ts else word_pairs s ts) ++ word_pairs s us
+    by false rest = rest
+    by true rest = ap (λ xs. word_pair s t ∷ xs) rest
+
+-- those of the next transfers, and of the others
+parted : (s : Shards) (n : _) (rest first others : List Transfer) → first ≡ take n rest → others ≡ drop n rest → word_pairs s rest ≡ word_pairs s first ++ word_pairs s others
+parted s n rest first others first_is others_is =
+    ap (word_pairs s) (sym (take-append-drop n rest) ∙ ap (λ us. us ++ drop n rest) (sym first_is) ∙ ap (λ us. first ++ us) (sym others_is)) ∙ both s first others
+
+-- none of either comes twice
+distinct_both : (xs ys all : List Pair) → all ≡ xs ++ ys → are_distinct (ends_of all) ≡ true → (are_distinct (ends_of xs) ≡ true) × (are_distinct (ends_of ys) ≡ true)
+distinct_both xs ys all all_is distinct = distinct_split (ends_of xs) (ends_of ys) (ap are_distinct (sym (flat_map-append (λ x. x.taken ∷ x.put ∷ []) xs ys)) ∙ ap (λ zs. are_distinct (ends_of zs)) (sym all_is) ∙ distinct)
+
+pub loop-rest-init : goal.loop-rest-init
+loop-rest-init c = record {
+  cut = subst (IsCutUpTo piece.Move (word_pairs c.args.shards.now c.args.transfers.now) (word_pairs c.args.shards.now c.args.transfers.now)) (sym c.in_ok-pieces.ensures.items) (none_cut piece.Move (word_pairs c.args.shards.now c.args.transfers.now));
+  places = c.requires.places;
+  distinct = c.requires.distinct;
+}
+
+pub moves-requires-clause-distinct : goal.moves-requires-clause-distinct
+moves-requires-clause-distinct c =
+    let first = c.split_at.result.0.now in
+    let others = c.split_at.result.1.now in
+    let apart = parted c.args.shards.now c.min.result c.loop-rest.rest.now first others c.split_at.ensures.front c.split_at.ensures.back in
+    ap (λ xs. are_distinct (ends_of xs)) c.in_ok-pairs.ensures ∙ (distinct_both (word_pairs c.args.shards.now first) (word_pairs c.args.shards.now others) (word_pairs c.args.shards.now c.loop-rest.rest.now) apart c.loop-rest.invariant.distinct).0
+
+pub loop-rest-preserved : goal.loop-rest-preserved
+loop-rest-preserved c =
+    let rest = c.loop-rest.rest.now in
+    let first = c.split_at.result.0.now in
+    let others = c.split_at.result.1.now in
+    let apart = parted c.args.shards.now c.min.result rest first others c.split_at.ensures.front c.split_at.ensures.back in
+    let all = word_pairs c.args.shards.now c.args.transfers.now in
+    record {
+      cut = more_cut piece.Move c.args.most c.requires.most (word_pairs c.args.shards.now first) (word_pairs c.args.shards.now others) all c.loop-rest.pieces.items _ _
+          (subst (λ xs. IsCutUpTo piece.Move xs all c.loop-rest.pieces.items) apart c.loop-rest.invariant.cut)
+          (c.in_ok-its_pieces.ensures ∙ ap (λ xs. map piece.Move (pieces (length xs) c.args.most xs)) c.in_ok-pairs.ensures)
+          c.in_ok-append.ensures.items;
+      places = subst (All (λ t. IsPlace c.args.shards.now t.source × IsThere c.args.shards.now t.target)) (sym c.split_at.ensures.back) (All-drop (λ t. IsPlace c.args.shards.now t.source × IsThere c.args.shards.now t.target) c.min.result rest c.loop-rest.invariant.places);
+      distinct = (distinct_both (word_pairs c.args.shards.now first) (word_pairs c.args.shards.now others) (word_pairs c.args.shards.now rest) apart c.loop-rest.invariant.distinct).1;
+    }
+
+none_left : (ts : List Transfer) → length ts ≡ 0 → ts ≡ []
+none_left [] none = refl
+none_left (t ∷ ts) none = absurd (omega (arith, none))
+
+pub returns : goal.returns
+returns c =
+    let all = word_pairs c.args.shards.now c.args.transfers.now in
+    let none = none_left c.loop-rest.rest.now (eqb-true (length c.loop-rest.rest.now) 0 (sym c.loop-rest-test.ensures)) in
+    all_cut piece.Move all c.loop-rest.pieces.items (subst (λ ts. IsCutUpTo piece.Move (word_pairs c.args.shards.now ts) all c.loop-rest.pieces.items) none c.loop-rest.invariant.cut)
