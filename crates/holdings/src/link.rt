@@ -23,11 +23,7 @@ pub struct Link {
 /// Puts the new mappings of transfers that go, and whose source is held, into the trees, each into the tree of its frame.
 ///
 /// Refused, where memory is: `NoMemory`.
-pub fn link_all(
-    shards: &Shards,
-    trees: &mut [Tree],
-    transfers: &[Transfer],
-) -> Result<(), NoMemory>
+pub fn link_all(shards: &Shards, trees: &mut [Tree], transfers: &[Transfer]) -> Result<(), NoMemory>
     requires present { IsFalse (is_taken shards.now) }
     requires places { All (λ t. IsPlace shards.now t.source) transfers.now }
     requires linkable { AreLinkable trees.old (links_of shards.now transfers.now) }
