@@ -37,7 +37,7 @@ sys.path.insert(0, os.path.dirname(os.path.abspath(__file__)))
 from bench import ALL_PAGES, COMPLETE, HEADER, PAGES, TOP, send_fpage, unmap  # noqa: E402
 
 PIECE = 256
-SIZES = [16, 128, 512, 1_024, 2_048, 4_096]  # full pieces
+SIZES = [16, 256, 512, 1_024, 2_048, 4_096]  # full pieces
 WORKERS = [1, 2, 4, 64]
 MORE_CORES = [16, 64]
 RUNS = 3

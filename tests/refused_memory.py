@@ -38,7 +38,7 @@ SMALL = [
     "clears/nested-mapping-of-the-space",
 ]
 
-# Those of whole fpages, whose phases are in many pieces.
+# Those of whole fpages, whose phases are in many pieces, but in too few for several workers to share them.
 LARGE = [
     "unmaps/16-pages-of-one-frame",
     "unmaps/complete-space-twice",
@@ -46,21 +46,18 @@ LARGE = [
     "windows/complete-space-granted-and-mapped-on",
 ]
 
-# That of them in which a phase fills so many pieces that several workers share it.
-SHARED = "unmaps/complete-space-twice"
-
-# How many pages the largest traces map, which have no file.
+# How many pages the largest traces map, which have no file. Several workers share their phases.
 PAGES = 512
 
 # How many lines an audit has at least that several threads make.
 LINES = 4096
 
-# All traces with a file, each with the options by which it runs, and whether its calls start threads then.
+# All traces with a file, each with the options by which it runs. Its calls start no threads.
 RUNS = [
-    *((trace, [], False) for trace in SMALL),
-    *((trace, options, False) for trace in SMALL for options in WORKERS),
-    *((trace, ["--plain"], False) for trace in SMALL),
-    *((trace, options, trace == SHARED and options != WORKERS[0]) for trace in LARGE for options in WORKERS),
+    *((trace, []) for trace in SMALL),
+    *((trace, options) for trace in SMALL for options in WORKERS),
+    *((trace, ["--plain"]) for trace in SMALL),
+    *((trace, options) for trace in LARGE for options in WORKERS),
 ]
 
 
@@ -78,10 +75,10 @@ class Replay(NamedTuple):
     starts_threads: bool
 
 
-def read_replay(trace, options, starts_threads):
+def read_replay(trace, options):
     path = os.path.join(TOP, "tests", "replays", trace)
     with open(path + ".csv", "rb") as records, open(path + ".txt", "rb") as answer:
-        return Replay(" ".join([trace, *options]), options, records.read(), answer.readlines(), starts_threads)
+        return Replay(" ".join([trace, *options]), options, records.read(), answer.readlines(), False)
 
 
 def largest_replay(options):
