@@ -20,26 +20,22 @@ same_or_other i j = by (i == j) refl
     by true is = inl (eqb-true i j is)
     by false is = inr (λ same. cc (is, eq-eqb i j same))
 
--- what a post's seat finds, where these counts agree with its own
-of_post : (p : PostContent) (table : TableId) (me : Me (Unit {0}) View) → IsPost p table me → (i word : ℕ) (counts : ℕ → ℕ) → ((q : ℕ) → 0 < names_in q me.0.counts → counts q ≡ count_in q me.0.counts)
-    → word ≡ word_in me.0.opening counts i → IsFound p i word
-of_post p table me post i word counts agree found =
+-- what a post's seat finds
+pub as_seen : (p : PostContent) (table : TableId) (me : Me (Unit {0}) View) → IsPost p table me → (i word : ℕ) → IsSeen i me.0 word → IsFound p i word
+as_seen p table me post i word seen =
     let n : ℕ = p.number in
     let one : (if n == n then 1 else 0) ≡ 1 = ap (λ t. if t then 1 else 0) (eq-eqb n n refl) in
     let names : ℕ = names_in n me.0.counts in
     let names_are : names ≡ 1 + 0 = ap (names_in n) post.counts ∙ ap (λ k. k + 0) one in
     let here : count_in n me.0.counts ≡ p.steps + 0 = ap (count_in n) post.counts ∙ ap (λ t. (if t then p.steps else 0) + 0) (eq-eqb n n refl) in
     record {
-      counts = counts;
-      own = agree n (omega (arith, names_are)) ∙ here ∙ omega arith;
-      found = found ∙ ap (λ o. word_in o counts i) post.seat.opening;
+      counts = seen.counts;
+      own = seen.agree n (omega (arith, names_are)) ∙ here ∙ omega arith;
+      found = seen.found ∙ ap (λ o. word_in o seen.counts i) post.seat.opening;
     }
 
 pub as_found : (p : PostContent) (table : TableId) (me : Me (Unit {0}) View) → IsPost p table me → (i word : ℕ) (w : View) → IsMade i me.0 word w → IsFound p i word
-as_found p table me post i word w made = of_post p table me post i word made.counts made.agree made.found
-
-pub as_seen : (p : PostContent) (table : TableId) (me : Me (Unit {0}) View) → IsPost p table me → (i word : ℕ) → IsSeen i me.0 word → IsFound p i word
-as_seen p table me post i word seen = of_post p table me post i word seen.counts seen.agree seen.found
+as_found p table me post i word w made = as_seen p table me post i word made.seen
 
 -- ---- a word that a step writes
 

@@ -178,9 +178,11 @@ found_is : (o : Opening) (words : List ℕ) (vs : List View) (k : ℕ) (v : View
 found_is o words vs k v e j of next there h at =
     record {
       view = refl;
-      counts = counted vs;
-      agree = λ p some. only_here p vs k v at (h.once p) some;
-      found = ap (λ ws. get_or ws j 0) h.words_are ∙ map_here (word_in o (counted vs)) o.indexes j (index_of e) there ∙ ap (λ p. word_in p (counted vs) (index_of e)) (sym of);
+      seen = record {
+        counts = counted vs;
+        agree = λ p some. only_here p vs k v at (h.once p) some;
+        found = ap (λ ws. get_or ws j 0) h.words_are ∙ map_here (word_in o (counted vs)) o.indexes j (index_of e) there ∙ ap (λ p. word_in p (counted vs) (index_of e)) (sym of);
+      };
     }
 
 pub allows : (o : Opening) → IsOpening o → (slots id : ℕ) (v : View) (held : List (ℕ × Unit {0})) (e : Effect) (j : ℕ) → v.opening ≡ o → IsNext v e → slice_get o.indexes j ≡ Some (index_of e)

@@ -71,18 +71,16 @@ pub record IsNext (v : View) (e : Effect) : Type 0 where
 abbrev pub AgreeWith : View → (ℕ → ℕ) → Type 0
 AgreeWith v counts = (p : ℕ) → 0 < names_in p v.counts → counts p ≡ count_in p v.counts
 
--- what a step about the word at an index leaves and what it found: that word with some steps of the other pieces, whichever these were
-pub record IsMade (i : ℕ) (v : View) (word : ℕ) (w : View) : Type 0 where
-  pub view : w ≡ raised v
-  pub counts : ℕ → ℕ
-  pub agree : AgreeWith v counts
-  pub found : word ≡ word_in v.opening counts i
-
--- what a look at the word at an index finds, of which the seat notes nothing: the word with some steps of other pieces
+-- what a seat finds at an index: that word with some steps of the other pieces, whichever these were
 pub record IsSeen (i : ℕ) (v : View) (word : ℕ) : Type 0 where
   pub counts : ℕ → ℕ
   pub agree : AgreeWith v counts
   pub found : word ≡ word_in v.opening counts i
+
+-- what a step about the word at an index finds, and what it leaves
+pub record IsMade (i : ℕ) (v : View) (word : ℕ) (w : View) : Type 0 where
+  pub view : w ≡ raised v
+  pub seen : IsSeen i v word
 
 -- ---- one look
 
