@@ -23,9 +23,15 @@ pub enum Progress {
 /// phase. It cannot be cloned.
 #[derive(Drop)]
 pub struct Turn {
-    post: Post,
     /// Boxed, since turns are moved from list to list.
-    work: Box<Work>,
+    job: Box<Job>,
+}
+
+/// A piece at work, and the seat that makes its steps.
+#[derive(Drop)]
+struct Job {
+    post: Post,
+    work: Work,
     of: Snapshot<Piece>,
 }
 
@@ -36,9 +42,9 @@ impl Model for Turn {
 
     ghost use Rattle.turns.specs.Turns.{IsTurn};
 
-    ghost view = { λ t. t.post };
+    ghost view = { λ t. t.job.value.post };
 
-    ghost invariant = { λ t. IsTurn t.post t.work.value t.of.value };
+    ghost invariant = { λ t. IsTurn t.job.value.post t.job.value.work t.job.value.of.value };
 }
 
 impl Turn {
@@ -64,9 +70,10 @@ impl Turn {
         ensures { IfOk result (λ t. t ≡ record { shared = shared.now; number = number; steps = 0 }) }
     {
         let of = Snapshot::of(&piece);
-        let work = Box::new(alloc, Work::new(alloc, piece, hint)?)?;
+        let work = Work::new(alloc, piece, hint)?;
         let post = Post::new(shared, seat, number);
-        Ok(Turn { post, work, of })
+        let job = Box::new(alloc, Job { post, work, of })?;
+        Ok(Turn { job })
     }
 
     /// Makes the next step of its piece: one atomic operation on one shared word, whatever the other turns do meanwhile. Where it
@@ -82,7 +89,8 @@ impl Turn {
         ensures more { result ≡ More → self.new.steps < steps_to_do self.new }
     {
         if !self.has_ended() {
-            self.work.step(&mut self.post, shared.shared_words());
+            let job = self.job.as_mut();
+            job.work.step(&mut job.post, shared.shared_words());
         }
         if self.has_ended() {
             Progress::Ended
@@ -99,7 +107,8 @@ impl Turn {
         ensures same { (self.new.shared ≡ self.old.shared) × (self.new.number ≡ self.old.number) }
         ensures ended { self.new.steps ≡ steps_to_do self.new }
     {
-        self.work.step_to_end(&mut self.post, shared.shared_words());
+        let job = self.job.as_mut();
+        job.work.step_to_end(&mut job.post, shared.shared_words());
     }
 
     /// A receipt for its piece, if all steps were done.
@@ -114,8 +123,9 @@ impl Turn {
             return None;
         }
         let shared = shared.shared_words();
-        let seat = self.post.tell(shared);
-        Some(Receipt::new(shared, seat, self.post.number()))
+        let post = &mut self.job.post;
+        let seat = post.tell(shared);
+        Some(Receipt::new(shared, seat, post.number()))
     }
 
     /// Gives up its seat, and what its piece found out, if all steps were done.
@@ -127,12 +137,12 @@ impl Turn {
     {
         let ended = self.has_ended();
         let number = self.piece();
-        let Turn { post, work, of } = self;
+        let Job { post, work, of } = Box::into_inner(self.job);
         let seat = post.into_seat();
         if !ended {
             return (seat, None);
         }
-        let (kept, status, answers) = Box::into_inner(work).into_found(alloc);
+        let (kept, status, answers) = work.into_found(alloc);
         let done = Done::new(number, kept, status, answers, of, shared.opening());
         (seat, Some(done))
     }
@@ -141,7 +151,7 @@ impl Turn {
     fn has_ended(&self) -> bool
         ensures { result ≡ (self.now.steps == steps_to_do self.now) }
     {
-        self.work.has_ended(self.post.steps())
+        self.job.work.has_ended(self.job.post.steps())
     }
 
     /// The number of its piece.
@@ -149,13 +159,13 @@ impl Turn {
         ensures number { result ≡ self.now.number }
         ensures below { self.now.number < length self.now.shared.opening.pieces }
     {
-        self.post.number()
+        self.job.post.number()
     }
 
     /// How many steps of its piece were done.
     pub fn steps(&self) -> usize
         ensures { result ≡ self.now.steps }
     {
-        self.post.steps()
+        self.job.post.steps()
     }
 }
