@@ -560,6 +560,16 @@ module _ (most count : ℕ) (branches leaves positions : List ℕ) (found : IsDi
       → position_at branches leaves positions shard ≡ position_alone (entry_at branches leaves (shard / 16)) shard
   by_entry shard low none = grind (arith, nat_tests, no_number shard none)
 
+  -- beside the shard that an entry has alone none is there, of a run of 16 without a leaf
+  pub none_beside : (shard entry : ℕ) → leaf_at branches leaves (shard / 16) ≡ 0 → (alone ≤ slice_index branches (shard / 256) → entry ≡ slice_index branches (shard / 256))
+      → (slice_index branches (shard / 256) < alone → entry ≡ entry_at branches leaves (shard / 16)) → (shard % 16 ≡ entry % 16 → ⊥) → position_at branches leaves positions shard ≡ nowhere
+  none_beside shard entry none first own differ =
+      let apart : entry % 256 ≡ shard % 256 → ⊥ = λ same. differ (omega (arith, same)) in
+      elim (within_or_past (slice_index branches (shard / 256)) alone) as (λ _. position_at branches leaves positions shard ≡ nowhere) [
+        | inl low ↦ by_entry shard low none ∙ ap (λ e. position_alone e shard) (sym (own low)) ∙ alone_other entry shard apart
+        | inr high ↦ by_branch shard high ∙ ap (λ e. position_alone e shard) (sym (first high)) ∙ alone_other entry shard apart
+      ]
+
   -- a run of 16 with a leaf has no shard alone
   pub none_alone : (run : ℕ) → 0 < leaf_at branches leaves run → (slice_index branches (run / 16) < alone) × (entry_at branches leaves run < alone)
   none_alone run some = elim (within_or_past (slice_index branches (run / 16)) lone_leaf) as (λ _. (slice_index branches (run / 16) < alone) × (entry_at branches leaves run < alone)) [

@@ -362,21 +362,41 @@ impl Directory {
         from + dead(&self.positions, live, first, first + (end - from))
     }
 
-    /// The same, shard by shard.
+    /// The same of shards of a run of 16 without a leaf: one of these is there at most.
+    #[tactic(auto, unfolding(crate::specs::Positions::position_in))]
     fn next_without_leaf(&self, from: usize, end: usize, live: &[u8]) -> usize
-        requires from { from ≤ end }
+        requires from { from < end }
         requires end { end ≤ most_of self.now }
+        requires run { end ≤ (from / 16 + 1) * 16 }
+        requires none { leaf_in self.now (from / 16) ≡ 0 }
         requires live { length live.now ≡ count_of self.now }
         ensures from { from ≤ result }
         ensures end { result ≤ end }
         ensures there { result < end → position_in self.now result < count_of self.now }
         ensures dead { (shard : ℕ) → from ≤ shard → shard < result → slice_index live.now (position_in self.now shard) ≡ 0 }
     {
-        let mut shard = from;
-        while shard < end && life_at(live, self.position(shard) as usize) == 0 {
-            shard += 1;
+        let run = from / LEAF_SHARDS;
+        let shard = run * LEAF_SHARDS + self.place_alone(run);
+        if shard < from || shard >= end || life_at(live, self.position(shard) as usize) == 0 {
+            return end;
         }
         shard
+    }
+
+    /// The place in a run of 16 shards of the one that may be there, where the run has no leaf.
+    #[tactic(auto, unfolding(crate::specs::Positions::position_in))]
+    fn place_alone(&self, run: usize) -> usize
+        requires { run * 16 < most_of self.now }
+        ensures place { result < 16 }
+        ensures others { leaf_in self.now run ≡ 0 → (shard : ℕ) → shard / 16 ≡ run → (shard % 16 ≡ result → ⊥) → position_in self.now shard ≡ nowhere }
+    {
+        let first = self.branches[run / BRANCH_LEAVES];
+        let entry = if first >= ALONE {
+            first
+        } else {
+            self.entry(run)
+        };
+        entry as usize % LEAF_SHARDS
     }
 }
 
