@@ -72,7 +72,7 @@ impl Narrowed {
 ///
 /// The words lie in shards of 64 pages of one space, one shard behind another, in the order in which they were made. A
 /// directory tells where those of a place stand, if its shard is there; all other pages are absent. A shard that is known
-/// to hold nothing is dead, and searches pass over it. Only `new`, `make` and `make_one` take memory.
+/// to hold nothing is dead, and searches pass over it. Only `new`, `make`, `make_one` and `reserve` take memory.
 #[derive(Drop)]
 pub struct Shards {
     spaces: u32,
@@ -239,6 +239,22 @@ impl Shards {
         self.live.push_reserved(1);
         let run = shard / BRANCH_SHARDS;
         self.runs[run] = with_life(self.runs[run], shard / LEAF_SHARDS % LEAVES);
+        Ok(())
+    }
+
+    /// Takes memory for the words of so many shards more, or of all that there can be: they are not copied then as these
+    /// are made. What stands at each place stays.
+    ///
+    /// Refused, where memory is: `NoMemory`; then the same is so.
+    pub fn reserve(&mut self, shards: usize) -> Result<(), NoMemory>
+        requires present { IsFalse (is_taken self.old) }
+        ensures made { IsMade self.old self.new }
+        ensures layout { IsLaidOutAs self.old self.new }
+        ensures present { IsFalse (is_taken self.new) }
+    {
+        let left = self.directory.most() - self.directory.count() as usize;
+        let words = self.words.as_mut().unwrap();
+        words.reserve(shards.min(left) * SHARD_PAGES)?;
         Ok(())
     }
 
