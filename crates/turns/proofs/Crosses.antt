@@ -26,6 +26,7 @@ use Rattle.turns.specs.contracts.shared_words.SharedWords.TheInside as words_ins
 use Rattle.turns.specs.contracts.starts.Starts as starts
 use Rattle.turns.specs.contracts.post.Post as post
 use Rattle.turns.specs.contracts.work.Work as work
+use Rattle.turns.specs.contracts.turn.Job as job
 use Rattle.turns.specs.contracts.turn.Turn as turn
 use Rattle.turns.specs.contracts.watcher.Watcher as watcher
 use Rattle.turns.specs.contracts.receipt.Receipt as receipt
@@ -56,8 +57,11 @@ touch_work_send = search (touch_send, sendable, crosses) depth 20
 pub work_send : IsSend work.the_row
 work_send = variants_send work.enum ((strip_send, tt), ((link_send, (search sendable, tt)), ((move_send, (search sendable, tt)), ((touch_work_send, tt), tt))))
 
+job_send : IsSend job.the_row
+job_send = declared_send job.the_type (post_send, (search (work_send, sendable, crosses) depth 20, (search sendable, tt)))
+
 inside_send : IsSend inside.the_row
-inside_send = declared_send inside.the_type (post_send, (search (work_send, sendable, crosses) depth 20, (search sendable, tt)))
+inside_send = declared_send inside.the_type (search (job_send, sendable, crosses) depth 20, tt)
 
 pub turn_send : IsSend turn.the_row
 turn_send = search (inside_send, view_send)
