@@ -80,7 +80,8 @@ pub(crate) fn strip_of(
     };
     let masks = Vec::from_slice(alloc, &[mask])?;
     let indexes = Vec::from_slice(alloc, &[index])?;
-    Ok(Strip::new(slice, masks, indexes, Some(0)))
+    let strip = Strip::new(alloc, slice, masks, indexes, Some(0))?;
+    Ok(strip)
 }
 
 /// One touch of a page with a read, then an execute that faults.

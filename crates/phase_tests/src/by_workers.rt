@@ -163,7 +163,7 @@ fn strip_case(alloc: Global) -> Result<(Vec<u64>, Vec<Piece>), NoMemory>
         execute: false,
     };
     let masks = Vec::from_slice(alloc, &[read, Rights::all(), read])?;
-    let strip = Strip::new(slice, masks, indexes, Some(0));
+    let strip = Strip::new(alloc, slice, masks, indexes, Some(0))?;
     let pieces = one_piece(alloc, Piece::Strip(strip))?;
     Ok((words, pieces))
 }

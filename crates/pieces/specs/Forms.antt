@@ -19,8 +19,8 @@ content_of slice masks indexes fold = record { nodes = slice.nodes.items; masks 
 
 -- masks, in either form
 abbrev pub masks_in : Form → List Rights
-masks_in (Run nodes revoked spared) = masks_of spared revoked nodes
-masks_in (Each list) = list.items
+masks_in (Run nodes revoked spared) = masks_of spared revoked nodes.value
+masks_in (Each list) = list.value.items
 
 -- what a piece found out, in either form
 abbrev pub value_in : Found → Value

@@ -1,5 +1,7 @@
 use fpage::Rights;
+use std::alloc::{AllocError, Global};
 use std::marker::Model;
+use std::snapshot::Snapshot;
 
 /// The rights that the nodes of a strip lose, node by node. Those of a part of a run take no memory.
 #[derive(Drop)]
@@ -9,14 +11,14 @@ pub struct Masks {
 
 #[derive(Drop)]
 enum Form {
-    /// So many nodes of a run, which all lose these rights; the first may be spared.
+    /// So many nodes of a run, which all lose these rights; the first may be spared. How many is there for contracts alone.
     Run {
-        nodes: usize,
+        nodes: Snapshot<usize>,
         revoked: Rights,
         spared: bool,
     },
-    /// Each node loses rights of its own.
-    Each(Vec<Rights>),
+    /// Each node loses rights of its own. They are rare: boxed, they make no strip longer.
+    Each(Box<Vec<Rights>>),
 }
 
 impl Model for Masks {
@@ -30,23 +32,25 @@ impl Model for Masks {
 }
 
 impl Masks {
-    ghost use Rattle.std.specs.Prelude.{◌≡◌, ◌<◌, length, get_or};
+    ghost use Rattle.std.specs.Prelude.{◌≡◌, ◌<◌, length, get_or, IfOk};
     ghost use Rattle.fpage.specs.declared.rights.Rights.{Rights};
     ghost use Rattle.pieces.specs.Masks.{masks_of};
 
     /// These masks.
-    pub fn new(list: Vec<Rights>) -> Masks
-        ensures { result ≡ list.items }
+    pub fn new(alloc: Global, list: Vec<Rights>) -> Result<Masks, AllocError>
+        ensures { IfOk result (λ masks. masks ≡ list.items) }
     {
-        Masks {
+        let list = Box::new(alloc, list)?;
+        Ok(Masks {
             form: Form::Each(list),
-        }
+        })
     }
 
     /// The rights that so many nodes of a run lose, of which the first may be spared.
     pub fn of_run(nodes: usize, revoked: Rights, spared: bool) -> Masks
         ensures { result ≡ masks_of spared revoked nodes }
     {
+        let nodes = Snapshot::of(&nodes);
         Masks {
             form: Form::Run {
                 nodes,

@@ -1,6 +1,7 @@
 use crate::masks::Masks;
 use fpage::Rights;
 use space::{Node, Slice};
+use std::alloc::{AllocError, Global};
 use std::marker::Model;
 
 /// A part of a tree's list whose pages lose rights (L4 X.2, Unmap).
@@ -30,23 +31,32 @@ impl Model for Strip {
 }
 
 impl Strip {
-    ghost use Rattle.std.specs.Prelude.{◌≡◌, ◌<◌, ◌==◌, true, length, get_or};
+    ghost use Rattle.std.specs.Prelude.{◌≡◌, ◌<◌, ◌==◌, true, length, get_or, IfOk};
     ghost use Rattle.pieces.specs.Distinct.{are_distinct};
     ghost use Rattle.pieces.specs.Masks.{masks_of};
     ghost use Rattle.pieces.specs.Contents.{IsStrip, is_fold_apart};
     ghost use Rattle.pieces.specs.Forms.{content_of};
 
     /// The nodes of a part, with as many masks and indexes of words, and the index of the fold word.
-    pub fn new(slice: Slice, masks: Vec<Rights>, indexes: Vec<usize>, fold: Option<usize>) -> Strip
+    ///
+    /// Refused, where memory is: `AllocError`.
+    pub fn new(
+        alloc: Global,
+        slice: Slice,
+        masks: Vec<Rights>,
+        indexes: Vec<usize>,
+        fold: Option<usize>,
+    ) -> Result<Strip, AllocError>
         requires { IsStrip (content_of slice masks.items indexes fold) }
-        ensures { result ≡ content_of slice masks.items indexes fold }
+        ensures { IfOk result (λ strip. strip ≡ content_of slice masks.items indexes fold) }
     {
-        Strip {
+        let masks = Masks::new(alloc, masks)?;
+        Ok(Strip {
             slice,
-            masks: Masks::new(masks),
+            masks,
             indexes,
             fold,
-        }
+        })
     }
 
     /// The nodes of a part of a run, which all lose these rights; the first is spared if `spared` says so. It is spared where
