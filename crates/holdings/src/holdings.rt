@@ -59,6 +59,16 @@ impl Holdings {
         Ok(Holdings { shards, trees })
     }
 
+    /// The same holdings, with memory for the words of so many shards more, if it can be had: then none of these is copied
+    /// as they are made.
+    pub fn with_room(self, more: usize) -> Self
+        ensures { result ≡ self }
+    {
+        let Holdings { mut shards, trees } = self;
+        let _ = shards.reserve(more);
+        Holdings { shards, trees }
+    }
+
     /// The limits that the holdings were made with.
     pub fn limits(&self) -> Limits
         ensures limits { limits_of result ≡ self.now.limits }

@@ -9,6 +9,7 @@ ghost use Rattle.holdings.specs.Inner.Held.{links_in};
 ghost use Rattle.holdings.specs.Inner.Start.{root_entry, root_place};
 
 use crate::limits::Limits;
+use crate::shard::SHARD_PAGES;
 use fpage::Rights;
 use maptree::Tree;
 use space::{Entry, NoMemory, Place, Shards};
@@ -34,6 +35,7 @@ pub fn root_words(alloc: Global, limits: &Limits) -> Result<Shards, NoMemory>
         (p : Place) → IsPlace s p → entry_at s p ≡ root_entry limits.now.frames p) }
 {
     let mut shards = Shards::new(alloc, limits.spaces, limits.bits)?;
+    shards.reserve((limits.frames as usize).div_ceil(SHARD_PAGES as usize))?;
     for frame in 0..limits.frames {
         let entry = Entry {
             frame,

@@ -94,6 +94,16 @@ impl Database {
         })
     }
 
+    /// Takes memory for the words of so many shards of 64 pages more at once, if it can be had: then none of these is copied
+    /// as pages come to be held. Nothing else changes.
+    pub fn reserve(&mut self, shards: usize)
+        ensures { self.new ≡ self.old }
+    {
+        if let Some(held) = self.held.take() {
+            self.held = Some(held.with_room(shards));
+        }
+    }
+
     /// The limits that the database was made with.
     pub fn limits(&self) -> Limits
         ensures limits { limits_of result ≡ self.now.limits }

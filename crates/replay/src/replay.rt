@@ -30,6 +30,12 @@ use trace::{Failed, ReadError, Reply, Sink, Source, TraceReader, read_to_end};
 /// How many full pieces a phase must fill for several workers to share it (measured in docs/PERFORMANCE.md).
 const LEAST_SHARED: usize = 256;
 
+/// For the words of how many shards there is room at the start: 32 MiB, which the system gives only as they are used.
+const ROOM: usize = 65_536;
+
+/// With how many frames at most there is room at the start: the words of more roots would take long to copy there.
+const FEW_FRAMES: u32 = 65_536;
+
 /// The numbers of the last line of a run.
 #[derive(Clone, Copy, Debug, PartialEq, Eq)]
 pub struct Summary {
@@ -215,13 +221,19 @@ fn read_input<R: Source>(alloc: Global, reader: &mut R) -> Result<Vec<u8>, ReadE
     read_to_end(alloc, reader)
 }
 
-/// A database at the start.
+/// A database at the start. It has room for the words of many shards, which are not copied then as these are made; but
+/// not where many roots have their words already.
 fn start(alloc: Global, limits: &Limits) -> Result<Database, RunError>
     ensures ok { IfOk result (IsStarted (limits_of limits.now)) }
     ensures err { IfErr result (StartsNot (limits_of limits.now)) }
 {
     match Database::new(alloc, limits.spaces, limits.bits, limits.frames) {
-        Ok(database) => Ok(database),
+        Ok(mut database) => {
+            if limits.frames <= FEW_FRAMES {
+                database.reserve(ROOM);
+            }
+            Ok(database)
+        }
         Err(DbError::BadLimits) => Err(RunError::BadLimits),
         Err(_) => Err(RunError::NoMemory(0)),
     }

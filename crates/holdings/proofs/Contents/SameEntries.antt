@@ -5,13 +5,13 @@ use Rattle.std.specs.Prelude.{IsFalse, option_map}
 use Rattle.fpage.specs.declared.rights.Rights.{Rights}
 use Rattle.space.specs.declared.place.Place.{Place}
 use Rattle.space.specs.declared.shards.Shards.{Shards}
-use Rattle.space.specs.Shards.{HasWord, IsPlace, word_count, IsMade, entry_at, spaces_of, bits_of, is_taken}
+use Rattle.space.specs.Shards.{HasWord, IsLaidOutAs, IsPlace, word_count, IsMade, entry_at, spaces_of, bits_of, is_taken}
 use Rattle.space.proofs.Made.{place_on}
 use Rattle.maptree.specs.Origins.{Shape}
 use Rattle.model.specs.Definitions.Calls.{Limits}
 use Rattle.model.specs.Definitions.Lawful.{is_lawful}
 use Rattle.holdings.specs.Contents.{Contents, AreMapped, AreMoved, laid_out}
-use Rattle.holdings.specs.Layout.{OnlyGrows}
+use Rattle.holdings.specs.Layout.{Layout, OnlyGrows}
 use Rattle.holdings.specs.Places.{listing}
 use Rattle.holdings.specs.Sending.{IsTransferWithin}
 use Rattle.holdings.specs.Inner.Words.{IsThere}
@@ -19,7 +19,7 @@ use Rattle.holdings.specs.declared.transfer.Transfer.{Transfer}
 use Rattle.holdings.specs.declared.transfer_counts.TransferCounts.{TransferCounts}
 use Rattle.holdings.specs.Inner.Held.{contents_of, has_frame, held_of, holdings_of, layout_in, limits_in}
 use Rattle.holdings.specs.Inner.Sound.{AreSound, IsSound}
-use Rattle.holdings.proofs.Contents.Layouts.{made_grows}
+use Rattle.holdings.proofs.Contents.Layouts.{made_grows, same_layout}
 
 -- words that say what others said, in spaces like those of the others
 pub record SayTheSame (old new : Shards) : Type 0 where
@@ -110,3 +110,9 @@ made_there s n trees made held is ts within there k d less =
     let source : IsPlace s t.source = record { space = in_limits.source_space; page = in_limits.source_page } in
     let target : IsPlace s t.target = record { space = in_limits.target_space; page = in_limits.target_page } in
     (place_on s n made t.source source, record { place = place_on s n made t.target target; word = there k d less })
+
+-- where entries and layout stay, so do the contents
+pub same_kept : (old new : Shards) (trees : List Shape) → IsMade old new → IsLaidOutAs old new → IsFalse (is_taken new) → (held : Contents) → contents_of old trees ≡ held → contents_of new trees ≡ held
+same_kept old new trees made laid present held view =
+    (made_from old new trees made present held view).view
+    ∙ ap (λ (l : Layout). laid_out held l) (same_layout old new laid ∙ ap (λ (c : Contents). c.layout) view)
