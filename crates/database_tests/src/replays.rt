@@ -7,6 +7,7 @@ mod shared;
 mod worked;
 
 use crate::assertions::{assert_equal, assert_holds};
+use crate::traces::reader_of;
 use audit::{AuditError, check, lines};
 use crew::{Crew, CrewError, Gate, NoGate, Planned, Workers, work};
 use mapdb::{Database, DbError};
@@ -221,7 +222,7 @@ fn writes_the_replies_and_the_audit(rt: HostRuntime) -> Result<(), Fail> {
 }
 
 /// A database with the limits of a trace.
-fn database_for(alloc: Global, trace: &TraceReader<'_>) -> Result<Database, DbError>
+fn database_for(alloc: Global, trace: &TraceReader) -> Result<Database, DbError>
     ensures { IfOk result (λ database. database.is_halted ≡ false) }
 {
     let limits = trace.limits();
@@ -233,7 +234,7 @@ fn answer_all(
     rt: &(impl Threads + Wait + Sync),
     alloc: Global,
     database: &mut Database,
-    trace: &mut TraceReader<'_>,
+    trace: &mut TraceReader,
 ) -> Result<(), CrewError> {
     let crew = Crew::new(rt, 1, 256, &NoGate);
     let mut buffers = Buffers::new(alloc);
@@ -267,7 +268,7 @@ fn expect_lines(
 /// Looks at the audit after a trace.
 fn expect_audit(
     rt: &(impl Abort + AllocGlobal + Threads + Wait + Sync),
-    trace: &mut TraceReader<'_>,
+    trace: &mut TraceReader,
     count: usize,
     input: &str,
 ) -> Result<(), DbError> {
@@ -282,7 +283,7 @@ fn expect_audit_of(
     input: &str,
     count: usize,
 ) -> Result<(), Fail> {
-    let mut trace = TraceReader::new(rt.alloc(), input.as_bytes())?;
+    let mut trace = reader_of(rt.alloc(), input)?;
     Ok(expect_audit(rt, &mut trace, count, input)?)
 }
 

@@ -12,8 +12,8 @@ use std::alloc::{AllocError, Global};
 use std::fmt::Write;
 use std::process::Abort;
 use trace::{
-    Call, Failed, Record, Refusal, Reply, Source, Std, Trace, TraceError, TraceReader, Version,
-    push_reply, read_all, reply_text,
+    Bytes, Call, Failed, Record, Refusal, Reply, Source, Std, Trace, TraceError, TraceReader,
+    Version, push_reply, read_all, reply_text,
 };
 
 /// Appends the fields of a record, each in brackets, and a line end.
@@ -556,7 +556,7 @@ fn push_access(
 /// Appends what the next record asks for, an access as such if `ahead`, and any other as a call. Returns whether there was one.
 fn push_next(
     text: &mut String,
-    trace: &mut TraceReader<'_>,
+    trace: &mut TraceReader,
     limits: &Limits,
     ahead: bool,
 ) -> Result<bool, NoMemory>
@@ -584,7 +584,7 @@ fn push_next(
 fn push_all(
     rt: &impl Abort,
     text: &mut String,
-    trace: &mut TraceReader<'_>,
+    trace: &mut TraceReader,
     ahead: bool,
 ) -> Result<(), NoMemory> {
     let limits = small_limits(rt);
@@ -602,7 +602,7 @@ fn push_all(
 fn expect_asked(
     rt: &impl Abort,
     alloc: Global,
-    trace: &mut TraceReader<'_>,
+    trace: &mut TraceReader,
     ahead: bool,
     asked: &str,
 ) -> Result<(), NoMemory> {
@@ -610,6 +610,14 @@ fn expect_asked(
     push_all(rt, &mut text, trace, ahead)?;
     assert_equal(rt, text.as_str(), asked, ahead);
     Ok(())
+}
+
+/// A reader of the trace that a text is.
+pub(crate) fn reader_of(alloc: Global, input: &str) -> Result<TraceReader, TraceError> {
+    match Bytes::from_slice(alloc, input.as_bytes()) {
+        Ok(bytes) => TraceReader::new(alloc, bytes),
+        Err(_) => Err(TraceError::NoMemory),
+    }
 }
 
 /// Looks at what the records of an input ask for.
@@ -620,7 +628,7 @@ fn expect_asked_by(
     ahead: bool,
     asked: &str,
 ) -> Result<(), TraceError> {
-    let mut trace = TraceReader::new(alloc, input.as_bytes())?;
+    let mut trace = reader_of(alloc, input)?;
     expect_asked(rt, alloc, &mut trace, ahead, asked)?;
     Ok(())
 }
@@ -670,7 +678,7 @@ fn expect_version(
     input: &str,
     version: Version,
 ) -> Result<(), TraceError> {
-    let mut trace = TraceReader::new(alloc, input.as_bytes())?;
+    let mut trace = reader_of(alloc, input)?;
     assert_equal(rt, trace.version(), version, input);
     let Some(record) = trace.next_record()? else {
         panic!(rt; "there is no record");
@@ -687,7 +695,7 @@ fn a_reader_tells_the_version(rt: HostRuntime) -> Result<(), TraceError> {
 
 /// Looks at what a reader answers where there is no header.
 fn expect_no_reader(rt: &impl Abort, alloc: Global, input: &str) {
-    let outcome = TraceReader::new(alloc, input.as_bytes());
+    let outcome = reader_of(alloc, input);
     assert_holds(rt, matches!(&outcome, Err(TraceError::BadHeader)), input);
 }
 

@@ -5,26 +5,6 @@ use std::alloc::{AllocError, Global};
 use std::io::{Error, ErrorKind, Read};
 use std::rt::Files;
 use std::{fs, io};
-use trace::{ReadError, Std, read_to_end};
-
-/// A reader that keeps the error of its last read that failed.
-#[derive(Drop)]
-struct Watched<R> {
-    reader: R,
-    error: Option<Error>,
-}
-
-impl<R: Read> Read for Watched<R> {
-    fn read(&mut self, buf: &mut [u8]) -> io::Result<usize> {
-        match self.reader.read(buf) {
-            Ok(count) => Ok(count),
-            Err(error) => {
-                self.error = Some(error);
-                Err(error)
-            }
-        }
-    }
-}
 
 /// Reads a file, or standard input where its name is `-`.
 pub fn read_trace(
@@ -42,16 +22,16 @@ pub fn read_trace(
 }
 
 /// Reads what has this name to its end.
-fn read_whole<R: Read + Drop>(alloc: Global, name: &str, reader: R) -> Result<Vec<u8>, ToolError> {
-    let mut watched = Watched {
-        reader,
-        error: None,
-    };
-    let read = read_to_end(alloc, &mut Std::new(&mut watched));
-    match (read, watched.error) {
-        (Ok(bytes), _) => Ok(bytes),
-        (Err(ReadError::Failed), Some(error)) => Err(unreadable(alloc, name, &error)?),
-        (Err(_), _) => Err(ToolError::NoMemory),
+fn read_whole<R: Read + Drop>(
+    alloc: Global,
+    name: &str,
+    mut reader: R,
+) -> Result<Vec<u8>, ToolError> {
+    let mut bytes = Vec::new(alloc);
+    match reader.read_to_end(&mut bytes) {
+        Ok(_) => Ok(bytes),
+        Err(error) if error.kind() == ErrorKind::OutOfMemory => Err(ToolError::NoMemory),
+        Err(error) => Err(unreadable(alloc, name, &error)?),
     }
 }
 

@@ -16,7 +16,7 @@ use replay::Watch;
 use space::NoMemory;
 use std::alloc::{AllocError, AllocFailed, Global};
 use std::fmt::Write;
-use trace::{Call, Failed, Record, Refusal, Sink, TraceError, TraceReader};
+use trace::{Bytes, Call, Failed, Record, Refusal, Sink, TraceError, TraceReader};
 
 /// What a check found.
 #[derive(Clone, Copy, Debug, PartialEq, Eq)]
@@ -82,7 +82,8 @@ pub fn check_trace<W: Sink, V: Watch>(
 ) -> Result<Found, CheckError>
     ensures { IfOk result (IsFound subject.now.bytes.now) }
 {
-    let mut reader = match TraceReader::new(alloc, subject.bytes) {
+    let bytes = Bytes::from_slice(alloc, subject.bytes)?;
+    let mut reader = match TraceReader::new(alloc, bytes) {
         Ok(reader) => reader,
         Err(TraceError::BadHeader) => {
             tell_header(alloc, subject, None, writer)?;
@@ -125,7 +126,7 @@ fn check_records<W: Sink, V: Watch>(
     alloc: Global,
     subject: &Subject<'_>,
     limits: &Limits,
-    reader: &mut TraceReader<'_>,
+    reader: &mut TraceReader,
     writer: &mut W,
     watch: &mut V,
 ) -> Result<Found, CheckError>

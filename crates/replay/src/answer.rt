@@ -41,7 +41,7 @@ pub enum Replies {
 pub fn answer_first<W: Workers>(
     alloc: Global,
     database: &mut Database,
-    trace: &mut TraceReader<'_>,
+    trace: &mut TraceReader,
     workers: &W,
     plain: bool,
     buffers: &mut Buffers,
@@ -85,7 +85,7 @@ pub fn answer_first<W: Workers>(
 fn read_accesses(
     limits: &Limits,
     first: (Place, Access),
-    trace: &mut TraceReader<'_>,
+    trace: &mut TraceReader,
     accesses: &mut Vec<(Place, Access)>,
 ) -> Result<(), NoMemory>
     requires limits { are_limits (limits_of limits.now) ≡ true }
@@ -105,7 +105,7 @@ fn read_accesses(
 /// Takes the next record if it asks for an access, and the call that has so many of them may have one more.
 fn next_of_call(
     limits: &Limits,
-    trace: &mut TraceReader<'_>,
+    trace: &mut TraceReader,
     taken: usize,
 ) -> Result<Option<(Place, Access)>, NoMemory>
     requires limits { are_limits (limits_of limits.now) ≡ true }

@@ -25,7 +25,7 @@ use mapdb::{Database, DbError, Limits};
 use std::alloc::{AllocError, Global};
 use std::sync::Wait;
 use std::thread::Threads;
-use trace::{Failed, ReadError, Reply, Sink, Source, TraceReader, read_to_end};
+use trace::{Bytes, Failed, ReadError, Reply, Sink, Source, TraceReader, read_to_end};
 
 /// How many full pieces a phase must fill for several workers to share it (measured in docs/PERFORMANCE.md).
 const LEAST_SHARED: usize = 256;
@@ -213,8 +213,8 @@ pub fn run_by<T: AllocGlobal + Threads + Sync, R: Source, W: Sink, C: Workers, V
 /// Reads a source to its end.
 // (It is not compiled into `run`, whose frame would hold what one read fills as long as the trace is replayed.)
 #[inline(never)]
-fn read_input<R: Source>(alloc: Global, reader: &mut R) -> Result<Vec<u8>, ReadError>
-    ensures bytes { IfOk result (λ bytes. IfSome (R.remaining reader.old) (λ input. bytes.items ≡ input)) }
+fn read_input<R: Source>(alloc: Global, reader: &mut R) -> Result<Bytes, ReadError>
+    ensures bytes { IfOk result (λ bytes. IfSome (R.remaining reader.old) (λ input. bytes ≡ input)) }
     ensures ok { OnOk result (R.failed reader.new ≡ R.failed reader.old) }
     ensures err { IfErr result (TellsFailure (R.failed reader.old) (R.failed reader.new)) }
 {
@@ -251,22 +251,22 @@ struct Replayed {
 }
 
 /// Reads the header and the records of a trace, answers these in order on a database with its limits, and writes their reply
-/// lines, but for some of the last. The bytes are needed no longer then. Where a record cannot be answered for want of memory
+/// lines, but for some of the last. The bytes go as they are read. Where a record cannot be answered for want of memory
 /// or of a worker, the reply lines before it are flushed.
 fn replay_trace<W: Sink, C: Workers, V: Watch>(
     alloc: Global,
-    bytes: Vec<u8>,
+    bytes: Bytes,
     writer: &mut W,
     plain: bool,
     workers: &C,
     watch: &mut V,
 ) -> Result<Replayed, RunError>
-    ensures ok { IfOk result (AwaitsAudit bytes.items (W.contents writer.old) (W.contents writer.new)) }
+    ensures ok { IfOk result (AwaitsAudit bytes (W.contents writer.old) (W.contents writer.new)) }
     ensures works { OnOk result (W.failed writer.new ≡ W.failed writer.old) }
-    ensures err { IfErr result (StopsInput bytes.items (W.contents writer.old) (W.contents writer.new) (W.failed writer.old) (W.failed writer.new)) }
+    ensures err { IfErr result (StopsInput bytes (W.contents writer.old) (W.contents writer.new) (W.failed writer.old) (W.failed writer.new)) }
     ensures needs_no_worker { C.starts_none workers.now → IfErr result (λ e. IsNoWorker e → ⊥) }
 {
-    let mut trace = TraceReader::new(alloc, &bytes)?;
+    let mut trace = TraceReader::new(alloc, bytes)?;
     let mut database = start(alloc, &trace.limits())?;
     let mut lines = Lines::new(alloc, watch.block());
     let mut buffers = Buffers::new(alloc);

@@ -1,11 +1,10 @@
 -- A record with another name than `access` asks for no access.
 use Rattle.std.proofs.Common.{◌≡◌, ℕ, Bool, true, false, ◌&&◌, List, ◌∷◌, length, Option, Some, None, Result, Ok, Err, if◌then◌else◌, codes, refl}
 use Rattle.std.specs.Str.{bytes_eq}
-use Rattle.fpage.specs.Fpage.{Flexpage, read_fpage}
+use Rattle.fpage.specs.Fpage.{read_fpage}
 use Rattle.fpage.specs.Control.{read_control}
 use Rattle.fpage.specs.declared.error.FpageError.{FpageError}
-use Rattle.fpage.specs.declared.item.Item.{Item}
-use Rattle.model.specs.Definitions.Calls.{Limits, Named, send, unmap, bad_record, Request}
+use Rattle.model.specs.Definitions.Calls.{Limits, send, unmap, bad_record, Request}
 use Rattle.model.specs.Definitions.Records.{Fields, Version, SendFields, UnmapFields, or_refused, read_items, read_words, send_fields, send_request, access_fields, access_request, unmap_fields, unmap_request, clear_fields, clear_request, has_clear, request}
 use Rattle.trace.specs.Unread.{access_in}
 

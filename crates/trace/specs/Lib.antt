@@ -5,3 +5,4 @@ pub mod Parts
 pub mod Meaning
 pub mod Trace
 pub mod Unread
+pub mod Blocks

@@ -1,6 +1,5 @@
 -- A reader of `csv` over bytes in memory, and the records that it has yet to give.
 use Rattle.std.specs.Prelude.{◌≡◌, ℕ, ◌+◌, Bool, true, false, List, [], ◌∷◌, length, Option, Some, None}
-use Rattle.std.specs.Borrow.{Bor}
 use Rattle.csv.specs.Reading.{Ready, default_config, has_failed, names_headers, reader_config, reader_headers, reader_state, reader_trim, records_from, source_of, strip_bom}
 use Rattle.csv.specs.declared.parser.State.{State}
 use Rattle.csv.specs.declared.parser.State.TheVariants as st
@@ -9,11 +8,11 @@ use Rattle.csv.specs.declared.reader.Trim.TheVariants as trim
 use Rattle.model.specs.Definitions.Records.{Fields}
 
 -- the bytes that are left, which are known
-abbrev pub known : Bor (List ℕ) → Option (List ℕ)
-known s = Some s.now
+abbrev pub known : List ℕ → Option (List ℕ)
+known = Some
 
 -- it takes no header row, trims nothing, and has all of the bytes before it
-pub record IsAtStart (bytes : List ℕ) (rows : Reader (Bor (List ℕ))) : Type 0 where
+pub record IsAtStart (bytes : List ℕ) (rows : Reader (List ℕ)) : Type 0 where
   pub trim : reader_trim rows ≡ trim.None
   pub config : reader_config rows ≡ default_config
   pub has_headers : names_headers rows ≡ false
@@ -23,7 +22,7 @@ pub record IsAtStart (bytes : List ℕ) (rows : Reader (Bor (List ℕ))) : Type 
   pub source : source_of known rows ≡ Some (strip_bom bytes)
 
 -- it trims nothing, its next read is of a record, and it has not failed
-pub record IsReading (rows : Reader (Bor (List ℕ))) : Type 0 where
+pub record IsReading (rows : Reader (List ℕ)) : Type 0 where
   pub trim : reader_trim rows ≡ trim.None
   pub config : reader_config rows ≡ default_config
   pub ready : Ready rows
@@ -35,10 +34,10 @@ records_after s None = []
 records_after s (Some xs) = records_from default_config (length xs + 1) s xs
 
 -- the records that a reader has yet to give
-abbrev pub rows_left : Reader (Bor (List ℕ)) → List Fields
+abbrev pub rows_left : Reader (List ℕ) → List Fields
 rows_left rows = records_after (reader_state rows) (source_of known rows)
 
 -- the same behind a record that it gave, if it gave one
-abbrev pub with_row : Bool → Fields → Reader (Bor (List ℕ)) → List Fields
+abbrev pub with_row : Bool → Fields → Reader (List ℕ) → List Fields
 with_row true row rows = row ∷ rows_left rows
 with_row false row rows = []

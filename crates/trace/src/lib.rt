@@ -1,6 +1,7 @@
 //! Traces of calls on a mapping database: their bytes read into calls, and the replies to these put into text.
 #![tactic(auto)]
 
+mod bytes;
 mod call;
 mod read;
 mod reader;
@@ -9,6 +10,7 @@ mod reply;
 mod request;
 mod stream;
 
+pub use bytes::Bytes;
 pub use fields::Version;
 pub use mapdb::{Call, Refusal, Reply};
 pub use read::{Trace, TraceError, read_all};

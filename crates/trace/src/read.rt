@@ -4,6 +4,7 @@ ghost use Rattle.std.specs.Prelude.{◌≡◌, false, IfOk, IfErr, IfSome, OnOk}
 ghost use Rattle.trace.specs.Trace.{IsTraceOf, IsFaultOf, TellsReader};
 ghost use Rattle.trace.specs.Unread.{IsFaultIn};
 
+use crate::bytes::Bytes;
 use crate::reader::TraceReader;
 use crate::records::Record;
 use crate::stream::{ReadError, Source, read_to_end};
@@ -71,13 +72,13 @@ pub fn read_all<R: Source>(alloc: Global, reader: &mut R) -> Result<Trace, Trace
     ensures err { IfErr result (TellsReader (R.failed reader.new)) }
 {
     let bytes = read_to_end(alloc, reader)?;
-    read_trace(alloc, &bytes)
+    read_trace(alloc, bytes)
 }
 
 /// Returns the trace that bytes are.
-fn read_trace(alloc: Global, bytes: &[u8]) -> Result<Trace, TraceError>
-    ensures ok { IfOk result (IsTraceOf bytes.now) }
-    ensures err { IfErr result (IsFaultIn bytes.now) }
+fn read_trace(alloc: Global, bytes: Bytes) -> Result<Trace, TraceError>
+    ensures ok { IfOk result (IsTraceOf bytes) }
+    ensures err { IfErr result (IsFaultIn bytes) }
 {
     let mut reader = TraceReader::new(alloc, bytes)?;
     let limits = reader.limits();

@@ -7,6 +7,7 @@ ghost use Rattle.mapdb.specs.Held.{limits_of, IsWithin};
 ghost use Rattle.trace.specs.Meaning.{request_of, IsWithinLimits};
 ghost use Rattle.trace.specs.Unread.{past, IsOpened, IsFaultIn, first_request, access_in};
 
+use crate::bytes::Bytes;
 use crate::call::CallError;
 use crate::read::TraceError;
 use crate::records::{Fields, Record, next_row, rows};
@@ -19,16 +20,16 @@ use space::{NoMemory, Place};
 use std::alloc::Global;
 use std::marker::Model;
 
-/// A trace in memory, whose records are read one after another and not kept. A contract sees the version and the limits
+/// A trace in memory, whose records are read one after another and not kept; nor are its bytes, once they were read. A contract sees the version and the limits
 /// that its header names, the number of the record that is next, 1 for the first behind the header, and the records that
 /// are left.
 ///
 /// Once a read ran out of memory, no record is left.
 #[derive(Drop)]
-pub struct TraceReader<'a> {
+pub struct TraceReader {
     version: Version,
     limits: Limits,
-    rows: Box<Reader<&'a [u8]>>,
+    rows: Box<Reader<Bytes>>,
     /// The record that is next, if there is one.
     row: ByteRecord,
     has_row: bool,
@@ -36,7 +37,7 @@ pub struct TraceReader<'a> {
     buffers: Buffers,
 }
 
-impl<'a> Model for TraceReader<'a> {
+impl Model for TraceReader {
     ghost use Rattle.trace.specs.Unread.{Unread};
 
     ghost Value = { Unread };
@@ -57,16 +58,16 @@ impl<'a> Model for TraceReader<'a> {
     ghost invariant = { λ r. r.has_row ≡ true → IsReading r.rows.value };
 }
 
-impl<'a> TraceReader<'a> {
+impl TraceReader {
     /// Reads the header of these bytes, as `csv` reads a record: no header row, any number of fields, nothing trimmed.
     ///
     /// The errors are `NoMemory`, if memory runs out, and `BadHeader`, if there is no first record or it does not have a
     /// header's form. Whether the limits are served is for the database to say.
     // (It is not compiled into its caller, whose frame would hold the reader's buffer, on its way to the heap, as long as it runs.)
     #[inline(never)]
-    pub fn new(alloc: Global, bytes: &'a [u8]) -> Result<Self, TraceError>
-        ensures ok { IfOk result (IsOpened bytes.now) }
-        ensures err { IfErr result (IsFaultIn bytes.now) }
+    pub fn new(alloc: Global, bytes: Bytes) -> Result<Self, TraceError>
+        ensures ok { IfOk result (IsOpened bytes) }
+        ensures err { IfErr result (IsFaultIn bytes) }
     {
         // The reader holds its buffer in place, 16 KiB of it, which is too much to keep on a stack.
         let Ok(mut rows) = Box::new(alloc, rows(alloc, bytes)) else {

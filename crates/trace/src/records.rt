@@ -6,6 +6,7 @@ ghost use Rattle.fields.specs.Meaning.{version_of};
 ghost use Rattle.trace.specs.Meaning.{shown};
 ghost use Rattle.trace.specs.Rows.{IsAtStart, IsReading, rows_left, with_row};
 
+use crate::bytes::Bytes;
 use csv::{ByteRecord, ByteRecordIter, Reader, ReaderBuilder};
 use fields::Version;
 use space::NoMemory;
@@ -96,8 +97,8 @@ impl<'a> Fields<'a> {
 }
 
 /// Returns a reader of the bytes' rows: no header row, any number of fields, nothing trimmed.
-pub(crate) fn rows(alloc: Global, bytes: &[u8]) -> Reader<&[u8]>
-    ensures { IsAtStart bytes.now result }
+pub(crate) fn rows(alloc: Global, bytes: Bytes) -> Reader<Bytes>
+    ensures { IsAtStart bytes result }
 {
     ReaderBuilder::new()
         .has_headers(false)
@@ -106,7 +107,7 @@ pub(crate) fn rows(alloc: Global, bytes: &[u8]) -> Reader<&[u8]>
 }
 
 /// Reads the next row in place of this one, as `csv` does, and returns whether there was one.
-pub(crate) fn next_row(rows: &mut Reader<&[u8]>, row: &mut ByteRecord) -> Result<bool, NoMemory>
+pub(crate) fn next_row(rows: &mut Reader<Bytes>, row: &mut ByteRecord) -> Result<bool, NoMemory>
     requires { IsReading rows.old }
     ensures rows { IfOk result (λ found. rows_left rows.old ≡ with_row found (fields_of row.new) rows.new) }
     ensures reading { IfOk result (λ found. found ≡ true → IsReading rows.new) }

@@ -5,7 +5,8 @@ ghost use Rattle.std.specs.Io.{ReadsAtMost};
 ghost use Rattle.std.specs.Io.KnownBytes.{ReadConsumes, Appends, Keeps};
 ghost use Rattle.trace.specs.Stream.{TellsFailure};
 
-use std::alloc::{AllocError, Global};
+use crate::bytes::{Bytes, Incoming};
+use std::alloc::Global;
 use std::io::{ErrorKind, Read, Write};
 use thiserror::Error;
 
@@ -149,34 +150,21 @@ pub enum ReadError {
 const CHUNK: usize = 8192;
 
 /// Reads a source to its end.
-pub fn read_to_end<S: Source>(alloc: Global, source: &mut S) -> Result<Vec<u8>, ReadError>
-    ensures bytes { IfOk result (λ bytes. IfSome (S.remaining source.old) (λ input. bytes.items ≡ input)) }
+pub fn read_to_end<S: Source>(alloc: Global, source: &mut S) -> Result<Bytes, ReadError>
+    ensures bytes { IfOk result (λ bytes. IfSome (S.remaining source.old) (λ input. bytes ≡ input)) }
     ensures ok { OnOk result (S.failed source.new ≡ S.failed source.old) }
     ensures err { IfErr result (TellsFailure (S.failed source.old) (S.failed source.new)) }
 {
-    let mut bytes = Vec::new(alloc);
+    let mut incoming = Incoming::new(alloc);
     let mut chunk = [0; CHUNK];
     for _ in 0..u64::MAX {
         let count = source.read(&mut chunk).map_err(|_| ReadError::Failed)?;
         if count == 0 {
-            return Ok(bytes);
+            return incoming.into_bytes(alloc).map_err(|_| ReadError::NoMemory);
         }
-        make_room(&mut bytes, count).map_err(|_| ReadError::NoMemory)?;
-        bytes
-            .extend_from_slice(&chunk[..count])
+        incoming
+            .push(alloc, &chunk[..count])
             .map_err(|_| ReadError::NoMemory)?;
     }
     Err(ReadError::NoMemory)
-}
-
-/// Room for so many more bytes. A vector that is full grows by half and not to twice its size, since the bytes may be there twice
-/// while they are moved.
-fn make_room(bytes: &mut Vec<u8>, count: usize) -> Result<(), AllocError>
-    ensures { bytes.new.items ≡ bytes.old.items }
-{
-    if bytes.capacity() - bytes.len() < count {
-        let more = count.max(bytes.len() / 2);
-        bytes.reserve_exact(more)?;
-    }
-    Ok(())
 }

@@ -8,11 +8,12 @@ use crate::assertions::assert_equal;
 use crew::{Crew, NoGate};
 use replay::{NoWatch, RunError, run, run_by};
 use std::env;
+use std::io::Read;
 use std::process::Abort;
 use std::sync::Wait;
 use std::test::Fail;
 use std::thread::Threads;
-use trace::{Std, read_to_end};
+use trace::Std;
 
 const WORKERS: [usize; 3] = [1, 4, 64];
 
@@ -85,7 +86,8 @@ fn expect_same(
 #[test]
 fn crews_that_share_every_phase_write_what_one_worker_writes(rt: HostRuntime) -> Result<(), Fail> {
     if env::args(&rt)?.nth(2).is_some() {
-        let input = read_to_end(rt.alloc(), &mut Std::new(rt.reader()))?;
+        let mut input = Vec::new(rt.alloc());
+        rt.reader().read_to_end(&mut input)?;
         expect_same(&rt, &input)?;
         println!(&rt;
             "{} crews wrote what one worker writes",

@@ -1,11 +1,11 @@
 -- The database at the start is that of the trace's limits, which are served. Records add their replies, and then come the audit and
 -- the end line.
-use Rattle.std.proofs.Common.{◌≡◌, ℕ, ◌+◌, List, true, [], length, sym, subst, ap, refl, ◌∙◌, Err}
+use Rattle.std.proofs.Common.{◌≡◌, ◌+◌, true, [], length, sym, subst, ap, refl, ◌∙◌, Err}
 use Rattle.std.proofs.KnownBytes.{Keeps-refl}
 use Rattle.model.specs.Definitions.Calls.{Limits}
 use Rattle.model.specs.Definitions.Records.{are_limits}
 use Rattle.mapdb.specs.State.{State, laid_out, left_with, new_state}
-use Rattle.trace.specs.Unread.{Unread, IsOpened, IsFaultIn}
+use Rattle.trace.specs.Unread.{Unread}
 use Rattle.replay.specs.Steps.{StartsNot, replies_of}
 use Rattle.replay.proofs.Runs.{trace_from, served, fault_stops, start_stops, trace_stops, awaits}
 use Rattle.replay.proofs.Stops.{among_no_worker, at_no_worker}
@@ -53,9 +53,9 @@ loop-alloc-preserved g c =
 -- where the lines of some replies are there
 pub returns-in_err-refusals-clause-err : goal.returns-in_err-refusals-clause-err
 returns-in_err-refusals-clause-err g c =
-    let bytes = c.args.bytes.items in
+    let bytes = c.args.bytes in
     let u = c.in_ok-trace.trace in
-    let opened = subst (λ (b : List ℕ). IsOpened b u) c.deref.ensures.value c.in_ok-trace.ensures.ok in
+    let opened = c.in_ok-trace.ensures.ok in
     let contents = g.W.Sink.contents in
     let failed = g.W.Sink.failed in
     let before = c.loop-alloc.invariant in
@@ -70,9 +70,9 @@ returns-in_err-refusals-clause-err g c =
 -- where a record was not answered
 pub returns-in-Err-clause-err : goal.returns-in-Err-clause-err
 returns-in-Err-clause-err g c =
-    let bytes = c.args.bytes.items in
+    let bytes = c.args.bytes in
     let u = c.in_ok-trace.trace in
-    let opened = subst (λ (b : List ℕ). IsOpened b u) c.deref.ensures.value c.in_ok-trace.ensures.ok in
+    let opened = c.in_ok-trace.ensures.ok in
     let contents = g.W.Sink.contents in
     let failed = g.W.Sink.failed in
     let before = c.loop-alloc.invariant in
@@ -85,8 +85,8 @@ pub returns-in_err-trace-clause-err : goal.returns-in_err-trace-clause-err
 returns-in_err-trace-clause-err g c =
     let now = g.W.Sink.contents c.args.writer.now in
     let failed = g.W.Sink.failed c.args.writer.now in
-    let bytes = c.args.bytes.items in
-    let is = subst (λ (b : List ℕ). IsFaultIn b c.in_err-trace.field-0.0) c.deref.ensures.value c.in_err-trace.ensures.err in
+    let bytes = c.args.bytes in
+    let is = c.in_err-trace.ensures.err in
     fault_of c.from_residual.result _ _ c.from_residual.ensures.1 (λ e of. fault_stops bytes now failed c.in_err-trace.field-0.0 e is of (Keeps-refl now))
 
 -- where there is no database
@@ -94,18 +94,18 @@ pub returns-in_err-database-clause-err : goal.returns-in_err-database-clause-err
 returns-in_err-database-clause-err g c =
     let now = g.W.Sink.contents c.args.writer.now in
     let failed = g.W.Sink.failed c.args.writer.now in
-    let bytes = c.args.bytes.items in
+    let bytes = c.args.bytes in
     let u = c.in_ok-trace.trace in
-    let opened = subst (λ (b : List ℕ). IsOpened b u) c.deref.ensures.value c.in_ok-trace.ensures.ok in
+    let opened = c.in_ok-trace.ensures.ok in
     let e = c.in_err-database.field-0.0 in
     err_of c.from_residual-in_err-database.result e _ c.from_residual-in_err-database.ensures.1 (start_stops bytes u now failed e opened (subst (λ (l : Limits). StartsNot l e) c.limits.ensures c.in_err-database.ensures.err) (Keeps-refl now))
 
 -- where all records are answered
 pub returns-clause-ok : goal.returns-clause-ok
 returns-clause-ok g c =
-    let bytes = c.args.bytes.items in
+    let bytes = c.args.bytes in
     let u = c.in_ok-trace.trace in
-    let opened = subst (λ (b : List ℕ). IsOpened b u) c.deref.ensures.value c.in_ok-trace.ensures.ok in
+    let opened = c.in_ok-trace.ensures.ok in
     let before = c.loop-alloc.invariant in
     let none = none_left c.loop-alloc.trace.records c.loop-alloc-test.ensures in
     let all = so_far-same before.so_far [] c.loop-alloc.number (sym none) refl in

@@ -1,5 +1,5 @@
 -- One record more is the first of those that were left.
-use Rattle.std.proofs.Common.{◌≡◌, ◌++◌, ◌∷◌, [], Some, rules}
+use Rattle.std.proofs.Common.{◌≡◌, ◌++◌, ◌∷◌, [], rules}
 use Rattle.trace.proofs.Readings.{so_far-taken}
 use Rattle.trace.proofs.read.read_trace.Goals as goal
 

@@ -1,6 +1,6 @@
 -- The word of a clear stands behind its name.
 use Rattle.std.proofs.Common.{◌≡◌, ◌++◌, subst, OnOk, codes, rules, string_bytes, ap, sym}
-use Rattle.model.specs.Definitions.Calls.{Reply, cleared}
+use Rattle.model.specs.Definitions.Calls.{Reply}
 use Rattle.model.specs.Definitions.Text.{reply_text, clear_word, hex_digits}
 use Rattle.trace.specs.Meaning.{reply_of}
 use Rattle.mapdb.specs.declared.reply.Reply.TheVariants.{Cleared}
