@@ -7,7 +7,6 @@ mod shared;
 mod worked;
 
 use crate::assertions::{assert_equal, assert_holds};
-use crate::traces::reader_of;
 use audit::{AuditError, check, lines};
 use crew::{Crew, CrewError, Gate, NoGate, Planned, Workers, work};
 use mapdb::{Database, DbError};
@@ -283,7 +282,7 @@ fn expect_audit_of(
     input: &str,
     count: usize,
 ) -> Result<(), Fail> {
-    let mut trace = reader_of(rt.alloc(), input)?;
+    let mut trace = TraceReader::of_slice(rt.alloc(), input.as_bytes())?;
     Ok(expect_audit(rt, &mut trace, count, input)?)
 }
 

@@ -12,8 +12,8 @@ use std::alloc::{AllocError, Global};
 use std::fmt::Write;
 use std::process::Abort;
 use trace::{
-    Bytes, Call, Failed, Record, Refusal, Reply, Source, Std, Trace, TraceError, TraceReader,
-    Version, push_reply, read_all, reply_text,
+    Call, Failed, Record, Refusal, Reply, Source, Std, Trace, TraceError, TraceReader, Version,
+    push_reply, read_all, reply_text,
 };
 
 /// Appends the fields of a record, each in brackets, and a line end.
@@ -612,14 +612,6 @@ fn expect_asked(
     Ok(())
 }
 
-/// A reader of the trace that a text is.
-pub(crate) fn reader_of(alloc: Global, input: &str) -> Result<TraceReader, TraceError> {
-    match Bytes::from_slice(alloc, input.as_bytes()) {
-        Ok(bytes) => TraceReader::new(alloc, bytes),
-        Err(_) => Err(TraceError::NoMemory),
-    }
-}
-
 /// Looks at what the records of an input ask for.
 fn expect_asked_by(
     rt: &impl Abort,
@@ -628,7 +620,7 @@ fn expect_asked_by(
     ahead: bool,
     asked: &str,
 ) -> Result<(), TraceError> {
-    let mut trace = reader_of(alloc, input)?;
+    let mut trace = TraceReader::of_slice(alloc, input.as_bytes())?;
     expect_asked(rt, alloc, &mut trace, ahead, asked)?;
     Ok(())
 }
@@ -678,7 +670,7 @@ fn expect_version(
     input: &str,
     version: Version,
 ) -> Result<(), TraceError> {
-    let mut trace = reader_of(alloc, input)?;
+    let mut trace = TraceReader::of_slice(alloc, input.as_bytes())?;
     assert_equal(rt, trace.version(), version, input);
     let Some(record) = trace.next_record()? else {
         panic!(rt; "there is no record");
@@ -695,7 +687,7 @@ fn a_reader_tells_the_version(rt: HostRuntime) -> Result<(), TraceError> {
 
 /// Looks at what a reader answers where there is no header.
 fn expect_no_reader(rt: &impl Abort, alloc: Global, input: &str) {
-    let outcome = reader_of(alloc, input);
+    let outcome = TraceReader::of_slice(alloc, input.as_bytes());
     assert_holds(rt, matches!(&outcome, Err(TraceError::BadHeader)), input);
 }
 

@@ -16,7 +16,7 @@ use replay::Watch;
 use space::NoMemory;
 use std::alloc::{AllocError, AllocFailed, Global};
 use std::fmt::Write;
-use trace::{Bytes, Call, Failed, Record, Refusal, Sink, TraceError, TraceReader};
+use trace::{Call, Failed, Record, Refusal, Sink, TraceError, TraceReader};
 
 /// What a check found.
 #[derive(Clone, Copy, Debug, PartialEq, Eq)]
@@ -82,8 +82,7 @@ pub fn check_trace<W: Sink, V: Watch>(
 ) -> Result<Found, CheckError>
     ensures { IfOk result (IsFound subject.now.bytes.now) }
 {
-    let bytes = Bytes::from_slice(alloc, subject.bytes)?;
-    let mut reader = match TraceReader::new(alloc, bytes) {
+    let mut reader = match TraceReader::of_slice(alloc, subject.bytes) {
         Ok(reader) => reader,
         Err(TraceError::BadHeader) => {
             tell_header(alloc, subject, None, writer)?;

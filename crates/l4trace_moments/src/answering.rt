@@ -32,7 +32,7 @@ pub fn start(alloc: Global, limits: &Limits) -> Result<Database, ShowError>
 pub fn answer_records<V: Watch>(
     alloc: Global,
     database: &mut Database,
-    reader: &mut TraceReader<'_>,
+    reader: &mut TraceReader,
     most: u64,
     watch: &mut V,
 ) -> Result<(), ShowError>
@@ -57,7 +57,7 @@ pub fn answer_records<V: Watch>(
 pub fn answer_last(
     alloc: Global,
     database: &mut Database,
-    reader: &mut TraceReader<'_>,
+    reader: &mut TraceReader,
     most: u64,
 ) -> Result<Option<Reply>, ShowError>
     requires running { database.old.is_halted ≡ false }
@@ -81,7 +81,7 @@ pub fn answer_last(
 /// Takes the record that comes next, and returns the call that it means, or why it is refused; none at the end.
 pub fn next_call(
     database: &Database,
-    reader: &mut TraceReader<'_>,
+    reader: &mut TraceReader,
 ) -> Result<Option<Result<Call, Refusal>>, ShowError>
     requires running { database.now.is_halted ≡ false }
     ensures within { IfOk result (λ next. IfSome next (λ asked.
@@ -100,7 +100,7 @@ pub fn next_call(
 fn answer_next(
     alloc: Global,
     database: &mut Database,
-    reader: &mut TraceReader<'_>,
+    reader: &mut TraceReader,
     limits: &Limits,
 ) -> Result<Reply, ShowError>
     requires running { database.old.is_halted ≡ false }

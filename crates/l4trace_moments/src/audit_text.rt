@@ -25,7 +25,7 @@ pub fn audit_after<T: AllocGlobal + Threads + Sync, V: Watch>(
     let alloc = rt.alloc();
     let count = record_count(alloc, bytes)?;
     check_record(count, at)?;
-    let mut reader = TraceReader::new(alloc, bytes)?;
+    let mut reader = TraceReader::of_slice(alloc, bytes)?;
     let limits = reader.limits();
     let mut database = start(alloc, &limits)?;
     let records = at.unwrap_or(count);

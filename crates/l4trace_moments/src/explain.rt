@@ -83,7 +83,7 @@ fn push_records<V: Watch>(
     last: u64,
     watch: &mut V,
 ) -> Result<(), ShowError> {
-    let mut reader = TraceReader::new(alloc, subject.bytes)?;
+    let mut reader = TraceReader::of_slice(alloc, subject.bytes)?;
     let limits = reader.limits();
     let mut database = start(alloc, &limits)?;
     if subject.first == 0 {
@@ -127,7 +127,7 @@ fn explain_next(
     subject: &Subject<'_>,
     number: u64,
     database: &mut Database,
-    reader: &mut TraceReader<'_>,
+    reader: &mut TraceReader,
 ) -> Result<(), ShowError>
     requires { database.old.is_halted ≡ false }
     ensures { OnOk result (database.new.is_halted ≡ false) }

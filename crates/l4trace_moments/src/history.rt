@@ -56,24 +56,24 @@ fn mappings_of(
 
 /// Some pages of a database whose records are answered one by one.
 #[derive(Drop)]
-struct Watched<'a> {
-    reader: TraceReader<'a>,
+struct Watched {
+    reader: TraceReader,
     database: Database,
     places: Vec<Place>,
     /// What each of the pages holds.
     held: Vec<Option<Mapping>>,
 }
 
-impl<'a> Watched<'a> {
+impl Watched {
     ghost use Rattle.std.specs.Prelude.{IfOk, OnOk};
     ghost use Rattle.trace.specs.Meaning.{IsWithinLimits};
     ghost use Rattle.l4trace_moments.specs.History.{IsRunning};
 
     /// The pages of these that there are, before the first record of a trace.
-    fn new(alloc: Global, bytes: &'a [u8], places: &[Place]) -> Result<Self, ShowError>
+    fn new(alloc: Global, bytes: &[u8], places: &[Place]) -> Result<Self, ShowError>
         ensures { IfOk result (λ watched. IsRunning watched.database watched.places.items) }
     {
-        let reader = TraceReader::new(alloc, bytes)?;
+        let reader = TraceReader::of_slice(alloc, bytes)?;
         let database = start(alloc, &reader.limits())?;
         let places = places_within(alloc, &reader.limits(), places)?;
         let held = mappings_of(alloc, &database, &places)?;

@@ -16,7 +16,7 @@ use trace::TraceReader;
 pub fn record_count(alloc: Global, bytes: &[u8]) -> Result<u64, ShowError>
     ensures { IfOk result (IsRecordCount bytes.now) }
 {
-    let mut reader = TraceReader::new(alloc, bytes)?;
+    let mut reader = TraceReader::of_slice(alloc, bytes)?;
     let mut count = 0u64;
     while !reader.is_at_end() {
         match reader.next_record() {
@@ -48,7 +48,7 @@ pub fn moment_at<V: Watch>(
     ensures { IfOk result (IsMoment bytes.now at) }
 {
     let count = record_count(alloc, bytes)?;
-    let mut reader = TraceReader::new(alloc, bytes)?;
+    let mut reader = TraceReader::of_slice(alloc, bytes)?;
     let limits = reader.limits();
     let mut database = start(alloc, &limits)?;
     let records = at.min(count);

@@ -48,7 +48,7 @@ fn push_cause_at(
     number: u64,
     refusal: Refusal,
 ) -> Result<(), ShowError> {
-    let reader = TraceReader::new(alloc, bytes)?;
+    let reader = TraceReader::of_slice(alloc, bytes)?;
     let limits = reader.limits();
     if !limits.are_served() {
         return Err(ShowError::BadLimits);

@@ -92,6 +92,17 @@ impl TraceReader {
         })
     }
 
+    /// The same of a slice, whose bytes are copied.
+    pub fn of_slice(alloc: Global, bytes: &[u8]) -> Result<Self, TraceError>
+        ensures ok { IfOk result (IsOpened bytes.now) }
+        ensures err { IfErr result (IsFaultIn bytes.now) }
+    {
+        match Bytes::from_slice(alloc, bytes) {
+            Ok(copied) => TraceReader::new(alloc, copied),
+            Err(_) => Err(TraceError::NoMemory),
+        }
+    }
+
     /// Returns the version that the header names.
     pub fn version(&self) -> Version
         ensures { version_of result ≡ self.now.version }

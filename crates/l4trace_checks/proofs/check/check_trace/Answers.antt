@@ -18,5 +18,4 @@ found (Err e) bytes u limits head same served counted = tt
 pub returns : goal.returns
 returns g c =
     let served : are_limits (limits_of c.limits-limits.result) ≡ true = search rules in
-    let opened = subst (λ (bytes : List ℕ). IsOpened bytes c.in-Ok.reader) c.in_ok-bytes.ensures c.in-Ok.ensures.ok in
-    found c.check_records.result _ c.in-Ok.reader (limits_of c.limits-limits.result) opened c.limits-limits.ensures served c.check_records.ensures
+    found c.check_records.result _ c.in-Ok.reader (limits_of c.limits-limits.result) c.in-Ok.ensures.ok c.limits-limits.ensures served c.check_records.ensures
