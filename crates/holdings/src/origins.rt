@@ -1,6 +1,6 @@
 //! The origins of all pages that are held, found by their words.
 
-ghost use Rattle.std.specs.Prelude.{◌≡◌, ◌<◌, true, length, IfOk, IfSome, ◌+◌, OnOk};
+ghost use Rattle.std.specs.Prelude.{◌≡◌, ◌<◌, ◌∷◌, [], true, length, IfOk, IfSome, ◌+◌, OnOk};
 ghost use Rattle.std.specs.List.{All};
 ghost use Rattle.space.specs.Shards.{index_of};
 ghost use Rattle.holdings.specs.Inner.Words.{IsThere};
@@ -10,7 +10,7 @@ ghost use Rattle.holdings.specs.Inner.OriginWords.{IsSmall};
 ghost use Rattle.holdings.specs.Inner.WordOrigins.{AreOrigins, ArePut};
 
 use crate::origin_word::OriginWord;
-use maptree::Tree;
+use maptree::{Links, Tree};
 use space::{NoMemory, Place, Shards};
 use std::alloc::Global;
 
@@ -71,25 +71,37 @@ fn put_tree(
 {
     let tree = &trees[frame];
     if tree.len() == 1 {
-        // Most frames are not shared: their one page needs no list.
-        let root = [(tree.node(0).place, tree.place_of_origin(0))];
-        put_origins(shards, &root, origins);
+        // Most frames are not shared: their one page needs no path.
+        put_origin(shards, tree.node(0).place, tree.place_of_origin(0), origins);
         return Ok(());
     }
-    let links = tree.links(alloc)?;
-    put_origins(shards, &links, origins);
-    Ok(())
+    put_origins(shards, &mut tree.each_link(alloc), origins)
 }
 
 /// Puts the origin of each place of a tree at the index of the place's word.
-fn put_origins(shards: &Shards, links: &[(Place, Option<Place>)], origins: &mut [OriginWord])
-    requires places { All (λ link. IsThere shards.now link.0) links.now }
-    requires reached { All (λ link. index_of shards.now link.0 < length origins.old) links.now }
-    requires origins { All (λ link. IfSome link.1 IsSmall) links.now }
-    requires once { are_once links.now ≡ true }
-    ensures { ArePut shards.now links.now origins.old origins.new }
+fn put_origins(
+    shards: &Shards,
+    links: &mut Links<'_>,
+    origins: &mut [OriginWord],
+) -> Result<(), NoMemory>
+    requires places { All (λ link. IsThere shards.now link.0) links.old }
+    requires reached { All (λ link. index_of shards.now link.0 < length origins.old) links.old }
+    requires origins { All (λ link. IfSome link.1 IsSmall) links.old }
+    requires once { are_once links.old ≡ true }
+    ensures { OnOk result (ArePut shards.now links.old origins.old origins.new) }
 {
-    for (place, origin) in links {
-        origins[shards.index(*place)] = OriginWord::of(*origin);
+    while let Some((place, origin)) = links.next()? {
+        origins[shards.index(place)] = OriginWord::of(origin);
     }
+    Ok(())
+}
+
+/// Puts the origin of a place at the index of the place's word.
+fn put_origin(shards: &Shards, place: Place, origin: Option<Place>, origins: &mut [OriginWord])
+    requires place { IsThere shards.now place }
+    requires reached { index_of shards.now place < length origins.old }
+    requires origin { IfSome origin IsSmall }
+    ensures { ArePut shards.now ((place, origin) ∷ []) origins.old origins.new }
+{
+    origins[shards.index(place)] = OriginWord::of(origin);
 }

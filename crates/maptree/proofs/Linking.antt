@@ -59,6 +59,17 @@ module _ (ns : List Node) (all done : Origins) (path : List Place) (i : ℕ) (d 
       ∙ (λ j. done ++ (node.place, origin j) ∷ links (path_is j) rest)
       ∙ ap (λ ms. done ++ links (reverse path) ms) (sym (drop_more ns i d within)) ∙ whole
 
+-- the link of the next node, and those behind it
+pub next_link : (ns : List Node) (path : List Place) (i : ℕ) (n : Node) → i < length ns → n ≡ get_or ns i n
+    → links (reverse path) (drop i ns) ≡ (n.place, slice_get (take n.depth path) (length (take n.depth path) - 1)) ∷ links (reverse (take n.depth path ++ n.place ∷ [])) (drop (i + 1) ns)
+next_link ns path i n within same =
+    let kept = take n.depth path in
+    let rest = drop (i + 1) ns in
+    let path_is : reverse (kept ++ n.place ∷ []) ≡ n.place ∷ above n (reverse path) = reverse-append kept (n.place ∷ []) ∙ ap (λ ps. n.place ∷ ps) (reverse_take n.depth path) in
+    let origin : slice_get kept (length kept - 1) ≡ first (above n (reverse path)) = sym (first_reverse kept) ∙ ap first (reverse_take n.depth path) in
+    ap (links (reverse path)) (drop_more ns i n within ∙ ap (λ m. m ∷ rest) (sym same))
+    ∙ (λ j. (n.place, sym origin j) ∷ links (sym path_is j) rest)
+
 -- ---- no place comes twice
 
 new_once : (p : Place) (path : List Place) (ns : List Node) → is_new p ns ≡ true → list_all (λ q. not (same_place p q.0)) (links path ns) ≡ true

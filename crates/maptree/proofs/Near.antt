@@ -38,22 +38,14 @@ read_is ns i n os is forest within same =
       upto = depth_fits ns i n forest inner same;
     })
 
--- and one that is read among some of them
-pub near_is : (ns near : List Node) (first i : ℕ) (d n : Node) (os : Origins) → origins_of ns ≡ os → is_forest ns ≡ true → near ≡ take (length near) (drop first ns) → first ≤ i → i - first < length near → i < length os
-    → n ≡ get_or near (i - first) d → IsNodeAt os i n
-near_is ns near first i d n os is forest some least inside within read =
-    let size = ap length is in
-    let count = length-links [] ns in
-    let inner : i < length ns = omega (arith, size, count, within) in
-    read_is ns i n os is forest within (subst (λ m. m ≡ get_or ns i m) (sym read) (near_node ns near first i d some least inside inner))
-
 in_order_length : (backward : Bool) (near : List Node) → length (in_order backward near) ≡ length near
 in_order_length true near = length-reverse near
 in_order_length false near = refl
 
 -- and one that is read among some that may stand with the last one first
-pub seen_is : (ns near : List Node) (backward : Bool) (first i : ℕ) (n : Node) (os : Origins) → origins_of ns ≡ os → is_forest ns ≡ true → in_order backward near ≡ take (length near) (drop first ns) → first ≤ i
-    → i - first < length near → i < length os → n ≡ get_or (in_order backward near) (i - first) n → IsNodeAt os i n
-seen_is ns near backward first i n os is forest some least inside within read =
+pub seen_is : (ns near : List Node) (backward : Bool) (first i : ℕ) (n : Node) → in_order backward near ≡ take (length near) (drop first ns) → first ≤ i
+    → i - first < length near → i < length ns → n ≡ get_or (in_order backward near) (i - first) n → n ≡ get_or ns i n
+seen_is ns near backward first i n some least inside within read =
     let size = in_order_length backward near in
-    near_is ns (in_order backward near) first i n n os is forest (subst (λ k. in_order backward near ≡ take k (drop first ns)) (sym size) some) least (omega (arith, size, inside)) within read
+    let some_more = subst (λ k. in_order backward near ≡ take k (drop first ns)) (sym size) some in
+    subst (λ m. m ≡ get_or ns i m) (sym read) (near_node ns (in_order backward near) first i n some_more least (omega (arith, size, inside)) within)

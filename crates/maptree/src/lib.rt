@@ -22,6 +22,7 @@ mod shifts;
 mod tree;
 mod tree_nodes;
 
+pub use links::Links;
 pub use nodes::Nodes;
 pub use origins::NodeOrigins;
 pub use place_map::PlaceMap;

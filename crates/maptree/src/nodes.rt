@@ -11,10 +11,10 @@ use crate::tree_nodes::TreeNodes;
 use space::Node;
 use std::marker::Model;
 
-/// Reads nodes of a tree. One that stands near the one that was read before is read without a search for it. A contract
-/// sees the places of the tree with their origins.
+/// Reads nodes of a list. One that stands near the one that was read before is read without a search for it. A contract sees
+/// the list.
 #[derive(Drop)]
-pub struct Nodes<'a> {
+pub(crate) struct NearNodes<'a> {
     nodes: &'a TreeNodes,
     /// Some of the nodes, one after another.
     near: &'a [Node],
@@ -24,17 +24,75 @@ pub struct Nodes<'a> {
     backward: bool,
 }
 
+impl<'a> Model for NearNodes<'a> {
+    ghost use Rattle.std.specs.Prelude.{◌≡◌, List, length, take, drop};
+    ghost use Rattle.space.specs.declared.node.Node.{Node};
+    ghost use Rattle.maptree.specs.Forms.{in_order};
+
+    ghost Value = { List Node };
+
+    ghost view = { λ n. n.nodes.now.nodes };
+
+    ghost invariant = { λ n. in_order n.backward n.near.now ≡ take (length n.near.now) (drop n.first n.nodes.now.nodes) };
+}
+
+impl<'a> NearNodes<'a> {
+    /// The nodes of a list.
+    pub(crate) fn of(nodes: &'a TreeNodes) -> NearNodes<'a>
+        ensures { result ≡ nodes.now.nodes }
+    {
+        NearNodes {
+            nodes,
+            near: &[],
+            first: 0,
+            backward: false,
+        }
+    }
+
+    /// How many they are.
+    pub(crate) fn len(&self) -> usize
+        ensures { result ≡ length self.now }
+    {
+        self.nodes.len()
+    }
+
+    /// The node at a position.
+    #[inline(always)]
+    pub(crate) fn at(&mut self, i: usize) -> Node
+        requires { i < length self.old }
+        ensures node { result ≡ get_or self.old i result }
+        ensures same { self.new ≡ self.old }
+    {
+        if self.first <= i && i - self.first < self.near.len() {
+            return nth(self.near, self.backward, i - self.first);
+        }
+        let Some((first, near, backward)) = self.nodes.near(i) else {
+            return self.nodes.get(i);
+        };
+        self.first = first;
+        self.near = near;
+        self.backward = backward;
+        nth(near, backward, i - first)
+    }
+}
+
+/// Reads nodes of a tree. One that stands near the one that was read before is read without a search for it. A contract
+/// sees the places of the tree with their origins.
+#[derive(Drop)]
+pub struct Nodes<'a> {
+    nodes: NearNodes<'a>,
+}
+
 impl<'a> Model for Nodes<'a> {
-    ghost use Rattle.std.specs.Prelude.{◌≡◌, true, length, take, drop};
+    ghost use Rattle.std.specs.Prelude.{◌≡◌, true};
     ghost use Rattle.maptree.specs.Nodes.{is_forest, origins_of};
     ghost use Rattle.maptree.specs.Origins.{Origins};
-    ghost use Rattle.maptree.specs.Forms.{in_order};
 
     ghost Value = { Origins };
 
-    ghost view = { λ n. origins_of n.nodes.now.nodes };
+    ghost view = { λ n. origins_of n.nodes };
 
-    ghost invariant = { λ n. (is_forest n.nodes.now.nodes ≡ true) × (in_order n.backward n.near.now ≡ take (length n.near.now) (drop n.first n.nodes.now.nodes)) };
+    ghost invariant = { λ n. is_forest n.nodes ≡ true };
 }
 
 impl<'a> Nodes<'a> {
@@ -46,10 +104,7 @@ impl<'a> Nodes<'a> {
         ensures { result ≡ origins_of nodes.now.nodes }
     {
         Nodes {
-            nodes,
-            near: &[],
-            first: 0,
-            backward: false,
+            nodes: NearNodes::of(nodes),
         }
     }
 
@@ -63,16 +118,7 @@ impl<'a> Nodes<'a> {
         ensures upto { result.depth ≤ i }
         ensures same { self.new ≡ self.old }
     {
-        if self.first <= i && i - self.first < self.near.len() {
-            return nth(self.near, self.backward, i - self.first);
-        }
-        let Some((first, near, backward)) = self.nodes.near(i) else {
-            return self.nodes.get(i);
-        };
-        self.first = first;
-        self.near = near;
-        self.backward = backward;
-        nth(near, backward, i - first)
+        self.nodes.at(i)
     }
 }
 

@@ -7,6 +7,7 @@ ghost use Rattle.maptree.specs.Nodes.{is_forest, are_distinct, origins_of, run_l
 ghost use Rattle.maptree.specs.PlaceMaps.{place_for, IsApart};
 ghost use Rattle.maptree.specs.Renamings.{nodes_renamed, StayApart};
 
+use crate::links::Links;
 use crate::nodes::Nodes;
 use crate::place_map::PlaceMap;
 use crate::searching::runs_of;
@@ -179,6 +180,15 @@ impl Tree {
     {
         let links = self.nodes.links(alloc)?;
         Ok(links)
+    }
+
+    /// Every place in the order of positions, with its origin, to be read one after another.
+    pub fn each_link(&self, alloc: Global) -> Links<'_>
+        ensures links { result ≡ self.now.links }
+        ensures once { are_once self.now.links ≡ true }
+        ensures origins { OriginsStand self.now.links }
+    {
+        Links::of(alloc, &self.nodes)
     }
 
     /// The outermost runs of the named places, in rising order. Places that are not in the tree are passed over.
