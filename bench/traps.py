@@ -4,11 +4,11 @@
     bench/traps.py [--only NAME] [PROGRAM]
 
 PROGRAM is crates/l4map/out/l4map, which build.sh makes, if it is not given; the other is plain.rs. Both run with one
-worker, if the trap does not say otherwise, in turn, and must write the same bytes. Each trap has four sizes. First the mappings are made that it needs,
-then come its calls: a time is what the calls take beyond a run that only makes the mappings, for each record. One table
-in Markdown is printed. An exponent is that of the time of a record from the smallest size to the largest: 0 where a
-record takes as long, and 1 where it takes twice as long at twice the size. A trap ends where a run takes longer than
-LIMIT seconds. Nothing here has a threshold.
+worker, if the trap does not say otherwise, in turn, and must write the same bytes. Each trap has four sizes. First the
+mappings are made that it needs, then come its calls: a time is what the calls take beyond a run that only makes the
+mappings, for each record. One table in Markdown is printed, and behind it what pieces of one node take. An exponent is
+that of the time of a record from the smallest size to the largest: 0 where a record takes as long, and 1 where it takes
+twice as long at twice the size. A trap ends where a run takes longer than LIMIT seconds. Nothing here has a threshold.
 """
 
 import math
@@ -293,6 +293,18 @@ def report(bench, trap):
             return
 
 
+def tell_pieces(bench):
+    """What pieces of one node take beyond what one worker takes in place, at the largest size."""
+    made, calls = chains_go(LONG[-1])
+    trace = bench.trace([*made, *calls], ONE_FRAME)
+    for workers in 4, 64:
+        one, many = (
+            max(bench.run([*bench.ours[:1], *arguments], trace).peak for _ in range(RUNS))
+            for arguments in (ONE_WORKER, ["--workers", str(workers), "--piece", "1"])
+        )
+        print(f"\nPieces of one take {1024 * (many - one) / LONG[-1]:.0f} bytes a mapping more by {workers} workers.")
+
+
 def main():
     words = sys.argv[1:]
     only = words[1] if words[:1] == ["--only"] else ""
@@ -308,6 +320,8 @@ def main():
         for trap in TRAPS:
             if only in trap.name:
                 report(bench, trap)
+        if not only:
+            tell_pieces(bench)
 
 
 if __name__ == "__main__":
