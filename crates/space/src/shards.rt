@@ -679,6 +679,20 @@ impl Shards {
         self.write(index, Some(entry.extended(rights)));
     }
 
+    /// Which word is a page's, if the page is held.
+    pub fn held_index(&self, place: Place) -> Option<usize>
+        requires place { IsPlace self.now place }
+        requires present { IsFalse (is_taken self.now) }
+        ensures held { is_some result ≡ is_some (entry_at self.now place) }
+        ensures index { IfSome result (λ i. i ≡ index_of self.now place) }
+    {
+        let index = self.find(place);
+        match self.word(index) {
+            None | Some(0) => None,
+            Some(_) => Some(index),
+        }
+    }
+
     /// Gives the words away, that of each place whose shard is there at its index.
     pub fn take_words(&mut self) -> Vec<u64>
         requires { IsFalse (is_taken self.old) }
