@@ -10,6 +10,7 @@ pub mod Moved
 pub mod KeptNodes
 pub mod Beside
 pub mod InParts
+pub mod ItemParts
 pub mod Whole
 pub mod WorkedPhase
 pub mod FaultsAmong

@@ -17,7 +17,7 @@ use space::{NoMemory, Place, Shards};
 use std::alloc::{AllocError, Global};
 
 /// How many full pieces pay for a thread that plans them.
-const PIECES_A_PLANNER: usize = 64;
+pub const PIECES_A_PLANNER: usize = 64;
 
 /// Plans the strip of pages that are held, sorted by frame, in pieces of at most so many nodes. Where they are many, the
 /// workers plan batches of them side by side.

@@ -8,6 +8,7 @@ mod below;
 mod extent;
 mod group;
 mod holdings;
+mod item_batches;
 mod item_pages;
 mod laws;
 mod limits;

@@ -11,6 +11,7 @@ ghost use Rattle.holdings.specs.Inner.Phases.{ArePieces};
 ghost use Rattle.holdings.specs.Inner.Planning.{stores_of};
 
 use crate::holdings::Holdings;
+use crate::item_batches::{Passing, item_pieces};
 use crate::link::link_all;
 use crate::making::make_targets;
 use crate::transfer::Transfer;
@@ -50,8 +51,8 @@ impl Holdings {
         } = self;
         make_targets(&mut shards, transfers)?;
         let counts = TransferCounts::of_all(&shards, transfers);
-        let most = workers.piece_length();
-        let pieces = link_pieces(alloc, &shards, transfers, rights, most)?;
+        let passing = Passing::Mapped(rights);
+        let pieces = item_pieces(alloc, &shards, transfers, passing, workers)?;
         link_all(&shards, &mut trees, transfers)?;
         write_phase(alloc, &mut shards, pieces, workers)?;
         Ok((Holdings { shards, trees }, counts))
@@ -62,7 +63,7 @@ impl Holdings {
 /// stores is made.
 ///
 /// Refused, where memory is: `NoMemory`.
-fn link_pieces(
+pub fn link_pieces(
     alloc: Global,
     shards: &Shards,
     transfers: &[Transfer],
@@ -100,8 +101,7 @@ fn stores(
 {
     let mut stores = Vec::with_capacity(alloc, transfers.len())?;
     for transfer in transfers {
-        if shards.get(transfer.source).is_some() {
-            let read = shards.index(transfer.source);
+        if let Some(read) = shards.held_index(transfer.source) {
             let put = shards.index(transfer.target);
             stores.push(Store { read, put, rights })?;
         }

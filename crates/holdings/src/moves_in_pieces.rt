@@ -11,6 +11,7 @@ ghost use Rattle.holdings.specs.Inner.Phases.{ArePieces};
 ghost use Rattle.holdings.specs.Inner.Planning.{word_pairs};
 
 use crate::holdings::Holdings;
+use crate::item_batches::{Passing, item_pieces};
 use crate::making::make_targets;
 use crate::renaming::rename_all;
 use crate::transfer::Transfer;
@@ -49,7 +50,7 @@ impl Holdings {
         } = self;
         make_targets(&mut shards, transfers)?;
         let counts = TransferCounts::of_all(&shards, transfers);
-        let pieces = move_pieces(alloc, &shards, transfers, workers.piece_length())?;
+        let pieces = item_pieces(alloc, &shards, transfers, Passing::Moved, workers)?;
         rename_all(alloc, &shards, &mut trees, transfers)?;
         write_phase(alloc, &mut shards, pieces, workers)?;
         Ok((Holdings { shards, trees }, counts))
@@ -60,7 +61,7 @@ impl Holdings {
 /// pairs is made.
 ///
 /// Refused, where memory is: `NoMemory`.
-fn move_pieces(
+pub fn move_pieces(
     alloc: Global,
     shards: &Shards,
     transfers: &[Transfer],
@@ -92,8 +93,7 @@ fn pairs(alloc: Global, shards: &Shards, transfers: &[Transfer]) -> Result<Vec<P
 {
     let mut pairs = Vec::with_capacity(alloc, transfers.len())?;
     for transfer in transfers {
-        if shards.get(transfer.source).is_some() {
-            let taken = shards.index(transfer.source);
+        if let Some(taken) = shards.held_index(transfer.source) {
             let put = shards.index(transfer.target);
             pairs.push(Pair { taken, put })?;
         }

@@ -1,12 +1,12 @@
 -- Whole phases worked in pieces, whatever works them: what the words and trees say afterwards.
-use Rattle.std.specs.Prelude.{◌≡◌, ℕ, ◌≤◌, Bool, List, [], length, map, filter, None}
+use Rattle.std.specs.Prelude.{◌≡◌, ℕ, ◌*◌, ◌≤◌, Bool, true, IsFalse, List, [], length, map, filter, take, drop, None}
 use Rattle.std.specs.List.{All, flat_map}
 use Rattle.fpage.specs.declared.item.ItemKind.TheVariants.{Map}
 use Rattle.fpage.specs.declared.rights.Access.{Access}
 use Rattle.fpage.specs.declared.rights.Rights.{Rights}
 use Rattle.space.specs.declared.place.Place.{Place}
 use Rattle.space.specs.declared.shards.Shards.{Shards}
-use Rattle.space.specs.Shards.{HasWord}
+use Rattle.space.specs.Shards.{HasWord, IsPlace, is_taken}
 use Rattle.space.specs.Slices.{pieces}
 use Rattle.maptree.specs.Origins.{Shape}
 use Rattle.model.specs.Definitions.Calls.{Limits}
@@ -14,6 +14,8 @@ use Rattle.model.specs.Definitions.Grant.{renamed}
 use Rattle.model.specs.Definitions.Holdings.{PlaceSet, Holdings}
 use Rattle.model.specs.Definitions.Strip.{strip, strip_word}
 use Rattle.pieces.specs.Applied.{worked}
+use Rattle.pieces.specs.Contents.{ends_of, puts_of}
+use Rattle.pieces.specs.Distinct.{are_distinct}
 use Rattle.pieces.specs.Gathering.{union_of}
 use Rattle.pieces.specs.Laws.{joined}
 use Rattle.pieces.specs.Phases.{CanBeWorked, IsPiece}
@@ -29,7 +31,9 @@ use Rattle.holdings.specs.Inner.Planning.{IsStripPlan, RunPlan, stores_of, strip
 use Rattle.holdings.specs.Inner.Renamings.{AreRenamed}
 use Rattle.holdings.specs.Inner.Sound.{AreSound}
 use Rattle.holdings.specs.Inner.Stripping.{pruned}
-use Rattle.holdings.specs.Inner.Words.{AreWordsOf, IsWith}
+use Rattle.holdings.specs.Inner.Words.{AreWordsOf, IsThere, IsWith}
+use Rattle.holdings.specs.declared.item_batches.Passing.{Passing}
+use Rattle.holdings.specs.declared.item_batches.Passing.TheVariants.{Mapped, Moved}
 use Rattle.holdings.specs.declared.transfer.Transfer.{Transfer}
 
 -- words and trees after a phase: they are sound, with the same limits, and this is what they say is held
@@ -43,6 +47,27 @@ pub record ArePieces {A : Type 0} (make : List A → Piece) (xs : List A) (ps : 
   pub parts : List (List A)
   pub are : ps ≡ map make parts
   pub joined : joined parts ≡ xs
+
+-- pieces of the pages of an item whose source is held, in this order: stores where the pages are mapped, pairs where they move
+abbrev pub AreItemPieces : Passing → Shards → List Transfer → List Piece → Type 0
+AreItemPieces (Mapped rights) s ts ps = ArePieces piece.Link (stores_of s rights ts) ps
+AreItemPieces Moved s ts ps = ArePieces piece.Move (word_pairs s ts) ps
+
+-- no word is put twice, or taken and put
+abbrev pub AreItemsApart : Passing → Shards → List Transfer → Type 0
+AreItemsApart (Mapped rights) s ts = are_distinct (puts_of (stores_of s rights ts)) ≡ true
+AreItemsApart Moved s ts = are_distinct (ends_of (word_pairs s ts)) ≡ true
+
+-- pages of an item can be planned in batches
+pub record CanBeBatched (passing : Passing) (s : Shards) (ts : List Transfer) (most : ℕ) : Type 0 where
+  pub present : IsFalse (is_taken s)
+  pub places : All (λ t. IsPlace s t.source × IsThere s t.target) ts
+  pub apart : AreItemsApart passing s ts
+  pub some : 1 ≤ most
+
+-- a batch of so many; the last may have fewer
+abbrev pub batch_of : ℕ → List Transfer → ℕ → List Transfer
+batch_of size ts batch = take size (drop (size * batch) ts)
 
 -- accesses in pieces are those accesses in list order
 abbrev pub TouchesAreAccesses : Type 0

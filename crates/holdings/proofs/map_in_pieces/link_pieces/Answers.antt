@@ -19,26 +19,13 @@ use Rattle.holdings.specs.Inner.Held.{has_entry}
 use Rattle.holdings.specs.Inner.Planning.{store_of, stores_of}
 use Rattle.holdings.specs.Inner.Words.{IsThere}
 use Rattle.holdings.proofs.Phases.InParts.{IsCutUpTo, none_cut, more_cut, all_cut}
+use Rattle.holdings.proofs.Phases.ItemParts.{both_stores, stores_apart}
 use Rattle.holdings.proofs.map_in_pieces.link_pieces.Goals as goal
-
--- the stores of transfers, and of others behind them
-both : (s : Shards) (rights : Rights) (ts us : List Transfer) → stores_of s rights (ts ++ us) ≡ stores_of s rights ts ++ stores_of s rights us
-both s rights [] us = refl
-both s rights (t ∷ ts) us = by (has_entry s t.source) (both s rights ts us)
-  where
-    by : (b : Bool) → stores_of s rights (ts ++ us) ≡ stores_of s rights ts ++ stores_of s rights us
-        → (if b then store_of s rights t ∷ stores_of s rights (ts ++ us) else stores_of s rights (ts ++ us)) ≡ (if b then store_of s rights t ∷ stores_of s rights ts else stores_of s rights ts) ++ stores_of s rights us
-    by false rest = rest
-    by true rest = ap (λ xs. store_of s rights t ∷ xs) rest
 
 -- those of the next transfers, and of the others
 parted : (s : Shards) (rights : Rights) (n : _) (rest first others : List Transfer) → first ≡ take n rest → others ≡ drop n rest → stores_of s rights rest ≡ stores_of s rights first ++ stores_of s rights others
 parted s rights n rest first others first_is others_is =
-    ap (stores_of s rights) (sym (take-append-drop n rest) ∙ ap (λ us. us ++ drop n rest) (sym first_is) ∙ ap (λ us. first ++ us) (sym others_is)) ∙ both s rights first others
-
--- none of either comes twice
-distinct_both : (xs ys all : List Store) → all ≡ xs ++ ys → are_distinct (puts_of all) ≡ true → (are_distinct (puts_of xs) ≡ true) × (are_distinct (puts_of ys) ≡ true)
-distinct_both xs ys all all_is distinct = distinct_split (puts_of xs) (puts_of ys) (ap are_distinct (sym (map-append (λ x. x.put) xs ys)) ∙ ap (λ zs. are_distinct (puts_of zs)) (sym all_is) ∙ distinct)
+    ap (stores_of s rights) (sym (take-append-drop n rest) ∙ ap (λ us. us ++ drop n rest) (sym first_is) ∙ ap (λ us. first ++ us) (sym others_is)) ∙ both_stores s rights first others
 
 pub loop-rest-init : goal.loop-rest-init
 loop-rest-init c = record {
@@ -52,7 +39,7 @@ links-requires-clause-distinct c =
     let first = c.split_at.result.0.now in
     let others = c.split_at.result.1.now in
     let apart = parted c.args.shards.now c.args.rights c.min.result c.loop-rest.rest.now first others c.split_at.ensures.front c.split_at.ensures.back in
-    ap (λ xs. are_distinct (puts_of xs)) c.in_ok-stores.ensures ∙ (distinct_both (stores_of c.args.shards.now c.args.rights first) (stores_of c.args.shards.now c.args.rights others) (stores_of c.args.shards.now c.args.rights c.loop-rest.rest.now) apart c.loop-rest.invariant.distinct).0
+    ap (λ xs. are_distinct (puts_of xs)) c.in_ok-stores.ensures ∙ (stores_apart (stores_of c.args.shards.now c.args.rights first) (stores_of c.args.shards.now c.args.rights others) (stores_of c.args.shards.now c.args.rights c.loop-rest.rest.now) apart c.loop-rest.invariant.distinct).0
 
 pub loop-rest-preserved : goal.loop-rest-preserved
 loop-rest-preserved c =
@@ -67,7 +54,7 @@ loop-rest-preserved c =
           (c.in_ok-its_pieces.ensures ∙ ap (λ xs. map piece.Link (pieces (length xs) c.args.most xs)) c.in_ok-stores.ensures)
           c.in_ok-append.ensures.items;
       places = subst (All (λ t. IsPlace c.args.shards.now t.source × IsThere c.args.shards.now t.target)) (sym c.split_at.ensures.back) (All-drop (λ t. IsPlace c.args.shards.now t.source × IsThere c.args.shards.now t.target) c.min.result rest c.loop-rest.invariant.places);
-      distinct = (distinct_both (stores_of c.args.shards.now c.args.rights first) (stores_of c.args.shards.now c.args.rights others) (stores_of c.args.shards.now c.args.rights rest) apart c.loop-rest.invariant.distinct).1;
+      distinct = (stores_apart (stores_of c.args.shards.now c.args.rights first) (stores_of c.args.shards.now c.args.rights others) (stores_of c.args.shards.now c.args.rights rest) apart c.loop-rest.invariant.distinct).1;
     }
 
 none_left : (ts : List Transfer) → length ts ≡ 0 → ts ≡ []

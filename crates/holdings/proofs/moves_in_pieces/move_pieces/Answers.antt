@@ -19,26 +19,13 @@ use Rattle.holdings.specs.Inner.Held.{has_entry}
 use Rattle.holdings.specs.Inner.Planning.{word_pair, word_pairs}
 use Rattle.holdings.specs.Inner.Words.{IsThere}
 use Rattle.holdings.proofs.Phases.InParts.{IsCutUpTo, none_cut, more_cut, all_cut}
+use Rattle.holdings.proofs.Phases.ItemParts.{both_pairs, pairs_apart}
 use Rattle.holdings.proofs.moves_in_pieces.move_pieces.Goals as goal
-
--- the pairs of transfers, and of others behind them
-both : (s : Shards) (ts us : List Transfer) → word_pairs s (ts ++ us) ≡ word_pairs s ts ++ word_pairs s us
-both s [] us = refl
-both s (t ∷ ts) us = by (has_entry s t.source) (both s ts us)
-  where
-    by : (b : Bool) → word_pairs s (ts ++ us) ≡ word_pairs s ts ++ word_pairs s us
-        → (if b then word_pair s t ∷ word_pairs s (ts ++ us) else word_pairs s (ts ++ us)) ≡ (if b then word_pair s t ∷ word_pairs s ts else word_pairs s ts) ++ word_pairs s us
-    by false rest = rest
-    by true rest = ap (λ xs. word_pair s t ∷ xs) rest
 
 -- those of the next transfers, and of the others
 parted : (s : Shards) (n : _) (rest first others : List Transfer) → first ≡ take n rest → others ≡ drop n rest → word_pairs s rest ≡ word_pairs s first ++ word_pairs s others
 parted s n rest first others first_is others_is =
-    ap (word_pairs s) (sym (take-append-drop n rest) ∙ ap (λ us. us ++ drop n rest) (sym first_is) ∙ ap (λ us. first ++ us) (sym others_is)) ∙ both s first others
-
--- none of either comes twice
-distinct_both : (xs ys all : List Pair) → all ≡ xs ++ ys → are_distinct (ends_of all) ≡ true → (are_distinct (ends_of xs) ≡ true) × (are_distinct (ends_of ys) ≡ true)
-distinct_both xs ys all all_is distinct = distinct_split (ends_of xs) (ends_of ys) (ap are_distinct (sym (flat_map-append (λ x. x.taken ∷ x.put ∷ []) xs ys)) ∙ ap (λ zs. are_distinct (ends_of zs)) (sym all_is) ∙ distinct)
+    ap (word_pairs s) (sym (take-append-drop n rest) ∙ ap (λ us. us ++ drop n rest) (sym first_is) ∙ ap (λ us. first ++ us) (sym others_is)) ∙ both_pairs s first others
 
 pub loop-rest-init : goal.loop-rest-init
 loop-rest-init c = record {
@@ -52,7 +39,7 @@ moves-requires-clause-distinct c =
     let first = c.split_at.result.0.now in
     let others = c.split_at.result.1.now in
     let apart = parted c.args.shards.now c.min.result c.loop-rest.rest.now first others c.split_at.ensures.front c.split_at.ensures.back in
-    ap (λ xs. are_distinct (ends_of xs)) c.in_ok-pairs.ensures ∙ (distinct_both (word_pairs c.args.shards.now first) (word_pairs c.args.shards.now others) (word_pairs c.args.shards.now c.loop-rest.rest.now) apart c.loop-rest.invariant.distinct).0
+    ap (λ xs. are_distinct (ends_of xs)) c.in_ok-pairs.ensures ∙ (pairs_apart (word_pairs c.args.shards.now first) (word_pairs c.args.shards.now others) (word_pairs c.args.shards.now c.loop-rest.rest.now) apart c.loop-rest.invariant.distinct).0
 
 pub loop-rest-preserved : goal.loop-rest-preserved
 loop-rest-preserved c =
@@ -67,7 +54,7 @@ loop-rest-preserved c =
           (c.in_ok-its_pieces.ensures ∙ ap (λ xs. map piece.Move (pieces (length xs) c.args.most xs)) c.in_ok-pairs.ensures)
           c.in_ok-append.ensures.items;
       places = subst (All (λ t. IsPlace c.args.shards.now t.source × IsThere c.args.shards.now t.target)) (sym c.split_at.ensures.back) (All-drop (λ t. IsPlace c.args.shards.now t.source × IsThere c.args.shards.now t.target) c.min.result rest c.loop-rest.invariant.places);
-      distinct = (distinct_both (word_pairs c.args.shards.now first) (word_pairs c.args.shards.now others) (word_pairs c.args.shards.now rest) apart c.loop-rest.invariant.distinct).1;
+      distinct = (pairs_apart (word_pairs c.args.shards.now first) (word_pairs c.args.shards.now others) (word_pairs c.args.shards.now rest) apart c.loop-rest.invariant.distinct).1;
     }
 
 none_left : (ts : List Transfer) → length ts ≡ 0 → ts ≡ []

@@ -10,12 +10,12 @@ use Rattle.holdings.proofs.Phases.MapPhase.{new_linkable, stores_distinct, store
 use Rattle.holdings.proofs.Contents.SameEntries.{made_from, made_says, made_there, sound_stays}
 use Rattle.holdings.proofs.holdings.Holdings.map_in_pieces.Goals as goal
 
-pub link_pieces-requires-clause-places : goal.link_pieces-requires-clause-places
-link_pieces-requires-clause-places g c =
+pub item_pieces-requires-clause-places : goal.item_pieces-requires-clause-places
+item_pieces-requires-clause-places g c =
     made_there c.self.inside.shards c.make_targets.new.shards c.self.inside.trees.items c.in_ok-make_targets.ensures.made c.args.self c.self.view_is c.args.transfers.now c.requires.planned.within c.in_ok-make_targets.ensures.there
 
-pub link_pieces-requires-clause-distinct : goal.link_pieces-requires-clause-distinct
-link_pieces-requires-clause-distinct g c =
+pub item_pieces-requires-clause-apart : goal.item_pieces-requires-clause-apart
+item_pieces-requires-clause-apart g c =
     stores_distinct c.make_targets.new.shards c.self.inside.trees.items (sound_stays c.self.inside.shards c.make_targets.new.shards c.self.inside.trees.items (made_says c.self.inside.shards c.make_targets.new.shards c.in_ok-make_targets.ensures.made c.in_ok-make_targets.ensures.present) c.self.invariant) c.args.self (made_from c.self.inside.shards c.make_targets.new.shards c.self.inside.trees.items c.in_ok-make_targets.ensures.made c.in_ok-make_targets.ensures.present c.args.self c.self.view_is) c.args.rights c.args.transfers.now c.requires.planned c.requires.ready c.in_ok-make_targets.ensures.there
 
 pub link_all-requires-clause-linkable : goal.link_all-requires-clause-linkable
