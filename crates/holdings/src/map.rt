@@ -1,6 +1,6 @@
 //! The pages of a MapItem, after the flush: each is linked to its source, or extended.
 
-ghost use Rattle.std.specs.Prelude.{◌≡◌, None, Some, IsFalse};
+ghost use Rattle.std.specs.Prelude.{◌≡◌, true, None, Some, IsFalse};
 ghost use Rattle.holdings.specs.Meaning.{counts_of};
 ghost use Rattle.space.specs.declared.place.Entry.{Entry};
 ghost use Rattle.space.specs.Shards.{HasWord, IsPlace, entry_at, is_taken};
@@ -16,7 +16,7 @@ use crate::transfer_counts::TransferCounts;
 use crew::{CrewError, Workers};
 use fpage::{ItemKind, Rights};
 use maptree::Tree;
-use space::{Entry, Place, Shards};
+use space::{Place, Shards};
 use std::alloc::Global;
 
 impl Holdings {
@@ -73,20 +73,28 @@ fn map_page(shards: &mut Shards, transfer: Transfer, rights: Rights) -> Transfer
     ensures lost { entry_at shards.old transfer.source ≡ None → IsPageLost shards.old shards.new (counts_of result) }
     ensures mapped { (e : Entry) → entry_at shards.old transfer.source ≡ Some e → IsPageMapped shards.old shards.new rights transfer e (counts_of result) }
 {
+    if transfer.extends {
+        return extend_page(shards, transfer, rights);
+    }
+    if shards.put_mapped(transfer.source, transfer.target, rights) {
+        TransferCounts::one_linked()
+    } else {
+        TransferCounts::one_lost()
+    }
+}
+
+/// The same of a page whose target gains rights.
+fn extend_page(shards: &mut Shards, transfer: Transfer, rights: Rights) -> TransferCounts
+    requires source { IsPlace shards.old transfer.source }
+    requires target { IsPlace shards.old transfer.target }
+    requires present { IsFalse (is_taken shards.old) }
+    requires extends { transfer.extends ≡ true }
+    ensures lost { entry_at shards.old transfer.source ≡ None → IsPageLost shards.old shards.new (counts_of result) }
+    ensures mapped { (e : Entry) → entry_at shards.old transfer.source ≡ Some e → IsPageMapped shards.old shards.new rights transfer e (counts_of result) }
+{
     let Some(source) = shards.get(transfer.source) else {
         return TransferCounts::one_lost();
     };
-    let rights = source.rights.meet(rights);
-    if transfer.extends {
-        shards.extend(transfer.target, rights);
-        return TransferCounts::one_extended();
-    }
-    let status = Rights::none();
-    let entry = Entry {
-        rights,
-        status,
-        ..source
-    };
-    shards.set(transfer.target, Some(entry));
-    TransferCounts::one_linked()
+    shards.extend(transfer.target, source.rights.meet(rights));
+    TransferCounts::one_extended()
 }

@@ -69,15 +69,16 @@ impl<'a> Mappings<'a> {
 
     /// How many mappings a space has: a number for which room is made. No clause says which.
     pub fn len_of(&self, space: u16) -> usize {
-        let limits = self.limits();
-        if u32::from(space) >= limits.spaces {
+        let pages = 1 << (self.shards.bits() - 12);
+        if u32::from(space) >= self.shards.spaces() {
             return 0;
         }
         let mut len: usize = 0;
-        let mut from = Place { space, page: 0 };
-        while let Some((place, _)) = next_held(self.shards, from) {
-            len = len.saturating_add(1);
-            from.page = place.page + 1;
+        let mut page = 0;
+        while page < pages {
+            let run = self.shards.next_run(Place { space, page }, pages);
+            len = len.saturating_add(run.pages.len());
+            page = run.pages.end;
         }
         len
     }

@@ -20,6 +20,9 @@ pub fn next_held(shards: &Shards, from: Place) -> Option<(Place, Entry)>
     if from.page >= pages {
         return None;
     }
+    if let Some(entry) = shards.get(from) {
+        return Some((from, entry));
+    }
     let page = shards.first_held(from, pages);
     if page == pages {
         return None;

@@ -27,6 +27,9 @@ use std::ops::Range;
 /// How many words a walk finds before it changes them, so that their loads go on side by side.
 const FOUND_AT_ONCE: usize = 16;
 
+/// How many nodes are so few that their words are found one by one.
+const SHORT: usize = 8;
+
 /// For how many notes there is room at once, so that few do not take memory time and again.
 const FIRST_NOTES: usize = 32;
 
@@ -167,12 +170,22 @@ fn strip_run(
     note_lost(&mut nodes, run.start, flush && narrowed.lost, notes)?;
     let mut status = narrowed.status;
     let mut left = Left::of_none(run.start).with_next(run.start, narrowed.held);
+    let is_short = run.end - run.start <= SHORT;
     let mut from = run.start + 1;
     while from < run.end {
         let to = from + FOUND_AT_ONCE.min(run.end - from);
-        let found = find_words(shards, &mut nodes, from, to);
+        let found = if is_short {
+            [0; FOUND_AT_ONCE]
+        } else {
+            find_words(shards, &mut nodes, from, to)
+        };
         for i in from..to {
-            let narrowed = shards.narrow_at(found[i - from], revoked, true);
+            let index = if is_short {
+                shards.index(nodes.at(i).place)
+            } else {
+                found[i - from]
+            };
+            let narrowed = shards.narrow_at(index, revoked, true);
             note_lost(&mut nodes, i, narrowed.lost, notes)?;
             status = status.join(narrowed.status);
             left = left.with_next(i, narrowed.held);

@@ -1,6 +1,7 @@
 //! Nodes read as places with their origins.
 
-ghost use Rattle.std.specs.Prelude.{◌≡◌, IfOk};
+ghost use Rattle.std.specs.Prelude.{◌≡◌, ◌-◌, ◌++◌, ◌∷◌, [], length, take, IfOk, OnOk, OnErr};
+ghost use Rattle.std.specs.List.{slice_get};
 ghost use Rattle.maptree.specs.Nodes.{origins_of};
 
 use crate::nodes::NearNodes;
@@ -49,7 +50,7 @@ impl<'a> Model for Links<'a> {
 }
 
 impl<'a> Links<'a> {
-    ghost use Rattle.std.specs.Prelude.{◌≡◌, ◌∷◌, [], IfOk, MatchOption, OnErr};
+    ghost use Rattle.std.specs.Prelude.{MatchOption};
 
     /// All places of a tree.
     pub(crate) fn of(alloc: Global, nodes: &'a TreeNodes) -> Links<'a>
@@ -72,12 +73,30 @@ impl<'a> Links<'a> {
         if self.next == self.nodes.len() {
             return Ok(None);
         }
-        self.path.reserve(1).map_err(AllocError::from)?;
         let node = self.nodes.at(self.next);
-        self.path.truncate(node.depth);
-        let origin = self.path.last().copied();
-        self.path.push_reserved(node.place);
+        let origin = step(&mut self.path, node)?;
         self.next += 1;
         Ok(Some((node.place, origin)))
     }
+}
+
+/// Puts the place of a node behind those of its origins, which are the first of a path. Returns its origin.
+///
+/// Refused, where memory is: `NoMemory`. Then the path is the same.
+fn step(path: &mut Vec<Place>, node: Node) -> Result<Option<Place>, NoMemory>
+    ensures path { OnOk result (path.new.items ≡ take node.depth path.old.items ++ node.place ∷ []) }
+    ensures origin { IfOk result (λ origin. origin ≡ slice_get (take node.depth path.old.items) (length (take node.depth path.old.items) - 1)) }
+    ensures err { OnErr result (path.new.items ≡ path.old.items) }
+{
+    let depth = node.depth;
+    if depth >= path.len() {
+        path.reserve(1).map_err(AllocError::from)?;
+        let origin = path.last().copied();
+        path.push_reserved(node.place);
+        return Ok(origin);
+    }
+    let origin = path[..depth].last().copied();
+    path.truncate(depth + 1);
+    path[depth] = node.place;
+    Ok(origin)
 }

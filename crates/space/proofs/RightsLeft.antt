@@ -80,6 +80,10 @@ common_number r s =
       common_bit r.execute s.execute,
     ) refl
 
+-- the rights of a word that are let through, by their number
+pub met_number : (w : ℕ) (through : Rights) → bit_and (w % 8) (number through) ≡ number (meet (of_bits (w % 8)) through)
+met_number w through = ap (λ n. bit_and n (number through)) (sym (number_bits (w % 8) (omega arith))) ∙ common_number (of_bits (w % 8)) through
+
 -- a set is empty just where its number is 0
 empty_number : (r : Rights) → (number r == 0) ≡ is_empty r
 empty_number r = by r.read r.write r.execute

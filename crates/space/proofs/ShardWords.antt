@@ -27,12 +27,12 @@ use Rattle.space.proofs.Directories.{shard_found, same_shard, shard_in_space, sa
 use Rattle.space.proofs.Leaves.{few_there_in, found_in, within_or_past, same_or_not, apart_in, below_in, dead_unless, runs_in}
 
 -- the shard of a place is one that the directory can have
-pub shard_can : (s : Shards) (p : Place) → IsPlace s p → shard_of s.bits p < most_of s.directory
+pub shard_can : (s : Shards) (p : Place) → IsPlace s p → shard_of s.bits p < most_of s.directory.value
 shard_can s p place = rw s.most (shard_found s.bits s.limits.low p place.page s.spaces place.space)
 
 pub words_are_their_own : WordsAreTheirOwn
 words_are_their_own s p q p_place q_place has same =
-    let d = s.directory in
+    let d = s.directory.value in
     let at_p = position_in d (shard_of s.bits p) in
     let at_q = position_in d (shard_of s.bits q) in
     let position : at_p ≡ at_q = omega (arith, same) in
@@ -51,10 +51,10 @@ away_from d shard past = elim (same_or_not (position_in d shard) nowhere) as (λ
 ]
 
 -- a shard that is not there has no position
-pub nowhere_unless : (s : Shards) (p : Place) → (HasWord s p → ⊥) → position_in s.directory (shard_of s.bits p) ≡ nowhere
-nowhere_unless s p away = elim (same_or_not (position_in s.directory (shard_of s.bits p)) nowhere) as (λ _. position_in s.directory (shard_of s.bits p) ≡ nowhere) [
+pub nowhere_unless : (s : Shards) (p : Place) → (HasWord s p → ⊥) → position_in s.directory.value (shard_of s.bits p) ≡ nowhere
+nowhere_unless s p away = elim (same_or_not (position_in s.directory.value (shard_of s.bits p)) nowhere) as (λ _. position_in s.directory.value (shard_of s.bits p) ≡ nowhere) [
   | inl same ↦ same
-  | inr differ ↦ let there = below_in s.directory (shard_of s.bits p) differ in absurd (away (omega (arith, there)))
+  | inr differ ↦ let there = below_in s.directory.value (shard_of s.bits p) differ in absurd (away (omega (arith, there)))
 ]
 
 read_zeros : (n i : ℕ) → slice_index (replicate n 0) i ≡ 0
@@ -282,13 +282,13 @@ absent_unless s p away = by s.words refl
     by (Some v) some = none_behind s v some p away
 
 -- the pages of a dead shard hold nothing
-pub absent_dead : (s : Shards) (p : Place) → slice_index s.live.items (position_in s.directory (shard_of s.bits p)) ≡ 0 → entry_at s p ≡ None
+pub absent_dead : (s : Shards) (p : Place) → slice_index s.live.items (position_in s.directory.value (shard_of s.bits p)) ≡ 0 → entry_at s p ≡ None
 absent_dead s p dead = by s.words refl
   where
     by : (o : Option (Vec ℕ Global)) → s.words ≡ o → entry_at s p ≡ None
     by None none = ap (λ (o : Option (Vec ℕ Global)). entry_of (slice_index (option_map_or (λ w. w.items) o []) (index_of s p))) none
     by (Some v) some =
-        let at : index_of s p / 64 ≡ position_in s.directory (shard_of s.bits p) = omega arith in
+        let at : index_of s p / 64 ≡ position_in s.directory.value (shard_of s.bits p) = omega arith in
         entry_read s v some p ∙ ap entry_of (s.dead v some (index_of s p) (ap (slice_index s.live.items) at ∙ dead))
 
 -- a word of a dead shard is 0
@@ -311,7 +311,7 @@ unset s p (Some e) has away = absurd (away has)
 -- ---- a shard is added
 
 module _ (s : Shards) (words : Vec ℕ Global) (held : s.words ≡ Some words) (place : Place) (absent : HasWord s place → ⊥) (d : Directory)
-    (added : IsAdded s.directory d (shard_of s.bits place)) (after : List ℕ) (after_is : after ≡ words.items ++ replicate 64 0) where
+    (added : IsAdded s.directory.value d (shard_of s.bits place)) (after : List ℕ) (after_is : after ≡ words.items ++ replicate 64 0) where
   abbrev index_now : Place → ℕ
   index_now p = position_in d (shard_of s.bits p) * 64 + offset_of p
 
@@ -321,13 +321,13 @@ module _ (s : Shards) (words : Vec ℕ Global) (held : s.words ≡ Some words) (
 
   away_with : (p : Place) → shard_of s.bits p ≡ shard_of s.bits place → HasWord s p → ⊥
   away_with p same has =
-      let position : position_in s.directory (shard_of s.bits p) ≡ position_in s.directory (shard_of s.bits place) = ap (position_in s.directory) same in
+      let position : position_in s.directory.value (shard_of s.bits p) ≡ position_in s.directory.value (shard_of s.bits place) = ap (position_in s.directory.value) same in
       absent (omega (arith, has, position))
 
   pub read_now : (p : Place) → entry_of (slice_index after (index_now p)) ≡ entry_at s p
   read_now p = elim (same_or_not (shard_of s.bits p) (shard_of s.bits place)) as (λ _. entry_of (slice_index after (index_now p)) ≡ entry_at s p) [
     | inl same ↦
-        let position : position_in d (shard_of s.bits p) ≡ count_of s.directory = ap (position_in d) same ∙ added.there in
+        let position : position_in d (shard_of s.bits p) ≡ count_of s.directory.value = ap (position_in d) same ∙ added.there in
         let past : length words.items ≤ index_now p = omega (arith, position, words_are_all s words held) in
         ap entry_of (ap (λ xs. slice_index xs (index_now p)) after_is ∙ read_longer words.items 64 (index_now p) ∙ get_or_past words.items (index_now p) 0 past)
         ∙ sym (absent_unless s p (away_with p same))
@@ -349,7 +349,7 @@ module _ (s : Shards) (words : Vec ℕ Global) (held : s.words ≡ Some words) (
         let parts = same_parts s.bits s.limits.low place p is_place.page is_p.page (sym same) in
         inr (λ i. eq-eqb place.space p.space parts.0 i && eq-eqb (place.page / 64) (p.page / 64) parts.1 i)
     | inr differ ↦
-        let not_there : position_in d (shard_of s.bits p) ≡ count_of s.directory → ⊥ =
+        let not_there : position_in d (shard_of s.bits p) ≡ count_of s.directory.value → ⊥ =
         λ at. differ (apart_in d (shard_of s.bits p) (shard_of s.bits place) (omega (arith, has)) (at ∙ sym added.there)) in
         inl (omega (arith, same_index p differ, has, added.count, not_there))
   ]
@@ -368,7 +368,7 @@ module _ (s : Shards) (place : Place) (is_place : IsPlace s place) where
   pub beside : (p : Place) → p.space ≡ place.space → p.page / 64 ≡ place.page / 64 → index_of s p ≡ index_of s place - offset_of place + offset_of p
   beside p space pages =
       let shard : shard_of s.bits p ≡ shard_of s.bits place = ap (λ n. n * shards_of s.bits + p.page / 64) space ∙ ap (λ n. place.space * shards_of s.bits + n) pages in
-      let position : position_in s.directory (shard_of s.bits p) ≡ position_in s.directory (shard_of s.bits place) = ap (position_in s.directory) shard in
+      let position : position_in s.directory.value (shard_of s.bits p) ≡ position_in s.directory.value (shard_of s.bits place) = ap (position_in s.directory.value) shard in
       omega (arith, position)
 
   pub has_beside : HasWord s place → (p : Place) → p.space ≡ place.space → p.page / 64 ≡ place.page / 64 → HasWord s p
@@ -414,7 +414,7 @@ module _ (s : Shards) (place : Place) (is_place : IsPlace s place) where
   shard_before = omega (arith, shard_in_space s.bits s.limits.low place is_place.page)
 
   -- its shards are among all
-  pub shards_within : before + shards_in ≤ most_of s.directory
+  pub shards_within : before + shards_in ≤ most_of s.directory.value
   shards_within = rw s.most (times (place.space) shards_in s.spaces is_place.space)
     where
       times : (a b n : ℕ) → a < n → a * b + b ≤ n * b
@@ -428,14 +428,14 @@ module _ (s : Shards) (place : Place) (is_place : IsPlace s place) where
   shard_to end most = omega (arith, most, pages_are s.bits s.limits.low, div_ceil_times end 64 (omega arith))
 
   module _ (found : ℕ) (from : shard_of s.bits place ≤ found) where
-    pub page_there : position_in s.directory found < count_of s.directory → HasWord s (record { space = place.space; page = (found - before) * 64 })
+    pub page_there : position_in s.directory.value found < count_of s.directory.value → HasWord s (record { space = place.space; page = (found - before) * 64 })
     page_there low =
         let p : Place = record { space = place.space; page = (found - before) * 64 } in
         let shard : shard_of s.bits p ≡ found = omega (arith, from) in
-        let position : position_in s.directory (shard_of s.bits p) < count_of s.directory = rw shard low in
+        let position : position_in s.directory.value (shard_of s.bits p) < count_of s.directory.value = rw shard low in
         omega (arith, position)
 
-    pub page_absent : ((k : ℕ) → shard_of s.bits place ≤ k → k < found → slice_index s.live.items (position_in s.directory k) ≡ 0)
+    pub page_absent : ((k : ℕ) → shard_of s.bits place ≤ k → k < found → slice_index s.live.items (position_in s.directory.value k) ≡ 0)
         → (p : Place) → p.space ≡ place.space → place.page ≤ p.page → p.page < (found - before) * 64 → entry_at s p ≡ None
     page_absent dead p same after below =
         let spaces : p.space * shards_in ≡ before = ap (λ n. n * shards_in) same in
@@ -473,13 +473,13 @@ words_have_shards s present words count packs = by s.words refl
         let as_many = (s.packed v is).count in
         let fits : length words ≤ vec_capacity v = omega (arith, as_many, count, v.ok.0, v.ok.1) in
         let u = with_items v words fits in
-        let are : AreWords (count_of s.directory) u = record { count = count; packs = packs } in
-        let how_many : length (replicate (count_of s.directory) 1) ≡ count_of s.directory = length-replicate {A = ℕ} (count_of s.directory) 1 in
-        let live = with_items s.live (replicate (count_of s.directory) 1) (omega (arith, how_many, s.counted, s.live.ok.0, s.live.ok.1)) in
-        let all : AreLive live.items u = live_all (count_of s.directory) live.items u count how_many (λ k less. get_or-replicate (count_of s.directory) k 1 0 (omega (arith, less, how_many))) in
+        let are : AreWords (count_of s.directory.value) u = record { count = count; packs = packs } in
+        let how_many : length (replicate (count_of s.directory.value) 1) ≡ count_of s.directory.value = length-replicate {A = ℕ} (count_of s.directory.value) 1 in
+        let live = with_items s.live (replicate (count_of s.directory.value) 1) (omega (arith, how_many, s.counted, s.live.ok.0, s.live.ok.1)) in
+        let all : AreLive live.items u = live_all (count_of s.directory.value) live.items u count how_many (λ k less. get_or-replicate (count_of s.directory.value) k 1 0 (omega (arith, less, how_many))) in
         let many_runs : length (replicate (length s.runs.items) (2 ^ 32 - 1)) ≡ length s.runs.items = length-replicate {A = ℕ} (length s.runs.items) (2 ^ 32 - 1) in
         let runs = with_items s.runs (replicate (length s.runs.items) (2 ^ 32 - 1)) (omega (arith, many_runs, s.runs.ok.0, s.runs.ok.1)) in
-        let each_run : length runs.items ≡ div_ceil (most_of s.directory) 256 = many_runs ∙ s.each_run in
+        let each_run : length runs.items ≡ div_ceil (most_of s.directory.value) 256 = many_runs ∙ s.each_run in
         let new : Shards = record {
           spaces = s.spaces;
           bits = s.bits;
@@ -489,11 +489,11 @@ words_have_shards s present words count packs = by s.words refl
           runs = runs;
           limits = s.limits;
           most = s.most;
-          packed = λ x x_is. subst (AreWords (count_of s.directory)) (same_Some u x x_is) are;
+          packed = λ x x_is. subst (AreWords (count_of s.directory.value)) (same_Some u x x_is) are;
           counted = how_many;
           dead = λ x x_is. subst (AreLive live.items) (same_Some u x x_is) all;
           each_run = each_run;
-          dead_runs = runs_of_all s.directory live.items runs.items each_run (λ k less. get_or-replicate (length s.runs.items) k (2 ^ 32 - 1) 0 (omega (arith, less, many_runs)));
+          dead_runs = runs_of_all s.directory.value live.items runs.items each_run (λ k less. get_or-replicate (length s.runs.items) k (2 ^ 32 - 1) 0 (omega (arith, less, many_runs)));
         } in (
           new,
           record {

@@ -1,5 +1,5 @@
 -- The entry word, field by field.
-use Rattle.std.proofs.Common.{◌≡◌, true, false, Bool, ◌||◌, refl, sym, ◌∙◌, ap, subst, arith, ℕ, ◌+◌, ◌*◌, ◌/◌, ◌%◌, ◌^◌, ◌<◌, Some, None, IsTrue}
+use Rattle.std.proofs.Common.{◌≡◌, true, false, Bool, ◌||◌, refl, sym, ◌∙◌, ap, subst, arith, ℕ, ◌+◌, ◌-◌, ◌*◌, ◌/◌, ◌%◌, ◌^◌, ◌<◌, Some, None, IsTrue}
 use Rattle.std.proofs.Common.{ne_eqb, eq-eqb, eqb-true, ◌==◌}
 use Rattle.std.specs.Prelude.{bit_or, if◌then◌else◌, ◌&&◌, Option}
 use Rattle.std.specs.Int.Bits.{or_zero_r}
@@ -8,11 +8,11 @@ use Rattle.std.proofs.lemmas.Nat.{or_block}
 use Rattle.std.proofs.lemmas.Bool.Decides.{nat_tests}
 use Rattle.std.specs.Option.{option_map, option_and_then}
 use Rattle.std.proofs.lemmas.Option.{same_Some}
-use Rattle.fpage.specs.Rights.{number, of_bits, join, is_empty, no_rights}
+use Rattle.fpage.specs.Rights.{number, of_bits, join, meet, is_empty, no_rights}
 use Rattle.fpage.specs.declared.rights.Rights.{Rights}
 use Rattle.space.specs.declared.place.Entry.{Entry}
 use Rattle.space.specs.Word.{word_of, entry_of, is_pack, FrameFits, marked}
-use Rattle.space.specs.Entries.{narrowed, rights_left}
+use Rattle.space.specs.Entries.{mapped, narrowed, rights_left}
 use Rattle.space.specs.EntryLaws.{UnpackGivesBack, PackGivesBack, WordsAreDistinct, FieldsOfWord, OrAddsStatus, PackGainsStatus}
 
 -- ---- three bits
@@ -190,6 +190,24 @@ narrowed_fits flush a (Some e) fits = by (flush && is_empty (rights_left flush a
     by : (b : Bool) → FrameFits (if b then None else Some left)
     by true x is = absurd (cc is)
     by false x is = subst (λ (x : Entry). x.frame < 2 ^ 24) (same_Some left x is) (fits e refl)
+
+pub mapped_fits : (through : Rights) (o : Option Entry) → FrameFits o → FrameFits (option_map (mapped through) o)
+mapped_fits through None fits = fits
+mapped_fits through (Some e) fits = λ x is. subst (λ (y : Entry). y.frame < 2 ^ 24) (same_Some (mapped through e) x is) (fits e refl)
+
+-- the word of a page to which another is mapped, field by field
+pub mapped_fields : (w : ℕ) (through : Rights) → IsTrue (is_pack w) → w - w % 64 + number (meet (of_bits (w % 8)) through) ≡ word_of (option_map (mapped through) (entry_of w))
+mapped_fields w through pack = by (w == 0) refl
+  where
+    by : (b : Bool) → (w == 0) ≡ b → w - w % 64 + number (meet (of_bits (w % 8)) through) ≡ word_of (option_map (mapped through) (entry_of w))
+    by true none = subst (λ n. n - n % 64 + number (meet (of_bits (n % 8)) through) ≡ word_of (option_map (mapped through) (entry_of n))) (sym (eqb-true w 0 none)) refl
+    by false some =
+        let parts = and_parts (w / 2 ^ 32 == 1) (w / 2 ^ 6 % 2 ^ 2 == 0) (rw some at pack) in
+        let top : w / 2 ^ 32 ≡ 1 = eqb-true _ _ parts.0 in
+        let clear : w / 2 ^ 6 % 2 ^ 2 ≡ 0 = eqb-true _ _ parts.1 in
+        let rights : ℕ = number (meet (of_bits (w % 8)) through) in
+        let fields : w - w % 64 + rights ≡ 2 ^ 32 + 2 ^ 8 * (w / 2 ^ 8 % 2 ^ 24) + 2 ^ 3 * 0 + rights = omega (arith, top, clear) in
+        rw some fields
 
 pub pack_gives_back : PackGivesBack
 pack_gives_back w pack = (unpacked_fits w, by (w == 0) refl)

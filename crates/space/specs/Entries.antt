@@ -22,6 +22,10 @@ abbrev pub narrowed : Bool → Rights → Entry → Option Entry
 narrowed flush a e =
     if flush && is_empty (rights_left flush a e.rights) then None else Some (record e { rights = rights_left flush a e.rights; status = no_rights })
 
+-- what a page gets to which another is mapped: of its rights those that are let through
+abbrev pub mapped : Rights → Entry → Entry
+mapped through e = record e { rights = meet e.rights through; status = no_rights }
+
 -- an entry that gained status
 abbrev pub with_status : Rights → Entry → Entry
 with_status status e = record e { status = join e.status status }

@@ -23,11 +23,11 @@ pub record IsPlace (s : Shards) (p : Place) : Type 0 where
 
 -- how many words there are: those of the shards that are there
 abbrev pub word_count : Shards → ℕ
-word_count s = count_of s.directory * 64
+word_count s = count_of s.directory.value * 64
 
 -- which word is a place's; that of a place whose shard is not there lies behind all words
 abbrev pub index_of : Shards → Place → ℕ
-index_of s p = position_in s.directory (shard_of (bits_of s) p) * 64 + offset_of p
+index_of s p = position_in s.directory.value (shard_of (bits_of s) p) * 64 + offset_of p
 
 -- the shard of a place is there
 abbrev pub HasWord : Shards → Place → Type 0

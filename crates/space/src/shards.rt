@@ -9,9 +9,9 @@ use crate::error::NoMemory;
 use crate::place::{Entry, Place};
 use crate::runs::{LEAVES, has_life, revive_runs, with_life, without_life};
 use crate::status::Status;
-use crate::word::{has_any, narrowed_word, pack, unpack, word_bits};
+use crate::word::{has_any, mapped_word, narrowed_word, pack, unpack, word_bits};
 use fpage::Rights;
-use std::alloc::Global;
+use std::alloc::{AllocError, Global};
 use std::ops::Range;
 
 /// The bytes of the pages of one shard, as a power of two.
@@ -77,7 +77,8 @@ impl Narrowed {
 pub struct Shards {
     spaces: u32,
     bits: u32,
-    directory: Directory,
+    /// Boxed, so that to hand a database on copies little.
+    directory: Box<Directory>,
     /// None while the words are taken.
     words: Option<Vec<u64>>,
     /// For each shard that is there, 0 if it is dead, and else 1.
@@ -86,12 +87,12 @@ pub struct Shards {
     /// `j` of 16 may have a live shard. Bit `16 + j` is 1 if it has a shard.
     runs: Vec<u32>,
     ghost limits: { AreLimits spaces bits },
-    ghost most: { most_of directory ≡ spaces * shards_of bits },
-    ghost packed: { ForSome words (AreWords (count_of directory)) },
-    ghost counted: { length live.items ≡ count_of directory },
+    ghost most: { most_of directory.value ≡ spaces * shards_of bits },
+    ghost packed: { ForSome words (AreWords (count_of directory.value)) },
+    ghost counted: { length live.items ≡ count_of directory.value },
     ghost dead: { ForSome words (AreLive live.items) },
-    ghost each_run: { length runs.items ≡ div_ceil (most_of directory) 256 },
-    ghost dead_runs: { AreRunsOf directory live.items runs.items },
+    ghost each_run: { length runs.items ≡ div_ceil (most_of directory.value) 256 },
+    ghost dead_runs: { AreRunsOf directory.value live.items runs.items },
 }
 
 impl Shards {
@@ -101,7 +102,7 @@ impl Shards {
     ghost use Rattle.space.specs.declared.place.Place.{Place};
     ghost use Rattle.space.specs.Word.{word_of, entry_of, is_pack, FrameFits};
     ghost use Rattle.space.specs.Directory.{AreLimits, offset_of, pages_of, shard_of};
-    ghost use Rattle.space.specs.Entries.{has_any, narrowed, status_of, with_status, extended};
+    ghost use Rattle.space.specs.Entries.{has_any, mapped, narrowed, status_of, with_status, extended};
     ghost use Rattle.space.specs.Positions.{most_of};
     ghost use Rattle.space.specs.Shards.{spaces_of, bits_of, IsPlace, HasWord, word_count, index_of, is_taken, words_of, entry_at, IsLaidOutAs, IsMade, AreOnlyMade, IsSetAt, are_beside};
 
@@ -118,6 +119,10 @@ impl Shards {
     {
         let shards = spaces << (bits - SHARD_BITS);
         let directory = Directory::new(alloc, shards)?;
+        let directory = match Box::new(alloc, directory) {
+            Ok(directory) => directory,
+            Err(error) => return Err(AllocError::from(error).into()),
+        };
         let runs = vec![in alloc; 0; directory.most().div_ceil(BRANCH_SHARDS)]?;
         Ok(Shards {
             spaces,
@@ -168,7 +173,7 @@ impl Shards {
     fn shard(&self, place: Place) -> usize
         requires { IsPlace self.now place }
         ensures shard { result ≡ shard_of (bits_of self.now) place }
-        ensures in_range { result < most_of self.now.directory }
+        ensures in_range { result < most_of self.now.directory.value }
     {
         self.shards_before(place.space) + place.page as usize / SHARD_PAGES
     }
@@ -552,13 +557,32 @@ impl Shards {
     {
         let index = self.find(place);
         if index < self.words.as_ref().unwrap().len() {
-            self.revive(place);
+            self.revive(place, index);
             self.write(index, entry);
         }
     }
 
-    /// Has the shard of a page live.
-    fn revive(&mut self, place: Place)
+    /// Has the shard of a page live, whose word has this index.
+    #[inline]
+    fn revive(&mut self, place: Place, index: usize)
+        requires place { IsPlace self.old place }
+        requires has { HasWord self.old place }
+        requires index { index ≡ index_of self.old place }
+        requires present { IsFalse (is_taken self.old) }
+        ensures made { IsMade self.old self.new }
+        ensures layout { IsLaidOutAs self.old self.new }
+        ensures present { IsFalse (is_taken self.new) }
+        ensures words { words_of self.new ≡ words_of self.old }
+        ensures live { slice_index self.new.live.items (index_of self.new place / 64) ≡ 0 → ⊥ }
+    {
+        if self.live[index / SHARD_PAGES] == 0 {
+            self.wake(place);
+        }
+    }
+
+    /// The same of a shard that is dead.
+    #[inline(never)]
+    fn wake(&mut self, place: Place)
         requires place { IsPlace self.old place }
         requires has { HasWord self.old place }
         requires present { IsFalse (is_taken self.old) }
@@ -600,6 +624,31 @@ impl Shards {
     {
         let words = self.words.as_mut().unwrap();
         words[index] = word;
+    }
+
+    /// Puts at a place what another place holds, with those of its rights that are let through, and no status. Returns
+    /// whether that one holds anything; else nothing is put.
+    pub fn put_mapped(&mut self, source: Place, target: Place, through: Rights) -> bool
+        requires source { IsPlace self.old source }
+        requires target { IsPlace self.old target }
+        requires has { HasWord self.old target }
+        requires present { IsFalse (is_taken self.old) }
+        ensures held { result ≡ is_some (entry_at self.old source) }
+        ensures none { IsFalse result → self.new ≡ self.old }
+        ensures set { IsTrue result → IsSetAt self.old self.new target (option_map (mapped through) (entry_at self.old source)) }
+        ensures present { IsFalse (is_taken self.new) }
+        ensures layout { IsLaidOutAs self.old self.new }
+    {
+        let Some(word) = self.word(self.find(source)) else {
+            return false;
+        };
+        if word == 0 {
+            return false;
+        }
+        let index = self.find(target);
+        self.revive(target, index);
+        self.put(index, mapped_word(word, through));
+        true
     }
 
     /// Withholds rights from what a page holds, if `flush` says so, and clears its status. With no right left the page goes.

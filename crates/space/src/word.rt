@@ -1,8 +1,8 @@
 ghost use Rattle.std.specs.Prelude.{◌≡◌, ◌*◌, ◌%◌, ◌^◌, IsTrue};
-ghost use Rattle.std.specs.Option.{option_and_then};
+ghost use Rattle.std.specs.Option.{option_and_then, option_map};
 ghost use Rattle.fpage.specs.Rights.{number, of_bits, without};
 ghost use Rattle.space.specs.Word.{word_of, entry_of, is_pack, FrameFits};
-ghost use Rattle.space.specs.Entries.{has_any, narrowed, status_of};
+ghost use Rattle.space.specs.Entries.{has_any, mapped, narrowed, status_of};
 
 use crate::place::Entry;
 use fpage::Rights;
@@ -58,6 +58,14 @@ pub fn narrowed_word(word: u64, revoked: Rights, flush: bool) -> u64
         return 0;
     }
     word - word % 64 + left
+}
+
+/// The word of a page to which another is mapped, whose word this is: of its rights some are let through.
+pub fn mapped_word(word: u64, through: Rights) -> u64
+    requires { IsTrue (is_pack word) }
+    ensures { result ≡ word_of (option_map (mapped through) (entry_of word)) }
+{
+    word - word % 64 + (word % 8 & u64::from(through.number()))
 }
 
 /// The number of the rights of a word that are not withheld.

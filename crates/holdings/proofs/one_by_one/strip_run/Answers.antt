@@ -8,11 +8,12 @@ use Rattle.space.specs.declared.place.Place.{Place}
 use Rattle.space.specs.declared.shards.Shards.{Shards}
 use Rattle.space.specs.Place.{same_place}
 use Rattle.space.specs.Entries.{has_any}
-use Rattle.space.specs.Shards.{IsPlace, entry_at, index_of}
+use Rattle.space.specs.Shards.{HasWord, IsLaidOutAs, IsPlace, entry_at, index_of}
 use Rattle.space.proofs.Places.{same_is, same_self}
 use Rattle.maptree.specs.Origins.{Shape, origin_in, place_at, are_once}
 use Rattle.maptree.proofs.Listed.{listed_at}
 use Rattle.holdings.specs.Inner.Held.{links_in}
+use Rattle.holdings.specs.Inner.Sound.{AreLoose}
 use Rattle.holdings.specs.Inner.Stripping.{with_next}
 use Rattle.holdings.specs.Inner.Notes.{AreLosersNoted, NotesAdd, IsNotedIf, loses_in, losing_from}
 use Rattle.holdings.specs.Inner.Words.{IsThere}
@@ -20,7 +21,7 @@ use Rattle.holdings.proofs.Contents.Holders.{links_read}
 use Rattle.holdings.proofs.NotedPages.{run_first, run_more}
 use Rattle.holdings.proofs.Stripping.Walks.{IsWalked, IsStripped, walk_begins, walk_goes, place_any, listed_place, run_without_origin, run_with_origin, stands_at, stands_once, standing_there, not_among, walked}
 use Rattle.holdings.proofs.Stripping.LeftOfRuns.{IsSeen, places_now, seen_more, seen_kept, run_left, none_seen}
-use Rattle.holdings.proofs.one_by_one.strip_run.Goals.{After-add_status, In_default-origin_of, then-flush, else-flush}
+use Rattle.holdings.proofs.one_by_one.strip_run.Goals.{After-add_status, In_default-origin_of, then-flush, else-flush, then-is_short, else-is_short, then-is_short-2, else-is_short-2}
 use Rattle.holdings.proofs.Contents.WordChanges.{place_kept, word_kept}
 use Rattle.holdings.proofs.one_by_one.strip_run.Goals as goal
 
@@ -97,17 +98,43 @@ find_words-found-requires-clause-within c =
     let within : c.loop-from.from + c.min.result ≤ length (links_in c.args.trees.now c.args.frame) = omega (arith, c.min.ensures, upto, c.requires.within) in
     subst (λ os. c.loop-from.from + c.min.result ≤ length os) (sym c.loop-from.invariant.nodes) within
 
+-- a place of the run has its word, however far the walk has come
+word_there : (s : Shards) (trees : List Shape) (loose : AreLoose s trees) (frame : ℕ) (now : Shards) → IsLaidOutAs s now → (i : ℕ) (d : Place) → i < length (links_in trees frame) → IsThere now (place_at (links_in trees frame) i d)
+word_there s trees loose frame now layout i d within =
+    let p = place_at (links_in trees frame) i d in
+    let there = standing_there s trees frame loose p (listed_at (links_in trees frame) i d within) in
+    record { place = place_kept s now layout p there.place; word = word_kept s now layout p there.word }
+
 pub find_words-found-requires-clause-words : goal.find_words-found-requires-clause-words
 find_words-found-requires-clause-words c j d within =
     let trees = c.args.trees.now in
     let frame = c.args.frame in
     let nodes = c.loop-from.invariant.nodes in
     let inside : j < length (links_in trees frame) = subst (λ os. j < length os) nodes within in
-    let p = place_at (links_in trees frame) j d in
-    let there = standing_there c.args.shards.now trees frame c.requires.loose p (listed_at (links_in trees frame) j d inside) in
-    let layout = c.loop-from.invariant.walked.layout in
     subst (IsThere c.loop-from.shards) (ap (λ os. place_at os j d) (sym nodes))
-    (record { place = place_kept c.args.shards.now c.loop-from.shards layout p there.place; word = word_kept c.args.shards.now c.loop-from.shards layout p there.word })
+    (word_there c.args.shards.now trees c.requires.loose frame c.loop-from.shards c.loop-from.invariant.walked.layout j d inside)
+
+pub index-index-requires-clause-place : goal.index-index-requires-clause-place
+index-index-requires-clause-place c =
+    let trees = c.args.trees.now in
+    let frame = c.args.frame in
+    let i = c.loop-i.i in
+    let d : Place = record { space = 0; page = 0 } in
+    let upto = c.loop-from.invariant.upto in
+    let within : i < length (links_in trees frame) = omega (arith, c.loop-i-test.true, c.min.ensures, upto, c.requires.within) in
+    let there = word_there c.args.shards.now trees c.requires.loose frame c.loop-i.shards c.loop-i.invariant.walked.layout i d within in
+    subst (IsPlace c.loop-i.shards) (ap (λ os. place_at os i d) (sym c.loop-i.invariant.nodes) ∙ sym (c.at-then-is_short-2.ensures.place d)) there.place
+
+pub index-index-requires-clause-has : goal.index-index-requires-clause-has
+index-index-requires-clause-has c =
+    let trees = c.args.trees.now in
+    let frame = c.args.frame in
+    let i = c.loop-i.i in
+    let d : Place = record { space = 0; page = 0 } in
+    let upto = c.loop-from.invariant.upto in
+    let within : i < length (links_in trees frame) = omega (arith, c.loop-i-test.true, c.min.ensures, upto, c.requires.within) in
+    let there = word_there c.args.shards.now trees c.requires.loose frame c.loop-i.shards c.loop-i.invariant.walked.layout i d within in
+    subst (HasWord c.loop-i.shards) (ap (λ os. place_at os i d) (sym c.loop-i.invariant.nodes) ∙ sym (c.at-then-is_short-2.ensures.place d)) there.word
 
 -- a place behind the first one is another
 apart : (trees : List Shape) (frame : ℕ) → are_once (links_in trees frame) ≡ true → (start i : ℕ) → start < i → i < length (links_in trees frame) → same_place (stands_at trees frame i) (stands_at trees frame start) ≡ false
@@ -149,9 +176,23 @@ loop-i-preserved c =
     let loses : true ≡ (c.args.flush || not (same_place q (stands_at trees frame start))) = sym (ap (λ b. c.args.flush || not b) (apart trees frame once start i behind within) ∙ or_true c.args.flush) in
     let places = places_now s trees frame c.requires.loose now c.loop-i.invariant.walked.layout in
     let place : IsPlace now q = places i d within in
-    let found : index_of now q ≡ slice_index c.find_words-found.result (i - from) =
-    c.loop-i.invariant.walked.layout.index q ∙ sym (c.loop-from.invariant.walked.layout.index q)
-    ∙ sym (c.find_words-found.ensures.found i d least c.loop-i-test.true ∙ ap (λ os. index_of c.loop-from.shards (place_at os i d)) c.loop-from.invariant.nodes) in
+    let same_nodes : c.if-is_short-2.nodes ≡ c.loop-i.nodes =
+    elim c.if-is_short-2.branch [
+      | then-is_short-2 w ↦ w.nodes-is ∙ w.at-then-is_short-2.ensures.same
+      | else-is_short-2 w ↦ w.nodes-is
+    ] in
+    let found : index_of now q ≡ c.if-is_short-2.index =
+    elim c.if-is_short-2.branch as (λ _. index_of now q ≡ c.if-is_short-2.index) [
+      | then-is_short-2 w ↦ ap (index_of now) (ap (λ os. place_at os i d) (sym c.loop-i.invariant.nodes) ∙ sym (w.at-then-is_short-2.ensures.place d)) ∙ sym w.index-index.ensures.index ∙ sym w.index-is
+      | else-is_short-2 w ↦
+          elim c.if-is_short.branch as (λ _. index_of now q ≡ c.if-is_short-2.index) [
+            | then-is_short v ↦ absurd (omega (arith, v.if-is_short.true, w.if-is_short-2.false))
+            | else-is_short v ↦
+                c.loop-i.invariant.walked.layout.index q ∙ sym (c.loop-from.invariant.walked.layout.index q)
+                ∙ sym (v.find_words-found.ensures.found i d least c.loop-i-test.true ∙ ap (λ os. index_of c.loop-from.shards (place_at os i d)) c.loop-from.invariant.nodes)
+                ∙ ap (λ xs. slice_index xs (i - from)) (sym v.found-is) ∙ sym w.index-is
+          ]
+    ] in
     let stood : entry_at now q ≡ entry_at s q =
     c.loop-i.invariant.walked.entries q (listed_place s trees frame c.requires.loose i q within there)
     ∙ ap (λ b. walked b (c.args.flush || not (same_place q (stands_at trees frame start))) c.args.revoked (entry_at s q)) (not_among links start i q only_there) in
@@ -166,13 +207,13 @@ loop-i-preserved c =
           (omega (arith, behind)) within there only_there loses (narrowed.ensures.status q found) (narrowed.ensures.set q place found) narrowed.ensures.present narrowed.ensures.layout);
       seen = subst (λ l. IsSeen l narrowed.new.self links start (i + 1)) (sym c.with_next-left-in-loop-i.ensures)
           (seen_more links start i now narrowed.new.self q _ (narrowed.ensures.set q place found) places within there only_there c.loop-i.left narrowed.result.held (narrowed.ensures.held q place found) c.loop-i.invariant.seen);
-      nodes = note.same ∙ c.loop-i.invariant.nodes;
+      nodes = note.same ∙ same_nodes ∙ c.loop-i.invariant.nodes;
       noted = record {
         asked = (note.noted d).asked ∙ c.loop-i.invariant.noted.asked;
         added = λ asked.
             run_more links (loses_in s c.args.revoked) (losing_from c.args.flush start) i q d (losing_upto c.args.flush start i behind) within (sym (there d)) c.args.notes.now.list.items old new
-            (subst (λ p. IsNotedIf (loses_in s c.args.revoked q) p old new) (ap (λ os. place_at os i d) c.loop-i.invariant.nodes)
-            (subst (λ b. IsNotedIf b (place_at c.loop-i.nodes i d) old new) lost ((note.noted d).added (c.loop-i.invariant.noted.asked ∙ asked))))
+            (subst (λ p. IsNotedIf (loses_in s c.args.revoked q) p old new) (ap (λ os. place_at os i d) (same_nodes ∙ c.loop-i.invariant.nodes))
+            (subst (λ b. IsNotedIf b (place_at c.if-is_short-2.nodes i d) old new) lost ((note.noted d).added (c.loop-i.invariant.noted.asked ∙ asked))))
             (c.loop-i.invariant.noted.added asked);
       };
     }

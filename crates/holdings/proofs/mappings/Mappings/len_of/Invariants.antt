@@ -1,10 +1,10 @@
 -- The pages are of the space.
-use Rattle.std.proofs.Common.{◌≡◌, ◌-◌}
+use Rattle.std.proofs.Common.{◌≤◌, ◌-◌}
 use Rattle.space.specs.Directory.{pages_of}
 use Rattle.holdings.proofs.mappings.Mappings.len_of.Given as goal
 
-abbrev pub invariant-loop-place : goal.invariant-loop-place
-invariant-loop-place l = l.from.space ≡ l.space
+abbrev pub invariant-loop-page : goal.invariant-loop-page
+invariant-loop-page l = l.page ≤ pages_of l.self.limits.bits
 
-abbrev pub decreases-loop-place : goal.decreases-loop-place
-decreases-loop-place l = pages_of l.self.limits.bits - l.from.page
+abbrev pub decreases-loop-page : goal.decreases-loop-page
+decreases-loop-page l = pages_of l.self.limits.bits - l.page

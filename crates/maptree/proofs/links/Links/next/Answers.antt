@@ -24,15 +24,11 @@ behind c =
 
 pub invariant_of-self-2 : goal.invariant_of-self-2
 invariant_of-self-2 c =
-    let kept = c.truncate.ensures.items ∙ ap (take c.at-node.result.depth) c.reserve.ensures.items in
-    let path = c.push_reserved.ensures.items ∙ ap (λ ps. ps ++ c.at-node.result.place ∷ []) kept in
     let size = ap length c.at-node.ensures.same in (
       omega (arith, size, c.self.invariant.0, c.if-self-len.false, c.len.ensures),
-      (λ j. links (reverse (path j)) (drop (c.self.inside.next + 1) (c.at-node.ensures.same j))) ∙ behind c,
+      (λ j. links (reverse (c.in_ok-origin.ensures.path j)) (drop (c.self.inside.next + 1) (c.at-node.ensures.same j))) ∙ behind c,
     )
 
 pub returns-clause-next : goal.returns-clause-next
 returns-clause-next c =
-    let kept = c.deref.ensures.value ∙ c.truncate.ensures.items ∙ ap (take c.at-node.result.depth) c.reserve.ensures.items in
-    let origin = c.copied-origin.ensures ∙ c.last.ensures.value ∙ ap (λ ps. slice_get ps (length ps - 1)) kept in
-    sym c.self.view_is ∙ step c ∙ (λ j. (c.at-node.result.place, sym origin j) ∷ behind c j)
+    sym c.self.view_is ∙ step c ∙ (λ j. (c.at-node.result.place, sym c.in_ok-origin.ensures.origin j) ∷ behind c j)

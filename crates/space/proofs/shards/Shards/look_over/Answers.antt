@@ -22,5 +22,5 @@ invariant_of-self c =
           (live_without s.live.items old start (omega (arith, c.start_of_shard-start.ensures))
           (λ i from before. ap (λ xs. slice_index xs i) (sym c.deref.ensures.value) ∙ c.holds_nothing.ensures c.if-holds_nothing.true i from before) (s.dead old held));
       each_run = s.each_run;
-      dead_runs = shard_dead s.directory s.live.items s.runs.items s.dead_runs (start / 64);
+      dead_runs = shard_dead s.directory.value s.live.items s.runs.items s.dead_runs (start / 64);
     }

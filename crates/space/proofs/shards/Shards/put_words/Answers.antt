@@ -22,11 +22,11 @@ invariant_of-self c =
     record {
       limits = s.limits;
       most = s.most;
-      packed = λ words is. subst (AreWords (count_of s.directory)) (same_Some c.args.words words is) (record { count = c.requires.count; packs = c.requires.packs });
+      packed = λ words is. subst (AreWords (count_of s.directory.value)) (same_Some c.args.words words is) (record { count = c.requires.count; packs = c.requires.packs });
       counted = ap length live_is ∙ many ∙ s.counted;
       dead = λ words is. subst (AreLive (with_items s.live live).items) (same_Some c.args.words words is)
-          (subst (λ xs. AreLive xs c.args.words) (sym live_is) (live_all (count_of s.directory) live c.args.words c.requires.count (many ∙ s.counted) c.revive_all.ensures.all));
+          (subst (λ xs. AreLive xs c.args.words) (sym live_is) (live_all (count_of s.directory.value) live c.args.words c.requires.count (many ∙ s.counted) c.revive_all.ensures.all));
       each_run = ap length runs_is ∙ each_run;
-      dead_runs = all_revived s.directory s.live.items s.runs.items s.dead_runs (with_items s.live live).items (with_items s.runs runs).items (ap length live_is ∙ many ∙ s.counted)
+      dead_runs = all_revived s.directory.value s.live.items s.runs.items s.dead_runs (with_items s.live live).items (with_items s.runs runs).items (ap length live_is ∙ many ∙ s.counted)
           (λ k. subst (λ xs. IsRevived (slice_index s.runs.items k) (slice_index xs k)) (sym runs_is) (subst (λ xs. IsRevived (slice_index xs k) (slice_index runs k)) c.deref_mut-2.ensures.value (c.revive_runs.ensures.all k)));
     }
