@@ -2,6 +2,7 @@
 #![tactic(auto)]
 
 mod audit;
+mod backward;
 mod checker;
 mod error;
 mod line;

@@ -1,14 +1,13 @@
 //! The text of an audit line.
 
-ghost use Rattle.std.specs.Prelude.{◌≡◌, ◌++◌, ◌≤◌, length, OnOk, codes, string_bytes};
-ghost use Rattle.std.specs.Fmt.{decimal};
+ghost use Rattle.std.specs.Prelude.{◌≡◌, ◌+◌, ◌++◌, ◌∷◌, ◌≤◌, length, OnOk};
 ghost use Rattle.space.specs.Place.{place_text};
-ghost use Rattle.model.specs.Definitions.Text.{audit_line, origin_text, rights_text, status_text};
+ghost use Rattle.model.specs.Definitions.Text.{audit_line, origin_text, rights_text, status_text, letter};
 ghost use Rattle.mapdb.specs.Held.{mapped_of};
 ghost use Rattle.audit.specs.Room.{TakesAtMost};
 
+use crate::backward::Backward;
 use fpage::Rights;
-use itoa::Buffer;
 pub use mapdb::Mapping as Line;
 use space::Place;
 use std::alloc::AllocError;
@@ -19,100 +18,83 @@ pub const LINE: usize = 32;
 /// How many bytes a line has at most.
 pub const LONGEST: usize = 64;
 
-/// Rights as three letters, a dash for each that is missing.
-fn rights_text(rights: Rights) -> &'static str
-    ensures text { result.now ≡ rights_text rights }
-    ensures short { length result.now ≤ 3 }
+/// Writes a letter, or a dash for one that is missing.
+fn put_letter(text: &mut Backward, is_there: bool, byte: u8)
+    requires { length text.old + 1 ≤ 64 }
+    ensures text { text.new ≡ letter is_there byte ∷ text.old }
 {
-    match (rights.read, rights.write, rights.execute) {
-        (false, false, false) => "---",
-        (false, false, true) => "--x",
-        (false, true, false) => "-w-",
-        (false, true, true) => "-wx",
-        (true, false, false) => "r--",
-        (true, false, true) => "r-x",
-        (true, true, false) => "rw-",
-        (true, true, true) => "rwx",
-    }
+    text.byte(if is_there { byte } else { b'-' });
 }
 
-/// A status as three capitals, a dash for each kind of access that was not seen.
-fn status_text(status: Rights) -> &'static str
-    ensures text { result.now ≡ status_text status }
-    ensures short { length result.now ≤ 3 }
+/// Writes rights as three letters.
+fn put_rights(text: &mut Backward, rights: Rights)
+    requires { length text.old + 3 ≤ 64 }
+    ensures text { text.new ≡ rights_text rights ++ text.old }
 {
-    match (status.read, status.write, status.execute) {
-        (false, false, false) => "---",
-        (false, false, true) => "--X",
-        (false, true, false) => "-W-",
-        (false, true, true) => "-WX",
-        (true, false, false) => "R--",
-        (true, false, true) => "R-X",
-        (true, true, false) => "RW-",
-        (true, true, true) => "RWX",
-    }
+    put_letter(text, rights.execute, b'x');
+    put_letter(text, rights.write, b'w');
+    put_letter(text, rights.read, b'r');
 }
 
-/// Appends a number in decimal digits.
-fn push_number(text: &mut String, number: u32) -> Result<(), AllocError>
-    ensures text { OnOk result (string_bytes text.new ≡ string_bytes text.old ++ decimal number) }
-    ensures room { TakesAtMost 10 result text.old text.new }
+/// Writes a status as three capitals.
+fn put_status(text: &mut Backward, status: Rights)
+    requires { length text.old + 3 ≤ 64 }
+    ensures text { text.new ≡ status_text status ++ text.old }
 {
-    let mut digits = Buffer::new();
-    text.push_str(digits.format(number))
+    put_letter(text, status.execute, b'X');
+    put_letter(text, status.write, b'W');
+    put_letter(text, status.read, b'R');
 }
 
-/// Appends a place.
-fn push_place(text: &mut String, place: Place) -> Result<(), AllocError>
-    ensures text { OnOk result (string_bytes text.new ≡ string_bytes text.old ++ place_text place) }
-    ensures room { TakesAtMost 21 result text.old text.new }
-{
-    push_number(text, u32::from(place.space))?;
-    text.push_str(":")?;
-    push_number(text, place.page)
-}
-
-/// Appends the place of an origin, or a dash for a root.
-fn push_origin(text: &mut String, origin: Option<Place>) -> Result<(), AllocError>
-    ensures text { OnOk result (string_bytes text.new ≡ string_bytes text.old ++ origin_text origin) }
-    ensures room { TakesAtMost 21 result text.old text.new }
+/// Writes the place of an origin, or a dash for a root.
+fn put_origin(text: &mut Backward, origin: Option<Place>)
+    requires { length text.old + 21 ≤ 64 }
+    ensures text { text.new ≡ origin_text origin ++ text.old }
+    ensures room { length text.new ≤ length text.old + 21 }
 {
     match origin {
-        None => text.push_str("-"),
-        Some(place) => push_place(text, place),
+        None => text.byte(b'-'),
+        Some(place) => put_place(text, place),
     }
 }
 
-/// Appends a number and a comma.
-fn push_number_cell(text: &mut String, number: u32) -> Result<(), AllocError>
-    ensures text { OnOk result (string_bytes text.new ≡ string_bytes text.old ++ decimal number ++ codes ",") }
-    ensures room { TakesAtMost 11 result text.old text.new }
+/// Writes a place.
+fn put_place(text: &mut Backward, place: Place)
+    requires { length text.old + 21 ≤ 64 }
+    ensures text { text.new ≡ place_text place ++ text.old }
+    ensures room { length text.new ≤ length text.old + 21 }
 {
-    push_number(text, number)?;
-    text.push_str(",")
+    text.number(place.page);
+    text.byte(b':');
+    text.number(u32::from(place.space));
 }
 
-/// Appends letters and a comma.
-fn push_letters(text: &mut String, letters: &str) -> Result<(), AllocError>
-    requires { length letters.now ≤ 3 }
-    ensures text { OnOk result (string_bytes text.new ≡ string_bytes text.old ++ letters.now ++ codes ",") }
-    ensures room { TakesAtMost 4 result text.old text.new }
+/// A mapping as it is written, with its line feed.
+fn line_text(line: &Line) -> Backward
+    ensures text { result ≡ audit_line (mapped_of line.now) }
+    ensures room { length result ≤ 64 }
 {
-    text.push_str(letters)?;
-    text.push_str(",")
+    let mut text = Backward::new();
+    text.byte(b'\n');
+    put_origin(&mut text, line.origin);
+    text.byte(b',');
+    put_status(&mut text, line.status);
+    text.byte(b',');
+    put_rights(&mut text, line.rights);
+    text.byte(b',');
+    text.number(line.frame);
+    text.byte(b',');
+    text.number(line.place.page);
+    text.byte(b',');
+    text.number(u32::from(line.place.space));
+    text
 }
 
 /// Appends a mapping as it is written, with its line feed. A line has at most 64 bytes, and takes no memory where there is
 /// room for them.
-pub fn push_line(text: &mut String, line: &Line) -> Result<(), AllocError>
-    ensures text { OnOk result (string_bytes text.new ≡ string_bytes text.old ++ audit_line (mapped_of line.now)) }
+pub fn push_line(text: &mut Vec<u8>, line: &Line) -> Result<(), AllocError>
+    ensures text { OnOk result (text.new.items ≡ text.old.items ++ audit_line (mapped_of line.now)) }
     ensures room { TakesAtMost 64 result text.old text.new }
 {
-    push_number_cell(text, u32::from(line.place.space))?;
-    push_number_cell(text, line.place.page)?;
-    push_number_cell(text, line.frame)?;
-    push_letters(text, rights_text(line.rights))?;
-    push_letters(text, status_text(line.status))?;
-    push_origin(text, line.origin)?;
-    text.push_str("\n")
+    text.extend_from_slice(line_text(line).text())
 }

@@ -1,6 +1,6 @@
 //! The text of an audit, part by part.
 
-ghost use Rattle.std.specs.Prelude.{◌≡◌, ◌++◌, ◌<◌, ◌≤◌, length, OnOk, IfOk, IfSome, IfNone, flat_map, string_bytes, string_len, string_capacity, IsOk};
+ghost use Rattle.std.specs.Prelude.{◌≡◌, ◌++◌, ◌<◌, ◌≤◌, length, OnOk, IfOk, IfSome, IfNone, flat_map, vec_len, vec_capacity, IsOk};
 ghost use Rattle.std.specs.List.{AllZip, All};
 ghost use Rattle.model.specs.Definitions.Text.{audit_lines};
 ghost use Rattle.mapdb.specs.Held.{held_from};
@@ -38,24 +38,24 @@ pub struct Report<'a> {
     /// The page of the next one from which on it is to be told.
     page: u32,
     /// The part at hand.
-    text: String,
+    text: Vec<u8>,
 }
 
 impl<'a> Model for Report<'a> {
-    ghost use Rattle.std.specs.Prelude.{◌≤◌, drop, length, string_bytes, string_capacity};
+    ghost use Rattle.std.specs.Prelude.{◌≤◌, drop, length, vec_capacity};
     ghost use Rattle.model.specs.Definitions.Text.{audit_lines};
     ghost use Rattle.mapdb.specs.Held.{held_from};
     ghost use Rattle.audit.specs.Parts.{Parts, left_of};
 
     ghost Value = { Parts };
 
-    ghost view = { λ r. record { part = string_bytes r.text; rest = audit_lines (left_of (held_from r.mappings) (drop r.told r.spaces.items) r.page) } };
+    ghost view = { λ r. record { part = r.text.items; rest = audit_lines (left_of (held_from r.mappings) (drop r.told r.spaces.items) r.page) } };
 
-    ghost invariant = { λ r. (r.told ≤ length r.spaces.items) × (64 ≤ string_capacity r.text) };
+    ghost invariant = { λ r. (r.told ≤ length r.spaces.items) × (64 ≤ vec_capacity r.text) };
 }
 
 impl<'a> Report<'a> {
-    ghost use Rattle.std.specs.Prelude.{◌≡◌, ◌<◌, ◌≤◌, ◌+◌, ◌++◌, ◌↔◌, ◌⊎◌, [], true, length, drop, IfOk, IfErr, IsErrOf, IsTrue, IsFalse, string_bytes};
+    ghost use Rattle.std.specs.Prelude.{◌≡◌, ◌<◌, ◌≤◌, ◌+◌, ◌++◌, ◌↔◌, ◌⊎◌, [], true, length, drop, IfOk, IfErr, IsErrOf, IsTrue, IsFalse};
     ghost use Rattle.model.specs.Definitions.Text.{audit_lines};
     ghost use Rattle.audit.specs.declared.error.AuditError.TheVariants.{Halted, NoMemory};
 
@@ -70,7 +70,7 @@ impl<'a> Report<'a> {
     {
         let mappings = database.by_place(alloc)?;
         let spaces = held_spaces(alloc, &mappings)?;
-        let text = String::with_capacity(alloc, LONGEST + mappings.len().min(PART) * LINE)?;
+        let text = Vec::with_capacity(alloc, LONGEST + mappings.len().min(PART) * LINE)?;
         Ok(Report {
             mappings,
             spaces,
@@ -84,7 +84,7 @@ impl<'a> Report<'a> {
     pub fn part(&self) -> &[u8]
         ensures { result.now ≡ self.now.part }
     {
-        self.text.as_bytes()
+        &self.text
     }
 
     /// Makes the next part. Returns false where there is none.
@@ -186,13 +186,13 @@ fn held_spaces(alloc: Global, mappings: &Mappings<'_>) -> Result<Vec<u16>, Alloc
 
 /// Appends the lines of the mappings of a space from a page on, while there is room. Returns the page from which on they are
 /// to be told next; none where all are.
-fn push_some(text: &mut String, mappings: &Mappings<'_>, from: Place) -> Option<u32>
-    requires { 64 ≤ string_capacity text.old }
-    ensures some { IfSome result (λ page. string_bytes text.old ++ audit_lines (held_from mappings.now from.space from.page)
-        ≡ string_bytes text.new ++ audit_lines (held_from mappings.now from.space page)) }
-    ensures all { IfNone result (string_bytes text.old ++ audit_lines (held_from mappings.now from.space from.page) ≡ string_bytes text.new) }
-    ensures room { string_capacity text.old ≤ string_capacity text.new }
-    ensures full { IfSome result (λ _. 0 < string_len text.new) }
+fn push_some(text: &mut Vec<u8>, mappings: &Mappings<'_>, from: Place) -> Option<u32>
+    requires { 64 ≤ vec_capacity text.old }
+    ensures some { IfSome result (λ page. text.old.items ++ audit_lines (held_from mappings.now from.space from.page)
+        ≡ text.new.items ++ audit_lines (held_from mappings.now from.space page)) }
+    ensures all { IfNone result (text.old.items ++ audit_lines (held_from mappings.now from.space from.page) ≡ text.new.items) }
+    ensures room { vec_capacity text.old ≤ vec_capacity text.new }
+    ensures full { IfSome result (λ _. 0 < vec_len text.new) }
 {
     let mut from = from;
     while text.capacity() - text.len() >= LONGEST {
@@ -212,13 +212,13 @@ fn space_texts(
     alloc: Global,
     mappings: &Mappings<'_>,
     spaces: &[u16],
-) -> Result<Vec<Result<String, AllocError>>, AllocError>
+) -> Result<Vec<Result<Vec<u8>, AllocError>>, AllocError>
     ensures { IfOk result (λ texts. AllZip (λ space text. IsTextOf (held_from mappings.now space 0) text) spaces.now texts.items) }
 {
     spaces
         .par_iter()
         .map(
-            |space: &u16| -> Result<String, AllocError>
+            |space: &u16| -> Result<Vec<u8>, AllocError>
                 ensures { IsTextOf (held_from mappings.entry.now space.now 0) result }
             { space_text(alloc, mappings, *space) },
         )
@@ -227,18 +227,18 @@ fn space_texts(
 }
 
 /// The text of the mappings of a space.
-fn space_text(alloc: Global, mappings: &Mappings<'_>, space: u16) -> Result<String, AllocError>
+fn space_text(alloc: Global, mappings: &Mappings<'_>, space: u16) -> Result<Vec<u8>, AllocError>
     ensures { IsTextOf (held_from mappings.now space 0) result }
 {
     let room = mappings.len_of(space).saturating_mul(LINE);
-    let mut text = String::with_capacity(alloc, room)?;
+    let mut text = Vec::with_capacity(alloc, room)?;
     push_space(&mut text, mappings, space)?;
     Ok(text)
 }
 
 /// Appends the text of the mappings of a space.
-fn push_space(text: &mut String, mappings: &Mappings<'_>, space: u16) -> Result<(), AllocError>
-    ensures { OnOk result (string_bytes text.new ≡ string_bytes text.old ++ audit_lines (held_from mappings.now space 0)) }
+fn push_space(text: &mut Vec<u8>, mappings: &Mappings<'_>, space: u16) -> Result<(), AllocError>
+    ensures { OnOk result (text.new.items ≡ text.old.items ++ audit_lines (held_from mappings.now space 0)) }
 {
     let mut from = Place { space, page: 0 };
     while let Some(line) = mappings.next_from(from) {
@@ -249,14 +249,14 @@ fn push_space(text: &mut String, mappings: &Mappings<'_>, space: u16) -> Result<
 }
 
 /// Appends texts one after another, if memory sufficed for each.
-fn push_texts(whole: &mut String, texts: &[Result<String, AllocError>]) -> Result<(), AllocError>
-    ensures whole { OnOk result (string_bytes whole.new ≡ string_bytes whole.old ++ flat_map bytes_in texts.now) }
+fn push_texts(whole: &mut Vec<u8>, texts: &[Result<Vec<u8>, AllocError>]) -> Result<(), AllocError>
+    ensures whole { OnOk result (whole.new.items ≡ whole.old.items ++ flat_map bytes_in texts.now) }
     ensures all { OnOk result (All IsOk texts.now) }
-    ensures room { string_capacity whole.old ≤ string_capacity whole.new }
+    ensures room { vec_capacity whole.old ≤ vec_capacity whole.new }
 {
     for text in texts {
         match text {
-            Ok(text) => whole.push_str(text.as_str())?,
+            Ok(text) => whole.extend_from_slice(text)?,
             Err(error) => return Err(*error),
         }
     }

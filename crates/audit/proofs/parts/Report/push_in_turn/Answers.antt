@@ -1,5 +1,5 @@
 -- Space after space.
-use Rattle.std.proofs.Common.{◌++◌, ◌∙◌, sym, ap, arith, string_bytes}
+use Rattle.std.proofs.Common.{◌++◌, ◌∙◌, sym, ap, arith}
 use Rattle.mapdb.specs.Held.{held_from}
 use Rattle.audit.proofs.Told.{some_told, space_told}
 use Rattle.audit.proofs.parts.Report.push_in_turn.Goals as goal
@@ -19,7 +19,7 @@ invariant_of-self-in-Some c = (c.loop-self.invariant.0, omega (arith, c.loop-sel
 pub returns-in-Some-clause-parts : goal.returns-in-Some-clause-parts
 returns-in-Some-clause-parts c =
     let r = c.loop-self.self-inside in
-    c.loop-self.invariant.2 ∙ some_told (held_from r.mappings) r.spaces.items r.told r.page c.index.result.now (omega (arith, c.loop-self-test.true, c.len.ensures)) c.index.ensures (string_bytes r.text) (string_bytes c.push_some-next.new.text) c.in-Some.page c.in-Some.ensures.some
+    c.loop-self.invariant.2 ∙ some_told (held_from r.mappings) r.spaces.items r.told r.page c.index.result.now (omega (arith, c.loop-self-test.true, c.len.ensures)) c.index.ensures r.text.items c.push_some-next.new.text.items c.in-Some.page c.in-Some.ensures.some
 
 pub invariant_of-self-then-not-is_empty : goal.invariant_of-self-then-not-is_empty
 invariant_of-self-then-not-is_empty c = (omega (arith, c.loop-self-test.true), omega (arith, c.loop-self.invariant.1, c.push_some-next.ensures.room))
@@ -27,7 +27,7 @@ invariant_of-self-then-not-is_empty c = (omega (arith, c.loop-self-test.true), o
 pub returns-then-not-is_empty-clause-parts : goal.returns-then-not-is_empty-clause-parts
 returns-then-not-is_empty-clause-parts c =
     let r = c.loop-self.self-inside in
-    c.loop-self.invariant.2 ∙ space_told (held_from r.mappings) r.spaces.items r.told r.page c.index.result.now (omega (arith, c.loop-self-test.true, c.len.ensures)) c.index.ensures (string_bytes r.text) (string_bytes c.push_some-next.new.text) c.in_default.ensures.all
+    c.loop-self.invariant.2 ∙ space_told (held_from r.mappings) r.spaces.items r.told r.page c.index.result.now (omega (arith, c.loop-self-test.true, c.len.ensures)) c.index.ensures r.text.items c.push_some-next.new.text.items c.in_default.ensures.all
 
 pub loop-self-smaller : goal.loop-self-smaller
 loop-self-smaller c = omega (arith, c.loop-self-test.true)
@@ -37,7 +37,7 @@ loop-self-preserved c =
     let r = c.loop-self.self-inside in (
       omega (arith, c.loop-self-test.true),
       omega (arith, c.loop-self.invariant.1, c.push_some-next.ensures.room),
-      c.loop-self.invariant.2 ∙ space_told (held_from r.mappings) r.spaces.items r.told r.page c.index.result.now (omega (arith, c.loop-self-test.true, c.len.ensures)) c.index.ensures (string_bytes r.text) (string_bytes c.push_some-next.new.text) c.in_default.ensures.all,
+      c.loop-self.invariant.2 ∙ space_told (held_from r.mappings) r.spaces.items r.told r.page c.index.result.now (omega (arith, c.loop-self-test.true, c.len.ensures)) c.index.ensures r.text.items c.push_some-next.new.text.items c.in_default.ensures.all,
     )
 
 pub returns-clause-parts : goal.returns-clause-parts
