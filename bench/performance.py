@@ -145,8 +145,8 @@ class Bench:
         if peak > 4096:
             sys.exit(f"performance.py: the program `true` is measured with {peak} KiB")
 
-    def trace(self, records, header=HEADER):
-        path = self.path("trace.csv")
+    def trace(self, records, header=HEADER, name="trace.csv"):
+        path = self.path(name)
         with open(path, "w", encoding="ascii") as it:
             it.writelines(record + "\n" for record in (header, *records))
         return path

@@ -3,11 +3,11 @@
 //!
 //! Mappings stand in one vector, as a tree with pointers: each knows its origin, the first one below it, and its
 //! neighbours below the same origin. A hash map leads from a place to its mapping. Records are read one by one from a
-//! buffer, and what is written is gathered in another.
+//! buffer, and what is written is gathered in another, but for a terminal, which gets each line at once.
 
 use std::collections::HashMap;
 use std::hash::{BuildHasherDefault, Hasher};
-use std::io::{self, Read, Write};
+use std::io::{self, IsTerminal, Read, Write};
 use std::process::ExitCode;
 
 /// The number of a space, and in the lowest bits the page.
@@ -33,7 +33,9 @@ fn place_of(space: u32, page: u32) -> Place {
 }
 
 fn main() -> ExitCode {
-    match run(io::stdin().lock(), io::stdout().lock()) {
+    let output = io::stdout().lock();
+    let block = if output.is_terminal() { 1 } else { BLOCK };
+    match run(io::stdin().lock(), Output::new(output, block)) {
         Ok(None) => ExitCode::SUCCESS,
         Ok(Some(fault)) => {
             eprintln!("l4map: {fault}");
@@ -44,14 +46,14 @@ fn main() -> ExitCode {
 }
 
 /// Answers a trace; the fault of its header, if it has one.
-fn run(source: impl Read, sink: impl Write) -> io::Result<Option<Name>> {
+fn run(source: impl Read, output: Output<impl Write>) -> io::Result<Option<Name>> {
     let mut records = Records::new(source);
     let header = if records.next()? { limits(&records) } else { Err("BadHeader") };
     let limits = match header {
         Ok(limits) => limits,
         Err(fault) => return Ok(Some(fault)),
     };
-    let mut replay = Replay { database: Database::new(&limits), limits, output: Output::new(sink), words: Vec::new() };
+    let mut replay = Replay { database: Database::new(&limits), limits, output, words: Vec::new() };
     let (mut answered, mut refused) = (0, 0);
     while records.next()? {
         answered += 1;
@@ -671,15 +673,16 @@ impl<W: Write> Replay<W> {
     }
 }
 
-/// Lines, which are passed on in blocks.
+/// Lines, which are passed on in blocks of so many bytes, or a line more.
 struct Output<W> {
     sink: W,
     lines: Vec<u8>,
+    block: usize,
 }
 
 impl<W: Write> Output<W> {
-    fn new(sink: W) -> Self {
-        Output { sink, lines: Vec::with_capacity(2 * BLOCK) }
+    fn new(sink: W, block: usize) -> Self {
+        Output { sink, lines: Vec::with_capacity(2 * BLOCK), block }
     }
 
     fn text(&mut self, text: &[u8]) {
@@ -720,7 +723,7 @@ impl<W: Write> Output<W> {
 
     fn end_line(&mut self) -> io::Result<()> {
         self.lines.push(b'\n');
-        if self.lines.len() >= BLOCK { self.flush() } else { Ok(()) }
+        if self.lines.len() >= self.block { self.flush() } else { Ok(()) }
     }
 
     fn flush(&mut self) -> io::Result<()> {

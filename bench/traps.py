@@ -5,10 +5,12 @@
 
 PROGRAM is crates/l4map/out/l4map, which build.sh makes, if it is not given; the other is plain.rs. Both run with one
 worker, if the trap does not say otherwise, in turn, and must write the same bytes. Each trap has four sizes. First the
-mappings are made that it needs, then come its calls: a time is what the calls take beyond a run that only makes the
-mappings, for each record. One table in Markdown is printed, and behind it what pieces of one node take. An exponent is
-that of the time of a record from the smallest size to the largest: 0 where a record takes as long, and 1 where it takes
-twice as long at twice the size. A trap ends where a run takes longer than LIMIT seconds. Nothing here has a threshold.
+mappings are made that it needs, then come its calls. Short calls take what they take beyond a run that only makes the
+mappings, in processor time; long ones write to a terminal, and take from the reply before them to their own, by the
+clock. Each is the least of RUNS runs, for each record. One table in Markdown is printed, and behind it what pieces of
+one node take. An exponent is that of the time of a record from the smallest size to the largest: 0 where a record takes
+as long, and 1 where it takes twice as long at twice the size. A trap ends where a run takes longer than LIMIT seconds.
+Nothing here has a threshold.
 """
 
 import math
@@ -21,9 +23,10 @@ from typing import Callable, NamedTuple
 HERE = os.path.dirname(os.path.abspath(__file__))
 sys.path.insert(0, HERE)
 from bench import ALL_PAGES, PAGES, TOP, flush, send, unmap  # noqa: E402
-from performance import ONE_FRAME, ONE_WORKER, Bench, head, one_frame, progress, row  # noqa: E402
+from performance import ONE_FRAME, ONE_WORKER, Bench, head, least, one_frame, peak, progress, row  # noqa: E402
+from workers import ran  # noqa: E402
 
-RUNS = 3
+RUNS = 5
 SHARE = 20  # calls that take less than one such part of a run are not told from the rest of it
 LIMIT = 60  # seconds of a run of l4map, beyond which a trap has no larger size
 SPACES = 511  # beside space 0
@@ -142,14 +145,14 @@ def granted(spaces):
         items = (f",{page:x}00a,{page:x}0d7" for page in range(0, 2 * ITEMS, 2))
         return f"send,{sender},{receiver},10" + "".join(items)
 
-    return list(one_frame(spaces)), 2 * [record(1, LAST), record(LAST, 1)]
+    return list(one_frame(spaces)), 200 * [record(1, LAST), record(LAST, 1)]
 
 
 def partly_pruned(spaces):
     """A page with 600 mappings and more below it loses a right: one mapping goes, the others stay. The frame is at all
     pages of so many spaces."""
     records = [*one_frame(spaces), *(send(1, FREE, 0, page) for page in range(600))]
-    return records, 20 * [f"send,1,{LAST},10,8,{0xC0 | RIGHT:x}", unmap(1, 0xC0 | RIGHT)]
+    return records, 500 * [f"send,1,{LAST},10,8,{0xC0 | RIGHT:x}", unmap(1, 0xC0 | RIGHT)]
 
 
 def chain_grows(size):
@@ -192,12 +195,14 @@ def chains_go(size):
 
 
 class Trap(NamedTuple):
-    """What is asked for by a size, the sizes, how many mappings of the frame one of a size is, and arguments of l4map."""
+    """What is asked for by a size, the sizes, how many mappings of the frame one of a size is, whether calls are long,
+    and arguments of l4map."""
 
     name: str
     trace: Callable
     sizes: list[int]
     scale: int = 1
+    has_long_calls: bool = False
     arguments: list[str] = ONE_WORKER
 
 
@@ -210,40 +215,54 @@ TRAPS = [
     Trap("walk in the middle of a list", walk, BLOCKED),
     Trap("end of a list, again and again", end_again, [16_000, 32_000, 64_000, 128_000]),
     Trap("two of three siblings go", thinned, BLOCKED),
-    Trap("two of three spaces give all up", thinned_at_once, BLOCKED),
+    Trap("two of three spaces give all up", thinned_at_once, BLOCKED, 1, True),
     Trap("crowded places", crowded, [40_000, 80_000, 160_000, 320_000]),
-    Trap("pages of one frame granted at once", granted, WIDE, PAGES),
-    Trap("partial prune of 600", partly_pruned, WIDE, PAGES),
+    Trap("pages of one frame granted at once", granted, WIDE, PAGES, True),
+    Trap("partial prune of 600", partly_pruned, WIDE, PAGES, True),
     Trap("chain that is cut and grows", chain_grows, [25_000, 50_000, 100_000, 200_000]),
     Trap("chains of 64", chains_grow, LONG),
     Trap("each from any, and the audit", random_tree, LONG),
-    Trap("chains revoked by recursion", chains_go, BLOCKED, 1, ["--plain"]),
-    Trap("chains revoked in pieces of one", chains_go, LONG, 1, ["--workers", "64", "--piece", "1"]),
+    Trap("chains revoked by recursion", chains_go, BLOCKED, 1, True, ["--plain"]),
+    Trap("chains revoked in pieces of one", chains_go, LONG, 1, True, ["--workers", "64", "--piece", "1"]),
 ]
 
 
 class Measured(NamedTuple):
-    """Microseconds a record, if they can be told from the rest of the run; MiB; and seconds of the whole run."""
+    """Microseconds a record, if they can be told from the rest of the run; MiB; and seconds of processor time of it."""
 
     micros: float | None
     peak: float
     seconds: float
 
 
-def least(bench, words, trace):
-    runs = []
-    while len(runs) < RUNS and sum(run.processor for run in runs) < LIMIT * 1000:
-        runs.append(bench.run(words, trace))
-    return min(run.processor for run in runs), max(run.peak for run in runs)
+def beyond(bench, programs, made, calls):
+    """What the calls take by each program beyond a run that only makes the mappings."""
+    start = bench.trace(made, ONE_FRAME, "made.csv")
+    whole = bench.trace([*made, *calls], ONE_FRAME)
+    runs = [([], []) for _ in programs]
+    for _ in range(RUNS):
+        for words, (started, done) in zip(programs, runs):
+            if sum(run.processor for run in done) < LIMIT * 1000:
+                started.append(bench.run(words, start))
+                done.append(bench.run(words, whole))
+    for started, done in runs:
+        run = least(done)
+        taken = run - least(started)
+        micros = taken / len(calls) * 1000 if taken > run / SHARE else None
+        yield Measured(micros, peak(done) / 1024, run / 1000)
 
 
-def measured(bench, words, made, calls):
-    """What the calls take by one of the programs."""
-    start, _ = least(bench, words, bench.trace(made, ONE_FRAME))
-    whole, peak = least(bench, words, bench.trace([*made, *calls], ONE_FRAME))
-    taken = whole - start
-    micros = taken / len(calls) * 1000 if taken > whole / SHARE else None
-    return Measured(micros, peak / 1024, whole / 1000)
+def by_replies(bench, programs, made, calls):
+    """What the calls take by each program from the last reply before them to the last of theirs."""
+    trace = bench.trace([*made, *calls], ONE_FRAME)
+    taken = [[] for _ in programs]
+    for _ in range(RUNS):
+        for words, of_program in zip(programs, taken):
+            came = ran(words, trace, len(made) + len(calls)).came
+            of_program.append(came[-1] - came[len(made) - 1])
+    for words, of_program in zip(programs, taken):
+        whole = bench.run(words, trace)
+        yield Measured(min(of_program) / len(calls) * 1e6, whole.peak / 1024, whole.processor / 1000)
 
 
 def check_same(bench, ours, made, calls):
@@ -281,8 +300,10 @@ def report(bench, trap):
         made, calls = trap.trace(size)
         if number == 0:
             check_same(bench, words, made, calls)
-        ours.append(measured(bench, words, made, calls))
-        plain.append(measured(bench, bench.plain, made, calls))
+        measured = by_replies if trap.has_long_calls else beyond
+        of_ours, of_plain = measured(bench, [words, bench.plain], made, calls)
+        ours.append(of_ours)
+        plain.append(of_plain)
         is_last = size == trap.sizes[-1] or ours[-1].seconds > LIMIT
         exponents = (exponent(trap.sizes, ours), exponent(trap.sizes, plain)) if is_last else ("", "")
         row(

@@ -147,13 +147,12 @@ class Ran(NamedTuple):
     peak: int
 
 
-def ran(program, workers, trace, count):
-    """A run, ended when so many replies have come, so that there is no audit."""
+def ran(words, trace, count):
+    """A run of a program, ended when so many replies have come, so that there is no audit."""
     near, far = pty.openpty()
     tty.setraw(far)
     with open(trace, "rb") as source:
-        options = [program, "--workers", str(workers)]
-        process = subprocess.Popen(options, stdin=source, stdout=far, stderr=subprocess.DEVNULL)
+        process = subprocess.Popen(words, stdin=source, stdout=far, stderr=subprocess.DEVNULL)
     os.close(far)
     came = []
     while len(came) < count:
@@ -172,7 +171,7 @@ def runs_of(program, kind):
         runs = {workers: [] for workers in WORKERS}
         for _ in range(RUNS):
             for workers, done in runs.items():
-                done.append(ran(program, workers, trace, 1 + max(places)))
+                done.append(ran([program, "--workers", str(workers)], trace, 1 + max(places)))
         return runs, places
     finally:
         os.remove(trace)
