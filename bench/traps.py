@@ -262,7 +262,8 @@ def by_replies(bench, programs, made, calls):
             of_program.append(came[-1] - came[len(made) - 1])
     for words, of_program in zip(programs, taken):
         whole = bench.run(words, trace)
-        yield Measured(min(of_program) / len(calls) * 1e6, whole.peak / 1024, whole.processor / 1000)
+        # Replies that are read at once have nothing between them.
+        yield Measured(min(of_program) / len(calls) * 1e6 or None, whole.peak / 1024, whole.processor / 1000)
 
 
 def check_same(bench, ours, made, calls):

@@ -25,6 +25,7 @@ measurement. Nothing here has a threshold.
 import os
 import pty
 import random
+import signal
 import statistics
 import subprocess
 import sys
@@ -158,7 +159,7 @@ def ran(words, trace, count):
     while len(came) < count:
         lines = os.read(near, 65_536).count(b"\n")
         came += lines * [time.perf_counter()]
-    process.kill()
+    os.kill(process.pid, signal.SIGKILL)
     _, process.returncode, used = os.wait4(process.pid, 0)
     os.close(near)
     return Ran(came, 1e3 * (used.ru_utime + used.ru_stime), 1_024 * used.ru_maxrss)
