@@ -6,3 +6,4 @@ pub mod Frames
 pub mod HeldPages
 pub mod HeldSets
 pub mod LeftOfRuns
+pub mod GoneRuns

@@ -25,8 +25,8 @@ pub enum Passing {
     Moved,
 }
 
-/// Plans the pieces of the transfers whose source is held, in their order. Where they are many, the workers plan batches
-/// of them side by side.
+/// Plans the pieces of the transfers whose source is held, in their order. Where they are many, the workers plan
+/// batches of them side by side.
 ///
 /// Refused, where memory is: `NoMemory`.
 pub fn item_pieces<W: Workers>(

@@ -18,7 +18,7 @@ use crate::transfer_counts::TransferCounts;
 use crew::{CrewError, Workers};
 use fpage::{ItemKind, Rights};
 use maptree::Tree;
-use space::{Entry, Place, Shards};
+use space::{Place, Shards};
 use std::alloc::Global;
 
 impl Holdings {
@@ -76,11 +76,10 @@ fn move_page(shards: &mut Shards, source: Place, target: Place) -> TransferCount
     ensures lost { entry_at shards.old source ≡ None → IsPageLost shards.old shards.new (counts_of result) }
     ensures moved { (e : Entry) → entry_at shards.old source ≡ Some e → IsPageMoved shards.old shards.new source target e (counts_of result) }
 {
-    let Some(entry) = shards.get(source) else {
+    // With all rights let through it is as a mapping of the source, which has no status.
+    if !shards.put_mapped(source, target, Rights::all()) {
         return TransferCounts::one_lost();
-    };
+    }
     shards.set(source, None);
-    let status = Rights::none();
-    shards.set(target, Some(Entry { status, ..entry }));
     TransferCounts::one_linked()
 }

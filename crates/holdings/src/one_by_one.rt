@@ -28,7 +28,7 @@ use std::ops::Range;
 const FOUND_AT_ONCE: usize = 16;
 
 /// How many nodes are so few that their words are found one by one.
-const SHORT: usize = 8;
+const SHORT: usize = 32;
 
 /// For how many notes there is room at once, so that few do not take memory time and again.
 const FIRST_NOTES: usize = 32;

@@ -1,18 +1,18 @@
 //! A tree loses the places that hold nothing any more.
 
-ghost use Rattle.std.specs.Prelude.{◌≡◌, ◌≤◌, true, not, length, filter, IfOk, OnOk, IsFalse, [], ◌∷◌, IfSome};
-ghost use Rattle.std.specs.List.{All, list_all, slice_range};
+ghost use Rattle.std.specs.Prelude.{◌≡◌, ◌≤◌, true, not, length, IfOk, OnOk, IsFalse, [], ◌∷◌, IfSome};
+ghost use Rattle.std.specs.List.{All, list_all};
 ghost use Rattle.space.specs.Shards.{IsPlace, is_taken};
 ghost use Rattle.maptree.specs.Origins.{IsRun, AreRising};
 ghost use Rattle.space.specs.Slices.{nodes_of};
-ghost use Rattle.maptree.specs.Cuts.{outside, kept_of, count_of};
-ghost use Rattle.holdings.specs.Inner.Held.{has_as, has_entry};
-ghost use Rattle.holdings.specs.Inner.Stripping.{pruned, OriginsHaveEntries, IsLeft};
+ghost use Rattle.maptree.specs.Cuts.{outside, count_of};
+ghost use Rattle.holdings.specs.Inner.Held.{has_entry};
+ghost use Rattle.holdings.specs.Inner.Stripping.{pruned, AreGoneUpTo, OriginsHaveEntries, IsLeft};
 ghost use Rattle.holdings.specs.Inner.StripPlans.{AllCanBePruned, ArePruned, AreKeptNodes, count_in_runs, count_in_frames, in_frames};
 
 use maptree::Tree;
 use pieces::FrameRuns;
-use space::{NoMemory, Node, Shards, Slice};
+use space::{NoMemory, Shards, Slice};
 use std::alloc::{AllocError, Global};
 use std::ops::Range;
 
@@ -34,17 +34,66 @@ pub fn prune(
     requires origins { OriginsHaveEntries shards.now tree.old.links }
     ensures { OnOk result (tree.new.links ≡ pruned shards.now tree.old.links) }
 {
-    // Most calls take no page away, or all: a cut and a splice copy what is kept, and may copy the whole list of the tree.
-    if are_all(shards, tree, runs, true) {
-        return Ok(());
+    let gone = gone_runs(alloc, shards, tree, runs)?;
+    if !gone.is_empty() {
+        tree.remove(&gone);
     }
-    if are_all(shards, tree, runs, false) {
-        tree.remove(runs);
-        return Ok(());
+    Ok(())
+}
+
+/// The outermost runs of a tree whose places have no entry. They lie in these runs.
+///
+/// Refused, where memory is.
+fn gone_runs(
+    alloc: Global,
+    shards: &Shards,
+    tree: &Tree,
+    runs: &[Range<usize>],
+) -> Result<Vec<Range<usize>>, AllocError>
+    requires present { IsFalse (is_taken shards.now) }
+    requires places { All (λ o. IsPlace shards.now o.0) tree.now.links }
+    requires rising { AreRising 0 runs.now (length tree.now.links) }
+    requires runs { All (IsRun tree.now.links) runs.now }
+    requires outside { list_all (λ o. has_entry shards.now o.0) (outside 0 runs.now tree.now.links) ≡ true }
+    requires origins { OriginsHaveEntries shards.now tree.now.links }
+    ensures { IfOk result (λ gone. AreGoneUpTo shards.now tree.now.links (length tree.now.links) gone.items) }
+{
+    let mut gone = Vec::new(alloc);
+    for run in runs {
+        add_gone(shards, tree, run, &mut gone)?;
     }
-    let parts = tree.cut(alloc, runs, usize::MAX)?;
-    let kept = held_parts(alloc, shards, &parts)?;
-    tree.splice(kept)
+    Ok(gone)
+}
+
+/// Adds those of one run to those before it.
+fn add_gone(
+    shards: &Shards,
+    tree: &Tree,
+    run: &Range<usize>,
+    gone: &mut Vec<Range<usize>>,
+) -> Result<(), AllocError>
+    requires present { IsFalse (is_taken shards.now) }
+    requires places { All (λ o. IsPlace shards.now o.0) tree.now.links }
+    requires run { IsRun tree.now.links run.now }
+    requires some { run.now.start ≤ run.now.end }
+    requires within { run.now.end ≤ length tree.now.links }
+    requires origins { OriginsHaveEntries shards.now tree.now.links }
+    requires before { AreGoneUpTo shards.now tree.now.links run.now.start gone.old.items }
+    ensures { OnOk result (AreGoneUpTo shards.now tree.now.links run.now.end gone.new.items) }
+{
+    let mut nodes = tree.nodes();
+    let mut i = run.start;
+    while i < run.end {
+        if shards.get(nodes.at(i).place).is_some() {
+            i += 1;
+        } else {
+            // With a place goes what derives from it.
+            let its_run = tree.run_of(i);
+            i = its_run.end;
+            gone.push(its_run)?;
+        }
+    }
+    Ok(())
 }
 
 /// What is known to be left of the places of a run.
@@ -242,64 +291,4 @@ fn count_in_runs(runs: &[Range<usize>]) -> Option<usize>
         count = count.checked_add(run.end - run.start)?;
     }
     Some(count)
-}
-
-/// Whether each place of these runs has an entry; without `held`, whether none has.
-fn are_all(shards: &Shards, tree: &Tree, runs: &[Range<usize>], held: bool) -> bool
-    requires present { IsFalse (is_taken shards.now) }
-    requires places { All (λ o. IsPlace shards.now o.0) tree.now.links }
-    requires within { All (λ run. run.end ≤ length tree.now.links) runs.now }
-    ensures { result ≡ list_all (λ run. list_all (λ o. has_as held shards.now o.0) (slice_range tree.now.links run.start run.end)) runs.now }
-{
-    for run in runs {
-        if !is_all(shards, tree, run, held) {
-            return false;
-        }
-    }
-    true
-}
-
-/// The same of one run.
-fn is_all(shards: &Shards, tree: &Tree, run: &Range<usize>, held: bool) -> bool
-    requires present { IsFalse (is_taken shards.now) }
-    requires places { All (λ o. IsPlace shards.now o.0) tree.now.links }
-    requires within { run.now.end ≤ length tree.now.links }
-    ensures { result ≡ list_all (λ o. has_as held shards.now o.0) (slice_range tree.now.links run.now.start run.now.end) }
-{
-    let mut nodes = tree.nodes();
-    for i in run.start..run.end {
-        if shards.get(nodes.at(i).place).is_some() != held {
-            return false;
-        }
-    }
-    true
-}
-
-/// The nodes of each part whose places have an entry.
-fn held_parts(alloc: Global, shards: &Shards, parts: &[Slice]) -> Result<Vec<Slice>, AllocError>
-    requires present { IsFalse (is_taken shards.now) }
-    requires places { All (λ s. All (λ n. IsPlace shards.now n.place) s.nodes.items) parts.now }
-    ensures { IfOk result (λ kept. nodes_of kept.items ≡ kept_of (has_entry shards.now) (nodes_of parts.now)) }
-{
-    let mut kept = Vec::with_capacity(alloc, parts.len())?;
-    for part in parts {
-        let nodes = held_nodes(alloc, shards, &part.nodes)?;
-        kept.push(Slice { nodes })?;
-    }
-    Ok(kept)
-}
-
-/// The nodes whose places have an entry.
-fn held_nodes(alloc: Global, shards: &Shards, nodes: &[Node]) -> Result<Vec<Node>, AllocError>
-    requires present { IsFalse (is_taken shards.now) }
-    requires places { All (λ n. IsPlace shards.now n.place) nodes.now }
-    ensures { IfOk result (λ kept. kept.items ≡ filter (λ n. has_entry shards.now n.place) nodes.now) }
-{
-    let mut kept = Vec::with_capacity(alloc, nodes.len())?;
-    for node in nodes {
-        if shards.get(node.place).is_some() {
-            kept.push(*node)?;
-        }
-    }
-    Ok(kept)
 }

@@ -14,6 +14,9 @@ use space::Place;
 use std::alloc::{AllocError, Global};
 use std::ops::Range;
 
+/// For how many transfers there is room at once, so that few do not take memory time and again.
+const FIRST_TRANSFERS: usize = 64;
+
 /// What is to be done for an item.
 #[derive(Drop)]
 pub struct Plan {
@@ -38,7 +41,7 @@ pub fn plan_item(alloc: Global, held: &Holdings, pages: &ItemPages) -> Result<Pl
     let _ = held.limits();
     let mut plan = Plan {
         decided: SendReply::none(),
-        transfers: Vec::new(alloc),
+        transfers: Vec::with_capacity(alloc, FIRST_TRANSFERS.min(pages.count as usize))?,
         in_vain: 0,
     };
     let mut i = 0;

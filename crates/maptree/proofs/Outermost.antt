@@ -127,20 +127,20 @@ run_within (n ∷ ns) (suc i) within = let rest = run_within ns i (omega (arith,
 
 -- ---- ranges
 
-rising_more : (from : ℕ) (rs : List (Range ℕ)) (a b : ℕ) → AreRising from rs a → a ≤ b → AreRising from rs b
+pub rising_more : (from : ℕ) (rs : List (Range ℕ)) (a b : ℕ) → AreRising from rs a → a ≤ b → AreRising from rs b
 rising_more from [] a b rising upto = omega (arith, rising, upto)
 rising_more from (r ∷ rs) a b rising upto = (rising.0, rising.1, rising_more r.end rs a b rising.2 upto)
 
-rising_push : (from : ℕ) (rs : List (Range ℕ)) (r : Range ℕ) → AreRising from rs r.start → r.start < r.end → AreRising from (rs ++ r ∷ []) r.end
+pub rising_push : (from : ℕ) (rs : List (Range ℕ)) (r : Range ℕ) → AreRising from rs r.start → r.start < r.end → AreRising from (rs ++ r ∷ []) r.end
 rising_push from [] r rising some = (rising, some, omega arith)
 rising_push from (x ∷ rs) r rising some = (rising.0, rising.1, rising_push x.end rs r rising.2 some)
 
-lies_front : (j : ℕ) (rs : List (Range ℕ)) (r : Range ℕ) → LiesInOne j rs → LiesInOne j (rs ++ r ∷ [])
+pub lies_front : (j : ℕ) (rs : List (Range ℕ)) (r : Range ℕ) → LiesInOne j rs → LiesInOne j (rs ++ r ∷ [])
 lies_front j [] r k = absurd k
 lies_front j (x ∷ rs) r (inl here) = inl here
 lies_front j (x ∷ rs) r (inr k) = inr (lies_front j rs r k)
 
-lies_last : (j : ℕ) (rs : List (Range ℕ)) (r : Range ℕ) → r.start ≤ j → j < r.end → LiesInOne j (rs ++ r ∷ [])
+pub lies_last : (j : ℕ) (rs : List (Range ℕ)) (r : Range ℕ) → r.start ≤ j → j < r.end → LiesInOne j (rs ++ r ∷ [])
 lies_last j [] r more less = inl (more, less)
 lies_last j (x ∷ rs) r more less = inr (lies_last j rs r more less)
 

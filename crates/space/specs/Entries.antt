@@ -22,7 +22,7 @@ abbrev pub narrowed : Bool → Rights → Entry → Option Entry
 narrowed flush a e =
     if flush && is_empty (rights_left flush a e.rights) then None else Some (record e { rights = rights_left flush a e.rights; status = no_rights })
 
--- what a page gets to which another is mapped: of its rights those that are let through
+-- what a page gets to which another is mapped: of its rights those that are let through, and no status
 abbrev pub mapped : Rights → Entry → Entry
 mapped through e = record e { rights = meet e.rights through; status = no_rights }
 

@@ -437,6 +437,9 @@ impl Shards {
         let mut page = from;
         while page < end {
             let at = start + offset(Place { space, page });
+            if words[at] != 0 {
+                return page;
+            }
             let to = (start + SHARD_PAGES).min(at + (end - page) as usize);
             let absent = zeros(words, at, to);
             page += absent as u32;
@@ -628,6 +631,7 @@ impl Shards {
 
     /// Puts at a place what another place holds, with those of its rights that are let through, and no status. Returns
     /// whether that one holds anything; else nothing is put.
+    #[inline(always)]
     pub fn put_mapped(&mut self, source: Place, target: Place, through: Rights) -> bool
         requires source { IsPlace self.old source }
         requires target { IsPlace self.old target }

@@ -7,7 +7,6 @@ use Rattle.std.proofs.lemmas.List.{take_more, take_all, drop_more, drop_all}
 use Rattle.std.proofs.lemmas.List.Folds.{list_any-append}
 use Rattle.std.proofs.lemmas.List.Elements.{All-nil, All-cons, All-head, All-tail, All-get_or, All-take}
 use Rattle.std.proofs.lemmas.Option.{same_Some}
-use Rattle.fpage.specs.declared.rights.Rights.{Rights}
 use Rattle.fpage.specs.Rights.{no_rights}
 use Rattle.space.specs.declared.place.Place.{Place}
 use Rattle.space.specs.declared.place.Entry.{Entry}
@@ -112,21 +111,21 @@ spaces_at from to (suc i) (t ∷ ts) d paired within = spaces_at from to i ts d 
 
 -- ---- one word
 
--- the word of the source is taken, and then put at the target
-pub page_moved : (old middle new : Shards) (source target : Place) (e : Entry) (status : Rights) (one : Counts) → IsPlace old source → IsPlace old target → same_place source target ≡ false
-    → IsWordSet old middle source None → IsWordSet middle new target (Some (record { frame = e.frame; rights = e.rights; status = status })) → status ≡ no_rights → one ≡ counts_of goes true → IsPageMoved old new source target e one
-page_moved old middle new source target e status one source_in target_in apart taken put none counted = record {
-  gone = entry_elsewhere middle new [] target (Some (record { frame = e.frame; rights = e.rights; status = status })) put.set source (place_kept old middle taken.layout source source_in) apart ∙ taken.set.there;
-  there = put.set.there ∙ ap (λ r. Some (record { frame = e.frame; rights = e.rights; status = r })) none;
+-- the word of the source is put at the target, and then taken
+pub page_moved : (old middle new : Shards) (source target : Place) (e : Entry) (one : Counts) → IsPlace old source → IsPlace old target → same_place source target ≡ false
+    → IsWordSet old middle target (Some (record { frame = e.frame; rights = e.rights; status = no_rights })) → IsWordSet middle new source None → one ≡ counts_of goes true → IsPageMoved old new source target e one
+page_moved old middle new source target e one source_in target_in apart put taken counted = record {
+  gone = taken.set.there;
+  there = entry_elsewhere middle new [] source None taken.set target (place_kept old middle put.layout target target_in) (apart_back source target apart) ∙ put.set.there;
   elsewhere = λ p place not_source not_target.
-      entry_elsewhere middle new [] target (Some (record { frame = e.frame; rights = e.rights; status = status })) put.set p (place_kept old middle taken.layout p place) not_target
-      ∙ entry_elsewhere old middle [] source None taken.set p place not_source;
-  present = put.present;
+      entry_elsewhere middle new [] source None taken.set p (place_kept old middle put.layout p place) not_source
+      ∙ entry_elsewhere old middle [] target (Some (record { frame = e.frame; rights = e.rights; status = no_rights })) put.set p place not_target;
+  present = taken.present;
   layout = record {
-    spaces = put.layout.spaces ∙ taken.layout.spaces;
-    bits = put.layout.bits ∙ taken.layout.bits;
-    count = put.layout.count ∙ taken.layout.count;
-    index = λ p. put.layout.index p ∙ taken.layout.index p;
+    spaces = taken.layout.spaces ∙ put.layout.spaces;
+    bits = taken.layout.bits ∙ put.layout.bits;
+    count = taken.layout.count ∙ put.layout.count;
+    index = λ p. taken.layout.index p ∙ put.layout.index p;
   };
   counted = counted;
 }

@@ -2,7 +2,7 @@
 -- frame.
 use Rattle.std.specs.List.{slice_get}
 use Rattle.std.specs.Option.{option_map_or}
-use Rattle.std.specs.Prelude.{ℕ, List, length, Option, Some, None, ◌==◌, ◌&&◌, nat_lt, Bool, true, false, not, if◌then◌else◌, [], option_map, is_some, ◌∷◌}
+use Rattle.std.specs.Prelude.{ℕ, List, length, Option, Some, None, ◌==◌, ◌&&◌, nat_lt, Bool, false, if◌then◌else◌, [], option_map, is_some, ◌∷◌}
 use Rattle.space.specs.Directory.{pages_of}
 use Rattle.space.specs.Shards.{entry_at, index_of, word_count, spaces_of, bits_of}
 use Rattle.space.specs.declared.place.Entry.{Entry}
@@ -39,11 +39,6 @@ held_at shards trees p = option_map (held_of trees p) (entry_at shards p)
 -- whether a place has an entry
 abbrev pub has_entry : Shards → Place → Bool
 has_entry shards p = is_some (entry_at shards p)
-
--- whether a place has an entry, or has none
-abbrev pub has_as : Bool → Shards → Place → Bool
-has_as true s p = has_entry s p
-has_as false s p = not (has_entry s p)
 
 -- whether what stands at a place is a page of the frame
 abbrev pub has_frame : ℕ → Option Entry → Bool

@@ -48,7 +48,8 @@ pub record ArePieces {A : Type 0} (make : List A → Piece) (xs : List A) (ps : 
   pub are : ps ≡ map make parts
   pub joined : joined parts ≡ xs
 
--- pieces of the pages of an item whose source is held, in this order: stores where the pages are mapped, pairs where they move
+-- pieces of the pages of an item whose source is held, in this order: stores where the pages are mapped, pairs where they
+-- move
 abbrev pub AreItemPieces : Passing → Shards → List Transfer → List Piece → Type 0
 AreItemPieces (Mapped rights) s ts ps = ArePieces piece.Link (stores_of s rights ts) ps
 AreItemPieces Moved s ts ps = ArePieces piece.Move (word_pairs s ts) ps

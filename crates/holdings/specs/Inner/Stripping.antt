@@ -1,13 +1,13 @@
 -- The pages that are stripped, and a tree of which some are gone.
 use Rattle.std.specs.List.{list_any, list_all, slice_range, All}
-use Rattle.std.specs.Prelude.{◌≡◌, ℕ, ◌+◌, ◌≤◌, ◌==◌, Bool, true, not, List, Some, ◌&&◌, map, filter, if◌then◌else◌}
+use Rattle.std.specs.Prelude.{◌≡◌, ℕ, ◌+◌, ◌<◌, ◌≤◌, ◌==◌, Bool, true, not, List, Some, ◌&&◌, map, filter, if◌then◌else◌}
 use Rattle.std.specs.declared.ops.Range.{Range}
 use Rattle.space.specs.Place.{same_place}
 use Rattle.space.specs.Shards.{entry_at}
 use Rattle.space.specs.declared.place.Entry.{Entry}
 use Rattle.space.specs.declared.place.Place.{Place}
 use Rattle.space.specs.declared.shards.Shards.{Shards}
-use Rattle.maptree.specs.Origins.{Origins, Shape, origin_in, place_at}
+use Rattle.maptree.specs.Origins.{Origins, Shape, origin_in, place_at, AreRising, IsRun, LiesInOne}
 use Rattle.model.specs.Definitions.Holdings.{PlaceSet}
 use Rattle.holdings.specs.Inner.Held.{is_place, has_entry, has_frame, limits_in}
 use Rattle.holdings.specs.Places.{any_of}
@@ -46,6 +46,14 @@ OriginsHaveEntries shards os = (p o : Place) → origin_in os p ≡ Some o → h
 -- a tree without the places that have no entry
 abbrev pub pruned : Shards → Origins → Origins
 pruned shards os = filter (λ o. has_entry shards o.0) os
+
+-- the places of runs of a tree, which end by a position, have no entry, and each place before it that lies in none of
+-- them has one
+pub record AreGoneUpTo (shards : Shards) (os : Origins) (to : ℕ) (runs : List (Range ℕ)) : Type 0 where
+  pub rising : AreRising 0 runs to
+  pub whole : All (IsRun os) runs
+  pub gone : list_all (λ r. list_all (λ o. not (has_entry shards o.0)) (slice_range os r.start r.end)) runs ≡ true
+  pub held : (j : ℕ) (d : Place) → j < to → (LiesInOne j runs → ⊥) → has_entry shards (place_at os j d) ≡ true
 
 -- what is known to be left of one place more, at a position
 abbrev pub with_next : Left → ℕ → Bool → Left

@@ -1,5 +1,5 @@
 -- An access of a page whose shard is there is answered by the next answer, another by a fault.
-use Rattle.std.proofs.Common.{◌≡◌, ◌∙◌, ◌+◌, ◌<◌, ◌≤◌, ◌++◌, ◌∷◌, [], Bool, List, ℕ, length, drop, get_or, map, true, false, sym, ap, if◌then◌else◌, arith}
+use Rattle.std.proofs.Common.{◌≡◌, ◌∙◌, ◌+◌, ◌<◌, ◌++◌, ◌∷◌, [], Bool, List, ℕ, length, drop, get_or, map, true, false, sym, ap, arith}
 use Rattle.std.proofs.lemmas.Bool.{ltb_from_iff}
 use Rattle.std.proofs.lemmas.List.{append_assoc, drop_more, drop-drop, get_or-drop}
 use Rattle.fpage.specs.declared.rights.Access.{Access}

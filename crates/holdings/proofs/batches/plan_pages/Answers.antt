@@ -1,5 +1,5 @@
 -- Each batch is planned by the function that was handed out.
-use Rattle.std.proofs.Common.{◌≡◌, ◌<◌, ◌+◌, ◌∙◌, length, ap, arith, subst, sym}
+use Rattle.std.proofs.Common.{◌<◌, ◌+◌, ◌∙◌, length, ap, arith, subst, sym}
 use Rattle.holdings.specs.Inner.StripPlans.{AreCuts, CanBePlanned}
 use Rattle.holdings.proofs.batches.plan_pages.OwnLists.{reads-pre-1-1, reads-post-1-1}
 use Rattle.holdings.proofs.batches.plan_pages.Goals as goal

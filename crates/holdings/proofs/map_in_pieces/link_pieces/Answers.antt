@@ -1,8 +1,8 @@
 -- The next transfers give pieces of their own.
-use Rattle.std.proofs.Common.{◌≡◌, ◌∙◌, ◌++◌, ◌∷◌, [], Bool, List, length, map, true, false, take, drop, refl, sym, ap, subst, arith, if◌then◌else◌}
+use Rattle.std.proofs.Common.{◌≡◌, ◌∙◌, ◌++◌, ◌∷◌, [], List, length, map, take, drop, refl, sym, ap, subst, arith}
 use Rattle.std.proofs.lemmas.Bool.{eqb-true}
 use Rattle.std.proofs.lemmas.List.Elements.{All-drop}
-use Rattle.std.proofs.lemmas.List.{map-append, take-append-drop}
+use Rattle.std.proofs.lemmas.List.{take-append-drop}
 use Rattle.fpage.specs.declared.rights.Rights.{Rights}
 use Rattle.std.specs.List.{All}
 use Rattle.space.specs.Shards.{IsPlace}
@@ -10,13 +10,9 @@ use Rattle.space.specs.Slices.{pieces}
 use Rattle.space.specs.declared.shards.Shards.{Shards}
 use Rattle.pieces.specs.Contents.{puts_of}
 use Rattle.pieces.specs.Distinct.{are_distinct}
-use Rattle.pieces.specs.DistinctParts.{distinct_split}
-use Rattle.pieces.specs.declared.link.Store.{Store}
-use Rattle.pieces.specs.declared.piece.Piece.{Piece}
 use Rattle.pieces.specs.declared.piece.Piece.TheVariants as piece
 use Rattle.holdings.specs.declared.transfer.Transfer.{Transfer}
-use Rattle.holdings.specs.Inner.Held.{has_entry}
-use Rattle.holdings.specs.Inner.Planning.{store_of, stores_of}
+use Rattle.holdings.specs.Inner.Planning.{stores_of}
 use Rattle.holdings.specs.Inner.Words.{IsThere}
 use Rattle.holdings.proofs.Phases.InParts.{IsCutUpTo, none_cut, more_cut, all_cut}
 use Rattle.holdings.proofs.Phases.ItemParts.{both_stores, stores_apart}

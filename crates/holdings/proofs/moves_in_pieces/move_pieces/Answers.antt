@@ -1,8 +1,7 @@
 -- The next transfers give pieces of their own.
-use Rattle.std.proofs.Common.{◌≡◌, ◌∙◌, ◌++◌, ◌∷◌, [], Bool, List, length, map, true, false, take, drop, refl, sym, ap, subst, arith, if◌then◌else◌}
+use Rattle.std.proofs.Common.{◌≡◌, ◌∙◌, ◌++◌, ◌∷◌, [], List, length, map, take, drop, refl, sym, ap, subst, arith}
 use Rattle.std.proofs.lemmas.Bool.{eqb-true}
 use Rattle.std.proofs.lemmas.List.Elements.{All-drop}
-use Rattle.std.proofs.lemmas.Grind.{flat_map-append}
 use Rattle.std.proofs.lemmas.List.{take-append-drop}
 use Rattle.std.specs.List.{All}
 use Rattle.space.specs.Shards.{IsPlace}
@@ -10,13 +9,9 @@ use Rattle.space.specs.Slices.{pieces}
 use Rattle.space.specs.declared.shards.Shards.{Shards}
 use Rattle.pieces.specs.Contents.{ends_of}
 use Rattle.pieces.specs.Distinct.{are_distinct}
-use Rattle.pieces.specs.DistinctParts.{distinct_split}
-use Rattle.pieces.specs.declared.moving.Pair.{Pair}
-use Rattle.pieces.specs.declared.piece.Piece.{Piece}
 use Rattle.pieces.specs.declared.piece.Piece.TheVariants as piece
 use Rattle.holdings.specs.declared.transfer.Transfer.{Transfer}
-use Rattle.holdings.specs.Inner.Held.{has_entry}
-use Rattle.holdings.specs.Inner.Planning.{word_pair, word_pairs}
+use Rattle.holdings.specs.Inner.Planning.{word_pairs}
 use Rattle.holdings.specs.Inner.Words.{IsThere}
 use Rattle.holdings.proofs.Phases.InParts.{IsCutUpTo, none_cut, more_cut, all_cut}
 use Rattle.holdings.proofs.Phases.ItemParts.{both_pairs, pairs_apart}

@@ -1,5 +1,5 @@
 -- One group of pages more.
-use Rattle.std.proofs.Common.{◌≡◌, ℕ, ◌-◌, ◌≤◌, ◌<◌, ◌++◌, ◌∷◌, [], List, drop, take, length, is_ok, if◌then◌else◌, refl, sym, ap, ◌∙◌, subst, arith}
+use Rattle.std.proofs.Common.{◌≡◌, ℕ, ◌-◌, ◌++◌, ◌∷◌, [], List, drop, take, is_ok, if◌then◌else◌, refl, sym, ap, ◌∙◌, subst, arith}
 use Rattle.std.specs.List.{slice_range, drop-map, take-map}
 use Rattle.maptree.specs.Origins.{AreOuterRuns}
 use Rattle.holdings.specs.declared.pages.HeldPage.{HeldPage}
