@@ -732,6 +732,19 @@ impl Shards {
         self.write(index, Some(entry.extended(rights)));
     }
 
+    /// What stands at a place, and which word is the place's.
+    #[inline]
+    pub fn get_with_index(&self, place: Place) -> Option<(Entry, usize)>
+        requires place { IsPlace self.now place }
+        requires present { IsFalse (is_taken self.now) }
+        ensures entry { option_map (λ r. r.0) result ≡ entry_at self.now place }
+        ensures index { IfSome result (λ r. r.1 ≡ index_of self.now place) }
+    {
+        let index = self.find(place);
+        let entry = self.read(index)?;
+        Some((entry, index))
+    }
+
     /// Which word is a page's, if the page is held.
     pub fn held_index(&self, place: Place) -> Option<usize>
         requires place { IsPlace self.now place }
