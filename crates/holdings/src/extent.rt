@@ -15,51 +15,63 @@ struct Extent {
     pieces: usize,
 }
 
+/// What is known of pages before they are stripped.
+#[derive(Clone, Copy)]
+pub(crate) struct Outlook {
+    /// Whether each has a greater frame than the one before it, so that none derives from another.
+    pub(crate) are_apart: bool,
+    /// How many mappings their trees have, each counted for each page; 0 where nothing is ever shared.
+    pub(crate) most_mappings: usize,
+}
+
 impl Holdings {
     ghost use Rattle.std.specs.Prelude.{◌≤◌};
     ghost use Rattle.std.specs.List.{All};
     ghost use Rattle.holdings.specs.Places.{IsWithin};
 
-    /// Whether each of these pages has a greater frame than the one before it, so that none derives from another.
-    pub(crate) fn are_apart(&self, places: &[Place]) -> bool
+    /// What one look at each of these pages tells of a strip of them.
+    pub(crate) fn outlook<W: Workers>(&self, places: &[Place], workers: &W) -> Outlook
         requires { All (IsWithin self.now.limits) places.now }
     {
+        // Where nothing is ever shared, nothing need be counted.
+        let is_ever_shared = workers.shared_from() != usize::MAX;
+        let mut outlook = Outlook {
+            are_apart: true,
+            most_mappings: 0,
+        };
+        if places.len() < 2 && !is_ever_shared {
+            return outlook;
+        }
         let mut last = None;
         for place in places {
             let Some(entry) = self.shards.get(*place) else {
                 continue;
             };
-            if last >= Some(entry.frame) {
-                return false;
-            }
+            outlook.are_apart = outlook.are_apart && last < Some(entry.frame);
             last = Some(entry.frame);
+            if is_ever_shared {
+                let mappings = self.trees[entry.frame as usize].len();
+                outlook.most_mappings = outlook.most_mappings.saturating_add(mappings);
+            }
         }
-        true
+        outlook
     }
 
-    /// Whether the calling thread strips these pages alone, of which none derives from another.
-    pub(crate) fn are_stripped_alone<W: Workers>(&self, places: &[Place], workers: &W) -> bool
+    /// Whether the calling thread strips these pages alone, of which none derives from another. So many mappings at most
+    /// are in their trees.
+    pub(crate) fn are_stripped_alone<W: Workers>(
+        &self,
+        places: &[Place],
+        most_mappings: usize,
+        workers: &W,
+    ) -> bool
         requires { All (IsWithin self.now.limits) places.now }
     {
-        // Where nothing is ever shared, nothing need be counted.
-        if workers.shared_from() == usize::MAX || is_small(self.most_mappings(places), workers) {
+        if is_small(most_mappings, workers) {
             return true;
         }
         let extent = self.extent(places, workers.piece_length());
         is_worked_alone(extent.mappings, extent.pieces, workers)
-    }
-
-    /// How many mappings the trees of these pages have, each counted for each page.
-    fn most_mappings(&self, places: &[Place]) -> usize
-        requires { All (IsWithin self.now.limits) places.now }
-    {
-        let mut most: usize = 0;
-        for place in places {
-            if let Some(entry) = self.shards.get(*place) {
-                most = most.saturating_add(self.trees[entry.frame as usize].len());
-            }
-        }
-        most
     }
 
     /// What a strip of these pages passes over, in pieces of at most so many mappings.

@@ -72,7 +72,7 @@ impl Holdings {
         notes.make_room(FIRST_NOTES)?;
         let mut status = Rights::none();
         for place in places {
-            let Some(entry) = shards.get(*place) else {
+            let Some((entry, index)) = shards.get_with_index(*place) else {
                 continue;
             };
             let frame = entry.frame as usize;
@@ -82,6 +82,7 @@ impl Holdings {
                 &mut trees,
                 frame,
                 *place,
+                index,
                 revoked,
                 flush,
                 notes,
@@ -93,13 +94,15 @@ impl Holdings {
     }
 }
 
-/// Strips a place, takes out of its tree what is gone then, and gives back the status that was gathered. Notes what changes.
+/// Strips a place, whose word has this index, takes out of its tree what is gone then, and gives back the status that was
+/// gathered. Notes what changes.
 fn strip_place(
     alloc: Global,
     shards: &mut Shards,
     trees: &mut [Tree],
     frame: usize,
     place: Place,
+    index: usize,
     revoked: Rights,
     flush: bool,
     notes: &mut Notes,
@@ -108,6 +111,7 @@ fn strip_place(
     requires sound { AreSound shards.old trees.old }
     requires frame { frame < length trees.old }
     requires listed { is_listed trees.old frame place ≡ true }
+    requires index { index ≡ index_of shards.old place }
     ensures status { IfOk result (λ status. status ≡ strip_word (holdings_in shards.old trees.old) (only place)) }
     ensures left { OnOk result (holdings_in shards.new trees.new ≡ strip (holdings_in shards.old trees.old) (only place) revoked flush) }
     ensures sound { OnOk result (AreSound shards.new trees.new) }
@@ -119,7 +123,7 @@ fn strip_place(
     let i = tree.find(place).unwrap();
     let run = tree.run_of(i);
     let stripped = strip_run(
-        alloc, shards, trees, frame, &run, revoked, flush, notes, order,
+        alloc, shards, trees, frame, &run, index, revoked, flush, notes, order,
     )?;
     prune_run(alloc, shards, &mut trees[frame], run, stripped.left)?;
     Ok(stripped.status)
@@ -133,15 +137,17 @@ struct Stripped {
     left: Left,
 }
 
-/// Strips the first place of a run: each of its places loses the rights, the first one if it is to, and its status is taken.
-/// What was taken is added to the status of the origin of the run. Gives back what was taken, and what is left of the places.
-/// Notes the places that lose a right. The tree stays: it may then list places that hold nothing.
+/// Strips the first place of a run, whose word has this index: each of its places loses the rights, the first one if it
+/// is to, and its status is taken. What was taken is added to the status of the origin of the run. Gives back what was
+/// taken, and what is left of the places. Notes the places that lose a right. The tree stays: it may then list places that
+/// hold nothing.
 fn strip_run(
     alloc: Global,
     shards: &mut Shards,
     trees: &[Tree],
     frame: usize,
     run: &Range<usize>,
+    index: usize,
     revoked: Rights,
     flush: bool,
     notes: &mut Notes,
@@ -152,6 +158,7 @@ fn strip_run(
     requires run { IsRun (links_in trees.now frame) run.now }
     requires some { run.now.start < run.now.end }
     requires within { run.now.end ≤ length (links_in trees.now frame) }
+    requires index { (d : Place) → index ≡ index_of shards.old (place_at (links_in trees.now frame) run.now.start d) }
     ensures status { IfOk result (λ stripped. (d : Place) → stripped.status ≡ strip_word (holdings_in shards.old trees.now) (only (place_at (links_in trees.now frame) run.now.start d))) }
     ensures left { OnOk result ((d : Place) → holdings_in shards.new trees.now ≡ strip (holdings_in shards.old trees.now) (only (place_at (links_in trees.now frame) run.now.start d)) revoked flush) }
     ensures loose { OnOk result (AreLoose shards.new trees.now) }
@@ -165,8 +172,7 @@ fn strip_run(
     let tree = &trees[frame];
     tree.learn_places_are_distinct();
     let mut nodes = tree.nodes();
-    let first = nodes.at(run.start).place;
-    let narrowed = shards.narrow(first, revoked, flush);
+    let narrowed = shards.narrow_at(index, revoked, flush);
     note_lost(&mut nodes, run.start, flush && narrowed.lost, notes)?;
     let mut status = narrowed.status;
     let mut left = Left::of_none(run.start).with_next(run.start, narrowed.held);
@@ -193,6 +199,10 @@ fn strip_run(
         from = to;
     }
     let status = status.rights();
+    if status.is_empty() {
+        // No origin gains anything.
+        return Ok(Stripped { status, left });
+    }
     if let Some(origin) = tree.origin_of(run.start) {
         shards.add_status(nodes.at(origin).place, status);
     }

@@ -47,9 +47,10 @@ impl Holdings {
         ensures noted { IfOk result (λ r. NotesFollow self.holdings r.0.holdings notes.old notes.new) }
         ensures needs_no_worker { W.starts_none workers.now → IsErrOf result NoWorker → ⊥ }
     {
+        let outlook = self.outlook(places, workers);
         let mut room = Vec::new(alloc);
-        let places = self.outermost(alloc, places, &mut room)?;
-        if self.are_stripped_alone(places, workers) {
+        let places = self.outermost(alloc, places, outlook.are_apart, &mut room)?;
+        if self.are_stripped_alone(places, outlook.most_mappings, workers) {
             let order = Order::List;
             let stripped = self.strip_one_by_one(alloc, places, revoked, flush, notes, order)?;
             return Ok(stripped);
@@ -67,19 +68,20 @@ impl Holdings {
         )
     }
 
-    /// Pages of which none derives from another, and from which all derives that derives from these: these, or some of
-    /// them, which are put into the room.
+    /// Pages of which none derives from another, and from which all derives that derives from these: these, where they are
+    /// told apart, or some of them, which are put into the room.
     fn outermost<'a>(
         &self,
         alloc: Global,
         places: &'a [Place],
+        are_apart: bool,
         room: &'a mut Vec<Place>,
     ) -> Result<&'a [Place], NoMemory>
         requires { All (IsWithin self.now.limits) places.now }
         ensures within { IfOk result (λ outer. All (IsWithin self.now.limits) outer.now) }
         ensures stand { IfOk result (λ outer. StandFor self.now places.now outer.now) }
     {
-        if places.len() < 2 || self.are_apart(places) {
+        if places.len() < 2 || are_apart {
             return Ok(places);
         }
         *room = outer_places(alloc, &self.shards, &self.trees, places)?;

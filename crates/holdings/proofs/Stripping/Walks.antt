@@ -367,6 +367,23 @@ module _ (old : Shards) (trees : List Shape) (loose : AreLoose old trees) (frame
       by p none None = refl
       by p none (Some m) = rw none refl
 
+  -- nor where nothing was gathered
+  pub nothing_passed : status ≡ no_rights → holdings_in now trees ≡ strip (holdings_in old trees) (only c) a f
+  nothing_passed nothing = passing_strips now (record { layout = record { spaces = refl; bits = refl; count = refl; index = λ p. refl }; present = end.present; frames = λ p place e there. (e, there, refl) })
+      (λ p within. by p (origin_at (holdings_in old trees) c) refl (held_at now trees p))
+    where
+      gains : (m : Held) → Some m ≡ Some (record m { status = join m.status (strip_word (holdings_in old trees) (only c)) })
+      gains m = ap (λ r. Some (record m { status = r })) (sym (ap (join m.status) (sym walk_word ∙ nothing) ∙ join_nothing m.status))
+
+      by : (p : Place) (o : Option Place) → origin_at (holdings_in old trees) c ≡ o → (m : Option Held) → m ≡ changed (passing (holdings_in old trees) lawful_was c a f) p m
+      by p o from None = refl
+      by p None from (Some m) = rw from refl
+      by p (Some o) from (Some m) = there (same_place p o) refl
+        where
+          there : (b : Bool) → same_place p o ≡ b → Some m ≡ changed (passing (holdings_in old trees) lawful_was c a f) p (Some m)
+          there true same = rw (from, same) (gains m)
+          there false apart = rw (from, apart) refl
+
   -- otherwise the origin gains it
   pub some_passed : (o : Place) (next : Shards) → origin_in (links_in trees frame) c ≡ Some o → IsPlace now o → IsSetAt now next o (option_map (with_status status) (entry_at now o)) → IsFalse (is_taken next) → IsLaidOutAs now next
       → (holdings_in next trees ≡ strip (holdings_in old trees) (only c) a f) × HaveLost now next
@@ -496,6 +513,12 @@ module _ (old : Shards) (trees : List Shape) (loose : AreLoose old trees) (frame
       stripped_from old now now trees c a f status loose (walk_loses old trees loose frame run is_run some within_run c first a f now status end)
       (record { layout = record { spaces = refl; bits = refl; count = refl; index = λ p. refl }; present = end.present; frames = λ p place e there. (e, there, refl) })
       (walk_word old trees loose frame run is_run some within_run c first a f now status end) (none_passed old trees loose frame run is_run some within_run c first a f now status end is)
+
+  pub run_without_status : status ≡ no_rights → IsStripped old trees c a f now status
+  run_without_status nothing =
+      stripped_from old now now trees c a f status loose (walk_loses old trees loose frame run is_run some within_run c first a f now status end)
+      (record { layout = record { spaces = refl; bits = refl; count = refl; index = λ p. refl }; present = end.present; frames = λ p place e there. (e, there, refl) })
+      (walk_word old trees loose frame run is_run some within_run c first a f now status end) (nothing_passed old trees loose frame run is_run some within_run c first a f now status end nothing)
 
   pub run_with_origin : (o : Place) (next : Shards) → origin_in (links_in trees frame) c ≡ Some o → IsPlace now o → IsSetAt now next o (option_map (with_status status) (entry_at now o)) → IsFalse (is_taken next) → IsLaidOutAs now next → IsStripped old trees c a f next status
   run_with_origin o next is place set present layout =

@@ -3,7 +3,7 @@ use Rattle.std.proofs.Common.{◌≡◌, true, [], ◌∷◌, length, get_or, sl
 use Rattle.std.specs.Prelude.{is_some}
 use Rattle.std.specs.List.{All, list_all}
 use Rattle.space.specs.Place.{same_place}
-use Rattle.space.specs.Shards.{IsPlace}
+use Rattle.space.specs.Shards.{IsPlace, index_of}
 use Rattle.maptree.specs.Origins.{Origins, Shape, IsRun, AreRising, AreOuterRuns}
 use Rattle.maptree.specs.Cuts.{outside}
 use Rattle.holdings.specs.Inner.Held.{links_in, has_entry, holdings_in}
@@ -50,6 +50,9 @@ strip_run-requires-clause-some c = (run_begun c).some
 
 pub strip_run-requires-clause-within : goal.strip_run-requires-clause-within
 strip_run-requires-clause-within c = (run_begun c).within
+
+pub strip_run-requires-clause-index : goal.strip_run-requires-clause-index
+strip_run-requires-clause-index c = λ d. c.requires.index ∙ ap (index_of c.args.shards.now) (sym ((run_begun c).first d))
 
 -- what was visited, before the tree is pruned
 outer : (c : goal.After-prune_run-arg-1) → AreOuterRuns (links_in c.args.trees.now c.args.frame) (c.args.place ∷ []) (c.run_of-run.result ∷ [])

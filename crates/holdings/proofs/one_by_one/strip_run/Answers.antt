@@ -2,7 +2,8 @@
 use Rattle.std.proofs.Common.{List, ◌≡◌, ℕ, ◌<◌, ◌≤◌, ◌+◌, ◌-◌, ◌||◌, ◌&&◌, false, true, Bool, not, length, slice_index, Some, None, option_map, refl, sym, ap, ◌∙◌, subst, arith}
 use Rattle.std.proofs.Math.Bool.{or-false}
 use Rattle.std.proofs.lemmas.Bool.{false_from_ne_true}
-use Rattle.fpage.specs.Rights.{no_rights}
+use Rattle.fpage.proofs.RightSets.{empty_has, has-none, same_rights}
+use Rattle.fpage.specs.Rights.{is_empty, no_rights}
 use Rattle.fpage.specs.declared.rights.Rights.{Rights}
 use Rattle.space.specs.declared.place.Place.{Place}
 use Rattle.space.specs.declared.shards.Shards.{Shards}
@@ -19,9 +20,9 @@ use Rattle.holdings.specs.Inner.Notes.{AreLosersNoted, NotesAdd, IsNotedIf, lose
 use Rattle.holdings.specs.Inner.Words.{IsThere}
 use Rattle.holdings.proofs.Contents.Holders.{links_read}
 use Rattle.holdings.proofs.NotedPages.{run_first, run_more}
-use Rattle.holdings.proofs.Stripping.Walks.{IsWalked, IsStripped, walk_begins, walk_goes, place_any, listed_place, run_without_origin, run_with_origin, stands_at, stands_once, standing_there, not_among, walked}
+use Rattle.holdings.proofs.Stripping.Walks.{IsWalked, IsStripped, walk_begins, walk_goes, place_any, listed_place, run_without_origin, run_without_status, run_with_origin, stands_at, stands_once, standing_there, not_among, walked}
 use Rattle.holdings.proofs.Stripping.LeftOfRuns.{IsSeen, places_now, seen_more, seen_kept, run_left, none_seen}
-use Rattle.holdings.proofs.one_by_one.strip_run.Goals.{After-add_status, In_default-origin_of, then-flush, else-flush, then-is_short, else-is_short, then-is_short-2, else-is_short-2}
+use Rattle.holdings.proofs.one_by_one.strip_run.Goals.{After-add_status, In_default-origin_of, Then-is_empty, then-flush, else-flush, then-is_short, else-is_short, then-is_short-2, else-is_short-2}
 use Rattle.holdings.proofs.Contents.WordChanges.{place_kept, word_kept}
 use Rattle.holdings.proofs.one_by_one.strip_run.Goals as goal
 
@@ -32,63 +33,51 @@ walk_ends s trees frame start a f i j now status word p q here end is walked =
     subst (λ r. IsWalked s trees frame start q a f j now r) is
     (subst (λ k. IsWalked s trees frame start q a f k now status) end (subst (λ x. IsWalked s trees frame start x a f i now status) here walked))
 
-pub at-requires : goal.at-requires
-at-requires c =
-    let links = links_read c.args.trees.now c.args.frame c.index-trees-frame.result c.requires.frame c.index-trees-frame.is in
-    let within : c.args.run.now.start < length (links_in c.args.trees.now c.args.frame) = omega (arith, c.requires.some, c.requires.within) in
-    subst (λ os. c.args.run.now.start < length os) (links ∙ sym c.nodes-nodes.ensures) within
-
-pub narrow-narrowed-requires-clause-place : goal.narrow-narrowed-requires-clause-place
-narrow-narrowed-requires-clause-place c =
-    let links = links_read c.args.trees.now c.args.frame c.index-trees-frame.result c.requires.frame c.index-trees-frame.is in
-    let within : c.args.run.now.start < length (links_in c.args.trees.now c.args.frame) = omega (arith, c.requires.some, c.requires.within) in
-    listed_place c.args.shards.now c.args.trees.now c.args.frame c.requires.loose c.args.run.now.start c.at.result.place within
-    (λ d. ap (λ os. place_at os c.args.run.now.start d) (links ∙ sym c.nodes-nodes.ensures) ∙ sym (c.at.ensures.place d))
-
 pub loop-from-init : goal.loop-from-init
 loop-from-init c =
     let s = c.args.shards.now in
     let trees = c.args.trees.now in
     let frame = c.args.frame in
     let start = c.args.run.now.start in
-    let links = links_read trees frame c.index-trees-frame.result c.requires.frame c.index-trees-frame.is in
-    let nodes = links ∙ sym c.nodes-nodes.ensures in
-    let within : start < length (links_in trees frame) = omega (arith, c.requires.some, c.requires.within) in
-    let q = c.at.result.place in
-    let there : (d : Place) → place_at (links_in trees frame) start d ≡ q = λ d. ap (λ os. place_at os start d) nodes ∙ sym (c.at.ensures.place d) in
-    let only_there : (j : ℕ) (d : Place) → j < length (links_in trees frame) → place_at (links_in trees frame) j d ≡ q → j ≡ start =
-    λ j d within_j is. c.at.ensures.only j d (subst (λ os. j < length os) nodes within_j) (ap (λ os. place_at os j d) (sym nodes) ∙ is) in
-    let first : stands_at trees frame start ≡ q = there (record { space = 0; page = 0 }) in
-    let loses : c.args.flush ≡ (c.args.flush || not (same_place q (stands_at trees frame start))) =
-    sym (ap (λ p. c.args.flush || not (same_place q p)) first ∙ ap (λ b. c.args.flush || not b) (same_self q) ∙ or-false c.args.flush) in
-    let narrowed = c.narrow-narrowed in
-    let places = places_now s trees frame c.requires.loose s (record { spaces = refl; bits = refl; count = refl; index = λ p. refl }) in
+    let links = links_in trees frame in
+    let read = links_read trees frame c.index-trees-frame.result c.requires.frame c.index-trees-frame.is in
+    let nodes = read ∙ sym c.nodes-nodes.ensures in
+    let within : start < length links = omega (arith, c.requires.some, c.requires.within) in
+    let once : are_once links ≡ true = subst (λ os. are_once os ≡ true) (sym read) c.learn_places_are_distinct.ensures in
     let d : Place = record { space = 0; page = 0 } in
+    let q = stands_at trees frame start in
+    let there : (e : Place) → place_at links start e ≡ q = λ e. place_any links start e d within in
+    let only_there : (j : ℕ) (e : Place) → j < length links → place_at links j e ≡ q → j ≡ start = λ j e within_j is. stands_once links once start j e within within_j (is ∙ sym (there e)) in
+    let loses : c.args.flush ≡ (c.args.flush || not (same_place q q)) = sym (ap (λ b. c.args.flush || not b) (same_self q) ∙ or-false c.args.flush) in
+    let places = places_now s trees frame c.requires.loose s (record { spaces = refl; bits = refl; count = refl; index = λ p. refl }) in
+    let place : IsPlace s q = places start d within in
+    let found : index_of s q ≡ c.args.index = ap (index_of s) (sym (there d)) ∙ sym (c.requires.index d) in
+    let narrowed = c.narrow_at-narrowed in
     let lost : c.if-flush.note_lost ≡ (c.args.flush && loses_in s c.args.revoked q) =
     elim c.if-flush.branch [
-      | then-flush w ↦ w.note_lost-is ∙ narrowed.ensures.lost ∙ sym (ap (λ b. b && loses_in s c.args.revoked q) w.if-flush.true)
+      | then-flush w ↦ w.note_lost-is ∙ narrowed.ensures.lost q found ∙ sym (ap (λ b. b && loses_in s c.args.revoked q) w.if-flush.true)
       | else-flush w ↦ w.note_lost-is ∙ w.if-flush.false ∙ sym (ap (λ b. b && loses_in s c.args.revoked q) w.if-flush.false)
     ] in
     let note = c.in_ok-note_lost.ensures in
     let old = c.args.notes.now.list.items in
     let new = c.note_lost.new.notes.list.items in
-    let read : place_at c.at.new.self start d ≡ q = ap (λ os. place_at os start d) c.at.ensures.same ∙ sym (c.at.ensures.place d) in
+    let same : place_at c.nodes-nodes.result start d ≡ q = ap (λ os. place_at os start d) (sym nodes) ∙ there d in
     record {
-      nodes = note.same ∙ c.at.ensures.same ∙ c.nodes-nodes.ensures ∙ sym links;
+      nodes = note.same ∙ c.nodes-nodes.ensures ∙ sym read;
       behind = omega arith;
       upto = omega (arith, c.requires.some);
       walked =
-          walk_goes s trees c.requires.loose frame start (stands_at trees frame start) c.args.revoked c.args.flush start s narrowed.new.self no_rights narrowed.result.status q c.args.flush
-          (walk_begins s trees c.requires.loose frame start (stands_at trees frame start) c.args.revoked c.args.flush)
-          (omega arith) within there only_there loses narrowed.ensures.status narrowed.ensures.set narrowed.ensures.present narrowed.ensures.layout;
-      seen = subst (λ l. IsSeen l narrowed.new.self (links_in trees frame) start (start + 1)) (sym (c.with_next-left.ensures))
-          (subst (λ l. IsSeen (with_next l start narrowed.result.held) narrowed.new.self (links_in trees frame) start (start + 1)) (sym c.of_none.ensures)
-          (seen_more (links_in trees frame) start start s narrowed.new.self q _ narrowed.ensures.set places within there only_there (record { held_to = start; rest_gone = true }) narrowed.result.held narrowed.ensures.held (none_seen s (links_in trees frame) start)));
+          walk_goes s trees c.requires.loose frame start q c.args.revoked c.args.flush start s narrowed.new.self no_rights narrowed.result.status q c.args.flush
+          (walk_begins s trees c.requires.loose frame start q c.args.revoked c.args.flush)
+          (omega arith) within there only_there loses (narrowed.ensures.status q found) (narrowed.ensures.set q place found) narrowed.ensures.present narrowed.ensures.layout;
+      seen = subst (λ l. IsSeen l narrowed.new.self links start (start + 1)) (sym (c.with_next-left.ensures))
+          (subst (λ l. IsSeen (with_next l start narrowed.result.held) narrowed.new.self links start (start + 1)) (sym c.of_none.ensures)
+          (seen_more links start start s narrowed.new.self q _ (narrowed.ensures.set q place found) places within there only_there (record { held_to = start; rest_gone = true }) narrowed.result.held (narrowed.ensures.held q place found) (none_seen s links start)));
       noted = record {
         asked = (note.noted d).asked;
         added = λ asked.
-            run_first (links_in trees frame) (loses_in s c.args.revoked) c.args.flush start q d within (sym (there d)) old new
-            (subst (λ p. IsNotedIf (c.args.flush && loses_in s c.args.revoked q) p old new) read (subst (λ b. IsNotedIf b (place_at c.at.new.self start d) old new) lost ((note.noted d).added asked)));
+            run_first links (loses_in s c.args.revoked) c.args.flush start q d within (sym (there d)) old new
+            (subst (λ p. IsNotedIf (c.args.flush && loses_in s c.args.revoked q) p old new) same (subst (λ b. IsNotedIf b (place_at c.nodes-nodes.result start d) old new) lost ((note.noted d).added asked)));
       };
     }
 
@@ -123,7 +112,7 @@ index-index-requires-clause-place c =
     let upto = c.loop-from.invariant.upto in
     let within : i < length (links_in trees frame) = omega (arith, c.loop-i-test.true, c.min.ensures, upto, c.requires.within) in
     let there = word_there c.args.shards.now trees c.requires.loose frame c.loop-i.shards c.loop-i.invariant.walked.layout i d within in
-    subst (IsPlace c.loop-i.shards) (ap (λ os. place_at os i d) (sym c.loop-i.invariant.nodes) ∙ sym (c.at-then-is_short-2.ensures.place d)) there.place
+    subst (IsPlace c.loop-i.shards) (ap (λ os. place_at os i d) (sym c.loop-i.invariant.nodes) ∙ sym (c.at.ensures.place d)) there.place
 
 pub index-index-requires-clause-has : goal.index-index-requires-clause-has
 index-index-requires-clause-has c =
@@ -134,7 +123,7 @@ index-index-requires-clause-has c =
     let upto = c.loop-from.invariant.upto in
     let within : i < length (links_in trees frame) = omega (arith, c.loop-i-test.true, c.min.ensures, upto, c.requires.within) in
     let there = word_there c.args.shards.now trees c.requires.loose frame c.loop-i.shards c.loop-i.invariant.walked.layout i d within in
-    subst (HasWord c.loop-i.shards) (ap (λ os. place_at os i d) (sym c.loop-i.invariant.nodes) ∙ sym (c.at-then-is_short-2.ensures.place d)) there.word
+    subst (HasWord c.loop-i.shards) (ap (λ os. place_at os i d) (sym c.loop-i.invariant.nodes) ∙ sym (c.at.ensures.place d)) there.word
 
 -- a place behind the first one is another
 apart : (trees : List Shape) (frame : ℕ) → are_once (links_in trees frame) ≡ true → (start i : ℕ) → start < i → i < length (links_in trees frame) → same_place (stands_at trees frame i) (stands_at trees frame start) ≡ false
@@ -162,7 +151,7 @@ loop-i-preserved c =
     let d : Place = record { space = 0; page = 0 } in
     let links = links_in trees frame in
     let now = c.loop-i.shards in
-    let narrowed = c.narrow_at-narrowed in
+    let narrowed = c.narrow_at-narrowed-in-loop-i in
     let upto = c.loop-from.invariant.upto in
     let begun = c.loop-from.invariant.behind in
     let least : from ≤ i = omega (arith, c.loop-i.auto.i) in
@@ -178,12 +167,12 @@ loop-i-preserved c =
     let place : IsPlace now q = places i d within in
     let same_nodes : c.if-is_short-2.nodes ≡ c.loop-i.nodes =
     elim c.if-is_short-2.branch [
-      | then-is_short-2 w ↦ w.nodes-is ∙ w.at-then-is_short-2.ensures.same
+      | then-is_short-2 w ↦ w.nodes-is ∙ w.at.ensures.same
       | else-is_short-2 w ↦ w.nodes-is
     ] in
     let found : index_of now q ≡ c.if-is_short-2.index =
     elim c.if-is_short-2.branch as (λ _. index_of now q ≡ c.if-is_short-2.index) [
-      | then-is_short-2 w ↦ ap (index_of now) (ap (λ os. place_at os i d) (sym c.loop-i.invariant.nodes) ∙ sym (w.at-then-is_short-2.ensures.place d)) ∙ sym w.index-index.ensures.index ∙ sym w.index-is
+      | then-is_short-2 w ↦ ap (index_of now) (ap (λ os. place_at os i d) (sym c.loop-i.invariant.nodes) ∙ sym (w.at.ensures.place d)) ∙ sym w.index-index.ensures.index ∙ sym w.index-is
       | else-is_short-2 w ↦
           elim c.if-is_short.branch as (λ _. index_of now q ≡ c.if-is_short-2.index) [
             | then-is_short v ↦ absurd (omega (arith, v.if-is_short.true, w.if-is_short-2.false))
@@ -305,6 +294,54 @@ without_origin c d =
     ap (λ os. origin_in os (place_at os c.args.run.now.start d)) links ∙ c.origin_of.ensures.origin d ∙ ap (option_map (λ r. place_at c.index-trees-frame.result.links r d)) c.in_default-origin_of.is in
     run_without_origin c.args.shards.now c.args.trees.now c.requires.loose c.args.frame c.args.run.now c.requires.run c.requires.some c.requires.within p first c.args.revoked c.args.flush c.loop-from.shards c.rights-status.result (walked_none c d) origin
 
+-- no rights are none
+nothing_is : (r : Rights) → is_empty r ≡ true → r ≡ no_rights
+nothing_is r empty = same_rights r no_rights (λ a. empty_has r a empty ∙ sym (has-none a))
+
+walked_then : (c : Then-is_empty) (d : Place) → IsWalked c.args.shards.now c.args.trees.now c.args.frame c.args.run.now.start (place_at (links_in c.args.trees.now c.args.frame) c.args.run.now.start d) c.args.revoked c.args.flush c.args.run.now.end c.loop-from.shards c.rights-status.result
+walked_then c d =
+    let s = c.args.shards.now in
+    let trees = c.args.trees.now in
+    let start = c.args.run.now.start in
+    let within : start < length (links_in trees c.args.frame) = omega (arith, c.requires.some, c.requires.within) in
+    let here : stands_at trees c.args.frame start ≡ place_at (links_in trees c.args.frame) start d = place_any (links_in trees c.args.frame) start (record { space = 0; page = 0 }) d within in
+    let upto = c.loop-from.invariant.upto in
+    let end : c.loop-from.from ≡ c.args.run.now.end = omega (arith, c.loop-from-test.false, upto) in
+    walk_ends s trees c.args.frame start c.args.revoked c.args.flush c.loop-from.from c.args.run.now.end c.loop-from.shards c.loop-from.status c.rights-status.result _ _ here end (sym c.rights-status.ensures) c.loop-from.invariant.walked
+
+without_status : (c : Then-is_empty) (d : Place) → IsStripped c.args.shards.now c.args.trees.now (place_at (links_in c.args.trees.now c.args.frame) c.args.run.now.start d) c.args.revoked c.args.flush c.loop-from.shards c.rights-status.result
+without_status c d =
+    let p = place_at (links_in c.args.trees.now c.args.frame) c.args.run.now.start d in
+    let within : c.args.run.now.start < length (links_in c.args.trees.now c.args.frame) = omega (arith, c.requires.some, c.requires.within) in
+    let first : (e : Place) → place_at (links_in c.args.trees.now c.args.frame) c.args.run.now.start e ≡ p = λ e. place_any (links_in c.args.trees.now c.args.frame) c.args.run.now.start e d within in
+    run_without_status c.args.shards.now c.args.trees.now c.requires.loose c.args.frame c.args.run.now c.requires.run c.requires.some c.requires.within p first c.args.revoked c.args.flush c.loop-from.shards c.rights-status.result (walked_then c d)
+    (nothing_is c.rights-status.result (sym c.is_empty.ensures ∙ c.if-is_empty.true))
+
+pub returns-then-is_empty-clause-status : goal.returns-then-is_empty-clause-status
+returns-then-is_empty-clause-status c = λ d. (without_status c d).word
+
+pub returns-then-is_empty-clause-left : goal.returns-then-is_empty-clause-left
+returns-then-is_empty-clause-left c = λ d. (without_status c d).left
+
+pub returns-then-is_empty-clause-loose : goal.returns-then-is_empty-clause-loose
+returns-then-is_empty-clause-loose c = (without_status c (record { space = 0; page = 0 })).loose
+
+pub returns-then-is_empty-clause-layout : goal.returns-then-is_empty-clause-layout
+returns-then-is_empty-clause-layout c = (without_status c (record { space = 0; page = 0 })).layout
+
+pub returns-then-is_empty-clause-run_left : goal.returns-then-is_empty-clause-run_left
+returns-then-is_empty-clause-run_left c =
+    let links = links_in c.args.trees.now c.args.frame in
+    let end : c.loop-from.from ≡ c.args.run.now.end = omega (arith, c.loop-from-test.false, c.loop-from.invariant.upto) in
+    run_left c.loop-from.shards links c.args.run.now c.loop-from.left (subst (IsSeen c.loop-from.left c.loop-from.shards links c.args.run.now.start) end c.loop-from.invariant.seen)
+
+pub returns-then-is_empty-clause-noted : goal.returns-then-is_empty-clause-noted
+returns-then-is_empty-clause-noted c =
+    let upto = c.loop-from.invariant.upto in
+    let end : c.loop-from.from ≡ c.args.run.now.end = omega (arith, c.loop-from-test.false, upto) in
+    subst (λ i. NotesAdd (AreLosersNoted c.args.shards.now (links_in c.args.trees.now c.args.frame) (losing_from c.args.flush c.args.run.now.start) i c.args.revoked) c.args.notes.now c.loop-from.notes) end
+    c.loop-from.invariant.noted
+
 pub returns-in-Some-clause-status : goal.returns-in-Some-clause-status
 returns-in-Some-clause-status c = λ d. (with_origin c d).word
 
@@ -312,10 +349,10 @@ pub returns-in-Some-clause-left : goal.returns-in-Some-clause-left
 returns-in-Some-clause-left c = λ d. (with_origin c d).left
 
 pub returns-in-Some-clause-loose : goal.returns-in-Some-clause-loose
-returns-in-Some-clause-loose c = (with_origin c c.at.result.place).loose
+returns-in-Some-clause-loose c = (with_origin c (record { space = 0; page = 0 })).loose
 
 pub returns-in-Some-clause-layout : goal.returns-in-Some-clause-layout
-returns-in-Some-clause-layout c = (with_origin c c.at.result.place).layout
+returns-in-Some-clause-layout c = (with_origin c (record { space = 0; page = 0 })).layout
 
 pub returns-in_default-origin_of-clause-status : goal.returns-in_default-origin_of-clause-status
 returns-in_default-origin_of-clause-status c = λ d. (without_origin c d).word
@@ -324,10 +361,10 @@ pub returns-in_default-origin_of-clause-left : goal.returns-in_default-origin_of
 returns-in_default-origin_of-clause-left c = λ d. (without_origin c d).left
 
 pub returns-in_default-origin_of-clause-loose : goal.returns-in_default-origin_of-clause-loose
-returns-in_default-origin_of-clause-loose c = (without_origin c c.at.result.place).loose
+returns-in_default-origin_of-clause-loose c = (without_origin c (record { space = 0; page = 0 })).loose
 
 pub returns-in_default-origin_of-clause-layout : goal.returns-in_default-origin_of-clause-layout
-returns-in_default-origin_of-clause-layout c = (without_origin c c.at.result.place).layout
+returns-in_default-origin_of-clause-layout c = (without_origin c (record { space = 0; page = 0 })).layout
 
 pub returns-in-Some-clause-run_left : goal.returns-in-Some-clause-run_left
 returns-in-Some-clause-run_left c =

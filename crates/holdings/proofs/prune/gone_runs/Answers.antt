@@ -66,8 +66,7 @@ loop-run-preserved c =
     let runs = c.args.runs.now in
     let i = c.loop-run.run-index in
     let d : Range ℕ = record { start = 0; end = 0 } in
-    let p = c.loop-run.invariant.0 in
-    (
+    let p = c.loop-run.invariant.0 in (
       (get_or runs i d).end,
       c.in_ok-add_gone.ensures,
       (behind s os runs i d c.loop-run-test.true p c.loop-run.invariant.2).2,

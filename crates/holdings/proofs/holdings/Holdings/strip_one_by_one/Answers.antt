@@ -1,8 +1,11 @@
 -- One place more.
-use Rattle.std.proofs.Common.{◌≡◌, ◌<◌, true, ℕ, ◌+◌, List, length, get_or, sym, ap, ◌∙◌, subst, arith}
+use Rattle.std.proofs.Common.{◌≡◌, ◌<◌, true, ℕ, ◌+◌, List, length, get_or, Option, option_map, sym, ap, ◌∙◌, subst, arith}
+use Rattle.std.specs.Prelude.{IfSome}
 use Rattle.std.specs.List.{All}
 use Rattle.std.proofs.lemmas.List.{with_items_is}
 use Rattle.space.specs.declared.place.Place.{Place}
+use Rattle.space.specs.declared.place.Entry.{Entry}
+use Rattle.space.specs.Shards.{index_of}
 use Rattle.maptree.specs.Origins.{Shape}
 use Rattle.model.specs.Definitions.Calls.{Limits}
 use Rattle.model.specs.Definitions.Holdings.{Holdings, only}
@@ -28,14 +31,14 @@ loop-place-init c = record {
   noted = follow_same (holdings_in c.self.inside.shards c.self.inside.trees.items) c.args.notes.now c.make_room.new.self c.make_room.ensures.asked c.make_room.ensures.list;
 }
 
-pub get-requires-clause-place : goal.get-requires-clause-place
-get-requires-clause-place c =
+pub get_with_index-requires-clause-place : goal.get_with_index-requires-clause-place
+get_with_index-requires-clause-place c =
     let named = subst (λ (h : Contents). All (IsWithin h.limits) c.args.places.now) (sym c.self.view_is) c.requires in
     let within = subst (λ (l : Limits). IsWithin l (here c.args.places.now c.loop-place.place-index)) (sym c.loop-place.invariant.visited.limits) (named c.loop-place.place-index (record { space = 0; page = 0 }) c.loop-place-test.true) in
     record { space = within.space; page = within.page }
 
-pub get-requires-clause-present : goal.get-requires-clause-present
-get-requires-clause-present c = c.loop-place.invariant.visited.sound.kept.fits.present
+pub get_with_index-requires-clause-present : goal.get_with_index-requires-clause-present
+get_with_index-requires-clause-present c = c.loop-place.invariant.visited.sound.kept.fits.present
 
 pub loop-place-preserved-in_default : goal.loop-place-preserved-in_default
 loop-place-preserved-in_default c =
@@ -43,9 +46,13 @@ loop-place-preserved-in_default c =
     let within = subst (λ (l : Limits). IsWithin l (here c.args.places.now c.loop-place.place-index)) (sym c.loop-place.invariant.visited.limits) (named c.loop-place.place-index (record { space = 0; page = 0 }) c.loop-place-test.true) in
     record {
       visited = none_there c.self.inside.shards c.self.inside.trees.items c.self.invariant c.args.places.now c.args.revoked c.args.flush c.loop-place.place-index (record { space = 0; page = 0 }) c.loop-place-test.true
-          c.loop-place.shards c.loop-place.trees.items c.loop-place.status c.loop-place.invariant.visited within (sym c.get.ensures ∙ c.in_default.is);
+          c.loop-place.shards c.loop-place.trees.items c.loop-place.status c.loop-place.invariant.visited within (sym c.get_with_index.ensures.entry ∙ ap (option_map (λ (r : Entry × ℕ). r.0)) c.in_default.is);
       noted = c.loop-place.invariant.noted;
     }
+
+pub strip_place-requires-clause-index : goal.strip_place-requires-clause-index
+strip_place-requires-clause-index c =
+    subst (λ (o : Option (Entry × ℕ)). IfSome o (λ r. r.1 ≡ index_of c.loop-place.shards (here c.args.places.now c.loop-place.place-index))) c.in-Some.is c.get_with_index.ensures.index
 
 pub strip_place-requires-clause-sound : goal.strip_place-requires-clause-sound
 strip_place-requires-clause-sound c = subst (AreSound c.loop-place.shards) (sym c.deref_mut.ensures.value) c.loop-place.invariant.visited.sound
@@ -55,14 +62,14 @@ strip_place-requires-clause-frame c =
     let named = subst (λ (h : Contents). All (IsWithin h.limits) c.args.places.now) (sym c.self.view_is) c.requires in
     let within = subst (λ (l : Limits). IsWithin l (here c.args.places.now c.loop-place.place-index)) (sym c.loop-place.invariant.visited.limits) (named c.loop-place.place-index (record { space = 0; page = 0 }) c.loop-place-test.true) in
     subst (λ (ts : List Shape). c.in-Some.entry.frame < length ts) (sym c.deref_mut.ensures.value)
-    (c.loop-place.invariant.visited.sound.kept.fits.frame (here c.args.places.now c.loop-place.place-index) c.in-Some.entry within (sym c.get.ensures ∙ c.in-Some.is))
+    (c.loop-place.invariant.visited.sound.kept.fits.frame (here c.args.places.now c.loop-place.place-index) c.in-Some.entry within (sym c.get_with_index.ensures.entry ∙ ap (option_map (λ (r : Entry × ℕ). r.0)) c.in-Some.is))
 
 pub strip_place-requires-clause-listed : goal.strip_place-requires-clause-listed
 strip_place-requires-clause-listed c =
     let named = subst (λ (h : Contents). All (IsWithin h.limits) c.args.places.now) (sym c.self.view_is) c.requires in
     let within = subst (λ (l : Limits). IsWithin l (here c.args.places.now c.loop-place.place-index)) (sym c.loop-place.invariant.visited.limits) (named c.loop-place.place-index (record { space = 0; page = 0 }) c.loop-place-test.true) in
     subst (λ (ts : List Shape). is_listed ts c.in-Some.entry.frame (here c.args.places.now c.loop-place.place-index) ≡ true) (sym c.deref_mut.ensures.value)
-    (c.loop-place.invariant.visited.sound.kept.fits.listed (here c.args.places.now c.loop-place.place-index) c.in-Some.entry within (sym c.get.ensures ∙ c.in-Some.is))
+    (c.loop-place.invariant.visited.sound.kept.fits.listed (here c.args.places.now c.loop-place.place-index) c.in-Some.entry within (sym c.get_with_index.ensures.entry ∙ ap (option_map (λ (r : Entry × ℕ). r.0)) c.in-Some.is))
 
 pub loop-place-preserved : goal.loop-place-preserved
 loop-place-preserved c =
