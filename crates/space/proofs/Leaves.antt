@@ -1,6 +1,6 @@
 -- The directory: where shards stand while branches, leaves and shards are added.
 use Rattle.std.proofs.Common.{◌≡◌, ◌∙◌, sym, ap, subst, arith, ℕ, zero, suc, ◌+◌, ◌-◌, ◌*◌, ◌/◌, ◌%◌, ◌^◌, ◌<◌, ◌≤◌, ◌⊎◌, inl, inr, Bool, true, false, refl, ◌==◌, nat_lt, List, ◌++◌, length, slice_index, slice_set}
-use Rattle.std.specs.Prelude.{not, replicate, if◌then◌else◌, IsTrue}
+use Rattle.std.specs.Prelude.{not, replicate, if◌then◌else◌}
 use Rattle.std.specs.Int.{div_ceil}
 use mathlib.Core.Logic.{∥∥₁_elim}
 use Rattle.std.proofs.Math.Nat.{ℕ_set}
@@ -9,7 +9,7 @@ use Rattle.std.proofs.lemmas.Bool.{eq-eqb, ne_eqb, eqb-true, ltb-true, ltb-false
 use Rattle.std.proofs.lemmas.Bool.Decides.{nat_tests}
 use Rattle.std.proofs.lemmas.Grind.{div_ceil_times}
 use Rattle.std.proofs.lemmas.List.{length-append, length-replicate, length-set, get_or-set_same, get_or-set_other, get_or_past, get_or-replicate, get_or_append_left, get_or-append_right}
-use Rattle.space.specs.Leaves.{nowhere, lone_leaf, alone, block_of, with_block, with_leaf, leaf_alone, in_branch, with_one, position_alone, or_else, slot_in, number_at, branch_at, entry_at, leaf_at, position_at, count_up, has_block, is_there, AreNumbers, AreInOrder, AreBlocks, AreLaid, laid, ArePlaced, placed, IsDirectory, IsFound, IsDense}
+use Rattle.space.specs.Leaves.{nowhere, lone_leaf, alone, block_of, with_block, with_leaf, leaf_alone, in_branch, with_one, position_alone, or_else, slot_in, number_at, branch_at, entry_at, leaf_at, position_at, count_up, has_block, is_there, AreBlocks, AreLaid, laid, ArePlaced, placed, IsDirectory, IsFound}
 use Rattle.space.specs.declared.directory.Directory.{Directory}
 use Rattle.space.specs.Positions.{most_of, count_of, position_in, AreRuns, AreRunsOf}
 
@@ -193,26 +193,6 @@ no_blocks absent runs block numbers first numbers_are = record {
   where
     long : length numbers ≡ 16
     long = ap length numbers_are ∙ length-replicate 16 absent
-
--- each has one, and they stand in order
-pub all_blocks : (absent runs : ℕ) (block : ℕ → ℕ) (numbers : List ℕ) → ((run : ℕ) → run < runs → block run ≡ run + 1) → ((run : ℕ) → runs ≤ run → block run ≡ 0)
-    → length numbers ≡ (runs + 1) * 16 → ((slot : ℕ) → slot < 16 → slice_index numbers slot ≡ absent) → AreBlocks absent runs block numbers
-all_blocks absent runs block numbers order past long empty = record {
-  past = past;
-  how_many = long ∙ ap (λ n. (n + 1) * 16) (sym (count_all (has_block block) runs (λ k less. lt-ltb 0 (block k) (omega (arith, order k less)))));
-  within = λ run. elim (within_or_past run runs) as (λ _. block run * 16 + 16 ≤ length numbers) [
-    | inl low ↦ omega (arith, low, order run low, long)
-    | inr high ↦ omega (arith, past run high, long)
-  ];
-  own = λ i j some same. elim (within_or_past i runs) as (λ _. i ≡ j) [
-    | inl i_in ↦ elim (within_or_past j runs) as (λ _. i ≡ j) [
-      | inl j_in ↦ omega (arith, order i i_in, order j j_in, same)
-      | inr j_past ↦ absurd (omega (arith, some, same, past j j_past))
-    ]
-    | inr i_past ↦ absurd (omega (arith, some, past i i_past))
-  ];
-  empty = empty;
-}
 
 -- the same blocks, told in another way
 pub same_blocks : (absent runs : ℕ) (block after : ℕ → ℕ) (numbers : List ℕ) → AreBlocks absent runs block numbers → ((run : ℕ) → after run ≡ block run) → AreBlocks absent runs after numbers
@@ -412,74 +392,6 @@ module _ (most : ℕ) (branches leaves positions : List ℕ) (few : most ≤ 2 ^
   pub sparse_directory : IsDirectory most 0 branches leaves positions
   sparse_directory = of_no_shards most branches leaves positions few (ap length branches_are ∙ length-replicate (div_ceil most 256) 0) no_branches no_leaves sparse_nowhere
 
--- one with a leaf for each run
-module _ (most runs : ℕ) (branches leaves positions : List ℕ) (few : most ≤ 2 ^ 15) (runs_are : runs ≡ div_ceil most 256) (branches_are : AreNumbers 0 runs branches)
-    (leaves_are : AreNumbers 16 (runs * 16) leaves) (positions_are : positions ≡ replicate ((runs * 16 + 1) * 16) nowhere) where
-  many : length branches ≡ runs
-  many = omega (arith, branches_are.how_many)
-
-  entry_past : (run : ℕ) → length branches ≤ run → slice_index branches run ≡ 0
-  entry_past run past = get_or_past branches run 0 past
-
-  entry_of : (run : ℕ) → run < length branches → slice_index branches run ≡ run + 1
-  entry_of run low = let at : 0 + run ≡ run = omega arith in ap (slice_index branches) (sym at) ∙ branches_are.order run (omega (arith, low, many))
-
-  runs_low : length branches ≤ 2 ^ 7
-  runs_low = omega (arith, many, runs_are, few, div_ceil_times most 256 (omega arith))
-
-  entry_low : (run : ℕ) → slice_index branches run < lone_leaf
-  entry_low run = elim (within_or_past run (length branches)) as (λ _. slice_index branches run < lone_leaf) [
-    | inl low ↦ omega (arith, low, entry_of run low, runs_low)
-    | inr past ↦ omega (arith, entry_past run past)
-  ]
-
-  branch_past : (run : ℕ) → length branches ≤ run → branch_at branches run ≡ 0
-  branch_past run past = ap (block_of lone_leaf) (entry_past run past)
-
-  branch_of : (run : ℕ) → run < length branches → branch_at branches run ≡ run + 1
-  branch_of run low = block_low lone_leaf (slice_index branches run) (entry_low run) ∙ entry_of run low
-
-  of_all_branches : AreBlocks 0 (length branches) (branch_at branches) leaves
-  of_all_branches = all_blocks 0 (length branches) (branch_at branches) leaves branch_of branch_past (omega (arith, leaves_are.how_many, many)) leaves_are.none
-
-  leaf_entry_of : (run : ℕ) → run < length branches * 16 → entry_at branches leaves run ≡ run + 1
-  leaf_entry_of run low =
-      let slot : slot_in (branch_at branches) run ≡ 16 + run = omega (arith, branch_of (run / 16) (omega (arith, low))) in
-      ap (slice_index leaves) slot ∙ leaves_are.order run (omega (arith, low, many))
-
-  leaf_entry_past : (run : ℕ) → length branches * 16 ≤ run → entry_at branches leaves run ≡ 0
-  leaf_entry_past run past =
-      let slot : slot_in (branch_at branches) run ≡ run % 16 = omega (arith, branch_past (run / 16) (omega (arith, past))) in
-      ap (slice_index leaves) slot ∙ leaves_are.none (run % 16) (omega arith)
-
-  leaf_entry_low : (run : ℕ) → entry_at branches leaves run < alone
-  leaf_entry_low run = elim (within_or_past run (length branches * 16)) as (λ _. entry_at branches leaves run < alone) [
-    | inl low ↦ omega (arith, low, leaf_entry_of run low, runs_low)
-    | inr past ↦ omega (arith, leaf_entry_past run past)
-  ]
-
-  pub leaf_of : AreInOrder branches leaves
-  leaf_of run low = leaf_of_branch branches leaves run (entry_low (run / 16)) ∙ block_low alone (entry_at branches leaves run) (leaf_entry_low run) ∙ leaf_entry_of run low
-
-  leaf_past : (run : ℕ) → length branches * 16 ≤ run → leaf_at branches leaves run ≡ 0
-  leaf_past run past = leaf_of_branch branches leaves run (entry_low (run / 16)) ∙ ap (block_of alone) (leaf_entry_past run past)
-
-  long : length positions ≡ (length branches * 16 + 1) * 16
-  long = ap length positions_are ∙ length-replicate ((runs * 16 + 1) * 16) nowhere ∙ ap (λ n. (n * 16 + 1) * 16) (sym many)
-
-  filled : (slot : ℕ) → slot < length positions → slice_index positions slot ≡ nowhere
-  filled slot within =
-      ap (λ xs. slice_index xs slot) positions_are ∙ read_filled_with ((runs * 16 + 1) * 16) slot nowhere (omega (arith, within, long, many))
-
-  of_all_leaves : AreBlocks nowhere (length branches * 16) (leaf_at branches leaves) positions
-  of_all_leaves = all_blocks nowhere (length branches * 16) (leaf_at branches leaves) positions leaf_of leaf_past long (λ slot less. filled slot (omega (arith, less, long)))
-
-  pub dense_nowhere : (shard : ℕ) → position_at branches leaves positions shard ≡ nowhere
-  dense_nowhere = none_at branches leaves positions (λ run. omega (arith, entry_low run)) leaf_entry_low filled of_all_leaves.within
-
-  pub dense_directory : IsDirectory most 0 branches leaves positions
-  dense_directory = of_no_shards most branches leaves positions (omega (arith, few)) (many ∙ runs_are) of_all_branches of_all_leaves dense_nowhere
-
 -- ---- a directory as it grows
 module _ (most count : ℕ) (branches leaves positions : List ℕ) (found : IsDirectory most count branches leaves positions) where
   pub branch_blocks : AreBlocks 0 (length branches) (branch_at branches) leaves
@@ -522,19 +434,6 @@ module _ (most count : ℕ) (branches leaves positions : List ℕ) (found : IsDi
   pub no_leaf_of : (run : ℕ) → slice_index branches (run / 16) ≡ 0 → leaf_at branches leaves run ≡ 0
   no_leaf_of run none =
       leaf_of_branch branches leaves run (omega (arith, none)) ∙ ap (block_of alone) (no_entry_of run (ap (block_of lone_leaf) none))
-
-  -- where leaves stand in order, no run of 256 has one leaf or one shard alone: of two runs of 16 one would have no leaf
-  pub never_in_order : (run : ℕ) → run < length branches → lone_leaf ≤ slice_index branches run → AreInOrder branches leaves → ⊥
-  never_in_order run low high order = elim (same_or_not (slice_index branches run % 256 / 16) 0) as (λ _. ⊥) [
-    | inl same ↦ absurd (omega (arith, order (run * 16 + 1) (omega (arith, low)), no_leaf (run * 16 + 1) (omega arith) (λ is. absurd (omega (arith, is, same)))))
-    | inr differ ↦ absurd (omega (arith, order (run * 16) (omega (arith, low)), no_leaf (run * 16) (omega arith) (λ is. differ (omega (arith, is)))))
-  ]
-    where
-      no_leaf : (i : ℕ) → i / 16 ≡ run → (slice_index branches run % 256 / 16 ≡ i % 16 → ⊥) → leaf_at branches leaves i ≡ 0
-      no_leaf i of differ =
-          leaf_without_branch i (subst (λ r. lone_leaf ≤ slice_index branches r) (sym of) high)
-          ∙ ap (λ r. leaf_alone (slice_index branches r) i) of
-          ∙ leaf_other (slice_index branches run) i differ
 
   -- a run of 16 with an entry of its own has a branch
   pub branch_if : (run : ℕ) → 0 < entry_at branches leaves run → 0 < branch_at branches (run / 16)
@@ -612,14 +511,6 @@ module _ (most count : ℕ) (branches leaves positions : List ℕ) (found : IsDi
       let of : shard / 16 / 16 ≡ shard / 256 = omega arith in
       let nothing : entry_at branches leaves (shard / 16) ≡ 0 = no_entry_of (shard / 16) (ap (branch_at branches) of ∙ block_high lone_leaf (slice_index branches (shard / 256)) high) in
       by_numbers branches leaves positions shard low (omega (arith, nothing)) ∙ ap (λ n. slice_index positions (n * 16 + shard % 16)) (lone_leaf_is shard high)
-
-  -- where leaves stand in order, so do positions
-  pub slot_in_order : AreInOrder branches leaves → (shard : ℕ) → shard < most → slot_in (leaf_at branches leaves) shard ≡ 16 + shard
-  slot_in_order order shard less = omega (arith, order (shard / 16) (omega (arith, run_within shard less)))
-
-  pub position_in_order : AreInOrder branches leaves → (shard : ℕ) → shard < most → slice_index positions (16 + shard) ≡ position_at branches leaves positions shard
-  position_in_order order shard less =
-      ap (slice_index positions) (sym (slot_in_order order shard less)) ∙ sym (by_leaf shard (omega (arith, order (shard / 16) (omega (arith, run_within shard less)))))
 
   pub position_within : (shard : ℕ) → slot_in (leaf_at branches leaves) shard < length positions
   position_within = slot_within nowhere (length branches * 16) (leaf_at branches leaves) positions leaf_blocks
@@ -1187,31 +1078,13 @@ module _ (most count : ℕ) (branches leaves positions : List ℕ) (found : IsDi
   put_added (put_in_leaf some firsts_are entries_are numbers_are) =
       moved_to branches leaves numbers firsts_are entries_are refl (shard_added most count branches leaves positions found shard shard_low absent some numbers numbers_are)
 
-  -- where leaves stand in order, it is put in its leaf
-  pub put_order : IsPut count shard branches leaves positions firsts entries numbers → AreInOrder branches leaves → AreInOrder firsts entries
-  put_order (put_alone none firsts_are entries_are numbers_are) order =
-      let of : shard / 16 / 16 ≡ shard / 256 = omega arith in
-      let nothing = no_leaf_of most count branches leaves positions found (shard / 16) (ap (slice_index branches) of ∙ none) in
-      absurd (omega (arith, order (shard / 16) (omega (arith, run_within most count branches leaves positions found shard shard_low)), nothing))
-  put_order (put_beside some low none firsts_are entries_are numbers_are) order =
-      let of : shard / 16 / 16 ≡ shard / 256 = omega arith in
-      let nothing = leaf_of_branch branches leaves (shard / 16) (subst (λ run. slice_index branches run < lone_leaf) (sym of) low) ∙ ap (block_of alone) none in
-      absurd (omega (arith, order (shard / 16) (omega (arith, run_within most count branches leaves positions found shard shard_low)), nothing))
-  put_order (put_in_leaf some firsts_are entries_are numbers_are) order = subst (λ xs. AreInOrder xs entries) (sym firsts_are) (subst (AreInOrder branches) (sym entries_are) order)
-
 -- ---- of a directory that there is
 
 pub closed_found : {most count : ℕ} {branches leaves positions : List ℕ} → IsDirectory most count branches leaves positions → IsFound most count branches leaves positions
 closed_found is = ∣ is ∣₁
 
-pub closed_dense : (is_dense : Bool) (branches leaves : List ℕ) → (IsTrue is_dense → AreInOrder branches leaves) → IsDense is_dense branches leaves
-closed_dense is_dense branches leaves are = ∣ are ∣₁
-
 pub found_in : (d : Directory) → IsDirectory d.most d.count d.branches.items d.leaves.items d.positions.items
 found_in d = ∥∥₁_elim {P = IsDirectory d.most d.count d.branches.items d.leaves.items d.positions.items} d.found (hlevel (ℕ_set, le_prop)) (λ (is : IsDirectory d.most d.count d.branches.items d.leaves.items d.positions.items). is)
-
-pub dense_in : (d : Directory) → IsTrue d.is_dense → AreInOrder d.branches.items d.leaves.items
-dense_in d = ∥∥₁_elim {P = (IsTrue d.is_dense → AreInOrder d.branches.items d.leaves.items)} d.dense (hlevel (ℕ_set, le_prop)) (λ (are : (IsTrue d.is_dense → AreInOrder d.branches.items d.leaves.items)). are)
 
 pub runs_in : (d : Directory) (live runs : List ℕ) → AreRunsOf d live runs → AreRuns d live runs
 runs_in d live runs are = ∥∥₁_elim {P = AreRuns d live runs} are (hlevel (ℕ_set, le_prop)) (λ (is : AreRuns d live runs). is)

@@ -1,5 +1,5 @@
 -- Where shards stand, as branches of sixteen leaves and leaves of sixteen positions tell it, and entries with one leaf or one shard alone.
-use Rattle.std.specs.Prelude.{◌≡◌, ℕ, ◌+◌, ◌-◌, ◌*◌, ◌/◌, ◌%◌, ◌^◌, ◌<◌, ◌≤◌, ◌==◌, Bool, not, nat_lt, zero, suc, if◌then◌else◌, IsTrue, List, ◌++◌, replicate, length, slice_index, slice_set}
+use Rattle.std.specs.Prelude.{◌≡◌, ℕ, ◌+◌, ◌-◌, ◌*◌, ◌/◌, ◌%◌, ◌^◌, ◌<◌, ◌≤◌, ◌==◌, Bool, not, nat_lt, zero, suc, if◌then◌else◌, List, ◌++◌, replicate, length, slice_index, slice_set}
 use Rattle.std.specs.Int.{div_ceil}
 
 -- the position of what is not there
@@ -85,16 +85,6 @@ has_block block run = nat_lt 0 (block run)
 abbrev pub is_there : List ℕ → List ℕ → List ℕ → ℕ → Bool
 is_there branches leaves positions shard = not (position_at branches leaves positions shard == nowhere)
 
--- zeros, and behind them so many numbers in their order, from 1 on
-pub record AreNumbers (zeros count : ℕ) (numbers : List ℕ) : Type 0 where
-  pub how_many : length numbers ≡ zeros + count
-  pub none : (k : ℕ) → k < zeros → slice_index numbers k ≡ 0
-  pub order : (k : ℕ) → k < count → slice_index numbers (zeros + k) ≡ k + 1
-
--- each run has a leaf of its own, in the order of the runs, behind the first leaf
-abbrev pub AreInOrder : List ℕ → List ℕ → Type 0
-AreInOrder branches leaves = (run : ℕ) → run < length branches * 16 → leaf_at branches leaves run ≡ run + 1
-
 -- blocks of sixteen numbers each, the first of which is empty; each of so many runs has that one or one of its own
 pub record AreBlocks (absent runs : ℕ) (block : ℕ → ℕ) (numbers : List ℕ) : Type 0 where
   pub past : (run : ℕ) → runs ≤ run → block run ≡ 0
@@ -125,6 +115,3 @@ pub record IsDirectory (most count : ℕ) (branches leaves positions : List ℕ)
 
 abbrev pub IsFound : ℕ → ℕ → List ℕ → List ℕ → List ℕ → Type 0
 IsFound most count branches leaves positions = ∥ IsDirectory most count branches leaves positions ∥₁
-
-abbrev pub IsDense : Bool → List ℕ → List ℕ → Type 0
-IsDense is_dense branches leaves = ∥ (IsTrue is_dense → AreInOrder branches leaves) ∥₁

@@ -1,5 +1,5 @@
 -- The directory of shards: which are there, and where.
-use Rattle.std.specs.Prelude.{◌≡◌, ℕ, ◌+◌, ◌/◌, ◌%◌, ◌<◌, List, slice_index}
+use Rattle.std.specs.Prelude.{◌≡◌, ℕ, ◌+◌, ◌/◌, ◌%◌, ◌<◌, List, length, slice_index}
 use Rattle.std.specs.Int.{bit_at}
 use Rattle.space.specs.declared.directory.Directory.{Directory}
 use Rattle.space.specs.Leaves as leaves
@@ -31,6 +31,10 @@ leaf_in d run = leaves.leaf_at d.branches.items d.leaves.items run
 -- the position of a shard
 unfoldable pub position_in : Directory → ℕ → ℕ
 position_in d shard = leaves.position_at d.branches.items d.leaves.items d.positions.items shard
+
+-- a list that says of each of the first shards what the directory says
+abbrev pub AreCopied : Directory → List ℕ → Type 0
+AreCopied d positions = (shard : ℕ) → shard < length positions → slice_index positions shard ≡ position_in d shard
 
 -- each shard is where it was
 pub record IsSame (old new : Directory) : Type 0 where

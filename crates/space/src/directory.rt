@@ -1,7 +1,7 @@
 //! Where the words of each shard stand.
 
 ghost use Rattle.std.specs.Prelude.{◌≡◌, ◌+◌, ◌/◌, ◌%◌, ◌≤◌, ◌^◌, length, IsTrue, IfOk, OnOk, OnErr, ℕ, ◌<◌, slice_index};
-ghost use Rattle.space.specs.Leaves.{nowhere, lone_leaf, alone, block_of, with_block, with_leaf, leaf_alone, in_branch, with_one, position_alone, IsFound, IsDense, AreNumbers};
+ghost use Rattle.space.specs.Leaves.{nowhere, lone_leaf, alone, block_of, with_block, with_leaf, leaf_alone, in_branch, with_one, position_alone, IsFound};
 
 use crate::runs::next_with_life;
 use std::alloc::{AllocError, Global};
@@ -18,12 +18,8 @@ const BRANCH_LEAVES: usize = BLOCK;
 /// How many shards the leaves of one branch find.
 pub const BRANCH_SHARDS: usize = 256;
 
-/// With so many shards at most all branches and leaves are there from the start: 137 KiB. Then a position is found
-/// without a look at them.
-const DENSE_SHARDS: u32 = 1 << 15;
-
 /// Stands for the position of a shard that is not there.
-const NOWHERE: u32 = u32::MAX;
+pub const NOWHERE: u32 = u32::MAX;
 
 /// From here on an entry for a run of 256 shards is no number of a branch: it has the one leaf of the run.
 const LONE_LEAF: u32 = 1 << 30;
@@ -44,8 +40,6 @@ pub struct Directory {
     most: u32,
     /// How many are there.
     count: u32,
-    /// Whether each run of 16 shards has its leaf, and the leaves stand in the order of the runs.
-    is_dense: bool,
     /// Which branch finds the shards of each run of 256, or its one leaf or its one shard.
     branches: Vec<u32>,
     /// Which leaf finds the shards of each run of 16 of a branch, or its one shard, branch behind branch.
@@ -53,7 +47,6 @@ pub struct Directory {
     /// The positions of the shards of each leaf, leaf behind leaf.
     positions: Vec<u32>,
     ghost found: { IsFound most count branches.items leaves.items positions.items },
-    ghost dense: { IsDense is_dense branches.items leaves.items },
 }
 
 impl Directory {
@@ -64,44 +57,8 @@ impl Directory {
     /// A directory of so many shards, none of which is there.
     ///
     /// Fails where memory is refused.
+    #[tactic(auto, unfolding(crate::specs::Positions::position_in))]
     pub fn new(alloc: Global, most: u32) -> Result<Self, AllocError>
-        requires few { most ≤ 2 ^ 23 }
-        ensures most { IfOk result (λ d. most_of d ≡ most) }
-        ensures count { IfOk result (λ d. count_of d ≡ 0) }
-        ensures none { IfOk result (λ d. (shard : ℕ) → position_in d shard ≡ nowhere) }
-    {
-        if most <= DENSE_SHARDS {
-            Directory::dense(alloc, most)
-        } else {
-            Directory::sparse(alloc, most)
-        }
-    }
-
-    /// The same, with a leaf for each run.
-    #[tactic(auto, unfolding(crate::specs::Positions::position_in))]
-    fn dense(alloc: Global, most: u32) -> Result<Self, AllocError>
-        requires few { most ≤ 2 ^ 15 }
-        ensures most { IfOk result (λ d. most_of d ≡ most) }
-        ensures count { IfOk result (λ d. count_of d ≡ 0) }
-        ensures none { IfOk result (λ d. (shard : ℕ) → position_in d shard ≡ nowhere) }
-    {
-        let runs = (most as usize).div_ceil(BRANCH_SHARDS);
-        let branches = numbers_in_order(alloc, 0, runs)?;
-        let leaves = numbers_in_order(alloc, BRANCH_LEAVES, runs * BRANCH_LEAVES)?;
-        let positions = vec![in alloc; NOWHERE; (runs * BRANCH_LEAVES + 1) * LEAF_SHARDS]?;
-        Ok(Directory {
-            most,
-            count: 0,
-            is_dense: true,
-            branches,
-            leaves,
-            positions,
-        })
-    }
-
-    /// The same, with the empty branch and the empty leaf alone.
-    #[tactic(auto, unfolding(crate::specs::Positions::position_in))]
-    fn sparse(alloc: Global, most: u32) -> Result<Self, AllocError>
         requires few { most ≤ 2 ^ 23 }
         ensures most { IfOk result (λ d. most_of d ≡ most) }
         ensures count { IfOk result (λ d. count_of d ≡ 0) }
@@ -114,7 +71,6 @@ impl Directory {
         Ok(Directory {
             most,
             count: 0,
-            is_dense: false,
             branches,
             leaves,
             positions,
@@ -137,21 +93,9 @@ impl Directory {
     }
 
     /// Where the words of a shard stand; `NOWHERE` where it is not there.
-    #[tactic(auto, unfolding(crate::specs::Positions::position_in))]
-    pub fn position(&self, shard: usize) -> u32
-        requires { shard < most_of self.now }
-        ensures { result ≡ position_in self.now shard }
-    {
-        if self.is_dense {
-            return self.positions[LEAF_SHARDS + shard];
-        }
-        self.position_in_leaf(shard)
-    }
-
-    /// The same, by branch and leaf.
     #[inline(never)]
     #[tactic(auto, unfolding(crate::specs::Positions::position_in))]
-    fn position_in_leaf(&self, shard: usize) -> u32
+    pub fn position(&self, shard: usize) -> u32
         requires { shard < most_of self.now }
         ensures { result ≡ position_in self.now shard }
     {
@@ -504,17 +448,4 @@ fn life_at(live: &[u8], position: usize) -> u8
         Some(life) => *life,
         None => 0,
     }
-}
-
-/// Some zeros, and behind them so many numbers in their order, from 1 on.
-fn numbers_in_order(alloc: Global, zeros: usize, count: usize) -> Result<Vec<u32>, AllocError>
-    requires few { zeros ≤ 16 }
-    requires count { count ≤ 2 ^ 11 }
-    ensures { IfOk result (λ numbers. AreNumbers zeros count numbers.items) }
-{
-    let mut numbers = vec![in alloc; 0; zeros]?;
-    for number in 0..count {
-        numbers.push(number as u32 + 1)?;
-    }
-    Ok(numbers)
 }

@@ -1,9 +1,9 @@
 -- The branch stands behind the others, and has the one leaf or the one shard that is there in the entry of its run.
 use Rattle.std.proofs.Common.{◌≡◌, ◌∙◌, refl, sym, ap, subst, arith, ◌*◌, ◌/◌, ◌%◌, ◌<◌, ◌≤◌, length, slice_index, slice_set}
 use Rattle.std.proofs.lemmas.List.{get_or_default}
-use Rattle.space.specs.Leaves.{IsFound, IsDense, lone_leaf, with_block}
-use Rattle.space.proofs.Leaves.{closed_found, closed_dense}
-use Rattle.space.proofs.Leaves.{dense_in, found_in, few_branches, run_within, branch_parted, same_by_branch, first_parted, never_in_order}
+use Rattle.space.specs.Leaves.{IsFound, lone_leaf, with_block}
+use Rattle.space.proofs.Leaves.{closed_found}
+use Rattle.space.proofs.Leaves.{found_in, few_branches, run_within, branch_parted, same_by_branch, first_parted}
 use Rattle.space.specs.Positions.{position_in}
 use Rattle.space.proofs.directory.Directory.part_branch.Goals as goal
 
@@ -18,7 +18,6 @@ invariant_of-self c =
     let same = sym c.in_err-branch.ensures.err in
     record {
       found = subst (λ leaves. IsFound d.most d.count d.branches.items leaves d.positions.items) same d.found;
-      dense = subst (IsDense d.is_dense d.branches.items) same d.dense;
     }
 
 pub invariant_of-self-2 : goal.invariant_of-self-2
@@ -32,7 +31,6 @@ invariant_of-self-2 c =
     let more_is = c.in_ok-branch.ensures.ok ∙ ap (with_block 0 d.leaves.items (e % 256 / 16)) c.in_branch.ensures in
     record {
       found = closed_found (branch_parted d.most d.count d.branches.items d.leaves.items d.positions.items (found_in d) c.args.run within e entry_is high _ _ after_is more_is);
-      dense = closed_dense _ _ _ (λ dense. absurd (never_in_order d.most d.count d.branches.items d.leaves.items d.positions.items (found_in d) c.args.run within (omega (arith, c.requires.none)) (dense_in d dense)));
     }
 
 pub returns-clause-same : goal.returns-clause-same

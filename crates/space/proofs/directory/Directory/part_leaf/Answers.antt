@@ -1,9 +1,9 @@
 -- The leaf stands behind the others, and has the position of the one shard that is there.
 use Rattle.std.proofs.Common.{◌≡◌, ◌∙◌, refl, sym, ap, arith, ◌+◌, ◌*◌, ◌/◌, ◌%◌, ◌<◌, length, slice_index, slice_set}
 use Rattle.std.proofs.lemmas.List.{get_or_default}
-use Rattle.space.proofs.Leaves.{closed_found, closed_dense}
+use Rattle.space.proofs.Leaves.{closed_found}
 use Rattle.space.specs.Leaves.{nowhere, lone_leaf, with_block, slot_in, branch_at}
-use Rattle.space.proofs.Leaves.{dense_in, found_in, few_leaves, run_within, leaf_within, block_is, branch_if, no_leaf_beside, leaf_parted, same_by_leaf, entry_parted, leaf_some}
+use Rattle.space.proofs.Leaves.{found_in, few_leaves, run_within, leaf_within, block_is, branch_if, leaf_parted, same_by_leaf, entry_parted, leaf_some}
 use Rattle.space.specs.Positions.{position_in}
 use Rattle.space.proofs.directory.Directory.part_leaf.Goals as goal
 
@@ -35,7 +35,6 @@ invariant_of-self-2 c =
     let more_is = c.in_ok-leaf.ensures.ok ∙ ap (with_block nowhere d.positions.items (e % 16)) c.position_alone-position.ensures in
     record {
       found = closed_found (leaf_parted d.most d.count d.branches.items d.leaves.items d.positions.items (found_in d) c.args.run within e (sym c.entry-entry.ensures) c.if-entry-lt-ALONE.false (c.args.run * 16 + e % 16) refl _ _ after_is more_is);
-      dense = closed_dense _ _ _ (λ dense. absurd (omega (arith, no_leaf_beside d.most d.count d.branches.items d.leaves.items d.positions.items (found_in d) c.args.run (omega (arith, c.entry-entry.ensures, c.if-entry-lt-ALONE.false)), dense_in d dense c.args.run within)));
     }
 
 pub returns-clause-same : goal.returns-clause-same

@@ -2,8 +2,8 @@
 use Rattle.std.proofs.Common.{◌≡◌, ◌∙◌, refl, sym, ap, arith, ◌+◌, ◌*◌, ◌/◌, ◌%◌, ◌<◌, ◌≤◌, length, slice_index, slice_set}
 use Rattle.std.proofs.lemmas.List.{get_or_default}
 use Rattle.space.specs.Leaves.{nowhere, alone, with_block, with_leaf}
-use Rattle.space.proofs.Leaves.{closed_found, closed_dense}
-use Rattle.space.proofs.Leaves.{dense_in, found_in, few_leaves, run_within, never_in_order, lone_parted, lone_some, same_by_lone}
+use Rattle.space.proofs.Leaves.{closed_found}
+use Rattle.space.proofs.Leaves.{found_in, few_leaves, run_within, lone_parted, lone_some, same_by_lone}
 use Rattle.space.specs.Positions.{position_in}
 use Rattle.space.proofs.directory.Directory.part_lone_leaf.Goals as goal
 
@@ -30,7 +30,6 @@ invariant_of-self-2 c =
     let more_is = c.in_ok-leaf.ensures.ok ∙ ap (with_block nowhere d.positions.items (e % 16)) c.position_alone-position.ensures in
     record {
       found = closed_found (lone_parted d.most d.count d.branches.items d.leaves.items d.positions.items (found_in d) c.args.run within e entry_is high of_run (c.args.run * 16 + e % 16) refl _ _ after_is more_is);
-      dense = closed_dense _ _ _ (λ dense. absurd (never_in_order d.most d.count d.branches.items d.leaves.items d.positions.items (found_in d) (c.args.run / 16) (omega (arith, run)) (omega (arith, c.requires.one)) (dense_in d dense)));
     }
 
 pub returns-clause-same : goal.returns-clause-same

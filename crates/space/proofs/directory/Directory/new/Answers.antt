@@ -1,10 +1,10 @@
 -- No shard is there.
 use Rattle.std.proofs.Common.{◌∙◌, ap}
 use Rattle.std.specs.Prelude.{replicate}
-use Rattle.space.proofs.Leaves.{closed_found, closed_dense}
+use Rattle.space.proofs.Leaves.{closed_found}
 use Rattle.space.proofs.Leaves.{sparse_directory, sparse_nowhere}
 use Rattle.space.specs.Positions.{position_in}
-use Rattle.space.proofs.directory.Directory.sparse.Goals as goal
+use Rattle.space.proofs.directory.Directory.new.Goals as goal
 
 pub invariant_of-result : goal.invariant_of-result
 invariant_of-result c =
@@ -14,7 +14,6 @@ invariant_of-result c =
     let found = sparse_directory c.args.most c.in_ok-branches.branches.items c.in_ok-leaves.leaves.items c.in_ok-positions.positions.items c.requires.few branches leaves positions in
     record {
       found = closed_found (found);
-      dense = closed_dense _ _ _ (λ never. absurd (cc never));
     }
 
 pub returns-clause-none : goal.returns-clause-none
