@@ -5,8 +5,11 @@ ghost use Rattle.std.specs.Option.{option_to_list};
 ghost use Rattle.std.specs.List.{All};
 ghost use Rattle.space.specs.Shards.{IsPlace, is_taken};
 ghost use Rattle.holdings.specs.Inner.Links.{links_of, AreLinkable, AreLinked};
+ghost use Rattle.holdings.specs.Inner.Planning.{counts_in};
+ghost use Rattle.holdings.specs.Meaning.{counts_of};
 
 use crate::transfer::Transfer;
+use crate::transfer_counts::TransferCounts;
 use crate::tree::derive;
 use maptree::Tree;
 use space::{NoMemory, Place, Shards};
@@ -21,20 +24,29 @@ pub struct Link {
 }
 
 /// Puts the new mappings of transfers that go, and whose source is held, into the trees, each into the tree of its frame.
+/// Counts what becomes of the transfers.
 ///
 /// Refused, where memory is: `NoMemory`.
-pub fn link_all(shards: &Shards, trees: &mut [Tree], transfers: &[Transfer]) -> Result<(), NoMemory>
+pub fn link_all(
+    shards: &Shards,
+    trees: &mut [Tree],
+    transfers: &[Transfer],
+) -> Result<TransferCounts, NoMemory>
     requires present { IsFalse (is_taken shards.now) }
     requires places { All (λ t. IsPlace shards.now t.source) transfers.now }
     requires linkable { AreLinkable trees.old (links_of shards.now transfers.now) }
-    ensures { OnOk result (AreLinked (links_of shards.now transfers.now) trees.old trees.new) }
+    ensures linked { OnOk result (AreLinked (links_of shards.now transfers.now) trees.old trees.new) }
+    ensures counts { IfOk result (λ counts. counts_of counts ≡ counts_in shards.now transfers.now) }
 {
+    let mut counts = TransferCounts::none();
     for transfer in transfers {
+        let one = TransferCounts::of_one(shards, *transfer);
+        counts = counts.plus(one);
         if let Some(link) = new_link(shards, *transfer) {
             derive(&mut trees[link.frame as usize], link.source, link.target)?;
         }
     }
-    Ok(())
+    Ok(counts)
 }
 
 /// The link of a transfer, if it goes and its source is held, as the words stand.
@@ -56,21 +68,25 @@ pub fn new_link(shards: &Shards, transfer: Transfer) -> Option<Link>
     })
 }
 
-/// The links of transfers that go and whose source is held, as the words stand.
+/// The links of transfers that go and whose source is held, as the words stand, and what becomes of the transfers.
 pub fn new_links(
     alloc: Global,
     shards: &Shards,
     transfers: &[Transfer],
-) -> Result<Vec<Link>, AllocError>
+) -> Result<(Vec<Link>, TransferCounts), AllocError>
     requires present { IsFalse (is_taken shards.now) }
     requires places { All (λ t. IsPlace shards.now t.source) transfers.now }
-    ensures { IfOk result (λ links. links.items ≡ links_of shards.now transfers.now) }
+    ensures links { IfOk result (λ r. r.0.items ≡ links_of shards.now transfers.now) }
+    ensures counts { IfOk result (λ r. counts_of r.1 ≡ counts_in shards.now transfers.now) }
 {
     let mut links = Vec::with_capacity(alloc, transfers.len())?;
+    let mut counts = TransferCounts::none();
     for transfer in transfers {
+        let one = TransferCounts::of_one(shards, *transfer);
+        counts = counts.plus(one);
         if let Some(link) = new_link(shards, *transfer) {
             links.push(link)?;
         }
     }
-    Ok(links)
+    Ok((links, counts))
 }

@@ -54,7 +54,7 @@ impl Holdings {
             mut trees,
         } = self;
         make_targets(&mut shards, transfers)?;
-        link_all(&shards, &mut trees, transfers)?;
+        let _ = link_all(&shards, &mut trees, transfers)?;
         let mut worked = TransferCounts::none();
         for transfer in transfers {
             let one = map_page(&mut shards, *transfer, rights);

@@ -50,10 +50,9 @@ impl Holdings {
             mut trees,
         } = self;
         make_targets(&mut shards, transfers)?;
-        let counts = TransferCounts::of_all(&shards, transfers);
         let passing = Passing::Mapped(rights);
         let pieces = item_pieces(alloc, &shards, transfers, passing, workers)?;
-        link_all(&shards, &mut trees, transfers)?;
+        let counts = link_all(&shards, &mut trees, transfers)?;
         write_phase(alloc, &mut shards, pieces, workers)?;
         Ok((Holdings { shards, trees }, counts))
     }

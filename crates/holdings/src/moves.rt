@@ -56,7 +56,7 @@ impl Holdings {
             mut trees,
         } = self;
         make_targets(&mut shards, transfers)?;
-        rename_all(alloc, &shards, &mut trees, transfers)?;
+        let _ = rename_all(alloc, &shards, &mut trees, transfers)?;
         let mut worked = TransferCounts::none();
         for transfer in transfers {
             let one = move_page(&mut shards, transfer.source, transfer.target);

@@ -49,9 +49,8 @@ impl Holdings {
             mut trees,
         } = self;
         make_targets(&mut shards, transfers)?;
-        let counts = TransferCounts::of_all(&shards, transfers);
         let pieces = item_pieces(alloc, &shards, transfers, Passing::Moved, workers)?;
-        rename_all(alloc, &shards, &mut trees, transfers)?;
+        let counts = rename_all(alloc, &shards, &mut trees, transfers)?;
         write_phase(alloc, &mut shards, pieces, workers)?;
         Ok((Holdings { shards, trees }, counts))
     }

@@ -4,38 +4,43 @@ ghost use Rattle.std.specs.Prelude.{◌∷◌, [], None, OnOk, IsFalse, ◌≡�
 ghost use Rattle.std.specs.List.{All};
 ghost use Rattle.space.specs.Shards.{IsPlace, is_taken};
 ghost use Rattle.holdings.specs.Inner.Links.{last_target, links_of, AreTargets};
+ghost use Rattle.holdings.specs.Inner.Planning.{counts_in};
 ghost use Rattle.holdings.specs.Inner.Renamings.{AreMovable, AreRenamed};
+ghost use Rattle.holdings.specs.Meaning.{counts_of};
 ghost use Rattle.maptree.specs.PlaceMaps.{place_for};
 
 use crate::link::{Link, new_link, new_links};
 use crate::transfer::Transfer;
+use crate::transfer_counts::TransferCounts;
 use crate::tree::replace;
 use maptree::{PlaceMap, Tree};
 use space::Shards;
 use std::alloc::{AllocError, Global};
 
 /// Replaces the source of each transfer that goes, and whose source is held, by its target in the trees, as a place and as an
-/// origin.
+/// origin. Counts what becomes of the transfers.
 pub fn rename_all(
     alloc: Global,
     shards: &Shards,
     trees: &mut [Tree],
     transfers: &[Transfer],
-) -> Result<(), AllocError>
+) -> Result<TransferCounts, AllocError>
     requires present { IsFalse (is_taken shards.now) }
     requires places { All (λ t. IsPlace shards.now t.source) transfers.now }
     requires movable { AreMovable trees.old (links_of shards.now transfers.now) }
-    ensures { OnOk result (AreRenamed (λ p. last_target (links_of shards.now transfers.now) p None) (links_of shards.now transfers.now) trees.old trees.new) }
+    ensures renamed { OnOk result (AreRenamed (λ p. last_target (links_of shards.now transfers.now) p None) (links_of shards.now transfers.now) trees.old trees.new) }
+    ensures counts { IfOk result (λ counts. counts_of counts ≡ counts_in shards.now transfers.now) }
 {
     if let [transfer] = transfers {
         // A list and a map of one link would cost more than the link.
         if let Some(link) = new_link(shards, *transfer) {
             rename_link(trees, link);
         }
-        return Ok(());
+        return Ok(TransferCounts::of_one(shards, *transfer));
     }
-    let links = new_links(alloc, shards, transfers)?;
-    rename_links(alloc, trees, links)
+    let (links, counts) = new_links(alloc, shards, transfers)?;
+    rename_links(alloc, trees, links)?;
+    Ok(counts)
 }
 
 /// Replaces the source of a link by its target in the tree of its frame.

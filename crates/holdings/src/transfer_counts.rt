@@ -59,22 +59,8 @@ impl TransferCounts {
         TransferCounts { linked: 1, ..NONE }
     }
 
-    /// What becomes of transfers, as the words stand.
-    pub(crate) fn of_all(shards: &Shards, transfers: &[Transfer]) -> Self
-        requires present { IsFalse (is_taken shards.now) }
-        requires places { All (λ t. IsPlace shards.now t.source) transfers.now }
-        ensures { counts_of result ≡ counts_in shards.now transfers.now }
-    {
-        let mut counts = TransferCounts::none();
-        for transfer in transfers {
-            let one = TransferCounts::of_one(shards, *transfer);
-            counts = counts.plus(one);
-        }
-        counts
-    }
-
     /// One transfer: it is lost where its source is not held; else it gives rights to a mapping, or makes a new one.
-    fn of_one(shards: &Shards, transfer: Transfer) -> Self
+    pub(crate) fn of_one(shards: &Shards, transfer: Transfer) -> Self
         requires present { IsFalse (is_taken shards.now) }
         requires place { IsPlace shards.now transfer.source }
         ensures counts { counts_of result ≡ count_in shards.now transfer }

@@ -1,5 +1,5 @@
 -- The new mapping of one more transfer is in the tree of its frame.
-use Rattle.std.proofs.Common.{◌≡◌, ◌<◌, ◌+◌, ◌++◌, ◌∷◌, [], ℕ, Bool, List, length, get_or, true, false, refl, sym, ap, ◌∙◌, subst, take, drop, if◌then◌else◌, Option, Some, None}
+use Rattle.std.proofs.Common.{arith, ◌≡◌, ◌<◌, ◌+◌, ◌++◌, ◌∷◌, [], ℕ, Bool, List, length, get_or, true, false, refl, sym, ap, ◌∙◌, subst, take, drop, if◌then◌else◌, Option, Some, None}
 use Rattle.std.specs.Option.{option_to_list}
 use Rattle.std.specs.Prelude.{slice_set}
 use Rattle.std.proofs.lemmas.List.{append-nil, take_all, take_more, drop_more, take-append-drop}
@@ -11,15 +11,17 @@ use Rattle.holdings.specs.declared.link.Link.{Link}
 use Rattle.holdings.specs.declared.transfer.Transfer.{Transfer}
 use Rattle.holdings.specs.Inner.Derivation.{stands_in, IsDerived}
 use Rattle.holdings.specs.Inner.Held.{links_in}
+use Rattle.model.specs.Definitions.Items.{add_counts}
+use Rattle.model.specs.Laws.SendLaws.{total}
+use Rattle.holdings.specs.Inner.Planning.{counts_in}
+use Rattle.holdings.specs.Meaning.{counts_of}
 use Rattle.holdings.specs.Inner.Links.{AreLinkable, AreLinked, link_of, links_of}
 use Rattle.holdings.proofs.Contents.Holders.{links_read}
 use Rattle.holdings.proofs.Links.LinkedTrees.{none_linked, next_frame, next_source, next_target, next_linked}
 use Rattle.holdings.proofs.Links.NewMappings.{tree_set}
+use Rattle.holdings.proofs.CountSums.{add_assoc, total_sum}
 use Rattle.holdings.proofs.link.link_all.Goals.{in-Some+in_ok-derive, in_default}
 use Rattle.holdings.proofs.link.link_all.Goals as goal
-
-pub loop-transfer-init : goal.loop-transfer-init
-loop-transfer-init c = none_linked c.args.trees.now
 
 -- the links of the tree that is read
 read : (trees : List Shape) (frame : ℕ) (t : Shape) → frame < length trees → t ≡ get_or trees frame t → links_in trees frame ≡ (get_or trees frame t).links
@@ -81,24 +83,24 @@ module _ (s : Shards) (ts : List Transfer) (i : ℕ) (d : Transfer) (less : i < 
 
 pub bounds-trees-link : goal.bounds-trees-link
 bounds-trees-link c =
-    frame c.args.shards.now c.args.transfers.now c.loop-transfer.transfer-index _ c.loop-transfer-test.true c.args.trees.now c.requires.linkable c.loop-transfer.trees c.loop-transfer.invariant c.in-Some.link
+    frame c.args.shards.now c.args.transfers.now c.loop-transfer.transfer-index _ c.loop-transfer-test.true c.args.trees.now c.requires.linkable c.loop-transfer.trees c.loop-transfer.invariant.linked c.in-Some.link
     (sym c.new_link.ensures ∙ ap option_to_list c.in-Some.is)
 
 pub derive-requires-clause-origin : goal.derive-requires-clause-origin
 derive-requires-clause-origin c =
     let s = c.args.shards.now in
     let here = sym c.new_link.ensures ∙ ap option_to_list c.in-Some.is in
-    let there = frame s c.args.transfers.now c.loop-transfer.transfer-index _ c.loop-transfer-test.true c.args.trees.now c.requires.linkable c.loop-transfer.trees c.loop-transfer.invariant c.in-Some.link here in
+    let there = frame s c.args.transfers.now c.loop-transfer.transfer-index _ c.loop-transfer-test.true c.args.trees.now c.requires.linkable c.loop-transfer.trees c.loop-transfer.invariant.linked c.in-Some.link here in
     subst (λ os. stands_in os c.in-Some.link.source ≡ true) (read c.loop-transfer.trees c.in-Some.link.frame c.index-trees-link.result there c.index-trees-link.is)
-    (source s c.args.transfers.now c.loop-transfer.transfer-index _ c.loop-transfer-test.true c.args.trees.now c.requires.linkable c.loop-transfer.trees c.loop-transfer.invariant c.in-Some.link here)
+    (source s c.args.transfers.now c.loop-transfer.transfer-index _ c.loop-transfer-test.true c.args.trees.now c.requires.linkable c.loop-transfer.trees c.loop-transfer.invariant.linked c.in-Some.link here)
 
 pub derive-requires-clause-new : goal.derive-requires-clause-new
 derive-requires-clause-new c =
     let s = c.args.shards.now in
     let here = sym c.new_link.ensures ∙ ap option_to_list c.in-Some.is in
-    let there = frame s c.args.transfers.now c.loop-transfer.transfer-index _ c.loop-transfer-test.true c.args.trees.now c.requires.linkable c.loop-transfer.trees c.loop-transfer.invariant c.in-Some.link here in
+    let there = frame s c.args.transfers.now c.loop-transfer.transfer-index _ c.loop-transfer-test.true c.args.trees.now c.requires.linkable c.loop-transfer.trees c.loop-transfer.invariant.linked c.in-Some.link here in
     subst (λ os. stands_in os c.in-Some.link.target ≡ false) (read c.loop-transfer.trees c.in-Some.link.frame c.index-trees-link.result there c.index-trees-link.is)
-    (target s c.args.transfers.now c.loop-transfer.transfer-index _ c.loop-transfer-test.true c.args.trees.now c.requires.linkable c.loop-transfer.trees c.loop-transfer.invariant c.in-Some.link here)
+    (target s c.args.transfers.now c.loop-transfer.transfer-index _ c.loop-transfer-test.true c.args.trees.now c.requires.linkable c.loop-transfer.trees c.loop-transfer.invariant.linked c.in-Some.link here)
 
 pub loop-transfer-preserved : goal.loop-transfer-preserved
 loop-transfer-preserved c =
@@ -106,16 +108,23 @@ loop-transfer-preserved c =
     let ts = c.args.transfers.now in
     let i = c.loop-transfer.transfer-index in
     let old = c.args.trees.now in
-    elim c.match-new_link.branch as (λ _. AreLinked (links_of s (take (i + 1) ts)) old c.match-new_link.trees) [
-      | in-Some+in_ok-derive w ↦
-          let here = sym c.new_link.ensures ∙ ap option_to_list w.in-Some.is in
-          subst (AreLinked (links_of s (take (i + 1) ts)) old) (sym w.trees-is)
-          (one_more s ts i _ c.loop-transfer-test.true old c.requires.linkable c.loop-transfer.trees c.loop-transfer.invariant w.in-Some.link here w.index-trees-link.result w.derive.new.tree w.index-trees-link.is w.in_ok-derive.ensures.ok)
-      | in_default w ↦
-          subst (AreLinked (links_of s (take (i + 1) ts)) old) (sym w.trees-is)
-          (no_more s ts i _ c.loop-transfer-test.true old c.requires.linkable c.loop-transfer.trees c.loop-transfer.invariant (sym c.new_link.ensures ∙ ap option_to_list w.in_default.is))
-    ]
+    let sum = c.plus-counts.ensures ∙ ap (add_counts (counts_of c.loop-transfer.counts)) c.of_one-one.ensures.counts in
+    record {
+      linked = elim c.match-new_link.branch as (λ _. AreLinked (links_of s (take (i + 1) ts)) old c.match-new_link.trees) [
+        | in-Some+in_ok-derive w ↦
+            let here = sym c.new_link.ensures ∙ ap option_to_list w.in-Some.is in
+            subst (AreLinked (links_of s (take (i + 1) ts)) old) (sym w.trees-is)
+            (one_more s ts i _ c.loop-transfer-test.true old c.requires.linkable c.loop-transfer.trees c.loop-transfer.invariant.linked w.in-Some.link here w.index-trees-link.result w.derive.new.tree w.index-trees-link.is w.in_ok-derive.ensures.ok)
+        | in_default w ↦
+            subst (AreLinked (links_of s (take (i + 1) ts)) old) (sym w.trees-is)
+            (no_more s ts i _ c.loop-transfer-test.true old c.requires.linkable c.loop-transfer.trees c.loop-transfer.invariant.linked (sym c.new_link.ensures ∙ ap option_to_list w.in_default.is))
+      ];
+      counted =
+          ap (λ k. add_counts k (counts_in s (drop (i + 1) ts))) sum ∙ add_assoc (counts_of c.loop-transfer.counts) _ (counts_in s (drop (i + 1) ts))
+          ∙ ap (λ us. add_counts (counts_of c.loop-transfer.counts) (counts_in s us)) (sym (drop_more ts i _ c.loop-transfer-test.true)) ∙ c.loop-transfer.invariant.counted;
+      upto = ap total c.plus-counts.ensures ∙ total_sum (counts_of c.loop-transfer.counts) (counts_of c.of_one-one.result) ∙ omega (arith, c.loop-transfer.invariant.upto, c.of_one-one.ensures.one);
+    }
 
-pub returns : goal.returns
-returns c =
-    subst (λ ts. AreLinked (links_of c.args.shards.now ts) c.args.trees.now c.loop-transfer.trees) (take_all c.loop-transfer.transfer-index c.args.transfers.now c.loop-transfer-test.false) c.loop-transfer.invariant
+pub returns-clause-linked : goal.returns-clause-linked
+returns-clause-linked c =
+    subst (λ ts. AreLinked (links_of c.args.shards.now ts) c.args.trees.now c.loop-transfer.trees) (take_all c.loop-transfer.transfer-index c.args.transfers.now c.loop-transfer-test.false) c.loop-transfer.invariant.linked

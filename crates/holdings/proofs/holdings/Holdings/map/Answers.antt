@@ -52,7 +52,7 @@ loop-transfer-init g c =
     let planned = subst (λ (h : Contents). ArePlanned h.limits c.args.transfers.now) (sym (made_from c.self.inside.shards c.make_targets.new.shards c.self.inside.trees.items c.in_ok-make_targets.ensures.made c.in_ok-make_targets.ensures.present c.args.self c.self.view_is).view) c.requires.planned in
     let ready = subst (λ (h : Contents). AreReady h.holdings c.args.rights c.args.transfers.now) (sym (made_from c.self.inside.shards c.make_targets.new.shards c.self.inside.trees.items c.in_ok-make_targets.ensures.made c.in_ok-make_targets.ensures.present c.args.self c.self.view_is).view) c.requires.ready in
     let linked : AreLinked (links_of s c.args.transfers.now) t c.link_all.new.trees =
-    subst (λ (ts : List Shape). AreLinked (links_of s c.args.transfers.now) ts c.link_all.new.trees) c.deref_mut.ensures.value c.in_ok-link_all.ensures in
+    subst (λ (ts : List Shape). AreLinked (links_of s c.args.transfers.now) ts c.link_all.new.trees) c.deref_mut.ensures.value c.in_ok-link_all.ensures.linked in
     let count : length c.link_all.new.trees ≡ c.self.inside.trees.len = omega (arith, c.link_all.auto.trees, ap length c.deref_mut.ensures.value, c.self.inside.trees.ok.0) in
     record {
       ahead =

@@ -136,7 +136,7 @@ invariant_of-result g c =
     let free = subst (λ (h : Contents). AreFree h.holdings ts) (sym (made_from c.self.inside.shards c.make_targets.new.shards c.self.inside.trees.items c.in_ok-make_targets.ensures.made c.in_ok-make_targets.ensures.present c.args.self c.self.view_is).view) c.requires.free in
     let so_far = subst (λ (h : Contents). AreMoving h.limits h.holdings s ts c.loop-transfer.transfer-index c.loop-transfer.shards (counts_of c.loop-transfer.worked)) (sym (made_from c.self.inside.shards c.make_targets.new.shards c.self.inside.trees.items c.in_ok-make_targets.ensures.made c.in_ok-make_targets.ensures.present c.args.self c.self.view_is).view) c.loop-transfer.invariant.moving in
     let all = all_moved limits (holdings_in s t) s ts c.loop-transfer.transfer-index c.loop-transfer.shards (counts_of c.loop-transfer.worked) c.loop-transfer-test.false so_far in
-    let renamed = subst (λ (now : List Shape). AreRenamed (λ p. last_target (links_of s ts) p None) (links_of s ts) now c.rename_all.new.trees) c.deref_mut.ensures.value c.in_ok-rename_all.ensures in
+    let renamed = subst (λ (now : List Shape). AreRenamed (λ p. last_target (links_of s ts) p None) (links_of s ts) now c.rename_all.new.trees) c.deref_mut.ensures.value c.in_ok-rename_all.ensures.renamed in
     let count : length c.rename_all.new.trees ≡ c.self.inside.trees.len = omega (arith, c.rename_all.auto.trees, ap length c.deref_mut.ensures.value, c.self.inside.trees.ok.0) in
     let same = with_items_is c.self.inside.trees c.rename_all.new.trees count in
     subst (AreSound c.loop-transfer.shards) (sym same) (all_sound s t (sound_stays c.self.inside.shards c.make_targets.new.shards c.self.inside.trees.items (made_says c.self.inside.shards c.make_targets.new.shards c.in_ok-make_targets.ensures.made c.in_ok-make_targets.ensures.present) c.self.invariant) ts planned c.requires.all_go free c.loop-transfer.shards c.rename_all.new.trees (links_of s ts) refl renamed all.0)
@@ -151,7 +151,7 @@ returns-clause-moved g c =
     let free = subst (λ (h : Contents). AreFree h.holdings ts) (sym (made_from c.self.inside.shards c.make_targets.new.shards c.self.inside.trees.items c.in_ok-make_targets.ensures.made c.in_ok-make_targets.ensures.present c.args.self c.self.view_is).view) c.requires.free in
     let so_far = subst (λ (h : Contents). AreMoving h.limits h.holdings s ts c.loop-transfer.transfer-index c.loop-transfer.shards (counts_of c.loop-transfer.worked)) (sym (made_from c.self.inside.shards c.make_targets.new.shards c.self.inside.trees.items c.in_ok-make_targets.ensures.made c.in_ok-make_targets.ensures.present c.args.self c.self.view_is).view) c.loop-transfer.invariant.moving in
     let all = all_moved limits (holdings_in s t) s ts c.loop-transfer.transfer-index c.loop-transfer.shards (counts_of c.loop-transfer.worked) c.loop-transfer-test.false so_far in
-    let renamed = subst (λ (now : List Shape). AreRenamed (λ p. last_target (links_of s ts) p None) (links_of s ts) now c.rename_all.new.trees) c.deref_mut.ensures.value c.in_ok-rename_all.ensures in
+    let renamed = subst (λ (now : List Shape). AreRenamed (λ p. last_target (links_of s ts) p None) (links_of s ts) now c.rename_all.new.trees) c.deref_mut.ensures.value c.in_ok-rename_all.ensures.renamed in
     let count : length c.rename_all.new.trees ≡ c.self.inside.trees.len = omega (arith, c.rename_all.auto.trees, ap length c.deref_mut.ensures.value, c.self.inside.trees.ok.0) in
     let same = with_items_is c.self.inside.trees c.rename_all.new.trees count in
     let left = all_left s t (sound_stays c.self.inside.shards c.make_targets.new.shards c.self.inside.trees.items (made_says c.self.inside.shards c.make_targets.new.shards c.in_ok-make_targets.ensures.made c.in_ok-make_targets.ensures.present) c.self.invariant) ts planned c.requires.all_go free c.loop-transfer.shards c.rename_all.new.trees (links_of s ts) refl renamed all.0 in

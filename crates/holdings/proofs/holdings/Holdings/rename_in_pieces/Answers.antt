@@ -34,14 +34,14 @@ invariant_of-result g c =
     subst (AreSound c.write_phase.new.shards) (sym (with_items_is c.self.inside.trees c.rename_all.new.trees count))
     (moved_sound c.make_targets.new.shards c.self.inside.trees.items (sound_stays c.self.inside.shards c.make_targets.new.shards c.self.inside.trees.items (made_says c.self.inside.shards c.make_targets.new.shards c.in_ok-make_targets.ensures.made c.in_ok-make_targets.ensures.present) c.self.invariant) c.args.self (made_from c.self.inside.shards c.make_targets.new.shards c.self.inside.trees.items c.in_ok-make_targets.ensures.made c.in_ok-make_targets.ensures.present c.args.self c.self.view_is) c.args.transfers.now c.requires.planned c.requires.all_go c.requires.free c.in_ok-make_targets.ensures.there
     c.in_ok-pieces.pieces.items c.in_ok-pieces.ensures
-    (links_of c.make_targets.new.shards c.args.transfers.now) refl c.deref_mut.result.now c.deref_mut.ensures.value c.rename_all.new.trees c.in_ok-rename_all.ensures
+    (links_of c.make_targets.new.shards c.args.transfers.now) refl c.deref_mut.result.now c.deref_mut.ensures.value c.rename_all.new.trees c.in_ok-counts.ensures.renamed
     c.write_phase.new.shards c.in_ok-write_phase.ensures.written)
 
 pub returns-clause-moved : goal.returns-clause-moved
 returns-clause-moved g c =
     let count : length c.rename_all.new.trees ≡ c.self.inside.trees.len = omega (arith, c.rename_all.auto.trees, ap length c.deref_mut.ensures.value, c.self.inside.trees.ok.0) in
-    subst (λ (now : List Shape). AreMoved c.args.self c.args.transfers.now (contents_of c.write_phase.new.shards now, c.of_all-counts.result)) (sym (with_items_is c.self.inside.trees c.rename_all.new.trees count))
+    subst (λ (now : List Shape). AreMoved c.args.self c.args.transfers.now (contents_of c.write_phase.new.shards now, c.in_ok-counts.counts)) (sym (with_items_is c.self.inside.trees c.rename_all.new.trees count))
     (are_moved c.make_targets.new.shards c.self.inside.trees.items (sound_stays c.self.inside.shards c.make_targets.new.shards c.self.inside.trees.items (made_says c.self.inside.shards c.make_targets.new.shards c.in_ok-make_targets.ensures.made c.in_ok-make_targets.ensures.present) c.self.invariant) c.args.self (made_from c.self.inside.shards c.make_targets.new.shards c.self.inside.trees.items c.in_ok-make_targets.ensures.made c.in_ok-make_targets.ensures.present c.args.self c.self.view_is) c.args.transfers.now c.requires.planned c.requires.all_go c.requires.free c.in_ok-make_targets.ensures.there
     c.in_ok-pieces.pieces.items c.in_ok-pieces.ensures
-    (links_of c.make_targets.new.shards c.args.transfers.now) refl c.deref_mut.result.now c.deref_mut.ensures.value c.rename_all.new.trees c.in_ok-rename_all.ensures
-    c.write_phase.new.shards c.in_ok-write_phase.ensures.written c.of_all-counts.result c.of_all-counts.ensures)
+    (links_of c.make_targets.new.shards c.args.transfers.now) refl c.deref_mut.result.now c.deref_mut.ensures.value c.rename_all.new.trees c.in_ok-counts.ensures.renamed
+    c.write_phase.new.shards c.in_ok-write_phase.ensures.written c.in_ok-counts.counts c.in_ok-counts.ensures.counts)
