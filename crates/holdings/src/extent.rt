@@ -1,7 +1,7 @@
 //! How far a strip of pages reaches, and so who works it.
 
 use crate::holdings::Holdings;
-use crate::phase::{is_small, is_worked_alone};
+use crate::phase::{is_small, is_worked_alone, most_pieces};
 use crew::Workers;
 use maptree::Tree;
 use space::Place;
@@ -70,12 +70,14 @@ impl Holdings {
         if is_small(most_mappings, workers) {
             return true;
         }
-        let extent = self.extent(places, workers.piece_length());
+        let enough = most_pieces(most_mappings, workers);
+        let extent = self.extent(places, workers.piece_length(), enough);
         is_worked_alone(extent.mappings, extent.pieces, workers)
     }
 
-    /// What a strip of these pages passes over, in pieces of at most so many mappings.
-    fn extent(&self, places: &[Place], length: usize) -> Extent
+    /// What a strip of these pages passes over, in pieces of at most so many mappings, or of some of the pages that have
+    /// more pieces than enough.
+    fn extent(&self, places: &[Place], length: usize, enough: usize) -> Extent
         requires within { All (IsWithin self.now.limits) places.now }
         requires some { 1 ≤ length }
     {
@@ -84,6 +86,9 @@ impl Holdings {
             pieces: 0,
         };
         for place in places {
+            if extent.pieces > enough {
+                break;
+            }
             if let Some(entry) = self.shards.get(*place) {
                 let more = run_len(&self.trees[entry.frame as usize], *place);
                 extent.mappings = extent.mappings.saturating_add(more);

@@ -23,9 +23,13 @@ pub fn is_small<W: Workers>(parts: usize, workers: &W) -> bool {
 /// Whether the calling thread works a phase alone: it is small, or it would have so many short pieces that sharing them
 /// costs more than working them. Workers who share the smallest phase share those too.
 pub fn is_worked_alone<W: Workers>(parts: usize, pieces: usize, workers: &W) -> bool {
+    is_small(parts, workers) || (workers.shared_from() > 0 && pieces > most_pieces(parts, workers))
+}
+
+/// How many pieces of so many parts may pay for being shared.
+pub fn most_pieces<W: Workers>(parts: usize, workers: &W) -> usize {
     let full = parts.div_ceil(workers.piece_length());
-    is_small(parts, workers)
-        || (workers.shared_from() > 0 && pieces > full.saturating_mul(MOST_SHORT_PIECES))
+    full.saturating_mul(MOST_SHORT_PIECES)
 }
 
 /// Works the pieces of a phase on the words of the shards. Without memory or a worker the words are gone.
