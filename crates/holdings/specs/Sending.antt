@@ -21,6 +21,7 @@ fate_of_outcome outcome.Absent = absent
 fate_of_outcome outcome.NoRights = norights
 fate_of_outcome outcome.Origin = to_origin
 fate_of_outcome outcome.Extends = extends
+fate_of_outcome outcome.Replaces = goes
 fate_of_outcome outcome.Goes = goes
 
 -- the pages as an item of the definitions

@@ -16,8 +16,8 @@ use pieces::StripPlan;
 use space::{NoMemory, Place, Shards};
 use std::alloc::{AllocError, Global};
 
-/// How many full pieces pay for a thread that plans them.
-pub const PIECES_A_PLANNER: usize = 64;
+/// How many full pieces are planned in the time that the start of a thread takes.
+const PIECES_A_START: usize = 16;
 
 /// Plans the strip of pages that are held, sorted by frame, in pieces of at most so many nodes. Where they are many, the
 /// workers plan batches of them side by side.
@@ -61,24 +61,25 @@ pub fn plan_pages<W: Workers>(
     joined(&batches, planned)
 }
 
-/// In how many batches pages are planned: in as many as the workers plan at once, but in one for each so many full pieces at
-/// most.
+/// In how many batches pages are planned.
 fn batches_for<W: Workers>(trees: &[Tree], pages: &[HeldPage], most: usize, workers: &W) -> usize
     requires { All (λ h. h.frame < length trees.now) pages.now }
     ensures { 1 ≤ result }
 {
-    let planners = workers.planners();
-    let enough = planners
-        .saturating_mul(PIECES_A_PLANNER)
-        .saturating_mul(most);
     let mut nodes: usize = 0;
     for page in pages {
         nodes = nodes.saturating_add(trees[page.frame as usize].len());
-        if nodes >= enough {
-            return planners;
-        }
     }
-    (nodes / PIECES_A_PLANNER / most.max(1)).max(1)
+    planners_for(nodes / most.max(1), workers)
+}
+
+/// By how many threads so many full pieces are planned soonest, of those that plan at once. Each more takes its start, and
+/// saves the less the more there are: at the root of the ratio of plan and start the sum is least.
+pub fn planners_for<W: Workers>(pieces: usize, workers: &W) -> usize
+    ensures { 1 ≤ result }
+{
+    let best = (pieces / PIECES_A_START).isqrt();
+    best.clamp(1, workers.planners())
 }
 
 /// Where batches of pages begin, that are so many at most and about as long, and the end of the last. No frame has pages in

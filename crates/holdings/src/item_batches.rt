@@ -6,7 +6,7 @@ ghost use Rattle.space.specs.Shards.{IsPlace, is_taken};
 ghost use Rattle.holdings.specs.Inner.Words.{IsThere};
 ghost use Rattle.holdings.specs.Inner.Phases.{AreItemPieces, AreItemsApart, CanBeBatched, batch_of};
 
-use crate::batches::PIECES_A_PLANNER;
+use crate::batches::planners_for;
 use crate::map_in_pieces::link_pieces;
 use crate::moves_in_pieces::move_pieces;
 use crate::transfer::Transfer;
@@ -42,8 +42,8 @@ pub fn item_pieces<W: Workers>(
     ensures { IfOk result (λ pieces. AreItemPieces passing shards.now transfers.now pieces.items) }
 {
     let most = workers.piece_length();
-    let many = most.saturating_mul(PIECES_A_PLANNER);
-    let size = transfers.len().div_ceil(workers.planners()).max(many);
+    let planners = planners_for(transfers.len() / most, workers);
+    let size = transfers.len().div_ceil(planners).max(1);
     let count = transfers.len().div_ceil(size);
     let batches = ItemBatches {
         alloc,

@@ -1,6 +1,7 @@
 //! What becomes of the pages of an item.
 
 ghost use Rattle.std.specs.Prelude.{◌≡◌, [], false, true, ◌&&◌};
+ghost use Rattle.model.specs.Definitions.Holdings.{is_held};
 ghost use Rattle.model.specs.Definitions.Items.{fate, is_map};
 ghost use Rattle.holdings.specs.Places.{IsWithin};
 ghost use Rattle.holdings.specs.Inner.Held.{limits_in, holdings_in};
@@ -29,12 +30,14 @@ pub enum Outcome {
     /// The mapping that the target has from the source gains rights.
     Extends,
     /// The page goes to the target, and replaces what the target holds.
+    Replaces,
+    /// The page goes to the target, which holds nothing.
     Goes,
 }
 
 impl Holdings {
-    ghost use Rattle.std.specs.Prelude.{◌≡◌, ℕ, ◌/◌, ◌<◌, ◌≤◌, None};
-    ghost use Rattle.model.specs.Definitions.Holdings.{at};
+    ghost use Rattle.std.specs.Prelude.{◌≡◌, ℕ, ◌/◌, ◌<◌, ◌≤◌, None, true, false};
+    ghost use Rattle.model.specs.Definitions.Holdings.{at, is_held};
     ghost use Rattle.model.specs.Definitions.Items.{fate};
     ghost use Rattle.holdings.specs.Contents.{IsConsistent};
     ghost use Rattle.holdings.specs.Places.{IsWithin};
@@ -46,6 +49,8 @@ impl Holdings {
         requires target { IsWithin self.now.limits target }
         requires differ { source.space ≡ target.space → ⊥ }
         ensures outcome { fate_of_outcome result ≡ fate self.now.holdings (job_of_pages pages.now) (source, target) }
+        ensures free { result ≡ Outcome.Goes → is_held self.now.holdings target ≡ false }
+        ensures held { result ≡ Outcome.Replaces → is_held self.now.holdings target ≡ true }
         ensures consistent { IsConsistent self.now }
     {
         let shards = &self.shards;
@@ -91,7 +96,9 @@ fn outcome_of(
     requires source { IsWithin (limits_in shards.now trees.now) source }
     requires target { IsWithin (limits_in shards.now trees.now) target }
     requires differ { same_place source target ≡ false }
-    ensures { fate_of_outcome result ≡ fate (holdings_in shards.now trees.now) (record { kind = kind; rights = rights; pairs = [] }) (source, target) }
+    ensures fate { fate_of_outcome result ≡ fate (holdings_in shards.now trees.now) (record { kind = kind; rights = rights; pairs = [] }) (source, target) }
+    ensures free { result ≡ Outcome.Goes → is_held (holdings_in shards.now trees.now) target ≡ false }
+    ensures held { result ≡ Outcome.Replaces → is_held (holdings_in shards.now trees.now) target ≡ true }
 {
     let Some(sent) = shards.get(source) else {
         return Outcome::Absent;
@@ -104,7 +111,7 @@ fn outcome_of(
     };
     // A page of another frame neither derives from the source, nor does the source from it.
     if replaced.frame != sent.frame {
-        return Outcome::Goes;
+        return Outcome::Replaces;
     }
     outcome_in(&trees[sent.frame as usize], kind, source, target)
 }
@@ -113,7 +120,8 @@ fn outcome_of(
 fn outcome_in(tree: &Tree, kind: ItemKind, source: Place, target: Place) -> Outcome
     requires source { stands_in tree.now.links source ≡ true }
     requires target { stands_in tree.now.links target ≡ true }
-    ensures { IsOutcomeIn tree.now.links kind source target result }
+    ensures decided { IsOutcomeIn tree.now.links kind source target result }
+    ensures held { result ≡ Outcome.Goes → ⊥ }
 {
     let i = tree.find(source).unwrap();
     let j = tree.find(target).unwrap();
@@ -123,7 +131,7 @@ fn outcome_in(tree: &Tree, kind: ItemKind, source: Place, target: Place) -> Outc
     if extends(kind, source, tree.place_of_origin(j)) {
         return Outcome::Extends;
     }
-    Outcome::Goes
+    Outcome::Replaces
 }
 
 /// Whether an item maps a page to a mapping of this origin that derives from it.

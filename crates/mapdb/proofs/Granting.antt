@@ -27,30 +27,29 @@ use Rattle.holdings.specs.declared.transfer_counts.TransferCounts.{TransferCount
 use Rattle.holdings.specs.Contents.{Contents, laid_out, left_with, IsStripped, AreMapped, AreMoved}
 use Rattle.holdings.specs.Layout.{index_in}
 use Rattle.holdings.specs.Places.{any_of}
-use Rattle.mapdb.specs.declared.plan.End.TheVariants.{Source}
 use Rattle.holdings.specs.Sending.{pair_of, fate_in, AllGo, IsReady, moving_of, counts_after_flush}
 use Rattle.holdings.proofs.Stripping.Sequences.{same_back}
-use Rattle.mapdb.specs.Sending.{ends_of, AreWorkedBy}
+use Rattle.mapdb.specs.Sending.{sources_in, AreWorkedBy}
 
 module _ (h : Holdings) (lawful : IsLawful h) (rights : Rights) where
   -- the held sources are those of the pairs that move
-  sources_are : (ts : List Transfer) → AllGo ts → (p : Place) → is_held h p ≡ true → ends_of Source ts p ≡ sources_of (moving_of h ts) p
+  sources_are : (ts : List Transfer) → AllGo ts → (p : Place) → is_held h p ≡ true → sources_in ts p ≡ sources_of (moving_of h ts) p
   sources_are [] go p held = refl
   sources_are (t ∷ ts) go p held = by t.extends (go 0 t (omega arith)) (is_held h t.source) refl (sources_are ts (λ i d within. go (suc i) d (omega (arith, within))) p held)
     where
-      by : (b : Bool) → b ≡ false → (k : Bool) → is_held h t.source ≡ k → ends_of Source ts p ≡ sources_of (moving_of h ts) p
-          → ((not b && same_place p t.source) || ends_of Source ts p) ≡ sources_of (if k then pair_of t ∷ moving_of h ts else moving_of h ts) p
+      by : (b : Bool) → b ≡ false → (k : Bool) → is_held h t.source ≡ k → sources_in ts p ≡ sources_of (moving_of h ts) p
+          → ((not b && same_place p t.source) || sources_in ts p) ≡ sources_of (if k then pair_of t ∷ moving_of h ts else moving_of h ts) p
       by true extends k is rest = absurd (cc extends)
       by false going true is rest = λ i. same_back p t.source i || rest i
-      by false going false is rest = ap (λ b. b || ends_of Source ts p) (apart (same_or_apart p t.source)) ∙ rest
+      by false going false is rest = ap (λ b. b || sources_in ts p) (apart (same_or_apart p t.source)) ∙ rest
         where
           apart : (p ≡ t.source) ⊎ (same_place p t.source ≡ false) → same_place p t.source ≡ false
           apart (inl same) = absurd (cc (is, held, ap (is_held h) same))
           apart (inr differ) = differ
 
   -- so to strip either is the same
-  pub source_set : (ts : List Transfer) → AllGo ts → strip h (ends_of Source ts) (without all_rights rights) true ≡ strip h (sources_of (moving_of h ts)) (without all_rights rights) true
-  source_set ts go = strip_same h lawful (ends_of Source ts) (sources_of (moving_of h ts)) (sources_are ts go) (without all_rights rights) true
+  pub source_set : (ts : List Transfer) → AllGo ts → strip h (sources_in ts) (without all_rights rights) true ≡ strip h (sources_of (moving_of h ts)) (without all_rights rights) true
+  source_set ts go = strip_same h lawful (sources_in ts) (sources_of (moving_of h ts)) (sources_are ts go) (without all_rights rights) true
 
   module _ (set : PlaceSet) where
     abbrev left : Holdings
@@ -105,11 +104,11 @@ module _ (h : Holdings) (lawful : IsLawful h) (rights : Rights) where
         by (x ∷ xs) same = λ i. add_counts (counts_of (fate_in x) (same 0 x (omega arith) i)) (by xs (λ k d within. same (suc k) d (omega (arith, within))) i)
 
 -- what the strip of the sources leaves
-module _ (old : Contents) (lawful : is_lawful old.holdings ≡ true) (rights : Rights) (ts : List Transfer) (go : AllGo ts) (now : Contents) (status : Rights) (places : List Place) (are : (p : Place) → any_of places p ≡ ends_of Source ts p)
+module _ (old : Contents) (lawful : is_lawful old.holdings ≡ true) (rights : Rights) (ts : List Transfer) (go : AllGo ts) (now : Contents) (status : Rights) (places : List Place) (are : (p : Place) → any_of places p ≡ sources_in ts p)
     (withheld : Rights) (withheld_is : withheld ≡ without all_rights rights) (done : IsStripped old (any_of places) withheld true (now, status)) where
   pub sources_stripped : now ≡ left_with old (strip old.holdings (sources_of (moving_of old.holdings ts)) (without all_rights rights) true)
   sources_stripped =
-      let set : any_of places ≡ ends_of Source ts = λ i p. are p i in
+      let set : any_of places ≡ sources_in ts = λ i p. are p i in
       done.left ∙ (λ i. left_with old (strip old.holdings (set i) (withheld_is i) true)) ∙ ap (left_with old) (source_set old.holdings (lawful_parts old.holdings lawful) rights ts go)
 
   pub still_free : All (IsReady old.holdings rights) ts → All (λ t. at now.holdings t.target ≡ None) ts

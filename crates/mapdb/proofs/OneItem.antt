@@ -1,13 +1,13 @@
 -- The phases of one item, one after another, are those of the definition.
-use Rattle.std.proofs.Common.{◌≡◌, ℕ, ◌+◌, ◌^◌, ◌<◌, true, List, sym, ap, ◌∙◌, subst, arith}
+use Rattle.std.proofs.Common.{◌≡◌, ℕ, ◌+◌, ◌^◌, ◌<◌, true, ◌&&◌, List, sym, ap, ◌∙◌, subst, arith}
 use Rattle.fpage.specs.Rights.{all_rights}
 use Rattle.fpage.specs.declared.item.ItemKind.TheVariants.{Grant}
 use Rattle.fpage.specs.declared.rights.Rights.{Rights}
 use Rattle.space.specs.declared.place.Place.{Place}
 use Rattle.model.specs.Definitions.Calls.{Limits}
-use Rattle.model.specs.Definitions.Holdings.{Holdings}
+use Rattle.model.specs.Definitions.Holdings.{Holdings, is_held}
 use Rattle.model.specs.Definitions.Lawful.{is_lawful}
-use Rattle.model.specs.Definitions.Items.{Job, Counts, flush, going, add_counts}
+use Rattle.model.specs.Definitions.Items.{Job, Counts, flush, going, targets_of, add_counts}
 use Rattle.model.specs.Definitions.Answers.{item_answer}
 use Rattle.model.specs.Laws.SendLaws.{total}
 use Rattle.model.specs.Definitions.Strip.{strip}
@@ -22,8 +22,7 @@ use Rattle.holdings.specs.Meaning as phase
 use Rattle.holdings.specs.Places.{any_of}
 use Rattle.holdings.specs.Sending.{job_of_pages, AreItemPages, ArePlanned, AllGo, AreReady, counts_after_flush}
 use Rattle.holdings.proofs.CountSums.{total_sum}
-use Rattle.mapdb.specs.declared.plan.End.TheVariants.{Target}
-use Rattle.mapdb.specs.Sending.{transfers_of, counts_before_flush, ends_of, after_flush, AreWorkedBy}
+use Rattle.mapdb.specs.Sending.{transfers_of, counts_before_flush, targets_in, after_flush, AreReplaced, AreWorkedBy}
 use Rattle.mapdb.proofs.Phases.{is_job, flush_is, left_is, counts_are, total_is, are_planned, all_ready, few_pages, grant_goes}
 
 abbrev pub the_transfers_of : Contents → ItemPages → List Transfer
@@ -45,16 +44,18 @@ module _ (old : Contents) (p : ItemPages) (consistent : IsConsistent old) (pages
   pub planned : ArePlanned old.limits the_transfers
   planned = are_planned old.holdings lawful p pages.differ old.limits pages few
 
-  module _ (flushed : Contents) (is : flushed ≡ left_with old (strip old.holdings (ends_of Target the_transfers) all_rights true)) where
+  module _ (flushed : Contents) (is : flushed ≡ left_with old (flush old.holdings (going old.holdings the_job))) where
     -- what the flush leaves
     flushed_is : flushed.holdings ≡ flush old.holdings (going old.holdings the_job)
-    flushed_is = ap (λ (c : Contents). c.holdings) is ∙ flush_is old.holdings lawful p pages.differ
+    flushed_is = ap (λ (c : Contents). c.holdings) is
 
     same_limits : flushed.limits ≡ old.limits
     same_limits = ap (λ (c : Contents). c.limits) is
 
     pub lawful_then : is_lawful flushed.holdings ≡ true
-    lawful_then = ap (λ (c : Contents). is_lawful c.holdings) is ∙ lawful_from (strip old.holdings (ends_of Target the_transfers) all_rights true) (lawful_strip old.holdings (ends_of Target the_transfers) all_rights true lawful)
+    lawful_then =
+        ap (λ (c : Contents). is_lawful c.holdings) is
+        ∙ lawful_from (flush old.holdings (going old.holdings the_job)) (lawful_strip old.holdings (λ q. targets_of (going old.holdings the_job) q && is_held old.holdings q) all_rights true lawful)
 
     pub planned_then : ArePlanned flushed.limits the_transfers
     planned_then = subst (λ (l : Limits). ArePlanned l the_transfers) (sym same_limits) planned
@@ -92,18 +93,20 @@ module _ (old : Contents) (p : ItemPages) (consistent : IsConsistent old) (pages
 
 -- what the flush of an item left, and what is known of its transfers then
 pub record IsFlushed (old : Contents) (p : ItemPages) (ts : List Transfer) (now : Contents) : Type 0 where
-  pub left : now ≡ left_with old (strip old.holdings (ends_of Target (the_transfers_of old p)) all_rights true)
+  pub left : now ≡ left_with old (flush old.holdings (going old.holdings (job_of_pages p)))
   pub lawful_now : is_lawful now.holdings ≡ true
   pub are_planned : ArePlanned now.limits ts
   pub are_ready : AreReady now.holdings p.rights ts
   pub all_go : p.kind ≡ Grant → AllGo ts
 
--- the places that lost all their rights are the targets of the transfers that go
-pub is_flushed : (old : Contents) (p : ItemPages) → IsConsistent old → AreItemPages old.limits p → (ts : List Transfer) → ts ≡ the_transfers_of old p → (places : List Place) → ((q : Place) → any_of places q ≡ ends_of Target ts q)
+-- the places that lost all their rights are the held targets of the transfers that go
+pub is_flushed : (old : Contents) (p : ItemPages) → IsConsistent old → AreItemPages old.limits p → (ts : List Transfer) → ts ≡ the_transfers_of old p → (places : List Place) → AreReplaced old.holdings ts places
     → (a : Rights) → a ≡ all_rights → (r : Contents × Rights) → IsStripped old (any_of places) a true r → IsFlushed old p ts r.0
-is_flushed old p consistent pages ts same places targets a all r is =
-    let left : r.0 ≡ left_with old (strip old.holdings (ends_of Target (the_transfers_of old p)) all_rights true) =
-    is.left ∙ (λ i. left_with old (strip old.holdings (λ q. targets q i) (all i) true)) ∙ ap (λ (us : List Transfer). left_with old (strip old.holdings (ends_of Target us) all_rights true)) same in
+is_flushed old p consistent pages ts same places replaced a all r is =
+    let h = old.holdings in
+    let left : r.0 ≡ left_with old (flush h (going h (job_of_pages p))) =
+    is.left ∙ (λ i. left_with old (strip h (λ q. replaced q i) (all i) true)) ∙ ap (λ (us : List Transfer). left_with old (strip h (λ q. targets_in us q && is_held h q) all_rights true)) same
+    ∙ ap (left_with old) (flush_is h (lawful_parts h consistent.lawful) p pages.differ) in
     record {
       left = left;
       lawful_now = lawful_then old p consistent pages r.0 left;

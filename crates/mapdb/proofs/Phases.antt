@@ -24,19 +24,16 @@ use Rattle.model.specs.Laws.SendLaws.{In, total}
 use Rattle.model.proofs.LawfulParts.{IsLawful}
 use Rattle.model.proofs.Jobs as jobs
 use Rattle.model.proofs.Jobs.{IsJob, in_pairs_from, paired_from, total_counts}
-use Rattle.model.proofs.StripUnions.{strip_same}
 use Rattle.model.proofs.Fates.{going_in, goes_some, extends_some}
 use Rattle.model.proofs.Flushes.{was_flushed, target_gone}
 use Rattle.model.proofs.LawfulMaps.{extending_target}
 use Rattle.model.proofs.Puts.{apart_places}
 use Rattle.holdings.specs.declared.transfer.Transfer.{Transfer}
-use Rattle.mapdb.specs.declared.plan.End.TheVariants.{Source, Target}
-use Rattle.mapdb.specs.declared.plan.End.{End}
 use Rattle.holdings.specs.declared.item_pages.ItemPages.{ItemPages}
 use Rattle.holdings.specs.Inner.Held.{is_place}
 use Rattle.holdings.proofs.Contents.Listing.{place_from_within}
 use Rattle.holdings.specs.Sending.{pair_of, fate_in, IsTransferWithin, IsApartFrom, ArePaired, AllGo, IsReady, counts_after_flush, map_transfers, moving_of, job_of_pages, AreItemPages, ArePlanned}
-use Rattle.mapdb.specs.Sending.{transfer_of, transfers_of, count_before_flush, counts_before_flush, end_of, ends_of, after_flush}
+use Rattle.mapdb.specs.Sending.{transfer_of, transfers_of, count_before_flush, counts_before_flush, ends_in, sources_in, targets_in, after_flush}
 use Rattle.holdings.proofs.CountSums.{add_assoc}
 use Rattle.holdings.proofs.Stripping.Sequences.{same_back}
 use Rattle.mapdb.proofs.Plans.{transfers_few, pairs_length}
@@ -107,12 +104,12 @@ module _ (h : Holdings) (job : Job) where
   -- ---- the flush
 
   -- the targets of those that go
-  pub replaced_targets : (es : List Pair) (p : Place) → ends_of Target (transfers_of h job es) p ≡ targets_of (filter (λ e. is_going (fate h job e)) es) p
+  pub replaced_targets : (es : List Pair) (p : Place) → targets_in (transfers_of h job es) p ≡ targets_of (filter (λ e. is_going (fate h job e)) es) p
   replaced_targets [] p = refl
   replaced_targets (e ∷ es) p = by (fate h job e) (replaced_targets es p)
     where
-      by : (f : Fate) → ends_of Target (transfers_of h job es) p ≡ targets_of (filter (λ e. is_going (fate h job e)) es) p
-          → ends_of Target (transfer_of e f (transfers_of h job es)) p ≡ targets_of (cond (is_going f) (e ∷ filter (λ e. is_going (fate h job e)) es) (filter (λ e. is_going (fate h job e)) es)) p
+      by : (f : Fate) → targets_in (transfers_of h job es) p ≡ targets_of (filter (λ e. is_going (fate h job e)) es) p
+          → targets_in (transfer_of e f (transfers_of h job es)) p ≡ targets_of (cond (is_going f) (e ∷ filter (λ e. is_going (fate h job e)) es) (filter (λ e. is_going (fate h job e)) es)) p
       by absent rest = rest
       by norights rest = rest
       by to_origin rest = rest
@@ -249,17 +246,21 @@ module _ (limits : Limits) (n : ℕ) (source target : Place) (source_space : sou
 
 -- ---- the ends of transfers within the limits
 
-pub ends_within : (limits : Limits) (end : End) (ts : List Transfer) → All (IsTransferWithin limits) ts → (p : Place) → ends_of end ts p ≡ true → is_place limits p ≡ true
+ends_within : (limits : Limits) (end : Transfer → Place) (ts : List Transfer) → All (λ t. is_place limits (end t) ≡ true) ts → (p : Place) → ends_in end ts p ≡ true → is_place limits p ≡ true
 ends_within limits end [] within p is = absurd (cc is)
-ends_within limits end (t ∷ ts) within p is = by (or_cases (not t.extends && same_place p (end_of end t)) (ends_of end ts p) is) (ends_within limits end ts (λ i d less. within (suc i) d (omega (arith, less))) p)
+ends_within limits end (t ∷ ts) within p is = by (or_cases (not t.extends && same_place p (end t)) (ends_in end ts p) is) (ends_within limits end ts (λ i d less. within (suc i) d (omega (arith, less))) p)
   where
-    at_end : (end : End) → IsTransferWithin limits t → is_place limits (end_of end t) ≡ true
-    at_end Source w = place_from_within limits t.source (record { space = w.source_space; page = w.source_page })
-    at_end Target w = place_from_within limits t.target (record { space = w.target_space; page = w.target_page })
-
-    by : ((not t.extends && same_place p (end_of end t)) ≡ true) ⊎ (ends_of end ts p ≡ true) → (ends_of end ts p ≡ true → is_place limits p ≡ true) → is_place limits p ≡ true
-    by (inl here) rest = ap (is_place limits) (same_is p (end_of end t) (and_parts (not t.extends) (same_place p (end_of end t)) here).1) ∙ at_end end (within 0 t (omega arith))
+    by : ((not t.extends && same_place p (end t)) ≡ true) ⊎ (ends_in end ts p ≡ true) → (ends_in end ts p ≡ true → is_place limits p ≡ true) → is_place limits p ≡ true
+    by (inl here) rest = ap (is_place limits) (same_is p (end t) (and_parts (not t.extends) (same_place p (end t)) here).1) ∙ within 0 t (omega arith)
     by (inr there) rest = rest there
+
+pub sources_within : (limits : Limits) (ts : List Transfer) → All (IsTransferWithin limits) ts → (p : Place) → sources_in ts p ≡ true → is_place limits p ≡ true
+sources_within limits ts within =
+    ends_within limits (λ t. t.source) ts (λ i d less. let w = within i d less in place_from_within limits (get_or ts i d).source (record { space = w.source_space; page = w.source_page }))
+
+pub targets_within : (limits : Limits) (ts : List Transfer) → All (IsTransferWithin limits) ts → (p : Place) → targets_in ts p ≡ true → is_place limits p ≡ true
+targets_within limits ts within =
+    ends_within limits (λ t. t.target) ts (λ i d less. let w = within i d less in place_from_within limits (get_or ts i d).target (record { space = w.target_space; page = w.target_page }))
 
 -- ---- sizes
 
@@ -293,11 +294,8 @@ module _ (h : Holdings) (lawful : IsLawful h) (p : ItemPages) (differ : p.source
   is_job = record { from = p.source.space; to = p.target.space; differ = differ; paired = paired_from p.count p.source p.target }
 
   -- the flush is that of the definition
-  pub flush_is : strip h (ends_of Target the_transfers) all_rights true ≡ flush h (going h the_job)
-  flush_is = strip_same h lawful (ends_of Target the_transfers) (λ q. targets_of (going h the_job) q && is_held h q) (λ q held. replaced_targets h the_job (pairs_from p.count p.source p.target) q ∙ by (targets_of (going h the_job) q) (is_held h q) held) all_rights true
-    where
-      by : (a b : Bool) → b ≡ true → a ≡ (a && b)
-      by a b is = grind (arith, is)
+  pub flush_is : strip h (λ q. targets_in the_transfers q && is_held h q) all_rights true ≡ flush h (going h the_job)
+  flush_is = λ i. strip h (λ q. replaced_targets h the_job (pairs_from p.count p.source p.target) q i && is_held h q) all_rights true
 
   -- what is left is that of the definition
   pub left_is : after_flush p.kind p.rights the_transfers (flush h (going h the_job)) ≡ after_job p.kind h the_job

@@ -9,20 +9,21 @@ use Rattle.space.specs.declared.place.Place.{Place}
 use Rattle.space.specs.Directory.{pages_of}
 use Rattle.space.specs.Place.{same_place}
 use Rattle.model.specs.Definitions.Grant.{renamed}
-use Rattle.model.specs.Definitions.Holdings.{Holdings, PlaceSet}
+use Rattle.model.specs.Definitions.Holdings.{Holdings, PlaceSet, is_held}
 use Rattle.model.specs.Definitions.Items.{Job, Pair, pairs_from, sources_of, Fate, absent, norights, to_origin, extends, goes, fate, Counts, no_counts, add_counts}
 use Rattle.model.specs.Laws.SendLaws.{total}
 use Rattle.model.specs.Definitions.Strip.{strip}
 use Rattle.holdings.specs.declared.item_pages.ItemPages.{ItemPages}
+use Rattle.holdings.specs.declared.outcome.Outcome.{Outcome}
+use Rattle.holdings.specs.declared.outcome.Outcome.TheVariants as outcome
 use Rattle.holdings.specs.declared.transfer.Transfer.{Transfer}
 use Rattle.holdings.specs.declared.transfer_counts.TransferCounts.{TransferCounts}
 use Rattle.holdings.specs.Contents.{Contents, laid_out, left_with}
 use Rattle.holdings.specs.Layout.{OnlyGrows}
 use Rattle.holdings.specs.Meaning as phase
+use Rattle.holdings.specs.Places.{any_of}
 use Rattle.holdings.specs.Sending.{page_on, job_of_pages, map_transfers, moving_of, counts_after_flush}
-use Rattle.mapdb.specs.declared.plan.End.{End}
 use Rattle.mapdb.specs.declared.plan.Plan.{Plan}
-use Rattle.mapdb.specs.declared.plan.End.TheVariants.{Source, Target}
 use Rattle.mapdb.specs.declared.reply.SendReply.{SendReply}
 use Rattle.mapdb.specs.Meaning.{counts_of}
 
@@ -65,18 +66,34 @@ pub record AreDecided (h : Holdings) (job : Job) (n i : ℕ) (source target : Pl
   pub transfers_are : ts ++ transfers_of h job (pairs_from (n - i) (page_on source i) (page_on target i)) ≡ transfers_of h job (pairs_from n source target)
   pub few : total counts ≤ i
 
--- the first i pages of an item were decided
-abbrev pub IsDecided : Holdings → ItemPages → ℕ → Plan → Type 0
-IsDecided h p i plan = AreDecided h (job_of_pages p) p.count i p.source p.target (counts_of plan.decided) plan.transfers.items
-
--- the end of a pair
-abbrev pub end_of : End → Transfer → Place
-end_of Source t = t.source
-end_of Target t = t.target
-
 -- the ends of those that go
-abbrev pub ends_of : End → List Transfer → PlaceSet
-ends_of end ts p = list_any (λ t. not t.extends && same_place p (end_of end t)) ts
+abbrev pub ends_in : (Transfer → Place) → List Transfer → PlaceSet
+ends_in end ts p = list_any (λ t. not t.extends && same_place p (end t)) ts
+
+-- their sources, and their targets
+abbrev pub sources_in : List Transfer → PlaceSet
+sources_in ts = ends_in (λ t. t.source) ts
+
+abbrev pub targets_in : List Transfer → PlaceSet
+targets_in ts = ends_in (λ t. t.target) ts
+
+-- the places are the held targets of those that go
+abbrev pub AreReplaced : Holdings → List Transfer → List Place → Type 0
+AreReplaced h ts places = (p : Place) → any_of places p ≡ (targets_in ts p && is_held h p)
+
+-- the target of a page with this outcome, if it is one of them
+abbrev pub replaced_by : Outcome → Place → List Place
+replaced_by outcome.Absent p = []
+replaced_by outcome.NoRights p = []
+replaced_by outcome.Origin p = []
+replaced_by outcome.Extends p = []
+replaced_by outcome.Replaces p = p ∷ []
+replaced_by outcome.Goes p = []
+
+-- the first i pages of an item were decided
+pub record IsDecided (h : Holdings) (p : ItemPages) (i : ℕ) (plan : Plan) : Type 0 where
+  pub pairs : AreDecided h (job_of_pages p) p.count i p.source p.target (counts_of plan.decided) plan.transfers.items
+  pub replaced : AreReplaced h plan.transfers.items plan.replaced.items
 
 -- ---- what is left
 

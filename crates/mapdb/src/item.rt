@@ -6,7 +6,7 @@ ghost use Rattle.fpage.specs.Fpage.{IsFpageOf};
 ghost use Rattle.model.specs.Definitions.Answers.{item_answer, send_answer};
 ghost use Rattle.crew.specs.declared.error.CrewError.TheVariants.{NoWorker};
 ghost use Rattle.holdings.specs.Sending.{job_of_pages, AreItemPages};
-ghost use Rattle.mapdb.specs.Sending.{IsSent, counts_before_flush, transfers_of, ends_of};
+ghost use Rattle.mapdb.specs.Sending.{IsSent, counts_before_flush, transfers_of, sources_in, AreReplaced};
 ghost use Rattle.holdings.specs.Noting.{NotesFollow};
 ghost use Rattle.model.specs.Laws.SendLaws.{total};
 ghost use Rattle.mapdb.specs.Meaning.{counts_of};
@@ -14,11 +14,10 @@ ghost use Rattle.fpage.specs.declared.item.ItemKind.TheVariants.{Grant};
 ghost use Rattle.space.specs.declared.place.Place.{Place};
 ghost use Rattle.holdings.specs.Contents.{IsConsistent};
 ghost use Rattle.holdings.specs.Places.{any_of};
-ghost use Rattle.mapdb.specs.declared.plan.End.TheVariants.{Source, Target};
 
 use crate::call::Sending;
 use crate::item_pages::item_pages;
-use crate::plan::{End, ends, plan_item, transfer_of};
+use crate::plan::{plan_item, replaced, sources, transfer_of};
 use crate::reply::SendReply;
 use crew::{CrewError, Workers};
 use fpage::{ItemKind, Rights};
@@ -46,15 +45,14 @@ pub fn work_item<W: Workers>(
         return work_page(alloc, held, pages, notes, workers);
     }
     let plan = plan_item(alloc, &held, pages)?;
-    let targets = ends(alloc, &plan.transfers, End::Target)?;
     let sources = match pages.kind {
         ItemKind::Map => Vec::new(alloc),
-        ItemKind::Grant => ends(alloc, &plan.transfers, End::Source)?,
+        ItemKind::Grant => sources(alloc, &plan.transfers)?,
     };
     let phases = Phases {
         decided: plan.decided,
         transfers: &plan.transfers,
-        targets: &targets,
+        replaced: &plan.replaced,
         sources: &sources,
     };
     let (left, counts) = work_phases(alloc, held, pages, &phases, notes, workers)?;
@@ -86,7 +84,7 @@ fn work_page<W: Workers>(
     let none = Phases {
         decided: SendReply::of_outcome(outcome),
         transfers: &[],
-        targets: &[],
+        replaced: &[],
         sources: &[],
     };
     match transfer_of(outcome, pages.source, pages.target) {
@@ -100,10 +98,10 @@ fn work_page<W: Workers>(
             work_phases(alloc, held, pages, &phases, notes, workers)
         }
         Some(transfer) => {
-            let (transfers, targets, sources) = ([transfer], [transfer.target], [transfer.source]);
+            let (transfers, sources) = ([transfer], [transfer.source]);
             let phases = Phases {
                 transfers: &transfers,
-                targets: &targets,
+                replaced: replaced(outcome, &pages.target),
                 sources: &sources,
                 ..none
             };
@@ -119,8 +117,8 @@ struct Phases<'a> {
     decided: SendReply,
     /// The others, in order.
     transfers: &'a [Transfer],
-    /// The targets of those that go.
-    targets: &'a [Place],
+    /// The targets of those that go, where something is held.
+    replaced: &'a [Place],
     /// The sources of those that go, where the item is a grant.
     sources: &'a [Place],
 }
@@ -141,14 +139,14 @@ fn work_phases<W: Workers>(
     requires consistent { IsConsistent held }
     requires decided { counts_of phases.now.decided ≡ counts_before_flush held.holdings (job_of_pages pages.now) (job_of_pages pages.now).pairs }
     requires transfers { phases.now.transfers.now ≡ transfers_of held.holdings (job_of_pages pages.now) (job_of_pages pages.now).pairs }
-    requires targets { (p : Place) → any_of phases.now.targets.now p ≡ ends_of Target phases.now.transfers.now p }
-    requires sources { pages.now.kind ≡ Grant → (p : Place) → any_of phases.now.sources.now p ≡ ends_of Source phases.now.transfers.now p }
+    requires replaced { AreReplaced held.holdings phases.now.transfers.now phases.now.replaced.now }
+    requires sources { pages.now.kind ≡ Grant → (p : Place) → any_of phases.now.sources.now p ≡ sources_in phases.now.transfers.now p }
     ensures sent { IfOk result (IsSent held (item_answer held.holdings (job_of_pages pages.now)).left (item_answer held.holdings (job_of_pages pages.now)).counts) }
     ensures few { IfOk result (λ r. total (counts_of r.1) < 2 ^ 32) }
     ensures noted { IfOk result (λ r. NotesFollow held.holdings r.0.holdings notes.old notes.new) }
     ensures needs_no_worker { W.starts_none workers.now → IsErrOf result NoWorker → ⊥ }
 {
-    let (held, _) = held.strip(alloc, phases.targets, Rights::all(), true, notes, workers)?;
+    let (held, _) = held.strip(alloc, phases.replaced, Rights::all(), true, notes, workers)?;
     let (held, worked) = match pages.kind {
         ItemKind::Map => held.map(alloc, phases.transfers, pages.rights, notes, workers)?,
         ItemKind::Grant => {

@@ -1,18 +1,19 @@
 //! What is to be done for an item, as things stand at its start.
 
-ghost use Rattle.std.specs.Prelude.{◌≡◌, ◌∷◌, [], IfOk, MatchOption, ◌≤◌, OnOk};
+ghost use Rattle.std.specs.Prelude.{◌≡◌, ◌∷◌, ◌++◌, [], IfOk, MatchOption, ◌≤◌, OnOk};
 ghost use Rattle.holdings.specs.Contents.{IsConsistent};
 ghost use Rattle.holdings.specs.Sending.{AreItemPages, fate_of_outcome, job_of_pages};
 ghost use Rattle.holdings.specs.Places.{any_of};
 ghost use Rattle.space.specs.declared.place.Place.{Place};
 ghost use Rattle.mapdb.specs.Meaning.{counts_of};
-ghost use Rattle.mapdb.specs.Sending.{counts_before_flush, transfer_of, transfers_of, end_of, ends_of, IsDecided};
+ghost use Rattle.mapdb.specs.Sending.{counts_before_flush, transfer_of, transfers_of, replaced_by, sources_in, AreReplaced, IsDecided};
 
 use crate::reply::SendReply;
 use holdings::{Holdings, ItemPages, Outcome, Transfer};
 use space::Place;
 use std::alloc::{AllocError, Global};
 use std::ops::Range;
+use std::slice;
 
 /// For how many transfers there is room at once, so that few do not take memory time and again.
 const FIRST_TRANSFERS: usize = 64;
@@ -24,6 +25,8 @@ pub struct Plan {
     pub decided: SendReply,
     /// The others, in order.
     pub transfers: Vec<Transfer>,
+    /// The targets of those that go, where something is held.
+    pub replaced: Vec<Place>,
     /// How many shards were looked at in vain. No clause says how many.
     pub in_vain: usize,
 }
@@ -35,6 +38,7 @@ pub fn plan_item(alloc: Global, held: &Holdings, pages: &ItemPages) -> Result<Pl
         ≡ counts_before_flush held.now.holdings (job_of_pages pages.now) (job_of_pages pages.now).pairs) }
     ensures transfers { IfOk result (λ plan. plan.transfers.items
         ≡ transfers_of held.now.holdings (job_of_pages pages.now) (job_of_pages pages.now).pairs) }
+    ensures replaced { IfOk result (λ plan. AreReplaced held.now.holdings plan.transfers.items plan.replaced.items) }
     ensures consistent { IsConsistent held.now }
 {
     // Its contract says that what is held is consistent.
@@ -42,6 +46,7 @@ pub fn plan_item(alloc: Global, held: &Holdings, pages: &ItemPages) -> Result<Pl
     let mut plan = Plan {
         decided: SendReply::none(),
         transfers: Vec::with_capacity(alloc, FIRST_TRANSFERS.min(pages.count as usize))?,
+        replaced: Vec::new(alloc),
         in_vain: 0,
     };
     let mut i = 0;
@@ -74,9 +79,37 @@ fn plan_pages(
         let (source, target) = pages.pair(i);
         let outcome = held.outcome(pages, source, target);
         plan.decided = plan.decided.plus(SendReply::of_outcome(outcome));
-        if let Some(transfer) = transfer_of(outcome, source, target) {
-            plan.transfers.push(transfer)?;
-        }
+        add_transfer(&mut plan.transfers, outcome, source, target)?;
+        add_replaced(&mut plan.replaced, outcome, target)?;
+    }
+    Ok(())
+}
+
+/// Adds a page to transfers, if it goes or extends.
+fn add_transfer(
+    transfers: &mut Vec<Transfer>,
+    outcome: Outcome,
+    source: Place,
+    target: Place,
+) -> Result<(), AllocError>
+    ensures { OnOk result (transfers.new.items ≡ transfers.old.items ++ transfer_of (source, target) (fate_of_outcome outcome) []) }
+{
+    if let Some(transfer) = transfer_of(outcome, source, target) {
+        transfers.push(transfer)?;
+    }
+    Ok(())
+}
+
+/// Adds the target of a page to others, if it is replaced.
+fn add_replaced(
+    replaced: &mut Vec<Place>,
+    outcome: Outcome,
+    target: Place,
+) -> Result<(), AllocError>
+    ensures { OnOk result (replaced.new.items ≡ replaced.old.items ++ replaced_by outcome target) }
+{
+    if outcome == Outcome::Replaces {
+        replaced.push(target)?;
     }
     Ok(())
 }
@@ -90,7 +123,7 @@ pub fn transfer_of(outcome: Outcome, source: Place, target: Place) -> Option<Tra
     let extends = match outcome {
         Outcome::Absent | Outcome::NoRights | Outcome::Origin => return None,
         Outcome::Extends => true,
-        Outcome::Goes => false,
+        Outcome::Replaces | Outcome::Goes => false,
     };
     Some(Transfer {
         source,
@@ -99,32 +132,26 @@ pub fn transfer_of(outcome: Outcome, source: Place, target: Place) -> Option<Tra
     })
 }
 
-/// An end of a transfer.
-#[derive(Clone, Copy, Debug, PartialEq, Eq)]
-pub enum End {
-    Source,
-    Target,
+/// The target of a page with this outcome, if something is held there.
+pub fn replaced(outcome: Outcome, target: &Place) -> &[Place]
+    ensures { result.now ≡ replaced_by outcome target.now }
+{
+    match outcome {
+        Outcome::Absent | Outcome::NoRights | Outcome::Origin | Outcome::Extends => &[],
+        Outcome::Replaces => slice::from_ref(target),
+        Outcome::Goes => &[],
+    }
 }
 
-/// The place at this end of each transfer that goes, in order.
-pub fn ends(alloc: Global, transfers: &[Transfer], end: End) -> Result<Vec<Place>, AllocError>
-    ensures { IfOk result (λ places. (p : Place) → any_of places.items p ≡ ends_of end transfers.now p) }
+/// The sources of transfers that go, in order.
+pub fn sources(alloc: Global, transfers: &[Transfer]) -> Result<Vec<Place>, AllocError>
+    ensures { IfOk result (λ places. (p : Place) → any_of places.items p ≡ sources_in transfers.now p) }
 {
     let mut places = Vec::with_capacity(alloc, transfers.len())?;
     for transfer in transfers {
         if !transfer.extends {
-            places.push(place_at(transfer, end))?;
+            places.push(transfer.source)?;
         }
     }
     Ok(places)
-}
-
-/// The place at an end of a transfer.
-fn place_at(transfer: &Transfer, end: End) -> Place
-    ensures { result ≡ end_of end transfer.now }
-{
-    match end {
-        End::Source => transfer.source,
-        End::Target => transfer.target,
-    }
 }

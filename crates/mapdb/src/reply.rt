@@ -71,7 +71,7 @@ impl SendReply {
                 ..NONE
             },
             Outcome::Origin => SendReply { origin: 1, ..NONE },
-            Outcome::Extends | Outcome::Goes => NONE,
+            Outcome::Extends | Outcome::Replaces | Outcome::Goes => NONE,
         }
     }
 

@@ -39,13 +39,13 @@ module _ (os : Origins) (kind : ItemKind) (source target : Place) where
   widens = is_map kind && option_map_or (same_place source) (origin_in os target) false
 
   pub is_origin_found : (b : Bool) → Decides b (LeadsTo os 1 source target) → b ≡ true → IsOutcomeIn os kind source target outcome.Origin
-  is_origin_found b decides is = record { origin = λ to. refl; extends = λ none both. absurd (none (decides.0 is)); goes = λ none both. absurd (none (decides.0 is)) }
+  is_origin_found b decides is = record { origin = λ to. refl; extends = λ none both. absurd (none (decides.0 is)); replaces = λ none both. absurd (none (decides.0 is)) }
 
   pub extends_found : (b c : Bool) → Decides b (LeadsTo os 1 source target) → b ≡ false → c ≡ widens → c ≡ true → IsOutcomeIn os kind source target outcome.Extends
-  extends_found b c decides is_not same is = record { origin = λ to. absurd (cc (decides.1 to, is_not)); extends = λ none both. refl; goes = λ none both. absurd (cc (both, same, is)) }
+  extends_found b c decides is_not same is = record { origin = λ to. absurd (cc (decides.1 to, is_not)); extends = λ none both. refl; replaces = λ none both. absurd (cc (both, same, is)) }
 
-  pub goes_found : (b c : Bool) → Decides b (LeadsTo os 1 source target) → b ≡ false → c ≡ widens → c ≡ false → IsOutcomeIn os kind source target outcome.Goes
-  goes_found b c decides is_not same is = record { origin = λ to. absurd (cc (decides.1 to, is_not)); extends = λ none both. absurd (cc (both, same, is)); goes = λ none both. refl }
+  pub replaces_found : (b c : Bool) → Decides b (LeadsTo os 1 source target) → b ≡ false → c ≡ widens → c ≡ false → IsOutcomeIn os kind source target outcome.Replaces
+  replaces_found b c decides is_not same is = record { origin = λ to. absurd (cc (decides.1 to, is_not)); extends = λ none both. absurd (cc (both, same, is)); replaces = λ none both. refl }
 
 -- ---- from words and trees
 
@@ -60,6 +60,13 @@ module _ (shards : Shards) (trees : List Shape) (sound : AreSound shards trees) 
 
   abbrev the_fate : Fate
   the_fate = fate (holdings_in shards trees) the_job (source, target)
+
+  -- whether the target holds something
+  pub target_free : entry_at shards target ≡ None → is_held (holdings_in shards trees) target ≡ false
+  target_free none = ap is_some (absent_within (limits_in shards trees) shards trees target target_within none)
+
+  pub target_held : (k : Entry) → entry_at shards target ≡ Some k → is_held (holdings_in shards trees) target ≡ true
+  target_held k replaced = ap is_some (present_within (limits_in shards trees) shards trees target target_within k replaced)
 
   pub source_absent : entry_at shards source ≡ None → absent ≡ the_fate
   source_absent none = sym (ap (fate_of (holdings_in shards trees) the_job (source, target)) (absent_within (limits_in shards trees) shards trees source source_within none))
@@ -105,7 +112,7 @@ module _ (shards : Shards) (trees : List Shape) (sound : AreSound shards trees) 
         pub from_tree : k.frame ≡ e.frame → (o : Outcome) → IsOutcomeIn (links_in trees e.frame) kind source target o → fate_of_outcome o ≡ the_fate
         from_tree same o is =
             let h = holdings_in shards trees in
-            let held : is_held h target ≡ true = ap is_some (present_within (limits_in shards trees) shards trees target target_within k replaced) in
+            let held = target_held k replaced in
             let from : has_origin h target source ≡ option_map_or (same_place source) (origin_in (links_in trees e.frame) target) false =
             ap (λ x. option_map_or (same_place source) x false) (origin_within (limits_in shards trees) shards trees target target_within k replaced ∙ ap (λ f. origin_in (links_in trees f) target) same) in
             by (is_under h (only target) source) (under_is_a_chain h sound.kept.lawful (only target) source) refl (option_map_or (same_place source) (origin_in (links_in trees e.frame) target) false) refl held from
@@ -123,4 +130,4 @@ module _ (shards : Shards) (trees : List Shape) (sound : AreSound shards trees) 
               where
                 next : (b : Bool) → (is_map kind && option_map_or (same_place source) (origin_in (links_in trees e.frame) target) false) ≡ b → (LeadsTo (links_in trees e.frame) 1 source target → ⊥) → fate_of_outcome o ≡ the_fate
                 next true both none = ap fate_of_outcome (is.extends none both) ∙ sym (held_fate ∙ rw (some, held, under, from, both) refl)
-                next false both none = ap fate_of_outcome (is.goes none both) ∙ sym (held_fate ∙ rw (some, held, under, from, both) refl)
+                next false both none = ap fate_of_outcome (is.replaces none both) ∙ sym (held_fate ∙ rw (some, held, under, from, both) refl)

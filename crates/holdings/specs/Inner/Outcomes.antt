@@ -14,4 +14,4 @@ use Rattle.holdings.specs.declared.outcome.Outcome.TheVariants as outcome
 pub record IsOutcomeIn (os : Origins) (kind : ItemKind) (source target : Place) (o : Outcome) : Type 0 where
   pub origin : LeadsTo os 1 source target → o ≡ outcome.Origin
   pub extends : (LeadsTo os 1 source target → ⊥) → (is_map kind && option_map_or (same_place source) (origin_in os target) false) ≡ true → o ≡ outcome.Extends
-  pub goes : (LeadsTo os 1 source target → ⊥) → (is_map kind && option_map_or (same_place source) (origin_in os target) false) ≡ false → o ≡ outcome.Goes
+  pub replaces : (LeadsTo os 1 source target → ⊥) → (is_map kind && option_map_or (same_place source) (origin_in os target) false) ≡ false → o ≡ outcome.Replaces

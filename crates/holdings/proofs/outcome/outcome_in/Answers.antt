@@ -9,7 +9,7 @@ use Rattle.model.specs.Definitions.Items.{is_map}
 use Rattle.maptree.specs.Origins.{IsOriginAt}
 use Rattle.space.specs.Place.{same_place}
 use Rattle.maptree.proofs.Found.{some_found, found_at}
-use Rattle.holdings.proofs.Outcomes.PairOutcomes.{is_origin_found, extends_found, goes_found}
+use Rattle.holdings.proofs.Outcomes.PairOutcomes.{is_origin_found, extends_found, replaces_found}
 use Rattle.holdings.proofs.Trees.Under.{decided_by}
 use Rattle.holdings.proofs.outcome.outcome_in.Goals as goal
 
@@ -25,19 +25,19 @@ unwrap-i-requires c = ap is_some c.find.ensures ∙ some_found (λ o. same_place
 pub unwrap-j-requires : goal.unwrap-j-requires
 unwrap-j-requires c = ap is_some c.find-2.ensures ∙ some_found (λ o. same_place c.args.target o.0) c.args.tree.now.links c.requires.target
 
-pub returns-then-is_origin : goal.returns-then-is_origin
-returns-then-is_origin c =
+pub returns-then-is_origin-clause-decided : goal.returns-then-is_origin-clause-decided
+returns-then-is_origin-clause-decided c =
     is_origin_found c.args.tree.now.links c.args.kind c.args.source c.args.target c.is_origin.result
     (decided_by c.args.tree.now.links c.args.source c.args.target c.unwrap-i.result c.unwrap-j.result c.is_origin.result (sym c.find.ensures ∙ c.unwrap-i.ensures) (sym c.find-2.ensures ∙ c.unwrap-j.ensures) c.is_origin.ensures) c.if-is_origin.true
 
-pub returns-then-extends : goal.returns-then-extends
-returns-then-extends c =
+pub returns-then-extends-clause-decided : goal.returns-then-extends-clause-decided
+returns-then-extends-clause-decided c =
     extends_found c.args.tree.now.links c.args.kind c.args.source c.args.target c.is_origin.result c.extends.result
     (decided_by c.args.tree.now.links c.args.source c.args.target c.unwrap-i.result c.unwrap-j.result c.is_origin.result (sym c.find.ensures ∙ c.unwrap-i.ensures) (sym c.find-2.ensures ∙ c.unwrap-j.ensures) c.is_origin.ensures) c.if-is_origin.false
     (widens c.args.tree.now.links c.args.kind c.args.source c.args.target c.unwrap-j.result c.place_of_origin.result (sym c.find-2.ensures ∙ c.unwrap-j.ensures) c.place_of_origin.ensures c.extends.result c.extends.ensures) c.if-extends.true
 
-pub returns : goal.returns
-returns c =
-    goes_found c.args.tree.now.links c.args.kind c.args.source c.args.target c.is_origin.result c.extends.result
+pub returns-clause-decided : goal.returns-clause-decided
+returns-clause-decided c =
+    replaces_found c.args.tree.now.links c.args.kind c.args.source c.args.target c.is_origin.result c.extends.result
     (decided_by c.args.tree.now.links c.args.source c.args.target c.unwrap-i.result c.unwrap-j.result c.is_origin.result (sym c.find.ensures ∙ c.unwrap-i.ensures) (sym c.find-2.ensures ∙ c.unwrap-j.ensures) c.is_origin.ensures) c.if-is_origin.false
     (widens c.args.tree.now.links c.args.kind c.args.source c.args.target c.unwrap-j.result c.place_of_origin.result (sym c.find-2.ensures ∙ c.unwrap-j.ensures) c.place_of_origin.ensures c.extends.result c.extends.ensures) c.if-extends.false

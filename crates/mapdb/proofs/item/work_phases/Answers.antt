@@ -1,8 +1,10 @@
 -- The phases of what was planned, one after another, are those of the definition.
 use Rattle.std.proofs.Common.{◌≡◌, ◌+◌, ◌^◌, ◌<◌, sym, ap, ◌∙◌, subst}
 use Rattle.std.specs.List.{All}
+use Rattle.std.proofs.lemmas.Bool.{and_parts}
 use Rattle.fpage.specs.Rights.{without}
 use Rattle.fpage.specs.declared.item.ItemKind.TheVariants.{Map, Grant}
+use Rattle.model.specs.Definitions.Holdings.{is_held}
 use Rattle.model.specs.Definitions.Items.{Counts, add_counts}
 use Rattle.model.specs.Laws.SendLaws.{total}
 use Rattle.holdings.specs.Contents.{Contents}
@@ -12,11 +14,10 @@ use Rattle.holdings.specs.declared.transfer_counts.TransferCounts.{TransferCount
 use Rattle.holdings.proofs.NotedPages.{follow_both}
 use Rattle.holdings.specs.Meaning as phase
 use Rattle.holdings.specs.Sending.{IsTransferWithin, ArePlanned}
-use Rattle.mapdb.specs.declared.plan.End.TheVariants.{Source, Target}
 use Rattle.mapdb.specs.Meaning.{counts_of}
-use Rattle.mapdb.specs.Sending.{AreWorkedBy}
+use Rattle.mapdb.specs.Sending.{targets_in, AreWorkedBy}
 use Rattle.mapdb.proofs.Ends.{all_within}
-use Rattle.mapdb.proofs.Phases.{ends_within}
+use Rattle.mapdb.proofs.Phases.{sources_within, targets_within}
 use Rattle.mapdb.proofs.Granting.{still_free, mapped_after, moved_after, worked_as}
 use Rattle.mapdb.proofs.OneItem.{the_transfers_of, planned, IsFlushed, is_flushed, left_then, grows_then, counts_then, total_then, fits_then}
 use Rattle.mapdb.proofs.item.work_phases.Given.{Over}
@@ -29,52 +30,52 @@ strip-requires g c =
     let ts = c.args.phases.now.transfers.now in
     let transfers = subst (All (IsTransferWithin limits)) (sym c.requires.transfers) (planned c.args.held c.args.pages.now c.requires.consistent c.requires.pages).within in
     record {
-      within = all_within limits c.args.phases.now.targets.now (λ p named. ends_within limits Target ts transfers p (sym (c.requires.targets p) ∙ named));
+      within = all_within limits c.args.phases.now.replaced.now (λ p named. targets_within limits ts transfers p (and_parts (targets_in ts p) (is_held c.args.held.holdings p) (sym (c.requires.replaced p) ∙ named)).0);
     }
 
 pub map-requires-clause-planned : goal.map-requires-clause-planned
 map-requires-clause-planned g c =
-    let f = is_flushed c.args.held c.args.pages.now c.requires.consistent c.requires.pages c.args.phases.now.transfers.now c.requires.transfers c.args.phases.now.targets.now c.requires.targets c.all.result c.all.ensures
+    let f = is_flushed c.args.held c.args.pages.now c.requires.consistent c.requires.pages c.args.phases.now.transfers.now c.requires.transfers c.args.phases.now.replaced.now c.requires.replaced c.all.result c.all.ensures
     (c.in_ok-held.held, c.in_ok-held.field-0-1) c.in_ok-held.ensures.stripped in
     f.are_planned
 
 pub map-requires-clause-ready : goal.map-requires-clause-ready
 map-requires-clause-ready g c =
-    let f = is_flushed c.args.held c.args.pages.now c.requires.consistent c.requires.pages c.args.phases.now.transfers.now c.requires.transfers c.args.phases.now.targets.now c.requires.targets c.all.result c.all.ensures
+    let f = is_flushed c.args.held c.args.pages.now c.requires.consistent c.requires.pages c.args.phases.now.transfers.now c.requires.transfers c.args.phases.now.replaced.now c.requires.replaced c.all.result c.all.ensures
     (c.in_ok-held.held, c.in_ok-held.field-0-1) c.in_ok-held.ensures.stripped in
     f.are_ready
 
 pub strip-requires-in-Grant : goal.strip-requires-in-Grant
 strip-requires-in-Grant g c =
-    let f = is_flushed c.args.held c.args.pages.now c.requires.consistent c.requires.pages c.args.phases.now.transfers.now c.requires.transfers c.args.phases.now.targets.now c.requires.targets c.all.result c.all.ensures
+    let f = is_flushed c.args.held c.args.pages.now c.requires.consistent c.requires.pages c.args.phases.now.transfers.now c.requires.transfers c.args.phases.now.replaced.now c.requires.replaced c.all.result c.all.ensures
     (c.in_ok-held.held, c.in_ok-held.field-0-1) c.in_ok-held.ensures.stripped in
     record {
       within = all_within c.in_ok-held.held.limits c.args.phases.now.sources.now
-          (λ p named. ends_within c.in_ok-held.held.limits Source c.args.phases.now.transfers.now f.are_planned.within p (sym (c.requires.sources c.in-Grant.is p) ∙ named));
+          (λ p named. sources_within c.in_ok-held.held.limits c.args.phases.now.transfers.now f.are_planned.within p (sym (c.requires.sources c.in-Grant.is p) ∙ named));
     }
 
 pub rename-requires-clause-planned : goal.rename-requires-clause-planned
 rename-requires-clause-planned g c =
-    let f = is_flushed c.args.held c.args.pages.now c.requires.consistent c.requires.pages c.args.phases.now.transfers.now c.requires.transfers c.args.phases.now.targets.now c.requires.targets c.all.result c.all.ensures
+    let f = is_flushed c.args.held c.args.pages.now c.requires.consistent c.requires.pages c.args.phases.now.transfers.now c.requires.transfers c.args.phases.now.replaced.now c.requires.replaced c.all.result c.all.ensures
     (c.in_ok-held.held, c.in_ok-held.field-0-1) c.in_ok-held.ensures.stripped in
     subst (λ (d : Contents). ArePlanned d.limits c.args.phases.now.transfers.now) (sym c.in_ok-held-in-Grant.ensures.stripped.left) f.are_planned
 
 pub rename-requires-clause-all_go : goal.rename-requires-clause-all_go
 rename-requires-clause-all_go g c =
-    let f = is_flushed c.args.held c.args.pages.now c.requires.consistent c.requires.pages c.args.phases.now.transfers.now c.requires.transfers c.args.phases.now.targets.now c.requires.targets c.all.result c.all.ensures
+    let f = is_flushed c.args.held c.args.pages.now c.requires.consistent c.requires.pages c.args.phases.now.transfers.now c.requires.transfers c.args.phases.now.replaced.now c.requires.replaced c.all.result c.all.ensures
     (c.in_ok-held.held, c.in_ok-held.field-0-1) c.in_ok-held.ensures.stripped in
     f.all_go c.in-Grant.is
 
 pub rename-requires-clause-free : goal.rename-requires-clause-free
 rename-requires-clause-free g c =
-    let f = is_flushed c.args.held c.args.pages.now c.requires.consistent c.requires.pages c.args.phases.now.transfers.now c.requires.transfers c.args.phases.now.targets.now c.requires.targets c.all.result c.all.ensures
+    let f = is_flushed c.args.held c.args.pages.now c.requires.consistent c.requires.pages c.args.phases.now.transfers.now c.requires.transfers c.args.phases.now.replaced.now c.requires.replaced c.all.result c.all.ensures
     (c.in_ok-held.held, c.in_ok-held.field-0-1) c.in_ok-held.ensures.stripped in
     still_free c.in_ok-held.held f.lawful_now c.args.pages.now.rights c.args.phases.now.transfers.now (f.all_go c.in-Grant.is) c.in_ok-held-in-Grant.held c.in_ok-held-in-Grant.field-0-1 c.args.phases.now.sources.now
     (c.requires.sources c.in-Grant.is) c.without-withheld.result (c.without-withheld.ensures ∙ ap (λ r. without r c.args.pages.now.rights) c.all-in-Grant.ensures) c.in_ok-held-in-Grant.ensures.stripped f.are_ready
 
 pub plus-requires : goal.plus-requires
 plus-requires g c =
-    let f = is_flushed c.args.held c.args.pages.now c.requires.consistent c.requires.pages c.args.phases.now.transfers.now c.requires.transfers c.args.phases.now.targets.now c.requires.targets c.all.result c.all.ensures
+    let f = is_flushed c.args.held c.args.pages.now c.requires.consistent c.requires.pages c.args.phases.now.transfers.now c.requires.transfers c.args.phases.now.replaced.now c.requires.replaced c.all.result c.all.ensures
     (c.in_ok-held.held, c.in_ok-held.field-0-1) c.in_ok-held.ensures.stripped in
     let phased : AreWorkedBy c.in_ok-held.held c.args.pages.now.kind c.args.pages.now.rights (the_transfers_of c.args.held c.args.pages.now) c.match-pages.held =
     elim c.match-pages.branch [
@@ -93,7 +94,7 @@ plus-requires g c =
 module _ (g : Over) (c : After-plus g) where
   f : IsFlushed c.args.held c.args.pages.now c.args.phases.now.transfers.now c.in_ok-held.held
   f =
-      is_flushed c.args.held c.args.pages.now c.requires.consistent c.requires.pages c.args.phases.now.transfers.now c.requires.transfers c.args.phases.now.targets.now c.requires.targets c.all.result c.all.ensures
+      is_flushed c.args.held c.args.pages.now c.requires.consistent c.requires.pages c.args.phases.now.transfers.now c.requires.transfers c.args.phases.now.replaced.now c.requires.replaced c.all.result c.all.ensures
       (c.in_ok-held.held, c.in_ok-held.field-0-1) c.in_ok-held.ensures.stripped
 
   phased : AreWorkedBy c.in_ok-held.held c.args.pages.now.kind c.args.pages.now.rights (the_transfers_of c.args.held c.args.pages.now) c.match-pages.held

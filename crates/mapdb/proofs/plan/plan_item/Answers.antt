@@ -18,6 +18,9 @@ plan_pages-requires-clause-before c =
     let on : i + (start - i) ≡ start = omega (arith, from) in
     let counts = c.plus-plan.ensures ∙ ap (add_counts (counts_of so_far.decided)) c.of_absent.ensures in
     let gap = absent_decided h (job_of_pages p) p.count p.source p.target (start - i) i (counts_of so_far.decided) so_far.transfers.items
-    (omega (arith, on, c.next_sources-run.ensures.order, c.next_sources-run.ensures.end)) c.loop-i.invariant.decided (λ k after before. c.next_sources-run.ensures.absent k after (omega (arith, on, before))) in
-    subst (λ k. AreDecided h (job_of_pages p) p.count k p.source p.target (counts_of c.plus-plan.result) so_far.transfers.items) on
-    (subst (λ n. AreDecided h (job_of_pages p) p.count (i + (start - i)) p.source p.target n so_far.transfers.items) (sym counts) gap)
+    (omega (arith, on, c.next_sources-run.ensures.order, c.next_sources-run.ensures.end)) c.loop-i.invariant.decided.pairs (λ k after before. c.next_sources-run.ensures.absent k after (omega (arith, on, before))) in
+    record {
+      pairs = subst (λ k. AreDecided h (job_of_pages p) p.count k p.source p.target (counts_of c.plus-plan.result) so_far.transfers.items) on
+          (subst (λ n. AreDecided h (job_of_pages p) p.count (i + (start - i)) p.source p.target n so_far.transfers.items) (sym counts) gap);
+      replaced = c.loop-i.invariant.decided.replaced;
+    }
