@@ -7,4 +7,5 @@ pub mod Directories
 pub mod Eights
 pub mod ShardWords
 pub mod Made
+pub mod Copies
 pub mod Lists

@@ -18,7 +18,7 @@ use Rattle.space.specs.declared.shards.Shards.{Shards}
 use Rattle.space.specs.Word.{word_of, entry_of, is_pack, FrameFits}
 use Rattle.space.specs.Directory.{pages_of, shards_of, shard_of, offset_of, AreLive, AreWords}
 use Rattle.space.specs.declared.directory.Directory.{Directory}
-use Rattle.space.specs.Positions.{nowhere, most_of, count_of, position_in, AreCopied, AreRuns, AreRunsOf, IsAdded, IsSame}
+use Rattle.space.specs.Positions.{nowhere, most_of, count_of, position_in, AreRuns, AreRunsOf, IsAdded, IsSame}
 use Rattle.space.specs.Runs.{IsRevived}
 use Rattle.space.specs.Shards.{IsPlace, HasWord, index_of, word_count, words_of, entry_at, are_beside, IsSetAt}
 use Rattle.space.specs.ShardLaws.{HeldHaveWords, WordsAreTheirOwn, EntriesFit, AreAllWords, IsWithWords, ShardsHaveWords, WordsHaveShards}
@@ -484,13 +484,11 @@ words_have_shards s present words count packs = by s.words refl
           spaces = s.spaces;
           bits = s.bits;
           directory = s.directory;
-          positions = s.positions;
           words = Some u;
           live = live;
           runs = runs;
           limits = s.limits;
           most = s.most;
-          copied = s.copied;
           packed = λ x x_is. subst (AreWords (count_of s.directory.value)) (same_Some u x x_is) are;
           counted = how_many;
           dead = λ x x_is. subst (AreLive live.items) (same_Some u x x_is) all;
@@ -504,16 +502,3 @@ words_have_shards s present words count packs = by s.words refl
             layout = record { spaces = refl {a = s.spaces}; bits = refl {a = s.bits}; count = refl {a = word_count s}; index = λ p. refl {a = index_of s p} };
           },
         )
-
--- a list that says what the directory says is told where a shard was added
-pub copied_more : (d e : Directory) (shard : ℕ) (positions : List ℕ) → IsAdded d e shard → AreCopied d positions → shard < length positions → AreCopied e (slice_set positions shard (count_of d))
-copied_more d e shard positions added are within k less = elim (same_or_not shard k) as (λ _. slice_index (slice_set positions shard (count_of d)) k ≡ position_in e k) [
-  | inl same ↦ ap (slice_index (slice_set positions shard (count_of d))) (sym same) ∙ get_or-set_same positions shard (count_of d) 0 within ∙ sym added.there ∙ ap (position_in e) same
-  | inr differ ↦
-      get_or-set_other positions shard k (count_of d) 0 (λ same. differ (sym same))
-      ∙ are k (omega (arith, less, length-set positions shard (count_of d))) ∙ sym (added.elsewhere k (λ same. differ (sym same)))
-]
-
--- or is about others
-pub copied_others : (d e : Directory) (shard : ℕ) (positions : List ℕ) → IsAdded d e shard → AreCopied d positions → length positions ≤ shard → AreCopied e positions
-copied_others d e shard positions added are behind k less = are k less ∙ sym (added.elsewhere k (λ same. absurd (omega (arith, same, less, behind))))

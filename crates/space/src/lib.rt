@@ -4,6 +4,7 @@
 
 mod directory;
 mod error;
+mod finder;
 mod laws;
 mod node;
 mod place;

@@ -2,10 +2,11 @@ ghost use Rattle.std.specs.Prelude.{◌≡◌, ℕ, ◌*◌, ◌+◌, ◌/◌, �
 ghost use Rattle.std.specs.Option.{ForSome};
 ghost use Rattle.std.specs.Int.{div_ceil};
 ghost use Rattle.space.specs.Directory.{AreLimits, AreLive, AreWords, offset_of, shards_of};
-ghost use Rattle.space.specs.Positions.{most_of, count_of, AreCopied, AreRunsOf};
+ghost use Rattle.space.specs.Positions.{most_of, count_of, AreRunsOf};
 
-use crate::directory::{BRANCH_SHARDS, Directory, LEAF_SHARDS, NOWHERE};
+use crate::directory::{BRANCH_SHARDS, LEAF_SHARDS};
 use crate::error::NoMemory;
+use crate::finder::Finder;
 use crate::place::{Entry, Place};
 use crate::runs::{LEAVES, has_life, revive_runs, with_life, without_life};
 use crate::status::Status;
@@ -19,9 +20,6 @@ const SHARD_BITS: u32 = 18;
 
 /// How many pages, of one space, have their words in one shard.
 const SHARD_PAGES: usize = 64;
-
-/// With so many shards at most there is a list of their positions from the start: 128 KiB.
-const FEW_SHARDS: u32 = 1 << 15;
 
 /// How many words stand in a line of a cache.
 const LINE_WORDS: usize = 8;
@@ -81,9 +79,7 @@ pub struct Shards {
     spaces: u32,
     bits: u32,
     /// Boxed, so that to hand a database on copies little.
-    directory: Box<Directory>,
-    /// What the directory tells of each shard, where there can be few. So it need not be asked for a word.
-    positions: Vec<u32>,
+    directory: Box<Finder>,
     /// None while the words are taken.
     words: Option<Vec<u64>>,
     /// For each shard that is there, 0 if it is dead, and else 1.
@@ -93,7 +89,6 @@ pub struct Shards {
     runs: Vec<u32>,
     ghost limits: { AreLimits spaces bits },
     ghost most: { most_of directory.value ≡ spaces * shards_of bits },
-    ghost copied: { AreCopied directory.value positions.items },
     ghost packed: { ForSome words (AreWords (count_of directory.value)) },
     ghost counted: { length live.items ≡ count_of directory.value },
     ghost dead: { ForSome words (AreLive live.items) },
@@ -109,7 +104,7 @@ impl Shards {
     ghost use Rattle.space.specs.Word.{word_of, entry_of, is_pack, FrameFits};
     ghost use Rattle.space.specs.Directory.{AreLimits, offset_of, pages_of, shard_of};
     ghost use Rattle.space.specs.Entries.{has_any, mapped, narrowed, status_of, with_status, extended};
-    ghost use Rattle.space.specs.Positions.{most_of, position_in};
+    ghost use Rattle.space.specs.Positions.{most_of};
     ghost use Rattle.space.specs.Shards.{spaces_of, bits_of, IsPlace, HasWord, word_count, index_of, is_taken, words_of, entry_at, IsLaidOutAs, IsMade, AreOnlyMade, IsSetAt, are_beside};
 
     /// Spaces of `2^bits` bytes in which every page is absent. No shard is there.
@@ -124,19 +119,16 @@ impl Shards {
         ensures present { IfOk result (λ s. IsFalse (is_taken s)) }
     {
         let shards = spaces << (bits - SHARD_BITS);
-        let directory = Directory::new(alloc, shards)?;
+        let directory = Finder::new(alloc, shards)?;
         let directory = match Box::new(alloc, directory) {
             Ok(directory) => directory,
             Err(error) => return Err(AllocError::from(error).into()),
         };
         let runs = vec![in alloc; 0; directory.most().div_ceil(BRANCH_SHARDS)]?;
-        let listed = if shards <= FEW_SHARDS { shards } else { 0 };
-        let positions = vec![in alloc; NOWHERE; listed as usize]?;
         Ok(Shards {
             spaces,
             bits,
             directory,
-            positions,
             words: Some(Vec::new(alloc)),
             live: Vec::new(alloc),
             runs,
@@ -174,18 +166,8 @@ impl Shards {
         requires { IsPlace self.now place }
         ensures { result ≡ index_of self.now place }
     {
-        self.position(self.shard(place)) as usize * SHARD_PAGES + offset(place)
-    }
-
-    /// The position of a shard, by the list or the directory.
-    fn position(&self, shard: usize) -> u32
-        requires { shard < most_of self.now.directory.value }
-        ensures { result ≡ position_in self.now.directory.value shard }
-    {
-        match self.positions.get(shard) {
-            Some(position) => *position,
-            None => self.directory.position(shard),
-        }
+        let position = self.directory.position(self.shard(place));
+        position as usize * SHARD_PAGES + offset(place)
     }
 
     /// Which shard has the word of a place.
@@ -258,11 +240,7 @@ impl Shards {
         let words = self.words.as_mut().unwrap();
         words.reserve(SHARD_PAGES)?;
         self.live.reserve(1)?;
-        let position = self.directory.count();
         self.directory.add(shard)?;
-        if shard < self.positions.len() {
-            self.positions[shard] = position;
-        }
         add_absent(words);
         self.live.push_reserved(1);
         let run = shard / BRANCH_SHARDS;
@@ -293,7 +271,7 @@ impl Shards {
         ensures there { IsTrue result ↔ HasWord self.now place }
         ensures absent { IsFalse result → (p : Place) → p.space ≡ place.space → p.page / 64 ≡ place.page / 64 → entry_at self.now p ≡ None }
     {
-        self.position(self.shard(place)) < self.directory.count()
+        self.directory.position(self.shard(place)) < self.directory.count()
     }
 
     /// The first page of a space, from a page on and before an end, whose shard is there and not dead; the end where there
@@ -619,7 +597,7 @@ impl Shards {
         ensures live { slice_index self.new.live.items (index_of self.new place / 64) ≡ 0 → ⊥ }
     {
         let shard = self.shard(place);
-        let position = self.position(shard) as usize;
+        let position = self.directory.position(shard) as usize;
         let run = shard / BRANCH_SHARDS;
         self.runs[run] = with_life(self.runs[run], shard / LEAF_SHARDS % LEAVES);
         self.live[position] = 1;

@@ -9,11 +9,10 @@ use Rattle.std.specs.Int.{bit_at, div_ceil}
 use Rattle.std.proofs.lemmas.Grind.{div_ceil_times}
 use Rattle.space.specs.Word.{entry_of, is_pack}
 use Rattle.space.specs.Directory.{AreLive, AreWords, shard_of, offset_of}
-use Rattle.space.specs.Positions.{count_of, most_of, position_in, AreCopied, IsAdded, IsSame}
+use Rattle.space.specs.Positions.{count_of, most_of, position_in, IsAdded, IsSame}
 use Rattle.space.specs.Shards.{index_of}
 use Rattle.space.specs.declared.directory.Directory.{Directory}
-use Rattle.space.proofs.ShardWords.{copied_more, copied_others, nowhere_unless, entry_read, read_now, index_kept, only_added, packs_longer, same_live, live_longer, shard_can, runs_longer, runs_revived, runs_same}
-use Rattle.space.proofs.shards.Shards.add.Goals.{then-shard-len, else-shard-len}
+use Rattle.space.proofs.ShardWords.{nowhere_unless, entry_read, read_now, index_kept, only_added, packs_longer, same_live, live_longer, shard_can, runs_longer, runs_revived, runs_same}
 use Rattle.space.proofs.shards.Shards.add.Goals as goal
 
 pub invariant_of-self-2-clause-packed : goal.invariant_of-self-2-clause-packed
@@ -42,22 +41,6 @@ invariant_of-self-2-clause-dead c words is =
     let are = s.packed old held in
     subst (AreLive c.push_reserved.new.self.items) (same_Some c.add_absent.new.words words is)
     (live_longer s.live.items c.push_reserved.new.self.items old c.add_absent.new.words now after (omega (arith, are.count, s.counted)) (s.dead old held))
-
-pub invariant_of-self-2-clause-copied : goal.invariant_of-self-2-clause-copied
-invariant_of-self-2-clause-copied c =
-    let s = c.args.self.now in
-    let d = s.directory.value in
-    let shard = c.shard-shard.result in
-    let added : IsAdded d c.add.new.self shard = subst (λ (e : Directory). IsAdded e c.add.new.self shard) c.deref_mut.ensures.value c.in_ok-add.ensures.ok in
-    let count : c.count-position.result ≡ count_of d = c.count-position.ensures.count ∙ ap (λ (e : Directory). count_of e) c.deref.ensures in
-    elim c.if-shard-len.branch as (λ _. AreCopied c.add.new.self c.if-shard-len.self.1.1.1.1.0.items) [
-      | then-shard-len w ↦
-          subst (AreCopied c.add.new.self) (sym (ap (λ v. v.1.1.1.1.0.items) w.self-is ∙ ap (slice_set s.positions.items shard) count))
-          (copied_more d c.add.new.self shard s.positions.items added s.copied (omega (arith, w.if-shard-len.true, c.len.ensures)))
-      | else-shard-len w ↦
-          subst (AreCopied c.add.new.self) (sym (ap (λ v. v.1.1.1.1.0.items) w.self-is))
-          (copied_others d c.add.new.self shard s.positions.items added s.copied (omega (arith, w.if-shard-len.false, c.len.ensures)))
-    ]
 
 pub index_mut-requires : goal.index_mut-requires
 index_mut-requires c =
@@ -125,7 +108,6 @@ invariant_of-self-in-Break-branch-2 c =
       packed = λ words is. subst (AreWords s.directory.value.count) (same_Some c.reserve.new.self words is)
           (record { count = ap length c.reserve.ensures.items ∙ are.count; packs = subst (AllPass is_pack) (sym c.reserve.ensures.items) are.packs });
       counted = ap length c.reserve-2.ensures.items ∙ s.counted;
-      copied = s.copied;
       each_run = s.each_run;
       dead_runs = runs_same s.directory.value s.live.items s.runs.items s.dead_runs s.directory.value (record { most = refl; count = refl; positions = λ k. refl }) c.reserve-2.new.self.items c.reserve-2.ensures.items;
       dead = λ words is. subst (AreLive c.reserve-2.new.self.items) (same_Some c.reserve.new.self words is)
@@ -145,7 +127,6 @@ invariant_of-self-in-Break-branch-3 c =
       packed = λ words is. subst (AreWords c.add.new.self.count) (same_Some c.reserve.new.self words is)
           (record { count = omega (arith, ap length c.reserve.ensures.items, are.count, same.count); packs = subst (AllPass is_pack) (sym c.reserve.ensures.items) are.packs });
       counted = ap length c.reserve-2.ensures.items ∙ s.counted ∙ sym same.count;
-      copied = λ shard less. s.copied shard less ∙ sym (same.positions shard);
       each_run = s.each_run ∙ ap (λ n. div_ceil n 256) (sym same.most);
       dead_runs = runs_same s.directory.value s.live.items s.runs.items s.dead_runs c.add.new.self same c.reserve-2.new.self.items c.reserve-2.ensures.items;
       dead = λ words is. subst (AreLive c.reserve-2.new.self.items) (same_Some c.reserve.new.self words is)

@@ -16,7 +16,6 @@ invariant_of-self c =
     record {
       limits = s.limits;
       most = s.most;
-      copied = s.copied;
       packed = s.packed;
       counted = length-set s.live.items (start / 64) 0 ∙ s.counted;
       dead = λ words is. subst (AreLive (slice_set s.live.items (start / 64) 0)) (same_Some old words (sym held ∙ is))

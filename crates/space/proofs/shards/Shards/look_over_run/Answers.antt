@@ -19,7 +19,6 @@ invariant_of-self-then-next_in_leaf-end c =
     record {
       limits = s.limits;
       most = s.most;
-      copied = s.copied;
       packed = s.packed;
       counted = s.counted;
       dead = s.dead;

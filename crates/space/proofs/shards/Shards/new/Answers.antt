@@ -3,10 +3,10 @@ use Rattle.std.proofs.Common.{Vec, Global, [], slice_index, ◌≡◌, ◌∙◌
 use Rattle.std.specs.List.{AllPass}
 use Rattle.std.specs.Int.{div_ceil}
 use Rattle.std.proofs.lemmas.Option.{same_Some}
-use Rattle.std.proofs.lemmas.List.{get_or_past, get_or-replicate, length-replicate}
+use Rattle.std.proofs.lemmas.List.{get_or_past, length-replicate}
 use Rattle.space.specs.Word.{is_pack}
 use Rattle.space.specs.Directory.{AreWords, shards_of}
-use Rattle.space.specs.Positions.{nowhere, count_of, most_of, position_in}
+use Rattle.space.specs.Positions.{count_of, most_of, position_in}
 use Rattle.space.specs.declared.directory.Directory.{Directory}
 use Rattle.space.proofs.Directories.{shifted, few_shards}
 use Rattle.space.proofs.shards.Shards.new.Goals as goal
@@ -26,10 +26,6 @@ invariant_of-result c =
     let none : count_of boxed.value ≡ 0 = ap count_of is_d ∙ c.in_ok-directory.ensures.count in
     record {
       limits = c.requires;
-      copied = λ shard less.
-          let filled = c.in_ok-positions.ensures.items_if_clones_equal (λ y is. is) in
-          ap (λ xs. slice_index xs shard) filled ∙ get_or-replicate c.if-shards-le-FEW_SHARDS.listed shard nowhere 0 (omega (arith, less, ap length filled, length-replicate {A = ℕ} c.if-shards-le-FEW_SHARDS.listed nowhere))
-          ∙ sym (ap (λ (e : Directory). position_in e shard) is_d ∙ c.in_ok-directory.ensures.none shard);
       most = ap most_of is_d ∙ c.in_ok-directory.ensures.most ∙ all_is c.args.spaces c.args.bits c.requires.few c.requires.high;
       packed = λ words is. subst (AreWords (count_of boxed.value)) (same_Some c.new-3.result words is)
           (record { count = omega (arith, ap length items, none); packs = subst (AllPass is_pack) (sym items) (λ k d less. absurd (omega (arith, less))) });

@@ -19,7 +19,6 @@ invariant_of-self c =
     record {
       limits = s.limits;
       most = s.most;
-      copied = s.copied;
       packed = λ words is. subst (AreWords (count_of s.directory.value)) (same_Some _ words is) (words_set (count_of s.directory.value) old c.args.index c.args.word (s.packed old held) c.requires.pack);
       counted = s.counted;
       each_run = s.each_run;

@@ -1,9 +1,9 @@
 -- The word that is put is made of that of the source.
-use Rattle.std.proofs.Common.{◌≡◌, ◌∙◌, sym, ap, slice_index}
+use Rattle.std.proofs.Common.{◌≡◌, ◌∙◌, sym, ap, subst, slice_index}
 use Rattle.std.specs.Option.{option_map}
 use Rattle.space.specs.Word.{entry_of, is_pack}
 use Rattle.space.specs.Entries.{mapped}
-use Rattle.space.specs.Shards.{IsPlace, entry_at, words_of}
+use Rattle.space.specs.Shards.{IsPlace, IsSetAt, entry_at, words_of}
 use Rattle.space.proofs.Made.{place_on}
 use Rattle.space.proofs.Words.{unpack_gives_back, unpacked_fits, mapped_fits}
 use Rattle.space.proofs.shards.Shards.put_mapped.Goals as goal

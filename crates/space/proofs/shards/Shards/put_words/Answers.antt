@@ -22,7 +22,6 @@ invariant_of-self c =
     record {
       limits = s.limits;
       most = s.most;
-      copied = s.copied;
       packed = λ words is. subst (AreWords (count_of s.directory.value)) (same_Some c.args.words words is) (record { count = c.requires.count; packs = c.requires.packs });
       counted = ap length live_is ∙ many ∙ s.counted;
       dead = λ words is. subst (AreLive (with_items s.live live).items) (same_Some c.args.words words is)

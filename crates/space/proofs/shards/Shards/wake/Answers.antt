@@ -4,6 +4,7 @@ use Rattle.std.specs.Int.{bit_at}
 use Rattle.std.proofs.lemmas.Grind.{div_ceil_times}
 use Rattle.std.proofs.lemmas.List.{length-set, get_or_default, get_or-set_same}
 use Rattle.space.specs.Positions.{AreRunsOf, count_of, most_of, position_in}
+use Rattle.space.specs.declared.directory.Directory.{Directory}
 use Rattle.space.proofs.ShardWords.{live_revived, runs_revived, shard_can, shard_revived}
 use Rattle.space.proofs.shards.Shards.wake.Goals as goal
 
@@ -15,7 +16,7 @@ invariant_of-self c =
     let place = c.requires.place in
     let most = shard_can s c.args.place (record { space = place.space; page = place.page }) in
     let within : shard / 256 < length s.runs.items = omega (arith, most, c.shard-shard.ensures.shard, s.each_run, div_ceil_times (most_of s.directory.value) 256 (omega arith)) in
-    let at : position ≡ position_in s.directory.value shard = c.position-position.ensures in
+    let at : position ≡ position_in s.directory.value shard = c.position-position.ensures ∙ ap (λ (d : Directory). position_in d shard) c.deref.ensures in
     let there : position_in s.directory.value shard < count_of s.directory.value = subst (λ k. position_in s.directory.value k < count_of s.directory.value) (sym c.shard-shard.ensures.shard) (omega (arith, c.requires.has)) in
     let here : position < length s.live.items = omega (arith, there, at, s.counted) in
     let old : slice_index s.runs.items (shard / 256) ≡ c.index.result.now = sym (c.index.ensures ∙ get_or_default s.runs.items (shard / 256) c.index.result.now 0 within) in
@@ -26,7 +27,6 @@ invariant_of-self c =
     record {
       limits = s.limits;
       most = s.most;
-      copied = s.copied;
       packed = s.packed;
       counted = length-set s.live.items position 1 ∙ s.counted;
       dead = λ words is. live_revived s.live.items words position here (s.dead words is);
