@@ -16,6 +16,9 @@ use turns::Turn;
 /// How many turns a worker steals from one deque before it goes on to the next.
 const STOLEN_IN_A_ROW: usize = 16;
 
+/// How many workers begin to steal from one deque each, far from each other.
+const WORKERS_APART: usize = 8;
+
 /// What a worker holds: its own deque, the right to steal from each deque, and the turns that it has worked to their end.
 #[derive(Drop)]
 pub struct Worker<N: Which, M: Crewed> {
@@ -108,14 +111,17 @@ impl<N: Which, M: Crewed> Worker<N, M> {
         Ok(())
     }
 
-    /// Steals from each of the others. Answers whether there may be more.
+    /// Steals from each of the others: from which first, tells its number, so that those who come at once begin far from each
+    /// other. Answers whether there may be more.
     fn steal_round<G: Gate>(&mut self, state: &SharedState<'_, N, M, G>) -> Result<bool, AllocError>
         ensures { self.new.own ≡ self.old.own }
     {
         let workers = state.workers();
+        let stride = 1 + workers / WORKERS_APART;
+        let first = self.number().wrapping_mul(stride);
         let mut found = false;
-        for ahead in 1..workers {
-            let number = (self.number() + ahead) % workers;
+        for ahead in 1..=workers {
+            let number = first.wrapping_add(ahead) % workers;
             if self.steal_some(state, number)? {
                 found = true;
             }

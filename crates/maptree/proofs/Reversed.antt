@@ -2,10 +2,12 @@
 use Rattle.std.proofs.Common.{◌≡◌, ◌≢◌, ℕ, suc, ◌+◌, ◌-◌, ◌<◌, ◌≤◌, false, List, [], ◌∷◌, ◌++◌, length, take, drop, get_or, set, insert, map, None, option_map, ◌⊎◌, inl, inr, refl, sym, ap, ◌∙◌, arith}
 use Rattle.std.specs.Prelude.{reverse, position}
 use Rattle.std.specs.List.{slice_range}
-use Rattle.std.proofs.lemmas.List.{reverse-append, length-reverse, get_or-reverse, length-set, length-drop, length-take-le, take-append-drop, drop_at, take_at, take_more, take_all, drop_all, drop-take, same_lists, get_or-set_same, get_or-set_other, map-append, append_assoc}
+use Rattle.std.specs.declared.ops.Range.{Range}
+use Rattle.std.proofs.lemmas.List.{reverse-append, length-reverse, get_or-reverse, length-set, length-drop, length-take-le, take-append-drop, drop_at, take_at, take_more, take_all, drop_all, drop-take, same_lists, get_or-set_same, get_or-set_other, map-append, append_assoc, append-nil}
 use Rattle.space.specs.declared.place.Place.{Place}
 use Rattle.space.specs.Place.{same_place}
 use Rattle.space.specs.declared.node.Node.{Node}
+use Rattle.maptree.specs.Cuts.{outside}
 use Rattle.maptree.specs.Nodes.{run_len}
 use Rattle.maptree.proofs.Positions.{run_on, run_ends}
 use Rattle.maptree.proofs.Searches.{found_second}
@@ -43,6 +45,20 @@ range_back ns from to rising within =
     ∙ ap (λ n. reverse (drop (length ns - to) (take n ns))) whole
     ∙ ap reverse (drop-take (length ns - to) (to - from) ns)
     ∙ ap (λ n. reverse (take n (drop (length ns - to) ns))) (sym many))
+
+-- a vector that was written as a whole
+pub refilled : (ns ws : List Node) → length ws ≡ length ns → take (length ns) (ws ++ drop (length ws) ns) ≡ ws
+refilled ns ws same = ap (λ l. take (length ns) (ws ++ l)) (drop_all (length ws) ns (omega (arith, same))) ∙ ap (take (length ns)) (append-nil ws) ∙ take_all (length ns) ws (omega (arith, same))
+
+-- what is left without one range of the list
+pub outside_back : (ns : List Node) (r : Range ℕ) → r.start ≤ r.end → r.end ≤ length ns
+    → reverse (outside 0 (record { start = length ns - r.end; end = length ns - r.start } ∷ []) ns) ≡ outside 0 (r ∷ []) (reverse ns)
+outside_back ns r rising within =
+    let all : (n : ℕ) → n - 0 ≡ n = λ n. omega arith in
+    reverse-append (take (length ns - r.end - 0) ns) (drop (length ns - r.start) ns)
+    ∙ ap (λ n. reverse (drop (length ns - r.start) ns) ++ reverse (take n ns)) (all (length ns - r.end))
+    ∙ (λ i. sym (take_reverse ns r.start (omega (arith, rising, within))) i ++ sym (drop_reverse ns r.end within) i)
+    ∙ ap (λ n. take n (reverse ns) ++ drop r.end (reverse ns)) (sym (all r.start))
 
 one_first : (x : Node) (ns : List Node) → reverse (x ∷ ns) ≡ reverse ns ++ x ∷ []
 one_first x ns = reverse-append (x ∷ []) ns

@@ -3,7 +3,7 @@
 //! A new node stands directly behind its origin, so where one page goes to many others all new nodes stand near the front of the
 //! list. That is the end of the vector, where few nodes have to move.
 
-ghost use Rattle.std.specs.Prelude.{◌≡◌, ◌+◌, ◌-◌, ◌<◌, ◌≤◌, true, length, take, drop, reverse, get_or, set, insert, position, IfOk};
+ghost use Rattle.std.specs.Prelude.{◌≡◌, ◌+◌, ◌-◌, ◌<◌, ◌≤◌, ◌∷◌, [], true, length, take, drop, reverse, get_or, set, insert, position, IfOk};
 ghost use Rattle.std.specs.List.{slice_range};
 ghost use Rattle.space.specs.Place.{same_place};
 ghost use Rattle.space.specs.declared.node.Node.{Node};
@@ -107,10 +107,26 @@ pub fn take_out(backward: &mut SmallVec<Node, INLINE>, ranges: &[Range<usize>])
     ensures fewer { length backward.new.items ≤ length backward.old.items }
     ensures capacity { backward.new.capacity ≡ backward.old.capacity }
 {
+    if let [range] = ranges {
+        take_one_out(backward, range);
+        return;
+    }
     backward.reverse();
     let left = close_gaps(backward, ranges);
     backward.truncate(left);
     backward.reverse();
+}
+
+/// The same of one range. Only the nodes before it move.
+fn take_one_out(backward: &mut SmallVec<Node, INLINE>, range: &Range<usize>)
+    requires { AreRising 0 (range.now ∷ []) (length backward.old.items) }
+    ensures nodes { reverse backward.new.items ≡ outside 0 (range.now ∷ []) (reverse backward.old.items) }
+    ensures fewer { length backward.new.items ≤ length backward.old.items }
+    ensures capacity { backward.new.capacity ≡ backward.old.capacity }
+{
+    let len = backward.len();
+    let left = close_gaps(backward, &[len - range.end..len - range.start]);
+    backward.truncate(left);
 }
 
 /// The nodes from a position to another, the first one first.
