@@ -11,7 +11,7 @@ aims stand beside what was measured.
 
 With --profile it prints instead in which functions of l4map the time of an access and of an unmap goes. That needs
 `perf`. With --beside it prints instead what another l4map takes on the traces of the first table, of spaces that both
-serve, in turn.
+serve, in turn. "Times" is then the median of the ratios of two runs side by side, since a machine's speed may change.
 """
 
 import filecmp
@@ -33,7 +33,7 @@ from bench import (  # noqa: E402
 )  # fmt: skip
 
 RUNS = 3
-RUNS_BESIDE = 7
+RUNS_BESIDE = 25
 MILLION = 1_000_000
 SMALLEST = "l4map,1,2,18,1"
 SPARSE = "l4map,1,512,32,64"  # spaces of 1,048,576 pages, of which few are held
@@ -432,13 +432,16 @@ def beside(bench, other):
             continue
         progress(it.name)
         trace, theirs, ours = bench.trace(it.records, it.header), [], []
+        both = [(theirs, [other, *ONE_WORKER], "theirs.txt"), (ours, bench.ours, "ours.txt")]
         for _ in range(RUNS_BESIDE):
-            theirs.append(bench.run([other, *ONE_WORKER], trace, "theirs.txt"))
-            ours.append(bench.run(bench.ours, trace, "ours.txt"))
+            for runs, words, output in both:
+                runs.append(bench.run(words, trace, output))
+            both.reverse()
             if not filecmp.cmp(bench.path("ours.txt"), bench.path("theirs.txt"), shallow=False):
                 sys.exit(f"performance.py: the programs write different bytes on {trace}")
         times = (f"{number:,.1f}" for runs in (theirs, ours) for number in (median(runs), least(runs)))
-        row(it.name, *times, f"{median(ours) / median(theirs):.2f}", mib(peak(theirs)), mib(peak(ours)))
+        ratio = statistics.median(mine.processor / its.processor for mine, its in zip(ours, theirs))
+        row(it.name, *times, f"{ratio:.2f}", mib(peak(theirs)), mib(peak(ours)))
 
 
 def version_of_rustc():
