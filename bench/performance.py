@@ -11,7 +11,7 @@ aims stand beside what was measured.
 
 With --profile it prints instead in which functions of l4map the time of an access and of an unmap goes. That needs
 `perf`. With --beside it prints instead what another l4map takes on the traces of the first table, of spaces that both
-serve, in turn. "Times" is then the median of the ratios of two runs side by side, since a machine's speed may change.
+serve, in turn.
 """
 
 import filecmp
@@ -33,7 +33,7 @@ from bench import (  # noqa: E402
 )  # fmt: skip
 
 RUNS = 3
-RUNS_BESIDE = 25
+PAIRS = 25
 MILLION = 1_000_000
 SMALLEST = "l4map,1,2,18,1"
 SPARSE = "l4map,1,512,32,64"  # spaces of 1,048,576 pages, of which few are held
@@ -93,11 +93,12 @@ class Compared(NamedTuple):
     accesses_in_a_row: int = 0
     header: str = HEADER
     a_mapping: int = A_MAPPING
+    is_shared: bool = False  # some phase is, by the default workers
 
 
 def compared():
     """The traces of the first table."""
-    yield Compared("`accesses`: a million", accesses(MILLION), 2, accesses_in_a_row=A_CALL)
+    yield Compared("`accesses`: a million", accesses(MILLION), 2, accesses_in_a_row=A_CALL, is_shared=True)
     yield Compared("`pager`: a million records", pager(MILLION), 3, PAGES + 3 * 256, 63)
     yield Compared("`chain`: a million records", chain(MILLION), 3, PAGES + 511)
     yield Compared("`relay`: 1,600 records of 4,096 pages", relay(1_600), 2.5, 16 * PAGES)
@@ -108,7 +109,7 @@ def compared():
     yield Compared("a header alone, 512 spaces of 24 bits and 4,096 frames", [], 1.5)
     yield Compared("a header alone, the smallest limits", [], 1.5, 1, header=SMALLEST)
     yield Compared("`sparse`: 10,000 pages of 512 spaces of 32 bits", sparse(10_000), 1, 10_000, 63, SPARSE, A_SPARSE_MAPPING)
-    yield Compared("`dense`: 1,048,576 pages mapped and revoked", dense(), 2.5, 2 * LARGE_PAGES, header=DENSE)
+    yield Compared("`dense`: 1,048,576 pages mapped and revoked", dense(), 2.5, 2 * LARGE_PAGES, header=DENSE, is_shared=True)
     yield Compared("`all roots`: 1,048,576 frames and no record", [], 2, LARGE_PAGES, header=LARGEST, a_mapping=A_ROOT)
 
 
@@ -384,18 +385,39 @@ def large_spaces(bench):
 
 
 def by_default(bench):
-    """The fifth table: each trace by four workers, the default, beside one."""
-    head("Trace", "one worker, clock ms", "processor ms", "four workers, clock ms", "processor ms")
+    """The fifth table: the traces with phases that four workers, the default, share, beside one worker."""
+    head("Trace", "one worker, clock ms", "four workers, clock ms", "times", "processor time, times")
     for it in compared():
+        if not it.is_shared:
+            continue
         progress(f"{it.name}, four workers")
         trace, one, four = bench.trace(it.records, it.header), [], []
-        for _ in range(RUNS):
-            one.append(bench.run(bench.ours, trace, "one.txt"))
-            four.append(bench.run(bench.ours[:1], trace, "four.txt"))
-            if not filecmp.cmp(bench.path("one.txt"), bench.path("four.txt"), shallow=False):
-                sys.exit(f"performance.py: four workers write other bytes on {trace}")
-        times = ((statistics.median(run.clock for run in runs), median(runs)) for runs in (one, four))
-        row(it.name, *(f"{number:,.1f}" for pair in times for number in pair))
+        both = [(one, bench.ours, "one.txt"), (four, bench.ours[:1], "four.txt")]
+        in_pairs(bench, trace, both)
+        clocks = (f"{statistics.median(run.clock for run in runs):,.1f}" for runs in (one, four))
+        row(it.name, *clocks, ratio((run.clock for run in four), (run.clock for run in one)), times(four, one))
+
+
+def in_pairs(bench, trace, both):
+    """Runs of two kinds on a trace, in turn, which must write the same. Each kind is a list for its runs, words and an
+    output."""
+    (_, _, output), (_, _, other) = both
+    for _ in range(PAIRS):
+        for runs, words, to in both:
+            runs.append(bench.run(words, trace, to))
+        both.reverse()
+        if not filecmp.cmp(bench.path(output), bench.path(other), shallow=False):
+            sys.exit(f"performance.py: {output} and {other} differ on {trace}")
+
+
+def ratio(numbers, others):
+    """The median of the ratios of the numbers of two runs side by side: a machine's speed may change between pairs."""
+    return f"{statistics.median(number / other for number, other in zip(numbers, others)):.2f}"
+
+
+def times(runs, others):
+    """How many times the processor time of others runs take."""
+    return ratio((run.processor for run in runs), (run.processor for run in others))
 
 
 def given_up(rounds):
@@ -432,16 +454,9 @@ def beside(bench, other):
             continue
         progress(it.name)
         trace, theirs, ours = bench.trace(it.records, it.header), [], []
-        both = [(theirs, [other, *ONE_WORKER], "theirs.txt"), (ours, bench.ours, "ours.txt")]
-        for _ in range(RUNS_BESIDE):
-            for runs, words, output in both:
-                runs.append(bench.run(words, trace, output))
-            both.reverse()
-            if not filecmp.cmp(bench.path("ours.txt"), bench.path("theirs.txt"), shallow=False):
-                sys.exit(f"performance.py: the programs write different bytes on {trace}")
-        times = (f"{number:,.1f}" for runs in (theirs, ours) for number in (median(runs), least(runs)))
-        ratio = statistics.median(mine.processor / its.processor for mine, its in zip(ours, theirs))
-        row(it.name, *times, f"{ratio:.2f}", mib(peak(theirs)), mib(peak(ours)))
+        in_pairs(bench, trace, [(theirs, [other, *ONE_WORKER], "theirs.txt"), (ours, bench.ours, "ours.txt")])
+        numbers = (f"{number:,.1f}" for runs in (theirs, ours) for number in (median(runs), least(runs)))
+        row(it.name, *numbers, times(ours, theirs), mib(peak(theirs)), mib(peak(ours)))
 
 
 def version_of_rustc():
