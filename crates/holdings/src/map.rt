@@ -1,10 +1,9 @@
 //! The pages of a MapItem, after the flush: each is linked to its source, or extended.
 
 ghost use Rattle.std.specs.Prelude.{◌≡◌, true, None, Some, IsFalse};
-ghost use Rattle.holdings.specs.Meaning.{counts_of};
 ghost use Rattle.space.specs.declared.place.Entry.{Entry};
 ghost use Rattle.space.specs.Shards.{HasWord, IsPlace, entry_at, is_taken};
-ghost use Rattle.holdings.specs.Inner.Links.{IsPageLost, IsPageMapped};
+ghost use Rattle.holdings.specs.Inner.Links.{IsPageMapped};
 
 use crate::holdings::Holdings;
 use crate::link::link_all;
@@ -54,47 +53,40 @@ impl Holdings {
             mut trees,
         } = self;
         make_targets(&mut shards, transfers)?;
-        let _ = link_all(&shards, &mut trees, transfers)?;
-        let mut worked = TransferCounts::none();
+        let counts = link_all(&shards, &mut trees, transfers)?;
         for transfer in transfers {
-            let one = map_page(&mut shards, *transfer, rights);
-            worked = worked.plus(one);
+            map_page(&mut shards, *transfer, rights);
         }
-        Ok((Holdings { shards, trees }, worked))
+        Ok((Holdings { shards, trees }, counts))
     }
 }
 
 /// Works one page of a MapItem, whose new mapping stands in the tree already.
-fn map_page(shards: &mut Shards, transfer: Transfer, rights: Rights) -> TransferCounts
+fn map_page(shards: &mut Shards, transfer: Transfer, rights: Rights)
     requires source { IsPlace shards.old transfer.source }
     requires target { IsPlace shards.old transfer.target }
     requires there { HasWord shards.old transfer.target }
     requires present { IsFalse (is_taken shards.old) }
-    ensures lost { entry_at shards.old transfer.source ≡ None → IsPageLost shards.old shards.new (counts_of result) }
-    ensures mapped { (e : Entry) → entry_at shards.old transfer.source ≡ Some e → IsPageMapped shards.old shards.new rights transfer e (counts_of result) }
+    ensures lost { entry_at shards.old transfer.source ≡ None → shards.new ≡ shards.old }
+    ensures mapped { (e : Entry) → entry_at shards.old transfer.source ≡ Some e → IsPageMapped shards.old shards.new rights transfer e }
 {
     if transfer.extends {
-        return extend_page(shards, transfer, rights);
-    }
-    if shards.put_mapped(transfer.source, transfer.target, rights) {
-        TransferCounts::one_linked()
+        extend_page(shards, transfer, rights);
     } else {
-        TransferCounts::one_lost()
+        let _ = shards.put_mapped(transfer.source, transfer.target, rights);
     }
 }
 
 /// The same of a page whose target gains rights.
-fn extend_page(shards: &mut Shards, transfer: Transfer, rights: Rights) -> TransferCounts
+fn extend_page(shards: &mut Shards, transfer: Transfer, rights: Rights)
     requires source { IsPlace shards.old transfer.source }
     requires target { IsPlace shards.old transfer.target }
     requires present { IsFalse (is_taken shards.old) }
     requires extends { transfer.extends ≡ true }
-    ensures lost { entry_at shards.old transfer.source ≡ None → IsPageLost shards.old shards.new (counts_of result) }
-    ensures mapped { (e : Entry) → entry_at shards.old transfer.source ≡ Some e → IsPageMapped shards.old shards.new rights transfer e (counts_of result) }
+    ensures lost { entry_at shards.old transfer.source ≡ None → shards.new ≡ shards.old }
+    ensures mapped { (e : Entry) → entry_at shards.old transfer.source ≡ Some e → IsPageMapped shards.old shards.new rights transfer e }
 {
-    let Some(source) = shards.get(transfer.source) else {
-        return TransferCounts::one_lost();
-    };
-    shards.extend(transfer.target, source.rights.meet(rights));
-    TransferCounts::one_extended()
+    if let Some(source) = shards.get(transfer.source) {
+        shards.extend(transfer.target, source.rights.meet(rights));
+    }
 }

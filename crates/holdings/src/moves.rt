@@ -1,11 +1,9 @@
 //! Pages that move to other places, with all that derives from them.
 
 ghost use Rattle.std.specs.Prelude.{◌≡◌, None, Some, false, IsFalse};
-ghost use Rattle.holdings.specs.Meaning.{counts_of};
 ghost use Rattle.space.specs.declared.place.Entry.{Entry};
 ghost use Rattle.space.specs.Place.{same_place};
 ghost use Rattle.space.specs.Shards.{HasWord, IsPlace, entry_at, is_taken};
-ghost use Rattle.holdings.specs.Inner.Links.{IsPageLost};
 ghost use Rattle.holdings.specs.Inner.Renamings.{IsPageMoved};
 
 use crate::holdings::Holdings;
@@ -56,30 +54,27 @@ impl Holdings {
             mut trees,
         } = self;
         make_targets(&mut shards, transfers)?;
-        let _ = rename_all(alloc, &shards, &mut trees, transfers)?;
-        let mut worked = TransferCounts::none();
+        let counts = rename_all(alloc, &shards, &mut trees, transfers)?;
         for transfer in transfers {
-            let one = move_page(&mut shards, transfer.source, transfer.target);
-            worked = worked.plus(one);
+            move_page(&mut shards, transfer.source, transfer.target);
         }
-        Ok((Holdings { shards, trees }, worked))
+        Ok((Holdings { shards, trees }, counts))
     }
 }
 
 /// Moves what a page holds, without its status, to the target, which stands in its place in the tree already.
-fn move_page(shards: &mut Shards, source: Place, target: Place) -> TransferCounts
+fn move_page(shards: &mut Shards, source: Place, target: Place)
     requires source { IsPlace shards.old source }
     requires target { IsPlace shards.old target }
     requires there { HasWord shards.old target }
     requires apart { same_place source target ≡ false }
     requires present { IsFalse (is_taken shards.old) }
-    ensures lost { entry_at shards.old source ≡ None → IsPageLost shards.old shards.new (counts_of result) }
-    ensures moved { (e : Entry) → entry_at shards.old source ≡ Some e → IsPageMoved shards.old shards.new source target e (counts_of result) }
+    ensures lost { entry_at shards.old source ≡ None → shards.new ≡ shards.old }
+    ensures moved { (e : Entry) → entry_at shards.old source ≡ Some e → IsPageMoved shards.old shards.new source target e }
 {
     // With all rights let through it is as a mapping of the source, which has no status.
     if !shards.put_mapped(source, target, Rights::all()) {
-        return TransferCounts::one_lost();
+        return;
     }
     shards.set(source, None);
-    TransferCounts::one_linked()
 }

@@ -1,7 +1,6 @@
 -- The pages of a MapItem so far, and those to come.
-use Rattle.std.proofs.Common.{◌≡◌, ℕ, ◌+◌, ◌<◌, ◌≤◌, true, false, Bool, if◌then◌else◌, ◌⊎◌, inl, inr, [], ◌∷◌, List, length, drop, get_or, refl, sym, ap, ◌∙◌, subst, arith}
+use Rattle.std.proofs.Common.{◌≡◌, ℕ, ◌+◌, ◌<◌, ◌≤◌, false, [], ◌∷◌, List, length, drop, get_or, refl, sym, ap, ◌∙◌, subst}
 use Rattle.std.specs.List.{All}
-use Rattle.std.specs.Option.{is_some}
 use Rattle.std.proofs.lemmas.List.{drop_more, drop_all}
 use Rattle.std.proofs.lemmas.List.Elements.{All-cons, All-head, All-tail, All-nil}
 use Rattle.fpage.specs.declared.rights.Rights.{Rights}
@@ -10,18 +9,16 @@ use Rattle.space.specs.declared.place.Place.{Place}
 use Rattle.space.specs.declared.shards.Shards.{Shards}
 use Rattle.space.specs.Place.{same_place}
 use Rattle.maptree.specs.Origins.{Shape}
-use Rattle.model.specs.Definitions.Holdings.{Holdings, at, is_held}
+use Rattle.model.specs.Definitions.Holdings.{Holdings, at}
 use Rattle.model.specs.Definitions.Calls.{Limits}
-use Rattle.model.specs.Definitions.Items.{Job, Fate, absent, norights, to_origin, extends, goes, Counts, no_counts, add_counts, counts_of}
+use Rattle.model.specs.Definitions.Items.{Job, Fate, absent, norights, to_origin, extends, goes}
 use Rattle.model.specs.Definitions.Map.{map_pair, link, extend}
-use Rattle.model.specs.Laws.SendLaws.{total}
 use Rattle.model.proofs.Puts.{apart_places}
 use Rattle.model.proofs.Maps.{pair_other}
 use Rattle.holdings.specs.declared.transfer.Transfer.{Transfer}
 use Rattle.holdings.specs.Inner.Held.{limits_in, holdings_in}
 use Rattle.holdings.specs.Inner.Sound.{AreSound}
-use Rattle.holdings.specs.Sending.{IsReady, ArePaired, fate_in, pair_of, map_transfers, counts_after_flush, count_after_flush}
-use Rattle.holdings.proofs.CountSums.{add_assoc, add_none, none_add, total_sum}
+use Rattle.holdings.specs.Sending.{IsReady, ArePaired, fate_in, pair_of, map_transfers}
 
 -- ---- lists of transfers
 
@@ -33,20 +30,6 @@ sources_in from to (t ∷ ts) paired = All-cons (λ t. t.source.space ≡ from) 
 -- where each test holds of both lists of facts
 pub All-both : {A : Type 0} (P Q R : A → Type 0) (xs : List A) → ((x : A) → P x → Q x → R x) → All P xs → All Q xs → All R xs
 All-both P Q R xs step p q i d within = step (get_or xs i d) (p i d within) (q i d within)
-
--- one transfer counts once
-pub worked_one : (h : Holdings) (t : Transfer) → total (count_after_flush h t) ≡ 1
-worked_one h t = by (fate_in t) (is_held h t.source) (either t.extends)
-  where
-    either : (b : Bool) → ((if b then extends else goes) ≡ extends) ⊎ ((if b then extends else goes) ≡ goes)
-    either true = inl refl
-    either false = inr refl
-
-    by : (f : Fate) (kept : Bool) → (f ≡ extends) ⊎ (f ≡ goes) → total (counts_of f kept) ≡ 1
-    by f true (inl is) = rw is refl
-    by f false (inl is) = rw is refl
-    by f true (inr is) = rw is refl
-    by f false (inr is) = rw is refl
 
 -- ---- what both holdings say of a pair is the same
 
@@ -71,40 +54,26 @@ module _ (h now : Holdings) (rights : Rights) (t : Transfer) (agree : AgreeOn h 
   same_pair extends = λ i. extend the_job (pair_of t) (agree.0 i) (agree.1 i) now
   same_pair goes = ap (λ m. link the_job (pair_of t) m now) agree.0
 
-  pub same_worked : count_after_flush now t ≡ count_after_flush h t
-  same_worked = ap (λ m. counts_of (fate_in t) (is_some m)) agree.0
-
 -- ---- the pages so far
 
-pub record AreMapped (limits : Limits) (h : Holdings) (rights : Rights) (from to : ℕ) (ts : List Transfer) (i : ℕ) (shards : Shards) (trees : List Shape) (counts : Counts) : Type 0 where
+pub record AreMapped (limits : Limits) (h : Holdings) (rights : Rights) (from to : ℕ) (ts : List Transfer) (i : ℕ) (shards : Shards) (trees : List Shape) : Type 0 where
   pub sound : AreSound shards trees
   pub same_limits : limits_in shards trees ≡ limits
   pub left : map_transfers h (record { kind = Map; rights = rights; pairs = [] }) (drop i ts) (holdings_in shards trees) ≡ map_transfers h (record { kind = Map; rights = rights; pairs = [] }) ts h
-  pub counts_are : add_counts counts (counts_after_flush h (drop i ts)) ≡ counts_after_flush h ts
-  pub few : total counts ≤ i
   pub paired : ArePaired from to (drop i ts)
   pub agree : All (AgreeOn h (holdings_in shards trees)) (drop i ts)
 
--- between two spaces
-pub record AreMappedBetween (limits : Limits) (h : Holdings) (rights : Rights) (ts : List Transfer) (i : ℕ) (shards : Shards) (trees : List Shape) (counts : Counts) : Type 0 where
-  pub from : ℕ
-  pub to : ℕ
-  pub differ : from ≡ to → ⊥
-  pub are : AreMapped limits h rights from to ts i shards trees counts
-
 module _ (limits : Limits) (h : Holdings) (rights : Rights) (from to : ℕ) (differ : from ≡ to → ⊥) (ts : List Transfer) where
-  pub none_mapped : (shards : Shards) (trees : List Shape) → AreSound shards trees → limits_in shards trees ≡ limits → holdings_in shards trees ≡ h → ArePaired from to ts → AreMapped limits h rights from to ts 0 shards trees no_counts
+  pub none_mapped : (shards : Shards) (trees : List Shape) → AreSound shards trees → limits_in shards trees ≡ limits → holdings_in shards trees ≡ h → ArePaired from to ts → AreMapped limits h rights from to ts 0 shards trees
   none_mapped shards trees sound same_limits same paired = record {
     sound = sound;
     same_limits = same_limits;
     left = ap (map_transfers h (record { kind = Map; rights = rights; pairs = [] }) ts) same;
-    counts_are = none_add (counts_after_flush h ts);
-    few = omega arith;
     paired = paired;
     agree = λ k d within. (ap (λ g. at g (get_or ts k d).source) same, ap (λ g. at g (get_or ts k d).target) same);
   }
 
-  module _ (i : ℕ) (d : Transfer) (within : i < length ts) (shards : Shards) (trees : List Shape) (counts : Counts) (so_far : AreMapped limits h rights from to ts i shards trees counts) where
+  module _ (i : ℕ) (d : Transfer) (within : i < length ts) (shards : Shards) (trees : List Shape) (so_far : AreMapped limits h rights from to ts i shards trees) where
     abbrev t : Transfer
     t = get_or ts i d
 
@@ -120,22 +89,18 @@ module _ (limits : Limits) (h : Holdings) (rights : Rights) (from to : ℕ) (dif
     paired_here : ArePaired from to (t ∷ rest)
     paired_here = subst (ArePaired from to) first_and_rest so_far.paired
 
-    pub one_mapped : (next : Shards) (next_trees : List Shape) (one : Counts) → AreSound next next_trees → limits_in next next_trees ≡ limits_in shards trees
+    pub one_mapped : (next : Shards) (next_trees : List Shape) → AreSound next next_trees → limits_in next next_trees ≡ limits_in shards trees
         → holdings_in next next_trees ≡ map_pair (holdings_in shards trees) (record { kind = Map; rights = rights; pairs = [] }) (pair_of t) (fate_in t) (holdings_in shards trees)
-        → one ≡ count_after_flush (holdings_in shards trees) t → AreMapped limits h rights from to ts (i + 1) next next_trees (add_counts counts one)
-    one_mapped next next_trees one sound same_limits left counted =
+        → AreMapped limits h rights from to ts (i + 1) next next_trees
+    one_mapped next next_trees sound same_limits left =
         let job : Job = record { kind = Map; rights = rights; pairs = [] } in
         let now = holdings_in shards trees in
         let after : holdings_in next next_trees ≡ map_pair h job (pair_of t) (fate_in t) now = left ∙ same_pair h now rights t agree_here (fate_in t) in
-        let one_is : one ≡ count_after_flush h t = counted ∙ same_worked h now rights t agree_here in
-        let single : total one ≡ 1 = ap total one_is ∙ worked_one h t in
         let others = subst (All (AgreeOn h now)) first_and_rest so_far.agree in
         record {
           sound = sound;
           same_limits = same_limits ∙ so_far.same_limits;
           left = ap (map_transfers h job rest) after ∙ sym (ap (λ xs. map_transfers h job xs now) first_and_rest) ∙ so_far.left;
-          counts_are = ap (λ c. add_counts (add_counts counts c) (counts_after_flush h rest)) one_is ∙ add_assoc counts (count_after_flush h t) (counts_after_flush h rest) ∙ sym (ap (λ xs. add_counts counts (counts_after_flush h xs)) first_and_rest) ∙ so_far.counts_are;
-          few = subst (λ k. k ≤ i + 1) (sym (total_sum counts one)) (omega (arith, single, so_far.few));
           paired = paired_here.3;
           agree = All-both (AgreeOn h now) (λ x. (x.source.space ≡ from) × (same_place x.target t.target ≡ false)) (AgreeOn h (holdings_in next next_trees)) rest
               (λ x was apart.
@@ -148,10 +113,8 @@ module _ (limits : Limits) (h : Holdings) (rights : Rights) (from to : ℕ) (dif
               (λ x space apart. (space, apart.1)) (sources_in from to rest paired_here.3) paired_here.2);
         }
 
-  pub all_mapped : (i : ℕ) (shards : Shards) (trees : List Shape) (counts : Counts) → length ts ≤ i → AreMapped limits h rights from to ts i shards trees counts
-      → (counts ≡ counts_after_flush h ts) × (holdings_in shards trees ≡ map_transfers h (record { kind = Map; rights = rights; pairs = [] }) ts h)
-  all_mapped i shards trees counts past so_far =
-      let none : drop i ts ≡ [] = drop_all i ts past in (
-        sym (add_none counts) ∙ sym (ap (λ xs. add_counts counts (counts_after_flush h xs)) none) ∙ so_far.counts_are,
-        sym (ap (λ xs. map_transfers h (record { kind = Map; rights = rights; pairs = [] }) xs (holdings_in shards trees)) none) ∙ so_far.left,
-      )
+  pub all_mapped : (i : ℕ) (shards : Shards) (trees : List Shape) → length ts ≤ i → AreMapped limits h rights from to ts i shards trees
+      → holdings_in shards trees ≡ map_transfers h (record { kind = Map; rights = rights; pairs = [] }) ts h
+  all_mapped i shards trees past so_far =
+      let none : drop i ts ≡ [] = drop_all i ts past in
+      sym (ap (λ xs. map_transfers h (record { kind = Map; rights = rights; pairs = [] }) xs (holdings_in shards trees)) none) ∙ so_far.left

@@ -15,10 +15,10 @@ use Rattle.space.specs.Place.{place_cmp, same_place}
 use Rattle.space.specs.Shards.{entry_at, IsLaidOutAs}
 use Rattle.space.proofs.Places.{same_or_apart}
 use Rattle.maptree.specs.Origins.{Shape}
-use Rattle.model.specs.Definitions.Holdings.{Held, Holdings, at, is_held}
+use Rattle.model.specs.Definitions.Holdings.{Held, Holdings, at}
 use Rattle.model.specs.Definitions.Calls.{Limits}
 use Rattle.model.specs.Definitions.Lawful.{is_lawful}
-use Rattle.model.specs.Definitions.Items.{Job, Counts, counts_of, extends, goes}
+use Rattle.model.specs.Definitions.Items.{Job, extends, goes}
 use Rattle.model.specs.Definitions.Map.{extended, map_pair}
 use Rattle.model.proofs.LawfulParts.{IsLawful, IsOrigin, lawful_parts, lawful_from}
 use Rattle.model.proofs.Growths.{lawful_grown}
@@ -28,7 +28,7 @@ use Rattle.space.specs.Entries as word
 use Rattle.holdings.specs.Places.{IsWithin}
 use Rattle.holdings.specs.Inner.Held.{is_listed, held_of, held_at, has_frame, holdings_of, limits_in, holdings_in}
 use Rattle.holdings.specs.Inner.Sound.{IsSound, AreSound}
-use Rattle.holdings.specs.Sending.{fate_in, pair_of, count_after_flush, IsReady}
+use Rattle.holdings.specs.Sending.{fate_in, pair_of, IsReady}
 use Rattle.holdings.specs.Inner.Links.{IsLinked}
 use Rattle.holdings.proofs.Contents.Listing.{listing_put}
 use Rattle.holdings.proofs.Contents.Holders.{place_within, held_elsewhere, present_within, absent_within}
@@ -113,18 +113,11 @@ module _ (h : Holdings) (l : IsLawful h) (source target : Place) (m t : Held) (r
       new p v (inl (same, one)) gone = absurd (cc (gone, there, ap (at h) same))
       new p v (inr (apart, old)) gone = absurd (cc (old, gone))
 
--- ---- the counts and the holdings of one page
+-- ---- the holdings of one page
 
 module _ (h : Holdings) (rights : Rights) (t : Transfer) where
   abbrev the_job : Job
   the_job = record { kind = Map; rights = rights; pairs = [] }
-
-  pub lost_counts : at h t.source ≡ None → (lost : Counts) → lost ≡ counts_of goes false → lost ≡ count_after_flush h t
-  lost_counts none lost is = is ∙ by t.extends ∙ ap (λ m. counts_of (fate_in t) (is_some m)) (sym none)
-    where
-      by : (b : Bool) → counts_of goes false ≡ counts_of (if b then extends else goes) false
-      by true = refl
-      by false = refl
 
   pub lost_left : at h t.source ≡ None → h ≡ map_pair h the_job (pair_of t) (fate_in t) h
   lost_left none = by t.extends
@@ -132,12 +125,6 @@ module _ (h : Holdings) (rights : Rights) (t : Transfer) where
       by : (b : Bool) → h ≡ map_pair h the_job (pair_of t) (if b then extends else goes) h
       by true = rw none refl
       by false = rw none refl
-
-  pub extended_counts : (m : Held) → at h t.source ≡ Some m → t.extends ≡ true → (one : Counts) → one ≡ counts_of extends true → one ≡ count_after_flush h t
-  extended_counts m held is one one_is = one_is ∙ sym (ap (λ b. counts_of (if b then extends else goes) (is_held h t.source)) is ∙ ap (λ m. counts_of extends (is_some m)) held)
-
-  pub linked_counts : (m : Held) → at h t.source ≡ Some m → t.extends ≡ false → (one : Counts) → one ≡ counts_of goes true → one ≡ count_after_flush h t
-  linked_counts m held is one one_is = one_is ∙ sym (ap (λ b. counts_of (if b then extends else goes) (is_held h t.source)) is ∙ ap (λ m. counts_of goes (is_some m)) held)
 
 -- ---- a page that extends
 

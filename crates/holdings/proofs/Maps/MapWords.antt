@@ -20,9 +20,7 @@ use Rattle.maptree.specs.Origins.{Origins, Shape, origin_in}
 use Rattle.model.specs.Definitions.Holdings.{Holdings, at}
 use Rattle.model.specs.Definitions.Calls.{Limits}
 use Rattle.model.specs.Definitions.Lawful.{is_lawful}
-use Rattle.model.specs.Definitions.Items.{Counts, no_counts, add_counts, counts_of, extends, goes}
 use Rattle.model.specs.Definitions.Map.{map_pair}
-use Rattle.model.specs.Laws.SendLaws.{total}
 use Rattle.holdings.specs.declared.link.Link.{Link}
 use Rattle.holdings.specs.declared.transfer.Transfer.{Transfer}
 use Rattle.holdings.specs.Inner.Derivation.{stands_in, IsDerived}
@@ -31,14 +29,14 @@ use Rattle.holdings.specs.Inner.Held.{links_in, is_listed, held_of, held_at, lay
 use Rattle.space.specs.Entries as word
 use Rattle.holdings.specs.Contents.{entry_of}
 use Rattle.holdings.specs.Inner.Sound.{AreSound, IsSound}
-use Rattle.holdings.specs.Sending.{IsTransferWithin, ArePaired, ArePlanned, IsReady, fate_in, pair_of, count_after_flush, counts_after_flush, map_transfers}
-use Rattle.holdings.specs.Inner.Links.{IsTreeSet, link_of, links_of, is_new_of, AreLinked, AreLinkable, IsPageLost, IsPageMapped}
+use Rattle.holdings.specs.Sending.{IsTransferWithin, ArePaired, ArePlanned, IsReady, fate_in, pair_of, map_transfers}
+use Rattle.holdings.specs.Inner.Links.{IsTreeSet, link_of, links_of, is_new_of, AreLinked, AreLinkable, IsPageMapped}
 use Rattle.holdings.proofs.Contents.Listing.{listing_same}
 use Rattle.holdings.proofs.Trees.Positions.{derived_below}
 use Rattle.holdings.proofs.Contents.Layouts.{same_layout}
 use Rattle.holdings.proofs.Contents.Holders.{place_within, absent_within, present_within, entry_within}
 use Rattle.holdings.proofs.Links.NewMappings.{tree_set, unlisted}
-use Rattle.holdings.proofs.Maps.MapPages.{IsWorked, same_limits, worked_left, worked_sound, lost_counts, lost_left, extended_counts, linked_counts, page_extended, target_unlisted, page_linked}
+use Rattle.holdings.proofs.Maps.MapPages.{IsWorked, same_limits, worked_left, worked_sound, lost_left, page_extended, target_unlisted, page_linked}
 use Rattle.holdings.proofs.Maps.MapAll.{AreMapped, agree_here, ready_now, none_mapped, one_mapped, all_mapped}
 use Rattle.holdings.proofs.Links.LinkedTrees.{no_transfer}
 
@@ -129,18 +127,18 @@ module _ (l : Link) (ls : List Link) (trees next ahead : List Shape) (links : Or
 -- ---- the pages so far
 
 -- as if the trees had gained the new mappings of the pages so far
-pub record AreAhead (first : Shards) (limits : Limits) (h : Holdings) (rights : Rights) (ts : List Transfer) (i : ℕ) (shards : Shards) (ahead : List Shape) (counts : Counts) : Type 0 where
+pub record AreAhead (first : Shards) (limits : Limits) (h : Holdings) (rights : Rights) (ts : List Transfer) (i : ℕ) (shards : Shards) (ahead : List Shape) : Type 0 where
   pub trees : List Shape
   pub from : ℕ
   pub to : ℕ
   pub differ : from ≡ to → ⊥
-  pub are : AreMapped limits h rights from to ts i shards trees counts
+  pub are : AreMapped limits h rights from to ts i shards trees
   pub linked : AreLinked (links_of first (drop i ts)) trees ahead
   pub layout : layout_in shards ≡ layout_in first
 
-module _ (first : Shards) (first_trees : List Shape) (rights : Rights) (ts : List Transfer) (i : ℕ) (within : i < length ts) (shards : Shards) (ahead : List Shape) (counts : Counts)
+module _ (first : Shards) (first_trees : List Shape) (rights : Rights) (ts : List Transfer) (i : ℕ) (within : i < length ts) (shards : Shards) (ahead : List Shape)
     (planned : ArePlanned (limits_in first first_trees) ts) (ready : All (IsReady (holdings_in first first_trees) rights) ts)
-    (so_far : AreAhead first (limits_in first first_trees) (holdings_in first first_trees) rights ts i shards ahead counts) where
+    (so_far : AreAhead first (limits_in first first_trees) (holdings_in first first_trees) rights ts i shards ahead) where
   abbrev t : Transfer
   t = get_or ts i no_transfer
 
@@ -172,7 +170,7 @@ module _ (first : Shards) (first_trees : List Shape) (rights : Rights) (ts : Lis
   target_place = place_within (limits_in shards so_far.trees) shards so_far.trees sound.kept.fits t.target target_within
 
   agree : (at now t.source ≡ at h t.source) × (at now t.target ≡ at h t.target)
-  agree = agree_here (limits_in first first_trees) h rights so_far.from so_far.to so_far.differ ts i no_transfer within shards so_far.trees counts so_far.are
+  agree = agree_here (limits_in first first_trees) h rights so_far.from so_far.to so_far.differ ts i no_transfer within shards so_far.trees so_far.are
 
   pub ready_here : IsReady now rights t
   ready_here = ready_now h now rights t agree (ready i no_transfer within)
@@ -187,47 +185,46 @@ module _ (first : Shards) (first_trees : List Shape) (rights : Rights) (ts : Lis
   linked_now : AreLinked (link_of t (entry_at shards t.source) rest) so_far.trees ahead
   linked_now = subst (λ o. AreLinked (link_of t o rest) so_far.trees ahead) stood_first (subst (λ xs. AreLinked (links_of first xs) so_far.trees ahead) (drop_more ts i no_transfer within) so_far.linked)
 
-  next : (new : Shards) (trees : List Shape) (one : Counts) → AreSound new trees → limits_in new trees ≡ limits_in shards so_far.trees
-      → holdings_in new trees ≡ map_pair now (record { kind = Map; rights = rights; pairs = [] }) (pair_of t) (fate_in t) now → one ≡ count_after_flush now t → AreLinked rest trees ahead → layout_in new ≡ layout_in shards
-      → AreAhead first (limits_in first first_trees) h rights ts (i + 1) new ahead (add_counts counts one)
-  next new trees one is_sound same left counted linked layout = record {
+  next : (new : Shards) (trees : List Shape) → AreSound new trees → limits_in new trees ≡ limits_in shards so_far.trees
+      → holdings_in new trees ≡ map_pair now (record { kind = Map; rights = rights; pairs = [] }) (pair_of t) (fate_in t) now → AreLinked rest trees ahead → layout_in new ≡ layout_in shards
+      → AreAhead first (limits_in first first_trees) h rights ts (i + 1) new ahead
+  next new trees is_sound same left linked layout = record {
     trees = trees;
     from = so_far.from;
     to = so_far.to;
     differ = so_far.differ;
-    are = one_mapped (limits_in first first_trees) h rights so_far.from so_far.to so_far.differ ts i no_transfer within shards so_far.trees counts so_far.are new trees one is_sound same left counted;
+    are = one_mapped (limits_in first first_trees) h rights so_far.from so_far.to so_far.differ ts i no_transfer within shards so_far.trees so_far.are new trees is_sound same left;
     linked = linked;
     layout = layout ∙ so_far.layout;
   }
 
-  pub page_lost : (new : Shards) (one : Counts) → entry_at shards t.source ≡ None → IsPageLost shards new one → AreAhead first (limits_in first first_trees) h rights ts (i + 1) new ahead (add_counts counts one)
-  page_lost new one none lost =
+  pub page_lost : (new : Shards) → entry_at shards t.source ≡ None → new ≡ shards → AreAhead first (limits_in first first_trees) h rights ts (i + 1) new ahead
+  page_lost new none same =
       let gone = absent_within (limits_in shards so_far.trees) shards so_far.trees t.source source_within none in
-      subst (λ s. AreAhead first (limits_in first first_trees) h rights ts (i + 1) s ahead (add_counts counts one)) (sym lost.same)
-      (next shards so_far.trees one sound refl (lost_left now rights t gone) (lost_counts now rights t gone one lost.counted) (subst (λ o. AreLinked (link_of t o rest) so_far.trees ahead) none linked_now) refl)
+      subst (λ s. AreAhead first (limits_in first first_trees) h rights ts (i + 1) s ahead) (sym same)
+      (next shards so_far.trees sound refl (lost_left now rights t gone) (subst (λ o. AreLinked (link_of t o rest) so_far.trees ahead) none linked_now) refl)
 
-  module _ (new : Shards) (one : Counts) (e : Entry) (stood : entry_at shards t.source ≡ Some e) (page : IsPageMapped shards new rights t e one) where
+  module _ (new : Shards) (e : Entry) (stood : entry_at shards t.source ≡ Some e) (page : IsPageMapped shards new rights t e) where
     held : at now t.source ≡ Some (held_of so_far.trees t.source e)
     held = present_within (limits_in shards so_far.trees) shards so_far.trees t.source source_within e stood
 
     linked_with : AreLinked (link_of t (Some e) rest) so_far.trees ahead
     linked_with = subst (λ o. AreLinked (link_of t o rest) so_far.trees ahead) stood linked_now
 
-    extending : t.extends ≡ true → AreAhead first (limits_in first first_trees) h rights ts (i + 1) new ahead (add_counts counts one)
+    extending : t.extends ≡ true → AreAhead first (limits_in first first_trees) h rights ts (i + 1) new ahead
     extending is =
         let w : IsWorked (limits_in shards so_far.trees) shards new so_far.trees so_far.trees rights t =
         page_extended (limits_in shards so_far.trees) shards new so_far.trees rights t e sound source_within target_within ready_here stood is
         (record { set = subst (IsSetAt shards new t.target) (ap (λ b. if b then option_map (word.extended (meet e.rights rights)) (entry_at shards t.target) else Some (linked_word e)) is) page.set; present = page.present; layout = page.layout }) in
         let same = same_limits shards new so_far.trees so_far.trees page.layout refl in
-        next new so_far.trees one (worked_sound shards new so_far.trees so_far.trees rights t w same) same (worked_left shards new so_far.trees so_far.trees rights t w same)
-        (extended_counts now rights t (held_of so_far.trees t.source e) held is one (page.counted ∙ ap (λ b. counts_of (if b then extends else goes) true) is))
+        next new so_far.trees (worked_sound shards new so_far.trees so_far.trees rights t w same) same (worked_left shards new so_far.trees so_far.trees rights t w same)
         (subst (λ b. AreLinked (if b then rest else record { frame = e.frame; source = t.source; target = t.target } ∷ rest) so_far.trees ahead) is linked_with)
         (same_layout shards new page.layout)
       where
         linked_word : Entry → Entry
         linked_word e = record { frame = e.frame; rights = meet e.rights rights; status = no_rights }
 
-    going : t.extends ≡ false → AreAhead first (limits_in first first_trees) h rights ts (i + 1) new ahead (add_counts counts one)
+    going : t.extends ≡ false → AreAhead first (limits_in first first_trees) h rights ts (i + 1) new ahead
     going is =
         let l : Link = record { frame = e.frame; source = t.source; target = t.target } in
         let old = links_in so_far.trees e.frame in
@@ -240,38 +237,25 @@ module _ (first : Shards) (first_trees : List Shape) (rights : Rights) (ts : Lis
         page_linked (limits_in shards so_far.trees) shards new so_far.trees (slice_set so_far.trees e.frame grown) rights t e sound source_within target_within ready_here stood is
         (record { links = grown.links; set = subst (IsSetAt shards new t.target) (ap (λ b. if b then option_map (word.extended (meet e.rights rights)) (entry_at shards t.target) else Some (record { frame = e.frame; rights = meet e.rights rights; status = no_rights })) is) page.set; present = page.present; layout = page.layout; tree = set; derived = derived }) in
         let same = same_limits shards new so_far.trees (slice_set so_far.trees e.frame grown) page.layout set.count in
-        next new (slice_set so_far.trees e.frame grown) one (worked_sound shards new so_far.trees (slice_set so_far.trees e.frame grown) rights t w same) same (worked_left shards new so_far.trees (slice_set so_far.trees e.frame grown) rights t w same)
-        (linked_counts now rights t (held_of so_far.trees t.source e) held is one (page.counted ∙ ap (λ b. counts_of (if b then extends else goes) true) is))
+        next new (slice_set so_far.trees e.frame grown) (worked_sound shards new so_far.trees (slice_set so_far.trees e.frame grown) rights t w same) same (worked_left shards new so_far.trees (slice_set so_far.trees e.frame grown) rights t w same)
         (one_ahead l rest so_far.trees (slice_set so_far.trees e.frame grown) ahead grown.links
         (subst (λ b. AreLinked (if b then rest else l ∷ rest) so_far.trees ahead) is linked_with) set derived)
         (same_layout shards new page.layout)
 
-    pub page_mapped : AreAhead first (limits_in first first_trees) h rights ts (i + 1) new ahead (add_counts counts one)
+    pub page_mapped : AreAhead first (limits_in first first_trees) h rights ts (i + 1) new ahead
     page_mapped = by t.extends refl
       where
-        by : (b : Bool) → t.extends ≡ b → AreAhead first (limits_in first first_trees) h rights ts (i + 1) new ahead (add_counts counts one)
+        by : (b : Bool) → t.extends ≡ b → AreAhead first (limits_in first first_trees) h rights ts (i + 1) new ahead
         by true is = extending is
         by false is = going is
 
-  pub one_page : (new : Shards) (one : Counts) → (entry_at shards t.source ≡ None → IsPageLost shards new one) → ((e : Entry) → entry_at shards t.source ≡ Some e → IsPageMapped shards new rights t e one)
-      → AreAhead first (limits_in first first_trees) h rights ts (i + 1) new ahead (add_counts counts one)
-  one_page new one lost mapped = by (entry_at shards t.source) refl
+  pub one_page : (new : Shards) → (entry_at shards t.source ≡ None → new ≡ shards) → ((e : Entry) → entry_at shards t.source ≡ Some e → IsPageMapped shards new rights t e)
+      → AreAhead first (limits_in first first_trees) h rights ts (i + 1) new ahead
+  one_page new lost mapped = by (entry_at shards t.source) refl
     where
-      by : (o : Option Entry) → entry_at shards t.source ≡ o → AreAhead first (limits_in first first_trees) h rights ts (i + 1) new ahead (add_counts counts one)
-      by None is = page_lost new one is (lost is)
-      by (Some e) is = page_mapped new one e is (mapped e is)
-
-  -- it counts one
-  pub one_counts : (new : Shards) (one : Counts) → (entry_at shards t.source ≡ None → IsPageLost shards new one) → ((e : Entry) → entry_at shards t.source ≡ Some e → IsPageMapped shards new rights t e one) → total one ≡ 1
-  one_counts new one lost mapped = by (entry_at shards t.source) refl
-    where
-      either : (b : Bool) → total (counts_of (if b then extends else goes) true) ≡ 1
-      either true = refl
-      either false = refl
-
-      by : (o : Option Entry) → entry_at shards t.source ≡ o → total one ≡ 1
-      by None is = ap total (lost is).counted
-      by (Some e) is = ap total (mapped e is).counted ∙ either t.extends
+      by : (o : Option Entry) → entry_at shards t.source ≡ o → AreAhead first (limits_in first first_trees) h rights ts (i + 1) new ahead
+      by None is = page_lost new is (lost is)
+      by (Some e) is = page_mapped new e is (mapped e is)
 
 -- ---- the new mappings can be put into the trees
 
@@ -358,7 +342,7 @@ module _ (shards : Shards) (trees : List Shape) (sound : AreSound shards trees) 
   }
 
   -- nothing is mapped yet
-  pub none_ahead : (ahead : List Shape) → AreLinked (links_of shards ts) trees ahead → AreAhead shards (limits_in shards trees) (holdings_in shards trees) rights ts 0 shards ahead no_counts
+  pub none_ahead : (ahead : List Shape) → AreLinked (links_of shards ts) trees ahead → AreAhead shards (limits_in shards trees) (holdings_in shards trees) rights ts 0 shards ahead
   none_ahead ahead linked = record {
     trees = trees;
     from = planned.from;
@@ -370,15 +354,12 @@ module _ (shards : Shards) (trees : List Shape) (sound : AreSound shards trees) 
   }
 
 -- all are mapped
-module _ (first : Shards) (limits : Limits) (h : Holdings) (rights : Rights) (ts : List Transfer) (i : ℕ) (shards : Shards) (ahead : List Shape) (counts : Counts) (past : length ts ≤ i) (so_far : AreAhead first limits h rights ts i shards ahead counts) where
+module _ (first : Shards) (limits : Limits) (h : Holdings) (rights : Rights) (ts : List Transfer) (i : ℕ) (shards : Shards) (ahead : List Shape) (past : length ts ≤ i) (so_far : AreAhead first limits h rights ts i shards ahead) where
   at_end : AreLinked [] so_far.trees ahead
   at_end = subst (λ xs. AreLinked (links_of first xs) so_far.trees ahead) (drop_all i ts past) so_far.linked
 
-  pub all_counted : counts ≡ counts_after_flush h ts
-  all_counted = (all_mapped limits h rights so_far.from so_far.to so_far.differ ts i shards so_far.trees counts past so_far.are).0
-
   pub all_left : holdings_in shards ahead ≡ map_transfers h (record { kind = Map; rights = rights; pairs = [] }) ts h
-  all_left = ahead_holdings shards so_far.trees ahead at_end ∙ (all_mapped limits h rights so_far.from so_far.to so_far.differ ts i shards so_far.trees counts past so_far.are).1
+  all_left = ahead_holdings shards so_far.trees ahead at_end ∙ all_mapped limits h rights so_far.from so_far.to so_far.differ ts i shards so_far.trees past so_far.are
 
   pub all_sound : AreSound shards ahead
   all_sound = ahead_sound shards so_far.trees ahead at_end so_far.are.sound

@@ -18,7 +18,6 @@ use Rattle.space.proofs.ShardWords.{words_are_their_own, entries_fit}
 use Rattle.space.proofs.Words.{unpack_gives_back}
 use Rattle.maptree.specs.Origins.{Shape}
 use Rattle.model.specs.Definitions.Holdings.{Held, Holdings}
-use Rattle.model.specs.Definitions.Items.{Counts, no_counts, add_counts, counts_of, goes}
 use Rattle.model.proofs.LawfulParts.{lawful_parts}
 use Rattle.pieces.specs.Contents.{puts_of}
 use Rattle.pieces.specs.Distinct.{is_none_of, are_distinct}
@@ -32,9 +31,9 @@ use Rattle.pieces.specs.declared.piece.Piece.TheVariants as piece
 use Rattle.pieces.proofs.AllSteps.{length_words, word_at, worked_all, words_none}
 use Rattle.pieces.proofs.OneByOne.{one_after_another, others_can}
 use Rattle.holdings.specs.declared.transfer.Transfer.{Transfer}
-use Rattle.holdings.specs.Sending.{ArePlanned, ArePaired, IsReady, IsTransferWithin, fate_in, map_transfers}
+use Rattle.holdings.specs.Sending.{ArePlanned, ArePaired, IsReady, IsTransferWithin, map_transfers}
 use Rattle.holdings.specs.Inner.Held.{limits_in, holdings_in, holdings_of, has_entry, held_of}
-use Rattle.holdings.specs.Inner.Links.{AreLinked, links_of, IsPageLost, IsPageMapped}
+use Rattle.holdings.specs.Inner.Links.{AreLinked, links_of, IsPageMapped}
 use Rattle.holdings.specs.Inner.Links as page
 use Rattle.holdings.specs.Inner.Planning.{store_of, stores_of}
 use Rattle.holdings.specs.Inner.Sound.{IsSound, AreSound}
@@ -97,12 +96,11 @@ module _ (s : Shards) (w : List ℕ) (are : AreWordsOf s w) (rights : Rights) (t
       ∙ ap entry_of (or_zero_r (slice_index w (index_of s q))) ∙ are.entries q place)
 
   -- the page is mapped
-  pub page_stored : (t.extends ≡ false → entry_at s t.target ≡ None) → (t.extends ≡ true → (k : Entry) × (entry_at s t.target ≡ Some k) × (k.frame ≡ e.frame)) → IsPageMapped s n rights t e (counts_of (fate_in t) true)
+  pub page_stored : (t.extends ≡ false → entry_at s t.target ≡ None) → (t.extends ≡ true → (k : Entry) × (entry_at s t.target ≡ Some k) × (k.frame ≡ e.frame)) → IsPageMapped s n rights t e
   page_stored free wider = record {
     set = record { there = stored_there ∙ by t.extends refl; elsewhere = stored_elsewhere };
     present = with.present;
     layout = with.layout;
-    counted = refl;
   }
     where
       by : (b : Bool) → t.extends ≡ b → Some (linked rights (entry_at s t.target) e) ≡ page.word_after rights t e (entry_at s t.target)
@@ -172,29 +170,29 @@ module _ (first : Shards) (trees : List Shape) (sound : AreSound first trees) (r
     pub is_sound : AreSound new ahead
     pub same_limits : limits_in new ahead ≡ limits
 
-  module _ (i : ℕ) (within : i < length ts) (now : Shards) (counts : Counts) (so_far : AreAhead first limits h rights ts i now ahead counts) (layout : IsLaidOutAs first now) where
+  module _ (i : ℕ) (within : i < length ts) (now : Shards) (so_far : AreAhead first limits h rights ts i now ahead) (layout : IsLaidOutAs first now) where
     abbrev t : Transfer
     t = get_or ts i no_transfer
 
     -- its source holds what it held
     stood : entry_at first t.source ≡ entry_at now t.source
-    stood = stood_first first trees rights ts i within now ahead counts planned ready so_far
+    stood = stood_first first trees rights ts i within now ahead planned ready so_far
 
     -- a page whose source is not held is lost
-    lost_here : entry_at now t.source ≡ None → AreAhead first limits h rights ts (i + 1) now ahead (add_counts counts (counts_of goes false))
-    lost_here none = one_page first trees rights ts i within now ahead counts planned ready so_far now (counts_of goes false) (λ _. record { same = refl; counted = refl }) (λ e is. absurd (cc (none, is)))
+    lost_here : entry_at now t.source ≡ None → AreAhead first limits h rights ts (i + 1) now ahead
+    lost_here none = one_page first trees rights ts i within now ahead planned ready so_far now (λ _. refl) (λ e is. absurd (cc (none, is)))
 
     -- what the target of a page holds whose source is held
     free_here : t.extends ≡ false → entry_at now t.target ≡ None
-    free_here going = word_free (limits_in now so_far.trees) now so_far.trees t.target (target_within first trees rights ts i within now ahead counts planned ready so_far)
-        (ap is_some ((ready_here first trees rights ts i within now ahead counts planned ready so_far).free going))
+    free_here going = word_free (limits_in now so_far.trees) now so_far.trees t.target (target_within first trees rights ts i within now ahead planned ready so_far)
+        (ap is_some ((ready_here first trees rights ts i within now ahead planned ready so_far).free going))
 
     wider_here : (e : Entry) → entry_at now t.source ≡ Some e → t.extends ≡ true → (k : Entry) × (entry_at now t.target ≡ Some k) × (k.frame ≡ e.frame)
     wider_here e is extending =
         let here = holdings_in now so_far.trees in
-        let source = source_within first trees rights ts i within now ahead counts planned ready so_far in
+        let source = source_within first trees rights ts i within now ahead planned ready so_far in
         let m = present_within (limits_in now so_far.trees) now so_far.trees t.source source e is in
-        let d = (ready_here first trees rights ts i within now ahead counts planned ready so_far).derived (held_of so_far.trees t.source e) extending m in
+        let d = (ready_here first trees rights ts i within now ahead planned ready so_far).derived (held_of so_far.trees t.source e) extending m in
         let target = entry_held now so_far.trees (loose_from now so_far.trees so_far.are.sound) t.target d.0 d.1 in
         let origin = (lawful_parts here so_far.are.sound.kept.lawful).origin t.target t.source d.0 d.1 d.2 in
         let same : origin.held ≡ held_of so_far.trees t.source e = same_Some origin.held (held_of so_far.trees t.source e) (sym origin.is ∙ m) in
@@ -202,11 +200,11 @@ module _ (first : Shards) (trees : List Shape) (sound : AreSound first trees) (r
 
     -- a page whose source is held is mapped
     mapped_here : (e : Entry) → entry_at now t.source ≡ Some e → (w : List ℕ) → AreWordsOf now w → (next : Shards) → IsWith now (worked w (piece.Link (store_of first rights t ∷ []) ∷ [])) next
-        → AreAhead first limits h rights ts (i + 1) next ahead (add_counts counts (counts_of (fate_in t) true))
+        → AreAhead first limits h rights ts (i + 1) next ahead
     mapped_here e is w are next with =
-        one_page first trees rights ts i within now ahead counts planned ready so_far next (counts_of (fate_in t) true) (λ none. absurd (cc (none, is)))
-        (λ k k_is. subst (λ x. IsPageMapped now next rights t x (counts_of (fate_in t) true)) (same_Some e k (sym is ∙ k_is))
-        (page_stored now w are rights t (source_place first trees rights ts i within now ahead counts planned ready so_far) (record { place = target_place first trees rights ts i within now ahead counts planned ready so_far; word = word_kept first now layout t.target (targets i no_transfer within) }) e is next
+        one_page first trees rights ts i within now ahead planned ready so_far next (λ none. absurd (cc (none, is)))
+        (λ k k_is. subst (λ x. IsPageMapped now next rights t x) (same_Some e k (sym is ∙ k_is))
+        (page_stored now w are rights t (source_place first trees rights ts i within now ahead planned ready so_far) (record { place = target_place first trees rights ts i within now ahead planned ready so_far; word = word_kept first now layout t.target (targets i no_transfer within) }) e is next
         (subst (λ x. IsWith now (worked w (piece.Link (x ∷ []) ∷ [])) next) (sym (same_store first now layout.index rights t)) with) free_here (wider_here e is)))
 
   -- the page at a position
@@ -228,21 +226,21 @@ module _ (first : Shards) (trees : List Shape) (sound : AreSound first trees) (r
       ∙ ap (λ i. entry_of (slice_index w i)) (with.layout.index p) ∙ are.entries p place
 
   -- the pages from one on
-  rest_mapped : (n i : ℕ) → i + n ≡ length ts → (now : Shards) (counts : Counts) → AreAhead first limits h rights ts i now ahead counts → IsLaidOutAs first now → (w : List ℕ) → AreWordsOf now w
+  rest_mapped : (n i : ℕ) → i + n ≡ length ts → (now : Shards) → AreAhead first limits h rights ts i now ahead → IsLaidOutAs first now → (w : List ℕ) → AreWordsOf now w
       → CanBeWorked w (piece.Link (stores_of first rights (drop i ts)) ∷ []) → (new : Shards) → IsWith now (worked w (piece.Link (stores_of first rights (drop i ts)) ∷ [])) new → AreAllMapped new
-  rest_mapped zero i whole now counts so_far layout w are can new with =
+  rest_mapped zero i whole now so_far layout w are can new with =
       let past : length ts ≤ i = omega (arith, whole) in
       let none = drop_all i ts past in
       let with_none = subst (λ us. IsWith now (worked w (piece.Link (stores_of first rights us) ∷ [])) new) none with in
       let same = no_more now w are new with_none in
-      let s = all_sound first limits h rights ts i now ahead counts past so_far in
+      let s = all_sound first limits h rights ts i now ahead past so_far in
       let limits_same : limits_in new ahead ≡ limits_in now ahead = λ j. record { spaces = with.layout.spaces j; bits = with.layout.bits j; frames = length ahead } in
       record {
-        left = ap (λ l. holdings_of l new ahead) limits_same ∙ same_holdings (limits_in now ahead) now new ahead s.kept.fits with.present with.layout same ∙ all_left first limits h rights ts i now ahead counts past so_far;
+        left = ap (λ l. holdings_of l new ahead) limits_same ∙ same_holdings (limits_in now ahead) now new ahead s.kept.fits with.present with.layout same ∙ all_left first limits h rights ts i now ahead past so_far;
         is_sound = subst (λ l. IsSound l new ahead) (sym limits_same) (same_sound (limits_in now ahead) now new ahead s.kept.fits with.present with.layout same s);
-        same_limits = limits_same ∙ all_limits first limits h rights ts i now ahead counts past so_far;
+        same_limits = limits_same ∙ all_limits first limits h rights ts i now ahead past so_far;
       }
-  rest_mapped (suc n) i whole now counts so_far layout w are can new with = by (has_entry first (get_or ts i no_transfer).source) refl (rest_mapped n)
+  rest_mapped (suc n) i whole now so_far layout w are can new with = by (has_entry first (get_or ts i no_transfer).source) refl (rest_mapped n)
     where
       within : i < length ts
       within = omega (arith, whole)
@@ -251,15 +249,15 @@ module _ (first : Shards) (trees : List Shape) (sound : AreSound first trees) (r
       stores_are b is = ap (stores_of first rights) (drop_more ts i no_transfer within) ∙ stores_more first rights (page_at i) (drop (i + 1) ts) b is
 
       by : (b : Bool) → has_entry first (page_at i).source ≡ b
-          → ((i : ℕ) → i + n ≡ length ts → (now : Shards) (counts : Counts) → AreAhead first limits h rights ts i now ahead counts → IsLaidOutAs first now → (w : List ℕ) → AreWordsOf now w
+          → ((i : ℕ) → i + n ≡ length ts → (now : Shards) → AreAhead first limits h rights ts i now ahead → IsLaidOutAs first now → (w : List ℕ) → AreWordsOf now w
           → CanBeWorked w (piece.Link (stores_of first rights (drop i ts)) ∷ []) → (new : Shards) → IsWith now (worked w (piece.Link (stores_of first rights (drop i ts)) ∷ [])) new → AreAllMapped new)
           → AreAllMapped new
       by false gone go =
-          let none = nothing_there (entry_at now (page_at i).source) (ap is_some (sym (stood i within now counts so_far layout)) ∙ gone) in
-          go (i + 1) (omega (arith, whole)) now (add_counts counts (counts_of goes false)) (lost_here i within now counts so_far layout none) layout w are
+          let none = nothing_there (entry_at now (page_at i).source) (ap is_some (sym (stood i within now so_far layout)) ∙ gone) in
+          go (i + 1) (omega (arith, whole)) now (lost_here i within now so_far layout none) layout w are
           (subst (λ xs. CanBeWorked w (piece.Link xs ∷ [])) (stores_are false gone) can) new (subst (λ xs. IsWith now (worked w (piece.Link xs ∷ [])) new) (stores_are false gone) with)
       by true held go =
-          let e = something_there (entry_at now (page_at i).source) (ap is_some (sym (stood i within now counts so_far layout)) ∙ held) in
+          let e = something_there (entry_at now (page_at i).source) (ap is_some (sym (stood i within now so_far layout)) ∙ held) in
           let x = store_of first rights (page_at i) in
           let us = drop (i + 1) ts in
           let xs = stores_of first rights us in
@@ -276,7 +274,7 @@ module _ (first : Shards) (trees : List Shape) (sound : AreSound first trees) (r
           (λ k d less. let u_in = All-drop (IsTransferWithin limits) (i + 1) ts planned.within k d less in record { space = u_in.source_space; page = u_in.source_page }) in
           let can_rest = others_can w ps qs each can_both spared in
           let middle = with_words now so_far.are.sound.kept.fits.present (worked w ps) (ap length (worked_all w ps) ∙ length_words 0 w (flat_map (effects w) ps) ∙ are.count) can_rest.packs in
-          go (i + 1) (omega (arith, whole)) middle.0 (add_counts counts (counts_of (fate_in (page_at i)) true)) (mapped_here i within now counts so_far layout e.0 e.1 w are middle.0 middle.1) (same_layouts first now middle.0 layout middle.1.layout)
+          go (i + 1) (omega (arith, whole)) middle.0 (mapped_here i within now so_far layout e.0 e.1 w are middle.0 middle.1) (same_layouts first now middle.0 layout middle.1.layout)
           (worked w ps) middle.1.words can_rest new
           (record {
             words = subst (AreWordsOf new) (ap (λ ys. worked w (piece.Link ys ∷ [])) (stores_are true held) ∙ worked_in_turn w x xs ∙ one_after_another w ps qs each can_both spared) with.words;
@@ -288,4 +286,4 @@ module _ (first : Shards) (trees : List Shape) (sound : AreSound first trees) (r
   pub all_linked : (w : List ℕ) → AreWordsOf first w → AreLinked (links_of first ts) trees ahead → CanBeWorked w (piece.Link (stores_of first rights ts) ∷ []) → (new : Shards) → IsWith first (worked w (piece.Link (stores_of first rights ts) ∷ [])) new
       → AreAllMapped new
   all_linked w are linked can new with =
-      rest_mapped (length ts) 0 (zero-add (length ts)) first no_counts (none_ahead first trees sound rights ts planned ready ahead linked) (record { spaces = refl; bits = refl; count = refl; index = λ p. refl }) w are can new with
+      rest_mapped (length ts) 0 (zero-add (length ts)) first (none_ahead first trees sound rights ts planned ready ahead linked) (record { spaces = refl; bits = refl; count = refl; index = λ p. refl }) w are can new with

@@ -24,7 +24,7 @@ use Rattle.maptree.specs.Origins.{Shape}
 use Rattle.model.specs.Definitions.Calls.{Limits}
 use Rattle.model.specs.Definitions.Holdings.{Holdings, at}
 use Rattle.model.specs.Definitions.Grant.{renamed, moved_to}
-use Rattle.model.specs.Definitions.Items.{Counts, no_counts, add_counts, counts_of, goes, sources_of}
+use Rattle.model.specs.Definitions.Items.{sources_of}
 use Rattle.model.specs.Laws.SendLaws.{In}
 use Rattle.pieces.specs.Contents.{ends_of}
 use Rattle.pieces.specs.Distinct.{is_none_of, are_distinct}
@@ -81,7 +81,7 @@ module _ (s : Shards) (w : List ℕ) (are : AreWordsOf s w) (t : Transfer) (sour
   moved_fits : FrameFits (Some (without_status e))
   moved_fits = λ k same. let fits : e.frame < 2 ^ 24 = entries_fit s t.source e is in subst (λ f. f < 2 ^ 24) (cc same) fits
 
-  pub page_of_pair : IsPageMoved s n t.source t.target e (counts_of goes true)
+  pub page_of_pair : IsPageMoved s n t.source t.target e
   page_of_pair = record {
     gone = entry_after t.source source source_word
         ∙ ap (λ b. entry_of (unwrap_or (if b then Some 0 else if index_of s t.target == index_of s t.source then Some put_word else None) (bit_or (slice_index w (index_of s t.source)) 0))) (eq-eqb (index_of s t.source) (index_of s t.source) refl);
@@ -96,7 +96,6 @@ module _ (s : Shards) (w : List ℕ) (are : AreWordsOf s w) (t : Transfer) (sour
         ∙ ap entry_of (or_zero_r (slice_index w (index_of s q))) ∙ are.entries q place);
     present = with.present;
     layout = with.layout;
-    counted = refl;
   }
 
 -- ---- all pairs
@@ -144,20 +143,20 @@ module _ (first : Shards) (trees : List Shape) (sound : AreSound first trees) (t
   abbrev page_at : ℕ → Transfer
   page_at i = get_or ts i no_transfer
 
-  module _ (i : ℕ) (within : i < length ts) (now : Shards) (counts : Counts) (so_far : AreMoving limits h first ts i now counts) where
+  module _ (i : ℕ) (within : i < length ts) (now : Shards) (so_far : AreMoving limits h first ts i now) where
     -- its source holds something now where it did at the start
     still_gone : has_entry first (page_at i).source ≡ false → entry_at now (page_at i).source ≡ None
     still_gone gone = by (entry_at now (page_at i).source) refl
       where
         by : (o : Option Entry) → entry_at now (page_at i).source ≡ o → entry_at now (page_at i).source ≡ None
         by None is = is
-        by (Some e) is = absurd (cc (gone, ap is_some (source_stood limits first trees sound ts planned all_go free i no_transfer within now counts so_far e is)))
+        by (Some e) is = absurd (cc (gone, ap is_some (source_stood limits first trees sound ts planned all_go free i no_transfer within now so_far e is)))
 
     still_there : has_entry first (page_at i).source ≡ true → (e : Entry) × (entry_at now (page_at i).source ≡ Some e)
     still_there held = by (entry_at now (page_at i).source) refl
       where
         by : (o : Option Entry) → entry_at now (page_at i).source ≡ o → (e : Entry) × (entry_at now (page_at i).source ≡ Some e)
-        by None is = absurd (cc (held, ap is_some (source_lost limits first trees sound ts planned all_go free i no_transfer within now counts so_far is)))
+        by None is = absurd (cc (held, ap is_some (source_lost limits first trees sound ts planned all_go free i no_transfer within now so_far is)))
         by (Some e) is = (e, is)
 
   -- no page more: the words are as they were
@@ -187,14 +186,14 @@ module _ (first : Shards) (trees : List Shape) (sound : AreSound first trees) (t
       goes_within p p_in (inr (_, stays)) = subst (IsWithin limits) (sym stays) p_in
 
   -- the pages from one on
-  rest_moved : (n i : ℕ) → i + n ≡ length ts → (now : Shards) (counts : Counts) → AreMoving limits h first ts i now counts → IsLaidOutAs first now → (w : List ℕ) → AreWordsOf now w
+  rest_moved : (n i : ℕ) → i + n ≡ length ts → (now : Shards) → AreMoving limits h first ts i now → IsLaidOutAs first now → (w : List ℕ) → AreWordsOf now w
       → CanBeWorked w (piece.Move (word_pairs first (drop i ts)) ∷ []) → (new : Shards) → IsWith now (worked w (piece.Move (word_pairs first (drop i ts)) ∷ [])) new → AreWordsMoved limits (moving_of h ts) first new
-  rest_moved zero i whole now counts so_far layout w are can new with =
+  rest_moved zero i whole now so_far layout w are can new with =
       let past : length ts ≤ i = omega (arith, whole) in
       let none = drop_all i ts past in
       let with_none = subst (λ us. IsWith now (worked w (piece.Move (word_pairs first us) ∷ [])) new) none with in
-      moved_still now new (all_moved limits h first ts i now counts past so_far).0 with.present with.layout (no_more now w are new with_none)
-  rest_moved (suc n) i whole now counts so_far layout w are can new with = by (has_entry first (get_or ts i no_transfer).source) refl (rest_moved n)
+      moved_still now new (all_moved limits h first ts i now past so_far).0 with.present with.layout (no_more now w are new with_none)
+  rest_moved (suc n) i whole now so_far layout w are can new with = by (has_entry first (get_or ts i no_transfer).source) refl (rest_moved n)
     where
       within : i < length ts
       within = omega (arith, whole)
@@ -203,16 +202,16 @@ module _ (first : Shards) (trees : List Shape) (sound : AreSound first trees) (t
       pairs_are b is = ap (word_pairs first) (drop_more ts i no_transfer within) ∙ pairs_more first (page_at i) (drop (i + 1) ts) b is
 
       by : (b : Bool) → has_entry first (page_at i).source ≡ b
-          → ((i : ℕ) → i + n ≡ length ts → (now : Shards) (counts : Counts) → AreMoving limits h first ts i now counts → IsLaidOutAs first now → (w : List ℕ) → AreWordsOf now w
+          → ((i : ℕ) → i + n ≡ length ts → (now : Shards) → AreMoving limits h first ts i now → IsLaidOutAs first now → (w : List ℕ) → AreWordsOf now w
           → CanBeWorked w (piece.Move (word_pairs first (drop i ts)) ∷ []) → (new : Shards) → IsWith now (worked w (piece.Move (word_pairs first (drop i ts)) ∷ [])) new → AreWordsMoved limits (moving_of h ts) first new)
           → AreWordsMoved limits (moving_of h ts) first new
       by false gone go =
-          let none = still_gone i within now counts so_far gone in
-          go (i + 1) (omega (arith, whole)) now (add_counts counts (counts_of goes false))
-          (step limits first trees sound ts planned all_go free i no_transfer within now counts so_far now (counts_of goes false) (λ _. record { same = refl; counted = refl }) (λ e is. absurd (cc (none, is))) (add_counts counts (counts_of goes false)) refl)
+          let none = still_gone i within now so_far gone in
+          go (i + 1) (omega (arith, whole)) now
+          (step limits first trees sound ts planned all_go free i no_transfer within now so_far now (λ _. refl) (λ e is. absurd (cc (none, is))))
           layout w are (subst (λ xs. CanBeWorked w (piece.Move xs ∷ [])) (pairs_are false gone) can) new (subst (λ xs. IsWith now (worked w (piece.Move xs ∷ [])) new) (pairs_are false gone) with)
       by true held go =
-          let e = still_there i within now counts so_far held in
+          let e = still_there i within now so_far held in
           let x = word_pair first (page_at i) in
           let xs = word_pairs first (drop (i + 1) ts) in
           let ps = piece.Move (x ∷ []) ∷ [] in
@@ -223,12 +222,12 @@ module _ (first : Shards) (trees : List Shape) (sound : AreSound first trees) (t
           let spared = all_held_apart (flat_map changes ps) qs refl (changes_apart w ps qs can_both) (folds_of_others_apart w ps qs can_both) in
           let can_rest = others_can w ps qs each can_both spared in
           let middle = with_words now so_far.words.present (worked w ps) (ap length (worked_all w ps) ∙ length_words 0 w (flat_map (effects w) ps) ∙ are.count) can_rest.packs in
-          let moved = page_of_pair now w are (page_at i) (source_place limits first trees sound ts planned all_go free i no_transfer within now counts so_far) (record { place = target_place limits first trees sound ts planned all_go free i no_transfer within now counts so_far; word = word_kept first now layout (page_at i).target (targets i no_transfer within) })
-          (ends_apart limits first trees sound ts planned all_go free i no_transfer within now counts so_far) e.0 e.1 middle.0
+          let moved = page_of_pair now w are (page_at i) (source_place limits first trees sound ts planned all_go free i no_transfer within now so_far) (record { place = target_place limits first trees sound ts planned all_go free i no_transfer within now so_far; word = word_kept first now layout (page_at i).target (targets i no_transfer within) })
+          (ends_apart limits first trees sound ts planned all_go free i no_transfer within now so_far) e.0 e.1 middle.0
           (subst (λ y. IsWith now (worked w (piece.Move (y ∷ []) ∷ [])) middle.0) (sym (same_pair first now layout.index (page_at i))) middle.1) in
-          go (i + 1) (omega (arith, whole)) middle.0 (add_counts counts (counts_of goes true))
-          (step limits first trees sound ts planned all_go free i no_transfer within now counts so_far middle.0 (counts_of goes true) (λ none. absurd (cc (none, e.1)))
-          (λ k k_is. subst (λ y. IsPageMoved now middle.0 (page_at i).source (page_at i).target y (counts_of goes true)) (same_Some e.0 k (sym e.1 ∙ k_is)) moved) (add_counts counts (counts_of goes true)) refl)
+          go (i + 1) (omega (arith, whole)) middle.0
+          (step limits first trees sound ts planned all_go free i no_transfer within now so_far middle.0 (λ none. absurd (cc (none, e.1)))
+          (λ k k_is. subst (λ y. IsPageMoved now middle.0 (page_at i).source (page_at i).target y) (same_Some e.0 k (sym e.1 ∙ k_is)) moved))
           (same_layouts first now middle.0 layout middle.1.layout) (worked w ps) middle.1.words can_rest new
           (record {
             words = subst (AreWordsOf new) (ap (λ ys. worked w (piece.Move ys ∷ [])) (pairs_are true held) ∙ worked_in_turn w x xs ∙ one_after_another w ps qs each can_both spared) with.words;
@@ -245,7 +244,7 @@ module _ (first : Shards) (trees : List Shape) (sound : AreSound first trees) (t
   pub pairs_moved : (w : List ℕ) → AreWordsOf first w → CanBeWorked w (piece.Move (word_pairs first ts) ∷ []) → (new : Shards) → IsWith first (worked w (piece.Move (word_pairs first ts) ∷ [])) new
       → (after : List Shape) → AreRenamed (λ p. last_target (links_of first ts) p None) (links_of first ts) trees after → AreAllMoved new after
   pairs_moved w are can new with after trees_moved =
-      let words = rest_moved (length ts) 0 (zero-add (length ts)) first no_counts (none_moved limits first trees sound ts planned all_go free) (record { spaces = refl; bits = refl; count = refl; index = λ p. refl }) w are can new with in
+      let words = rest_moved (length ts) 0 (zero-add (length ts)) first (none_moved limits first trees sound ts planned all_go free) (record { spaces = refl; bits = refl; count = refl; index = λ p. refl }) w are can new with in
       record {
         left = all_left first trees sound ts planned all_go free new after (links_of first ts) refl trees_moved words;
         is_sound = all_sound first trees sound ts planned all_go free new after (links_of first ts) refl trees_moved words;

@@ -1,9 +1,9 @@
 -- The words of pages that move, one after another.
-use Rattle.std.proofs.Common.{◌≡◌, ℕ, zero, suc, ◌+◌, ◌^◌, ◌<◌, ◌≤◌, true, false, Bool, ◌||◌, List, [], ◌∷◌, ◌++◌, length, take, drop, get_or, Option, Some, None, unwrap_or, refl, sym, ap, ◌∙◌, subst, arith, ◌⊎◌, inl, inr, if◌then◌else◌}
+use Rattle.std.proofs.Common.{◌≡◌, ℕ, zero, suc, ◌+◌, ◌<◌, ◌≤◌, true, false, Bool, ◌||◌, List, [], ◌∷◌, ◌++◌, length, take, get_or, Option, Some, None, unwrap_or, refl, sym, ap, ◌∙◌, subst, arith, ◌⊎◌, inl, inr, if◌then◌else◌}
 use Rattle.std.specs.List.{All}
 use Rattle.std.specs.Option.{is_some}
 use Rattle.std.proofs.lemmas.Bool.{false_from_ne_true}
-use Rattle.std.proofs.lemmas.List.{take_more, take_all, drop_more, drop_all}
+use Rattle.std.proofs.lemmas.List.{take_more, take_all}
 use Rattle.std.proofs.lemmas.List.Folds.{list_any-append}
 use Rattle.std.proofs.lemmas.List.Elements.{All-nil, All-cons, All-head, All-tail, All-get_or, All-take}
 use Rattle.std.proofs.lemmas.Option.{same_Some}
@@ -18,9 +18,9 @@ use Rattle.space.proofs.Places.{same_self, same_or_apart, apart_back}
 use Rattle.maptree.specs.Origins.{Shape}
 use Rattle.model.specs.Definitions.Holdings.{Holdings, at, is_held}
 use Rattle.model.specs.Definitions.Calls.{Limits}
-use Rattle.model.specs.Definitions.Items.{Pair, Counts, no_counts, add_counts, counts_of, extends, goes, sources_of}
+use Rattle.model.specs.Definitions.Items.{Pair, sources_of}
 use Rattle.model.specs.Definitions.Grant.{target_of, moved_to}
-use Rattle.model.specs.Laws.SendLaws.{In, total}
+use Rattle.model.specs.Laws.SendLaws.{In}
 use Rattle.model.proofs.Jobs as job
 use Rattle.model.proofs.Puts.{apart_places}
 use Rattle.model.proofs.Renames.{moved_cases}
@@ -29,13 +29,11 @@ use Rattle.holdings.specs.declared.transfer.Transfer.{Transfer}
 use Rattle.holdings.specs.Places.{IsWithin}
 use Rattle.holdings.specs.Inner.Held.{holdings_of, layout_in}
 use Rattle.holdings.specs.Inner.Sound.{IsSound}
-use Rattle.holdings.specs.Sending.{IsTransferWithin, IsApartFrom, ArePaired, ArePlanned, AllGo, pair_of, count_after_flush, counts_after_flush, moving_of}
-use Rattle.holdings.specs.Inner.Links.{IsPageLost}
+use Rattle.holdings.specs.Sending.{IsTransferWithin, IsApartFrom, ArePaired, ArePlanned, AllGo, pair_of, moving_of}
 use Rattle.holdings.specs.Inner.Renamings.{IsPageMoved}
 use Rattle.holdings.proofs.Contents.Holders.{place_within, entry_elsewhere, present_within, absent_within}
 use Rattle.holdings.proofs.Contents.Layouts.{same_layout}
 use Rattle.holdings.proofs.Contents.WordChanges.{IsWordSet, place_kept}
-use Rattle.holdings.proofs.CountSums.{add_assoc, add_none, none_add, total_sum}
 use Rattle.holdings.proofs.Renamings.MovedPages.{entry_moved, CameFrom, AreWordsMoved}
 
 -- ---- the pairs that move
@@ -112,9 +110,9 @@ spaces_at from to (suc i) (t ∷ ts) d paired within = spaces_at from to i ts d 
 -- ---- one word
 
 -- the word of the source is put at the target, and then taken
-pub page_moved : (old middle new : Shards) (source target : Place) (e : Entry) (one : Counts) → IsPlace old source → IsPlace old target → same_place source target ≡ false
-    → IsWordSet old middle target (Some (record { frame = e.frame; rights = e.rights; status = no_rights })) → IsWordSet middle new source None → one ≡ counts_of goes true → IsPageMoved old new source target e one
-page_moved old middle new source target e one source_in target_in apart put taken counted = record {
+pub page_moved : (old middle new : Shards) (source target : Place) (e : Entry) → IsPlace old source → IsPlace old target → same_place source target ≡ false
+    → IsWordSet old middle target (Some (record { frame = e.frame; rights = e.rights; status = no_rights })) → IsWordSet middle new source None → IsPageMoved old new source target e
+page_moved old middle new source target e source_in target_in apart put taken = record {
   gone = taken.set.there;
   there = entry_elsewhere middle new [] source None taken.set target (place_kept old middle put.layout target target_in) (apart_back source target apart) ∙ put.set.there;
   elsewhere = λ p place not_source not_target.
@@ -127,16 +125,13 @@ page_moved old middle new source target e one source_in target_in apart put take
     count = taken.layout.count ∙ put.layout.count;
     index = λ p. taken.layout.index p ∙ put.layout.index p;
   };
-  counted = counted;
 }
 
 -- ---- the pages so far
 
--- the first transfers are done: their words moved, and with those to come they count as all
-pub record AreMoving (limits : Limits) (h : Holdings) (old : Shards) (ts : List Transfer) (i : ℕ) (now : Shards) (counts : Counts) : Type 0 where
+-- the first transfers are done: their words moved
+pub record AreMoving (limits : Limits) (h : Holdings) (old : Shards) (ts : List Transfer) (i : ℕ) (now : Shards) : Type 0 where
   pub words : AreWordsMoved limits (moving_of h (take i ts)) old now
-  pub reckoned : add_counts counts (counts_after_flush h (drop i ts)) ≡ counts_after_flush h ts
-  pub few : total counts ≤ i
   pub layout : layout_in now ≡ layout_in old
 
 module _ (limits : Limits) (old : Shards) (trees : List Shape) (sound : IsSound limits old trees) (ts : List Transfer) (planned : ArePlanned limits ts) (all_go : AllGo ts)
@@ -144,7 +139,7 @@ module _ (limits : Limits) (old : Shards) (trees : List Shape) (sound : IsSound 
   abbrev h : Holdings
   h = holdings_of limits old trees
 
-  pub none_moved : AreMoving limits h old ts 0 old no_counts
+  pub none_moved : AreMoving limits h old ts 0 old
   none_moved = record {
     words = record {
       present = sound.kept.fits.present;
@@ -154,12 +149,10 @@ module _ (limits : Limits) (old : Shards) (trees : List Shape) (sound : IsSound 
       forth = λ p e within stood. stood;
       back = λ q x within stood. record { place = q; entry = x; within = within; stood = stood; to = refl };
     };
-    reckoned = none_add (counts_after_flush h ts);
-    few = omega arith;
     layout = refl;
   }
 
-  module _ (i : ℕ) (d : Transfer) (within : i < length ts) (now : Shards) (counts : Counts) (so_far : AreMoving limits h old ts i now counts) where
+  module _ (i : ℕ) (d : Transfer) (within : i < length ts) (now : Shards) (so_far : AreMoving limits h old ts i now) where
     abbrev t : Transfer
     t = get_or ts i d
 
@@ -245,40 +238,19 @@ module _ (limits : Limits) (old : Shards) (trees : List Shape) (sound : IsSound 
         stood ∙ sym (words.forth t.source c.entry source_within stood ∙ ap (λ b. Some (record { frame = c.entry.frame; rights = c.entry.rights; status = if b then no_rights else c.entry.status })) source_new)
         ∙ ap (entry_at now) source_stays ∙ is
 
-    -- ---- counts
-
-    -- it counts by whether its source is held
-    reckoned_more : (b : Bool) → is_held h t.source ≡ b → (one all : Counts) → all ≡ add_counts counts one → one ≡ counts_of goes b → add_counts all (counts_after_flush h (drop (i + 1) ts)) ≡ counts_after_flush h ts
-    reckoned_more b held one all all_is one_is =
-        let counted : count_after_flush h t ≡ counts_of goes b = (λ j. counts_of (if All-get_or (λ (x : Transfer). x.extends ≡ false) ts i d within all_go j then extends else goes) (held j)) in
-        ap (λ c. add_counts c (counts_after_flush h (drop (i + 1) ts))) all_is ∙ add_assoc counts one (counts_after_flush h (drop (i + 1) ts))
-        ∙ ap (λ c. add_counts counts (add_counts c (counts_after_flush h (drop (i + 1) ts)))) (one_is ∙ sym counted) ∙ ap (λ xs. add_counts counts (counts_after_flush h xs)) (sym (drop_more ts i d within)) ∙ so_far.reckoned
-
-    few_more : (one all : Counts) → all ≡ add_counts counts one → total one ≡ 1 → total all ≤ i + 1
-    few_more one all all_is is = let few = so_far.few in subst (λ c. total c ≤ i + 1) (sym all_is) (subst (λ k. k ≤ i + 1) (sym (total_sum counts one)) (omega (arith, few, is)))
-
-    -- a count more fits
-    pub count_fits : (one : Counts) → total one ≡ 1 → total counts + total one < 2 ^ 64
-    count_fits one is = by (total counts) (total one) (length ts) so_far.few is within planned.few
-      where
-        by : (a b n : ℕ) → a ≤ i → b ≡ 1 → i < n → n ≤ 2 ^ 32 → a + b < 2 ^ 64
-        by a b n few is within most = omega arith
-
     -- ---- one page is lost
 
-    pub step_lost : entry_at now t.source ≡ None → (next : Shards) (one all : Counts) → IsPageLost now next one → all ≡ add_counts counts one → AreMoving limits h old ts (i + 1) next all
-    step_lost absent next one all lost all_is =
+    pub step_lost : entry_at now t.source ≡ None → (next : Shards) → next ≡ now → AreMoving limits h old ts (i + 1) next
+    step_lost absent next same =
         let none : is_held h t.source ≡ false = ap is_some (absent_within limits old trees t.source source_within (source_lost absent)) in
         record {
-          words = subst (λ s. AreWordsMoved limits (moving_of h (take (i + 1) ts)) old s) (sym lost.same) (subst (λ es. AreWordsMoved limits es old now) (sym (ap (moving_of h) (take_more ts i d within) ∙ moving_last h (take i ts) t false none)) words);
-          reckoned = reckoned_more false none one all all_is lost.counted;
-          few = few_more one all all_is (ap total lost.counted);
-          layout = ap layout_in lost.same ∙ so_far.layout;
+          words = subst (λ s. AreWordsMoved limits (moving_of h (take (i + 1) ts)) old s) (sym same) (subst (λ es. AreWordsMoved limits es old now) (sym (ap (moving_of h) (take_more ts i d within) ∙ moving_last h (take i ts) t false none)) words);
+          layout = ap layout_in same ∙ so_far.layout;
         }
 
     -- ---- one page moves
 
-    module _ (e : Entry) (is : entry_at now t.source ≡ Some e) (next : Shards) (one : Counts) (m : IsPageMoved now next t.source t.target e one) where
+    module _ (e : Entry) (is : entry_at now t.source ≡ Some e) (next : Shards) (m : IsPageMoved now next t.source t.target e) where
       abbrev more : List Pair
       more = es ++ pair_of t ∷ []
 
@@ -348,37 +320,23 @@ module _ (limits : Limits) (old : Shards) (trees : List Shape) (sound : IsSound 
       moved_words : AreWordsMoved limits more old next
       moved_words = record { present = m.present; spaces = m.layout.spaces ∙ words.spaces; bits = m.layout.bits ∙ words.bits; count = m.layout.count ∙ words.count; forth = forth; back = back }
 
-      pub step_moved : (all : Counts) → all ≡ add_counts counts one → AreMoving limits h old ts (i + 1) next all
-      step_moved all all_is =
+      pub step_moved : AreMoving limits h old ts (i + 1) next
+      step_moved =
           let held : is_held h t.source ≡ true = ap is_some (present_within limits old trees t.source source_within e stood) in
           record {
             words = subst (λ es. AreWordsMoved limits es old next) (sym (ap (moving_of h) (take_more ts i d within) ∙ moving_last h (take i ts) t true held)) moved_words;
-            reckoned = reckoned_more true held one all all_is m.counted;
-            few = few_more one all all_is (ap total m.counted);
             layout = same_layout now next m.layout ∙ so_far.layout;
           }
 
     -- ---- one page more, lost or moved
 
-    module _ (next : Shards) (one : Counts) (lost : entry_at now t.source ≡ None → IsPageLost now next one) (moved : (e : Entry) → entry_at now t.source ≡ Some e → IsPageMoved now next t.source t.target e one) where
-      pub one_counts : total counts + total one < 2 ^ 64
-      one_counts = count_fits one (by (entry_at now t.source) refl)
-        where
-          by : (o : Option Entry) → entry_at now t.source ≡ o → total one ≡ 1
-          by None is = ap total (lost is).counted
-          by (Some e) is = ap total (moved e is).counted
-
-      pub step : (all : Counts) → all ≡ add_counts counts one → AreMoving limits h old ts (i + 1) next all
-      step all all_is = by (entry_at now t.source) refl
-        where
-          by : (o : Option Entry) → entry_at now t.source ≡ o → AreMoving limits h old ts (i + 1) next all
-          by None is = step_lost is next one all (lost is) all_is
-          by (Some e) is = step_moved e is next one (moved e is) all all_is
+    pub step : (next : Shards) → (entry_at now t.source ≡ None → next ≡ now) → ((e : Entry) → entry_at now t.source ≡ Some e → IsPageMoved now next t.source t.target e) → AreMoving limits h old ts (i + 1) next
+    step next lost moved = by (entry_at now t.source) refl
+      where
+        by : (o : Option Entry) → entry_at now t.source ≡ o → AreMoving limits h old ts (i + 1) next
+        by None is = step_lost is next (lost is)
+        by (Some e) is = step_moved e is next (moved e is)
 
 -- all are done
-pub all_moved : (limits : Limits) (h : Holdings) (old : Shards) (ts : List Transfer) (i : ℕ) (now : Shards) (counts : Counts) → length ts ≤ i → AreMoving limits h old ts i now counts → AreWordsMoved limits (moving_of h ts) old now × (counts ≡ counts_after_flush h ts) × (layout_in now ≡ layout_in old)
-all_moved limits h old ts i now counts past so_far = (
-  subst (λ xs. AreWordsMoved limits (moving_of h xs) old now) (take_all i ts past) so_far.words,
-  sym (add_none counts) ∙ ap (λ xs. add_counts counts (counts_after_flush h xs)) (sym (drop_all i ts past)) ∙ so_far.reckoned,
-  so_far.layout,
-)
+pub all_moved : (limits : Limits) (h : Holdings) (old : Shards) (ts : List Transfer) (i : ℕ) (now : Shards) → length ts ≤ i → AreMoving limits h old ts i now → AreWordsMoved limits (moving_of h ts) old now × (layout_in now ≡ layout_in old)
+all_moved limits h old ts i now past so_far = (subst (λ xs. AreWordsMoved limits (moving_of h xs) old now) (take_all i ts past) so_far.words, so_far.layout)

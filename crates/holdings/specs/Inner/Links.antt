@@ -10,10 +10,8 @@ use Rattle.space.specs.declared.place.Place.{Place}
 use Rattle.space.specs.declared.shards.Shards.{Shards}
 use Rattle.space.specs.Entries as word
 use Rattle.maptree.specs.Origins.{Origins, Shape, origin_in}
-use Rattle.model.specs.Definitions.Items.{counts_of, Counts, goes}
 use Rattle.holdings.specs.Inner.Derivation.{IsDerived}
 use Rattle.holdings.specs.Inner.Held.{links_in, is_listed}
-use Rattle.holdings.specs.Sending.{fate_in}
 use Rattle.holdings.specs.declared.link.Link.{Link}
 use Rattle.holdings.specs.declared.transfer.Transfer.{Transfer}
 
@@ -53,17 +51,11 @@ pub record AreLinkable (trees : List Shape) (ls : List Link) : Type 0 where
 abbrev pub word_after : Rights → Transfer → Entry → Option Entry → Option Entry
 word_after rights t e old = if t.extends then option_map (word.extended (meet e.rights rights)) old else Some (record { frame = e.frame; rights = meet e.rights rights; status = no_rights })
 
--- the words after one page whose source holds nothing, and how it counts
-pub record IsPageLost (old new : Shards) (counts : Counts) : Type 0 where
-  pub same : new ≡ old
-  pub counted : counts ≡ counts_of goes false
-
--- the words after another page of a MapItem, and how it counts
-pub record IsPageMapped (old new : Shards) (rights : Rights) (t : Transfer) (e : Entry) (counts : Counts) : Type 0 where
+-- the words after one page of a MapItem, whose source holds this
+pub record IsPageMapped (old new : Shards) (rights : Rights) (t : Transfer) (e : Entry) : Type 0 where
   pub set : IsSetAt old new t.target (word_after rights t e (entry_at old t.target))
   pub present : IsFalse (is_taken new)
   pub layout : IsLaidOutAs old new
-  pub counted : counts ≡ counts_of (fate_in t) true
 
 -- the tree of this frame became another, and no other did
 pub record IsTreeSet (old new : List Shape) (frame : ℕ) (links : Origins) : Type 0 where

@@ -9,7 +9,6 @@ use Rattle.space.specs.declared.place.Place.{Place}
 use Rattle.space.specs.declared.shards.Shards.{Shards}
 use Rattle.maptree.specs.Origins.{Shape}
 use Rattle.maptree.specs.Renamings.{all_renamed, StayApart}
-use Rattle.model.specs.Definitions.Items.{counts_of, Counts, goes}
 use Rattle.holdings.specs.Inner.Held.{links_in, is_listed}
 use Rattle.holdings.specs.Inner.Links.{last_target}
 use Rattle.holdings.specs.declared.link.Link.{Link}
@@ -33,11 +32,10 @@ pub record AreRenamed (new : Place → Option Place) (ls : List Link) (old now :
   pub there : (f : ℕ) → is_of_frame ls f ≡ true → links_in now f ≡ all_renamed new (links_in old f)
   pub elsewhere : (f : ℕ) → is_of_frame ls f ≡ false → links_in now f ≡ links_in old f
 
--- the words after a page moved that held this, and how it counts
-pub record IsPageMoved (old new : Shards) (source target : Place) (e : Entry) (counts : Counts) : Type 0 where
+-- the words after a page moved that held this
+pub record IsPageMoved (old new : Shards) (source target : Place) (e : Entry) : Type 0 where
   pub gone : entry_at new source ≡ None
   pub there : entry_at new target ≡ Some (record e { status = no_rights })
   pub elsewhere : (p : Place) → IsPlace old p → same_place p source ≡ false → same_place p target ≡ false → entry_at new p ≡ entry_at old p
   pub present : IsFalse (is_taken new)
   pub layout : IsLaidOutAs old new
-  pub counted : counts ≡ counts_of goes true

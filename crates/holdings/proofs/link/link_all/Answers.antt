@@ -17,7 +17,7 @@ use Rattle.holdings.specs.Inner.Planning.{counts_in}
 use Rattle.holdings.specs.Meaning.{counts_of}
 use Rattle.holdings.specs.Inner.Links.{AreLinkable, AreLinked, link_of, links_of}
 use Rattle.holdings.proofs.Contents.Holders.{links_read}
-use Rattle.holdings.proofs.Links.LinkedTrees.{none_linked, next_frame, next_source, next_target, next_linked}
+use Rattle.holdings.proofs.Links.LinkedTrees.{next_frame, next_source, next_target, next_linked}
 use Rattle.holdings.proofs.Links.NewMappings.{tree_set}
 use Rattle.holdings.proofs.CountSums.{add_assoc, total_sum}
 use Rattle.holdings.proofs.link.link_all.Goals.{in-Some+in_ok-derive, in_default}
