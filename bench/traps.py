@@ -22,7 +22,7 @@ from typing import Callable, NamedTuple
 
 HERE = os.path.dirname(os.path.abspath(__file__))
 sys.path.insert(0, HERE)
-from bench import ALL_PAGES, PAGES, TOP, flush, send, unmap  # noqa: E402
+from bench import ALL_PAGES, PAGES, TOP, flush, send, send_fpage, unmap  # noqa: E402
 from performance import ONE_FRAME, ONE_WORKER, Bench, head, least, one_frame, peak, progress, row  # noqa: E402
 from workers import ran  # noqa: E402
 
@@ -148,6 +148,11 @@ def granted(spaces):
     return list(one_frame(spaces)), 200 * [record(1, LAST), record(LAST, 1)]
 
 
+def mapped_whole(spaces):
+    """A space with a frame at all its pages passes them on to so many spaces, each time in one item."""
+    return list(one_frame(1)), [send_fpage(1, space, ALL_PAGES) for space in range(2, 2 + spaces)]
+
+
 def partly_pruned(spaces):
     """A page with 600 mappings and more below it loses a right: one mapping goes, the others stay. The frame is at all
     pages of so many spaces."""
@@ -217,6 +222,7 @@ TRAPS = [
     Trap("two of three siblings go", thinned, BLOCKED),
     Trap("two of three spaces give all up", thinned_at_once, BLOCKED, 1, True),
     Trap("crowded places", crowded, [40_000, 80_000, 160_000, 320_000]),
+    Trap("pages of one frame mapped at once", mapped_whole, WIDE, PAGES, True),
     Trap("pages of one frame granted at once", granted, WIDE, PAGES, True),
     Trap("partial prune of 600", partly_pruned, WIDE, PAGES, True),
     Trap("chain that is cut and grows", chain_grows, [25_000, 50_000, 100_000, 200_000]),
