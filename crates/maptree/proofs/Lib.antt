@@ -1,6 +1,7 @@
 pub mod Nearest
 pub mod Parts
 pub mod BlockChanges
+pub mod Shifting
 pub mod Starts
 pub mod MinDepths
 pub mod Standing

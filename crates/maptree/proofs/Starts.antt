@@ -1,13 +1,14 @@
 -- For each block, how many nodes stand before it.
-use Rattle.std.proofs.Common.{◌≡◌, ℕ, ◌+◌, ◌<◌, ◌≤◌, List, [], length, take, get_or, set, map, Option, sym, ap, ◌∙◌, subst, arith, ◌⊎◌, inl, inr}
-use Rattle.std.proofs.lemmas.List.{get_or-take, length-set, length-take-le, take-set-le, take-map, length-map, take_all}
+use Rattle.std.proofs.Common.{◌≡◌, ℕ, zero, suc, ◌+◌, ◌-◌, ◌<◌, ◌≤◌, List, [], ◌∷◌, ◌++◌, length, take, drop, refl, get_or, set, map, Option, sym, ap, ◌∙◌, subst, arith, ◌⊎◌, inl, inr}
+use Rattle.std.specs.Prelude.{insert}
+use Rattle.std.proofs.lemmas.List.{length-append, take-append-drop, get_or-take, length-set, length-take-le, take-set-le, take-map, length-map, take_all}
 use Rattle.std.proofs.Math.Seq.{take-set-lt}
 use Rattle.space.specs.declared.node.Node.{Node}
 use Rattle.space.specs.declared.place.Place.{Place}
 use Rattle.maptree.specs.Renamings.{nodes_renamed}
-use Rattle.maptree.specs.Blocks.{nodes_in, AreStarts, Grouped, number_at}
+use Rattle.maptree.specs.Blocks.{nodes_in, split_block, AreStarts, Grouped, number_at}
 use Rattle.maptree.proofs.InBlocks.{count_cut, count_to}
-use Rattle.maptree.proofs.BlockChanges.{first_of, count_set, renamed_in}
+use Rattle.maptree.proofs.BlockChanges.{first_of, count_set, renamed_in, split_length}
 
 -- before a later block no fewer nodes stand
 pub before_later : (bs : List (List Node)) (j k : ℕ) → j ≤ k → length (nodes_in (take j bs)) ≤ length (nodes_in (take k bs))
@@ -142,3 +143,89 @@ last_seat bs starts k i are within below next most = (upto (first k), by (last (
         let all = ap (λ l. length (nodes_in l)) (take_all (k + 1) bs end) in
         let behind = count_to bs k within in
         omega (arith, start, all, behind, most)
+
+-- ---- a block in two
+
+-- behind another block
+split_more : (b : List Node) (bs : List (List Node)) (at k : ℕ) → split_block at (b ∷ bs) (suc k) ≡ b ∷ split_block at bs k
+split_more b bs at k = let one : suc k + 1 ≡ suc (k + 1) = omega arith in ap (λ i. insert (b ∷ set bs k (take at (get_or bs k []))) i (drop at (get_or bs k []))) one
+
+-- the blocks before it stay
+split_front : (bs : List (List Node)) (at k j : ℕ) → k < length bs → j ≤ k → take j (split_block at bs k) ≡ take j bs
+split_front [] at k j within upto = absurd (omega (arith, within))
+split_front (b ∷ bs) at zero zero within upto = refl
+split_front (b ∷ bs) at zero (suc j) within upto = absurd (omega (arith, upto))
+split_front (b ∷ bs) at (suc k) zero within upto = refl
+split_front (b ∷ bs) at (suc k) (suc j) within upto = ap (take (suc j)) (split_more b bs at k) ∙ ap (λ l. b ∷ l) (split_front bs at k j (omega (arith, within)) (omega (arith, upto)))
+
+-- before its second part there are those of the first too
+split_half : (bs : List (List Node)) (at k : ℕ) → k < length bs → at ≤ length (get_or bs k []) → length (nodes_in (take (k + 1) (split_block at bs k))) ≡ length (nodes_in (take k bs)) + at
+split_half [] at k within less = absurd (omega (arith, within))
+split_half (b ∷ bs) at zero within less = let e = length-append (take at b) [] in let half = length-take-le at b less in omega (arith, e, half)
+split_half (b ∷ bs) at (suc k) within less =
+    let rest = split_half bs at k (omega (arith, within)) less in
+    let new = length-append b (nodes_in (take (k + 1) (split_block at bs k))) in
+    let old = length-append b (nodes_in (take k bs)) in
+    let one : suc k + 1 ≡ suc (k + 1) = omega arith in
+    let read = ap (λ l. length (nodes_in (take (suc k + 1) l))) (split_more b bs at k) ∙ ap (λ n. length (nodes_in (take n (b ∷ split_block at bs k)))) one in
+    omega (arith, rest, new, old, read)
+
+-- before those behind it there are as many
+split_behind : (bs : List (List Node)) (at k j : ℕ) → k < length bs → k < j → length (nodes_in (take (j + 1) (split_block at bs k))) ≡ length (nodes_in (take j bs))
+split_behind [] at k j within more = absurd (omega (arith, within))
+split_behind (b ∷ bs) at zero zero within more = absurd (omega (arith, more))
+split_behind (b ∷ bs) at zero (suc j) within more =
+    let one : suc j + 1 ≡ suc (suc j) = omega arith in
+    let rest = nodes_in (take j bs) in
+    let first = length-append (take at b) (drop at b ++ rest) in
+    let second = length-append (drop at b) rest in
+    let both = ap length (take-append-drop at b) in
+    let halves = length-append (take at b) (drop at b) in
+    let old = length-append b rest in
+    let read = ap (λ n. length (nodes_in (take n (split_block at (b ∷ bs) zero)))) one in
+    omega (arith, read, first, second, both, halves, old)
+split_behind (b ∷ bs) at (suc k) zero within more = absurd (omega (arith, more))
+split_behind (b ∷ bs) at (suc k) (suc j) within more =
+    let rest = split_behind bs at k j (omega (arith, within)) (omega (arith, more)) in
+    let new = length-append b (nodes_in (take (j + 1) (split_block at bs k))) in
+    let old = length-append b (nodes_in (take j bs)) in
+    let one : suc j + 1 ≡ suc (j + 1) = omega arith in
+    let read = ap (λ l. length (nodes_in (take (suc j + 1) l))) (split_more b bs at k) ∙ ap (λ n. length (nodes_in (take n (b ∷ split_block at bs k)))) one in
+    omega (arith, rest, new, old, read)
+
+pub starts_split : (bs : List (List Node)) (k at : ℕ) (starts next : Grouped) → k < length bs → at ≤ length (get_or bs k []) → AreStarts bs starts → length next.inside ≡ length starts.inside + 1
+    → ((j : ℕ) → j < k + 1 → number_at next j ≡ number_at starts j) → number_at next (k + 1) ≡ number_at starts k + at
+    → ((j : ℕ) → k + 1 ≤ j → j < length starts.inside → number_at next (j + 1) ≡ number_at starts j) → AreStarts (split_block at bs k) next
+starts_split bs k at starts next within less are longer upto here behind = record {
+  count = omega (arith, longer, are.count, split_length bs k at within);
+  each = λ j inside. by j (omega (arith, inside, split_length bs k at within)) (order j);
+}
+  where
+    order : (j : ℕ) → (j < k + 1) ⊎ ((j ≡ k + 1) ⊎ (k + 1 < j))
+    order j = grind arith
+
+    by : (j : ℕ) → j < length bs + 1 → (j < k + 1) ⊎ ((j ≡ k + 1) ⊎ (k + 1 < j)) → number_at next j ≡ length (nodes_in (take j (split_block at bs k)))
+    by j inside (inl before) = upto j before ∙ are.each j (omega (arith, before, within)) ∙ ap (λ l. length (nodes_in l)) (sym (split_front bs at k j within (omega (arith, before))))
+    by j inside (inr (inl same)) =
+        ap (number_at next) same ∙ here ∙ ap (λ n. n + at) (are.each k within) ∙ sym (split_half bs at k within less) ∙ ap (λ n. length (nodes_in (take n (split_block at bs k)))) (sym same)
+    by j inside (inr (inr more)) =
+        let one : j - 1 + 1 ≡ j = omega (arith, more) in
+        ap (number_at next) (sym one) ∙ behind (j - 1) (omega (arith, more)) (omega (arith, inside, more, are.count)) ∙ are.each (j - 1) (omega (arith, inside, more))
+        ∙ sym (split_behind bs at k (j - 1) within (omega (arith, more))) ∙ ap (λ n. length (nodes_in (take n (split_block at bs k)))) one
+
+-- none before a block, or the block itself, is above its number and more
+pub split_above : (bs : List (List Node)) (starts : Grouped) (k n : ℕ) → AreStarts bs starts → k < length bs → (j : ℕ) → j < k + 1 → number_at starts j ≤ number_at starts k + n
+split_above bs starts k n are within j upto =
+    let here = are.each k within in
+    let there = are.each j (omega (arith, upto, within)) in
+    let later = before_later bs j k (omega (arith, upto)) in
+    omega (arith, here, there, later)
+
+-- the numbers rise
+pub starts_rise : (bs : List (List Node)) (starts : Grouped) → AreStarts bs starts → (j k : ℕ) → j ≤ k → k < length starts.inside → number_at starts j ≤ number_at starts k
+starts_rise bs starts are j k upto within =
+    let count = are.count in
+    let here = are.each k (omega (arith, count, within)) in
+    let there = are.each j (omega (arith, count, within, upto)) in
+    let later = before_later bs j k upto in
+    omega (arith, here, there, later)

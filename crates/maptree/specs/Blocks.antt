@@ -73,6 +73,21 @@ pub record AreGrouped (s : Grouped) : Type 0 where
   pub first : (g : ℕ) → 64 * g < length s.inside → slice_index s.inside (64 * g) ≡ 0
   pub fits : (k : ℕ) → k < length s.inside → number_at s k < 2 ^ 64
 
+-- groups and numbers, whatever their room
+abbrev pub grouped : List ℕ → List ℕ → Grouped
+grouped groups inside = record { groups = groups; inside = inside; capacity = 0 }
+
+-- a number was put in at a block, and each from there on stands one further, but for the last, which is told
+pub record IsShifted (old new : Grouped) (block before last : ℕ) : Type 0 where
+  pub inside_count : length new.inside ≡ length old.inside
+  pub groups_count : length new.groups ≡ length old.groups
+  pub upto : (k : ℕ) → k < block → number_at new k ≡ number_at old k
+  pub here : block < length old.inside → number_at new block ≡ before
+  pub behind : (k : ℕ) → block ≤ k → k + 1 < length old.inside → number_at new (k + 1) ≡ number_at old k
+  pub first : (g : ℕ) → 64 * g < length old.inside → slice_index new.inside (64 * g) ≡ 0
+  pub last_none : length old.inside ≡ block → last ≡ before
+  pub last_some : (k : ℕ) → block ≤ k → k + 1 ≡ length old.inside → last ≡ number_at old k
+
 -- for each block how many nodes stand before it
 pub record AreStarts (bs : List (List Node)) (starts : Grouped) : Type 0 where
   pub count : length starts.inside ≡ length bs

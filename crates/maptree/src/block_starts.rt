@@ -1,6 +1,7 @@
 //! How many nodes stand before each block of a list.
 
 ghost use Rattle.std.specs.Prelude.{◌≡◌, ◌≤◌, ◌<◌, ◌+◌, ◌^◌, ℕ, length, slice_index};
+ghost use Rattle.maptree.specs.Blocks.{AreGrouped, IsShifted, grouped, number_at};
 
 use std::alloc::{AllocError, Global};
 use std::marker::Model;
@@ -113,6 +114,23 @@ impl Starts {
         prove!(pushed.is_ok());
     }
 
+    /// One block more, which stands before a block or behind the last, and before which so many nodes stand.
+    pub fn insert(&mut self, block: usize, before: usize)
+        requires within { block ≤ length self.old.inside }
+        requires room { length self.old.inside < self.old.capacity }
+        requires above { (k : ℕ) → k < block → number_at self.old k ≤ before }
+        requires below { (k : ℕ) → block ≤ k → k < length self.old.inside → before ≤ number_at self.old k }
+        requires rising { (j k : ℕ) → j ≤ k → k < length self.old.inside → number_at self.old j ≤ number_at self.old k }
+        ensures count { length self.new.inside ≡ length self.old.inside + 1 }
+        ensures upto { (k : ℕ) → k < block → number_at self.new k ≡ number_at self.old k }
+        ensures here { number_at self.new block ≡ before }
+        ensures behind { (k : ℕ) → block ≤ k → k < length self.old.inside → number_at self.new (k + 1) ≡ number_at self.old k }
+        ensures capacity { self.old.capacity ≤ self.new.capacity }
+    {
+        let last = shift(&mut self.inside, &mut self.groups, block, before);
+        self.push(last);
+    }
+
     /// A block has so many more nodes.
     pub fn add(&mut self, block: usize, n: usize)
         requires within { block < length self.old.inside }
@@ -144,6 +162,35 @@ impl Starts {
         let groups = self.groups.len();
         subtract_from(&mut self.groups, block / GROUP + 1, groups, n);
     }
+}
+
+/// Puts a number in at a block, and has each block from there on the number of the block before it. Gives back that of the
+/// last.
+fn shift(inside: &mut [usize], groups: &mut [usize], block: usize, before: usize) -> usize
+    requires grouped { AreGrouped (grouped groups.old inside.old) }
+    requires within { block ≤ length inside.old }
+    requires above { (k : ℕ) → k < block → number_at (grouped groups.old inside.old) k ≤ before }
+    requires below { (k : ℕ) → block ≤ k → k < length inside.old → before ≤ number_at (grouped groups.old inside.old) k }
+    requires rising { (j k : ℕ) → j ≤ k → k < length inside.old → number_at (grouped groups.old inside.old) j ≤ number_at (grouped groups.old inside.old) k }
+    ensures { IsShifted (grouped groups.old inside.old) (grouped groups.new inside.new) block before result }
+{
+    let mut carried = before;
+    let mut base = if block < inside.len() {
+        groups[block / GROUP]
+    } else {
+        0
+    };
+    for at in block..inside.len() {
+        let group = at / GROUP;
+        if at % GROUP == 0 {
+            base = groups[group];
+            groups[group] = carried;
+        }
+        let next = base + inside[at];
+        inside[at] = carried - groups[group];
+        carried = next;
+    }
+    carried
 }
 
 /// Adds a number to those from a position to another.

@@ -7,7 +7,7 @@ ghost use Rattle.maptree.specs.Renamings.{nodes_renamed};
 
 use crate::block::{BLOCK_SIZE, Block, behind_first, least_of, most_of};
 use crate::block_starts::Starts;
-use crate::hints::Hints;
+use crate::hints::{Hint, Hints};
 use crate::min_depths::MinDepths;
 use crate::place_map::PlaceMap;
 use crate::position_cache::PositionCache;
@@ -34,6 +34,12 @@ const THIRD: usize = 43;
 
 /// How many of the first nodes of a list may come to have a block to themselves.
 const FRONT: usize = 8;
+
+/// How many blocks may be split at most before the hints are told where all stand. A search passes over as many.
+const SPLITS: usize = 16;
+
+/// For how many blocks one more may be split until then.
+const GROUPED: usize = 64;
 
 /// A seat in a list of blocks: a block, and how many of its nodes stand before the seat.
 #[derive(Clone, Copy)]
@@ -63,6 +69,9 @@ pub struct Blocks {
     /// How often a block came to have no nodes, or few enough to be joined, since such blocks were joined. No clause
     /// rests on it.
     thinned: usize,
+    /// How often a block was split since the hints were told where all stand: as many blocks further back one may stand
+    /// now. No clause rests on it.
+    splits: usize,
     hints: Hints,
     position_cache: PositionCache,
 }
@@ -171,7 +180,7 @@ impl Blocks {
     {
         for turn in 0..self.hints.turns() {
             if let Some(hint) = self.hints.get(place, turn) {
-                let block = hint.block;
+                let block = self.block_of(hint);
                 if block < self.blocks.len() {
                     if let Some(offset) = self.blocks[block].find_from(
                         place,
@@ -184,6 +193,18 @@ impl Blocks {
             }
         }
         self.search(place)
+    }
+
+    /// Where the block of a hint stands: there, or further back by no more blocks than were split since.
+    fn block_of(&self, hint: Hint) -> usize {
+        let most = self.splits.saturating_add(1);
+        let end = hint.block.saturating_add(most).min(self.blocks.len());
+        for k in hint.block..end {
+            if self.blocks[k].number() == hint.number {
+                return k;
+            }
+        }
+        hint.block
     }
 
     /// The same, in a pass over the blocks.
@@ -407,16 +428,31 @@ impl Blocks {
         ensures blocks { self.new.blocks ≡ split_block at self.old.blocks block }
         ensures room { self.new.room + 1 ≡ self.old.room }
     {
+        let before = self.starts.get(block);
         let mut back = self.spare.pop().unwrap();
         let front = &mut self.blocks[block];
         front.split_into(at, &mut back);
         number_parts(&mut self.hints, front, &mut back);
+        self.starts.insert(block + 1, before + front.len());
+        self.min_depths.set(block, front.least());
+        self.min_depths.insert(block + 1, back.least());
+        self.hints.set_block(front.number(), block);
+        self.hints.set_block(back.number(), block + 1);
         let inserted = self.blocks.insert(block + 1, back);
         prove!(inserted.is_ok());
         self.room -= 1;
-        count(&mut self.starts, &self.blocks);
-        list_min_depths(&mut self.min_depths, &self.blocks);
-        hint_blocks(&mut self.hints, &self.blocks, block);
+        self.note_split();
+    }
+
+    /// One more block was split. After some the hints are told where all stand.
+    fn note_split(&mut self)
+        ensures { self.new ≡ self.old }
+    {
+        self.splits = self.splits.saturating_add(1);
+        if self.splits > most_splits(self.blocks.len()) {
+            self.splits = 0;
+            hint_blocks(&mut self.hints, &self.blocks);
+        }
     }
 
     /// Memory for so many more nodes: after it so many insertions take none.
@@ -477,7 +513,7 @@ impl Blocks {
             blocks.push(block).map_err(AllocError::from)?;
             rest = others;
         }
-        hint_blocks(&mut hints, &blocks, 0);
+        hint_blocks(&mut hints, &blocks);
         let mut starts = Starts::with_capacity(alloc, blocks.len())?;
         count(&mut starts, &blocks);
         let mut cache = PositionCache::none(alloc);
@@ -495,6 +531,7 @@ impl Blocks {
             behind: least_of(behind_first(nodes)),
             deepest: most_of(nodes),
             thinned: 0,
+            splits: 0,
             hints,
             position_cache: cache,
         })
@@ -606,7 +643,8 @@ impl Blocks {
         count(&mut self.starts, &self.blocks);
         cache_blocks(&mut self.position_cache, &self.blocks);
         list_min_depths(&mut self.min_depths, &self.blocks);
-        hint_blocks(&mut self.hints, &self.blocks, 0);
+        self.splits = 0;
+        hint_blocks(&mut self.hints, &self.blocks);
     }
 
     /// Puts parts into their gaps. This takes no memory.
@@ -810,9 +848,14 @@ fn cache_blocks(cache: &mut PositionCache, blocks: &[Block]) {
     }
 }
 
-/// Where the blocks from one on stand.
-fn hint_blocks(hints: &mut Hints, blocks: &[Block], from: usize) {
-    for k in from..blocks.len() {
+/// How many of so many blocks may be split before the hints are told where all stand.
+fn most_splits(blocks: usize) -> usize {
+    (blocks / GROUPED).min(SPLITS)
+}
+
+/// Where the blocks stand.
+fn hint_blocks(hints: &mut Hints, blocks: &[Block]) {
+    for k in 0..blocks.len() {
         hints.set_block(blocks[k].number(), k);
     }
 }

@@ -23,7 +23,7 @@ pub struct Hints {
     used: usize,
     /// By their keys, the places that found no free slot.
     crowded: BTreeMap<u32, Slot>,
-    /// For each number where its block stands.
+    /// For each number where its block stood when that was last told.
     blocks: Vec<u32>,
     /// Numbers that no block has any more.
     free: Vec<u32>,
@@ -75,7 +75,9 @@ impl Slot {
 /// Where a place may stand.
 #[derive(Clone, Copy)]
 pub struct Hint {
-    /// Where the block stands.
+    /// The number of the block.
+    pub number: u32,
+    /// Where it stood when that was last told.
     pub block: usize,
     /// How many nodes of the block stood before it, when it was noted. Since then nodes may have come or gone there.
     pub before: usize,
@@ -144,6 +146,7 @@ impl Hints {
         let number = number.checked_add(slot.number as usize)?;
         let block = *self.blocks.get(number)?;
         Some(Hint {
+            number: u32::try_from(number).ok()?,
             block: block as usize,
             before: slot.before as usize,
             from: slot.from as usize,

@@ -1,6 +1,6 @@
 //! For each block of a list a depth that none of its nodes goes below.
 
-ghost use Rattle.std.specs.Prelude.{◌≤◌, ◌<◌, ◌+◌, ℕ, length, slice_index};
+ghost use Rattle.std.specs.Prelude.{◌≡◌, ◌≤◌, ◌<◌, ◌+◌, ◌*◌, ◌/◌, ℕ, length, slice_index};
 
 use std::alloc::{AllocError, Global};
 use std::marker::Model;
@@ -30,7 +30,7 @@ impl Model for MinDepths {
 }
 
 impl MinDepths {
-    ghost use Rattle.std.specs.Prelude.{◌≡◌, ◌≤◌, ◌<◌, ◌+◌, ℕ, [], ◌∷◌, ◌++◌, length, set, slice_index, IfOk, OnOk};
+    ghost use Rattle.std.specs.Prelude.{◌≡◌, ◌≤◌, ◌<◌, ◌+◌, ℕ, [], ◌∷◌, ◌++◌, length, set, insert, slice_index, IfOk, OnOk};
 
     /// Of no blocks yet, with room for so many.
     pub fn with_capacity(alloc: Global, blocks: usize) -> Result<MinDepths, AllocError>
@@ -85,6 +85,22 @@ impl MinDepths {
         prove!(pushed.is_ok());
         let group = block / GROUP;
         self.groups[group] = self.groups[group].min(least);
+    }
+
+    /// The depth for one block more, which stands before a block or behind the last.
+    pub fn insert(&mut self, block: usize, least: u32)
+        requires within { block ≤ length self.old.min_depths }
+        requires room { length self.old.min_depths < self.old.capacity }
+        ensures min_depths { self.new.min_depths ≡ insert self.old.min_depths block least }
+        ensures capacity { self.old.capacity ≤ self.new.capacity }
+    {
+        if self.blocks.len() % GROUP == 0 {
+            let opened = self.groups.push(0);
+            prove!(opened.is_ok());
+        }
+        let inserted = self.blocks.insert(block, least);
+        prove!(inserted.is_ok());
+        lower_groups(&mut self.groups, &self.blocks, block / GROUP);
     }
 
     /// Another depth for a block.
@@ -149,6 +165,31 @@ fn least_of_eight(numbers: &[u32], from: usize) -> u32
 {
     let mut least = numbers[from];
     for k in from + 1..from + 8 {
+        least = least.min(numbers[k]);
+    }
+    least
+}
+
+/// Has each group from one on the least number of its blocks.
+fn lower_groups(groups: &mut [u32], numbers: &[u32], from: usize)
+    requires few { 64 * length groups.old < length numbers.now + 64 }
+    ensures count { length groups.new ≡ length groups.old }
+    ensures before { (g : ℕ) → g < from → slice_index groups.new g ≡ slice_index groups.old g }
+    ensures low { (k : ℕ) → k < length numbers.now → from ≤ k / 64 → k / 64 < length groups.old → slice_index groups.new (k / 64) ≤ slice_index numbers.now k }
+{
+    for group in from..groups.len() {
+        groups[group] = least_of_group(numbers, group);
+    }
+}
+
+/// The least number of the blocks of a group.
+fn least_of_group(numbers: &[u32], group: usize) -> u32
+    requires { 64 * group < length numbers.now }
+    ensures { (k : ℕ) → k < length numbers.now → k / 64 ≡ group → result ≤ slice_index numbers.now k }
+{
+    let from = group * GROUP;
+    let mut least = numbers[from];
+    for k in from..from + GROUP.min(numbers.len() - from) {
         least = least.min(numbers[k]);
     }
     least
