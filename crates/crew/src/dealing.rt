@@ -62,17 +62,19 @@ pub fn owns_of<N: Which, M: Crewed>(
     Ok(owns)
 }
 
-/// A worker for each deque, with the right to steal from all of them.
+/// A worker for each deque, with the right to steal from all of them, and room for so many turns: a thread that takes no
+/// memory needs none of its own.
 pub fn workers_of<N: Which, M: Crewed>(
     alloc: Global,
     mut owns: Vec<OwnDeque<N, M>>,
+    room: usize,
 ) -> Result<Vec<Worker<N, M>>, AllocError>
     requires owns { owns.items ≡ new_owns all_parts 0 M.crew }
     requires few { length M.crew < all_parts }
     ensures { IfOk result (λ workers. AreNumberedFrom 0 workers.items × (length workers.items ≡ length M.crew)) }
 {
     let rows = rows_of(alloc, owns.as_mut_slice())?;
-    with_rows(alloc, owns, rows)
+    with_rows(alloc, owns, rows, room)
 }
 
 /// For each worker the right to steal from each deque.
@@ -109,11 +111,12 @@ fn row_of<N: Which, M: Crewed>(
     Ok(passes)
 }
 
-/// Each worker with a row of passes.
+/// Each worker with a row of passes, and room for so many turns.
 fn with_rows<N: Which, M: Crewed>(
     alloc: Global,
     owns: Vec<OwnDeque<N, M>>,
     mut rows: Vec<Vec<StealPass<N, M>>>,
+    room: usize,
 ) -> Result<Vec<Worker<N, M>>, AllocError>
     requires owns { owns.items ≡ new_owns (all_parts - length M.crew) 0 M.crew }
     requires few { length M.crew < all_parts }
@@ -123,7 +126,8 @@ fn with_rows<N: Which, M: Crewed>(
     let mut workers = Vec::with_capacity(alloc, owns.len())?;
     for own in owns {
         let passes = rows.pop().unwrap();
-        workers.push(Worker::new(alloc, own, passes))?;
+        let turns = Vec::with_capacity(alloc, room)?;
+        workers.push(Worker::new(own, passes, turns))?;
     }
     Ok(workers)
 }

@@ -8,6 +8,9 @@ use std::alloc::{AllocError, Global};
 use std::thread;
 use std::thread::Threads;
 
+/// How many bytes a planning thread has its allocator hold ready.
+const PLAN_BYTES: usize = 8 << 20;
+
 /// Asks a function for the plans of so many parts, one after another.
 pub fn plan_in_turn(
     alloc: Global,
@@ -80,7 +83,10 @@ fn plan_parts<R: Threads, F: Fn(usize) -> Planned + Sync>(
     let theirs = move || -> Planned
         requires { F.pre plan.now last }
         ensures { F.post plan.entry.now last result }
-    { plan(last) };
+    {
+        hold_memory_ready(alloc);
+        plan(last)
+    };
     let ours = move || -> Result<Vec<Planned>, AllocError>
         requires { IsSync F.row × ((part : ℕ) → part < last → F.pre plan.now part) }
         ensures { IfOk result (λ planned. (length planned.items ≡ last) × ((part : ℕ) (d : _) → part < last → F.post plan.entry.now part (slice_index_or planned.items part d))) }
@@ -89,4 +95,11 @@ fn plan_parts<R: Threads, F: Fn(usize) -> Planned + Sync>(
     let mut planned = front?;
     planned.push(behind)?;
     Ok(planned)
+}
+
+/// Takes a block and gives it back, untouched. glibc gives each thread memory of its own, which it asks the system for page by
+/// page as pieces are made, and all threads wait for one another there. Now it asks once. It is a matter of speed alone, so
+/// where the block is refused nothing is lost.
+fn hold_memory_ready(alloc: Global) {
+    let _ = Vec::<u8>::with_capacity(alloc, PLAN_BYTES);
 }

@@ -69,16 +69,19 @@ pub fn work_turns<N: Which + Send + Sync, R: Threads + Wait, G: Gate>(
     ensures no_worker { IsErrOf result NoWorker → 1 < min crew.now.workers (length turns.items) }
 {
     let workers = crew.workers_for(turns.len());
+    let room = 2 * (turns.len() / workers) + 1;
     let deques = deal::<N>(alloc, workers, turns)?;
-    work_deques::<N, Brand, R, G>(crew, alloc, shared, deques)
+    work_deques::<N, Brand, R, G>(crew, alloc, shared, deques, room)
 }
 
-/// Works the turns that were dealt, with a worker for each deque. There are as many as the crew has for so many pieces.
+/// Works the turns that were dealt, with a worker for each deque, which has room for so many turns. There are as many workers
+/// as the crew has for so many pieces.
 fn work_deques<N: Which + Send + Sync, M: Crewed + Send + Sync, R: Threads + Wait, G: Gate>(
     crew: &Crew<'_, R, G>,
     alloc: Global,
     shared: &Open,
     deques: Vec<Dealt<N>>,
+    room: usize,
 ) -> Result<Vec<Turn>, CrewError>
     requires some { 1 ≤ length M.crew }
     requires few { length M.crew < all_parts }
@@ -91,7 +94,7 @@ fn work_deques<N: Which + Send + Sync, M: Crewed + Send + Sync, R: Threads + Wai
 {
     let owns = owns_of::<N, M>(alloc, deques)?;
     let state = SharedState::new(alloc, shared, crew.gate, &owns)?;
-    let mut workers = workers_of(alloc, owns)?;
+    let mut workers = workers_of(alloc, owns, room)?;
     let first = workers.remove(0);
     let workers = work_together(crew.rt, alloc, &state, first, workers)?;
     let turns = settle(alloc, &state, workers)?;

@@ -40,18 +40,15 @@ impl<N: Which, M: Crewed> Model for Worker<N, M> {
 }
 
 impl<N: Which, M: Crewed> Worker<N, M> {
-    /// A worker that has not begun.
-    pub fn new(alloc: Global, own: OwnDeque<N, M>, passes: Vec<StealPass<N, M>>) -> Worker<N, M>
+    /// A worker that has not begun, with a list for the turns that it works.
+    pub fn new(own: OwnDeque<N, M>, passes: Vec<StealPass<N, M>>, turns: Vec<Turn>) -> Worker<N, M>
         requires none { own.hand.taken ≡ [] }
         requires parts { own.hand.parts + length M.crew ≡ all_parts }
         requires passes { passes.items ≡ new_passes (length M.crew) }
+        requires turns { turns.items ≡ [] }
         ensures { result.own ≡ own }
     {
-        Worker {
-            own,
-            passes,
-            turns: Vec::new(alloc),
-        }
+        Worker { own, passes, turns }
     }
 
     /// Its number.

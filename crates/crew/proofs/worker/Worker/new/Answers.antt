@@ -3,4 +3,4 @@ use Rattle.crew.proofs.worker.Worker.new.Goals as goal
 
 pub invariant_of-result : goal.invariant_of-result
 invariant_of-result g c =
-    new_worker g.N.Which.shared g.M.Crewed.crew c.args.own c.args.passes.items c.new.result.items c.requires.none c.requires.parts c.requires.passes c.new.ensures.items
+    new_worker g.N.Which.shared g.M.Crewed.crew c.args.own c.args.passes.items c.args.turns.items c.requires.none c.requires.parts c.requires.passes c.requires.turns
