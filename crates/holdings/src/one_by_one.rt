@@ -177,14 +177,13 @@ fn strip_run(
     let mut status = narrowed.status;
     let mut left = Left::of_none(run.start).with_next(run.start, narrowed.held);
     let is_short = run.end - run.start <= SHORT;
+    let mut found = [0; FOUND_AT_ONCE];
     let mut from = run.start + 1;
     while from < run.end {
         let to = from + FOUND_AT_ONCE.min(run.end - from);
-        let found = if is_short {
-            [0; FOUND_AT_ONCE]
-        } else {
-            find_words(shards, &mut nodes, from, to)
-        };
+        if !is_short {
+            found = find_words(shards, &mut nodes, from, to);
+        }
         for i in from..to {
             let index = if is_short {
                 shards.index(nodes.at(i).place)

@@ -22,7 +22,7 @@ use Rattle.holdings.proofs.Contents.Holders.{links_read}
 use Rattle.holdings.proofs.NotedPages.{run_first, run_more}
 use Rattle.holdings.proofs.Stripping.Walks.{IsWalked, IsStripped, walk_begins, walk_goes, place_any, listed_place, run_without_origin, run_without_status, run_with_origin, stands_at, stands_once, standing_there, not_among, walked}
 use Rattle.holdings.proofs.Stripping.LeftOfRuns.{IsSeen, places_now, seen_more, seen_kept, run_left, none_seen}
-use Rattle.holdings.proofs.one_by_one.strip_run.Goals.{After-add_status, In_default-origin_of, Then-is_empty, then-flush, else-flush, then-is_short, else-is_short, then-is_short-2, else-is_short-2}
+use Rattle.holdings.proofs.one_by_one.strip_run.Goals.{After-add_status, In_default-origin_of, Then-is_empty, then-flush, else-flush, then-not-is_short, else-not-is_short, then-is_short, else-is_short}
 use Rattle.holdings.proofs.Contents.WordChanges.{place_kept, word_kept}
 use Rattle.holdings.proofs.one_by_one.strip_run.Goals as goal
 
@@ -165,18 +165,18 @@ loop-i-preserved c =
     let loses : true ≡ (c.args.flush || not (same_place q (stands_at trees frame start))) = sym (ap (λ b. c.args.flush || not b) (apart trees frame once start i behind within) ∙ or_true c.args.flush) in
     let places = places_now s trees frame c.requires.loose now c.loop-i.invariant.walked.layout in
     let place : IsPlace now q = places i d within in
-    let same_nodes : c.if-is_short-2.nodes ≡ c.loop-i.nodes =
-    elim c.if-is_short-2.branch [
-      | then-is_short-2 w ↦ w.nodes-is ∙ w.at.ensures.same
-      | else-is_short-2 w ↦ w.nodes-is
+    let same_nodes : c.if-is_short.nodes ≡ c.loop-i.nodes =
+    elim c.if-is_short.branch [
+      | then-is_short w ↦ w.nodes-is ∙ w.at.ensures.same
+      | else-is_short w ↦ w.nodes-is
     ] in
-    let found : index_of now q ≡ c.if-is_short-2.index =
-    elim c.if-is_short-2.branch as (λ _. index_of now q ≡ c.if-is_short-2.index) [
-      | then-is_short-2 w ↦ ap (index_of now) (ap (λ os. place_at os i d) (sym c.loop-i.invariant.nodes) ∙ sym (w.at.ensures.place d)) ∙ sym w.index-index.ensures.index ∙ sym w.index-is
-      | else-is_short-2 w ↦
-          elim c.if-is_short.branch as (λ _. index_of now q ≡ c.if-is_short-2.index) [
-            | then-is_short v ↦ absurd (omega (arith, v.if-is_short.true, w.if-is_short-2.false))
-            | else-is_short v ↦
+    let found : index_of now q ≡ c.if-is_short.index =
+    elim c.if-is_short.branch as (λ _. index_of now q ≡ c.if-is_short.index) [
+      | then-is_short w ↦ ap (index_of now) (ap (λ os. place_at os i d) (sym c.loop-i.invariant.nodes) ∙ sym (w.at.ensures.place d)) ∙ sym w.index-index.ensures.index ∙ sym w.index-is
+      | else-is_short w ↦
+          elim c.if-not-is_short.branch as (λ _. index_of now q ≡ c.if-is_short.index) [
+            | else-not-is_short v ↦ absurd (omega (arith, v.if-not-is_short.false, w.if-is_short.false))
+            | then-not-is_short v ↦
                 c.loop-i.invariant.walked.layout.index q ∙ sym (c.loop-from.invariant.walked.layout.index q)
                 ∙ sym (v.find_words-found.ensures.found i d least c.loop-i-test.true ∙ ap (λ os. index_of c.loop-from.shards (place_at os i d)) c.loop-from.invariant.nodes)
                 ∙ ap (λ xs. slice_index xs (i - from)) (sym v.found-is) ∙ sym w.index-is
@@ -202,7 +202,7 @@ loop-i-preserved c =
         added = λ asked.
             run_more links (loses_in s c.args.revoked) (losing_from c.args.flush start) i q d (losing_upto c.args.flush start i behind) within (sym (there d)) c.args.notes.now.list.items old new
             (subst (λ p. IsNotedIf (loses_in s c.args.revoked q) p old new) (ap (λ os. place_at os i d) (same_nodes ∙ c.loop-i.invariant.nodes))
-            (subst (λ b. IsNotedIf b (place_at c.if-is_short-2.nodes i d) old new) lost ((note.noted d).added (c.loop-i.invariant.noted.asked ∙ asked))))
+            (subst (λ b. IsNotedIf b (place_at c.if-is_short.nodes i d) old new) lost ((note.noted d).added (c.loop-i.invariant.noted.asked ∙ asked))))
             (c.loop-i.invariant.noted.added asked);
       };
     }
