@@ -197,6 +197,15 @@ impl Blocks {
 
     /// Where the block of a hint stands: there, or further back by no more blocks than were split since.
     fn block_of(&self, hint: Hint) -> usize {
+        match self.blocks.get(hint.block) {
+            Some(block) if block.number() == hint.number => hint.block,
+            _ => self.block_behind(hint),
+        }
+    }
+
+    /// The same, where it does not stand there.
+    #[inline(never)]
+    fn block_behind(&self, hint: Hint) -> usize {
         let most = self.splits.saturating_add(1);
         let end = hint.block.saturating_add(most).min(self.blocks.len());
         for k in hint.block..end {

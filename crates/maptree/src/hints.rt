@@ -155,9 +155,16 @@ impl Hints {
 
     /// What was noted of the place with this key.
     fn noted(&self, key: u32) -> Option<Slot> {
-        if let Some(at) = self.slot_of(key) {
-            return self.slots.get(at).copied();
+        match self.slot_of(key) {
+            Some(at) => self.slots.get(at).copied(),
+            None => self.noted_crowded(key),
         }
+    }
+
+    /// The same of a place that found no free slot.
+    // (The calls of the map are not compiled into those that rarely need them, which would have larger frames for it.)
+    #[inline(never)]
+    fn noted_crowded(&self, key: u32) -> Option<Slot> {
         self.crowded.get(&key).copied()
     }
 
@@ -187,6 +194,12 @@ impl Hints {
                 return;
             }
         }
+        self.note_crowded(slot);
+    }
+
+    /// Puts a place into the map.
+    #[inline(never)]
+    fn note_crowded(&mut self, slot: Slot) {
         let _ = self.crowded.insert(slot.key, slot);
     }
 
@@ -194,12 +207,18 @@ impl Hints {
     pub fn remove(&mut self, place: Place) {
         let key = key_of(place);
         if !self.crowded.is_empty() {
-            let _ = self.crowded.remove(&key);
+            self.remove_crowded(key);
         }
         if let Some(at) = self.slot_of(key) {
             self.taken = self.taken.saturating_sub(1);
             self.close_gap(at);
         }
+    }
+
+    /// The place with this key is not in the map.
+    #[inline(never)]
+    fn remove_crowded(&mut self, key: u32) {
+        let _ = self.crowded.remove(&key);
     }
 
     /// Moves what stands behind a slot into it, where that is still on its way, and so on; no further than `STEPS`.

@@ -1,7 +1,6 @@
 -- What is left of a pair stands before the first range.
-use Rattle.std.proofs.Common.{◌≡◌, ◌<◌, ℕ, [], ◌∷◌, length, take, sym, ap, ◌∙◌, arith, rules}
+use Rattle.std.proofs.Common.{◌<◌, ℕ, length, take, sym, ap, ◌∙◌, arith, rules}
 use Rattle.std.specs.declared.ops.Range.{Range}
-use Rattle.maptree.specs.Cuts.{outside}
 use Rattle.maptree.specs.TreeForms.{root_of, below_of, two_nodes, nodes_of_pair}
 use Rattle.maptree.proofs.Alone.{pair_left, first_behind}
 use Rattle.maptree.proofs.tree_nodes.left_of_pair.Goals as goal

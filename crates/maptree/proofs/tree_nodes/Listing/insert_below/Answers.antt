@@ -1,5 +1,5 @@
 -- A node is put right behind another in a list.
-use Rattle.std.proofs.Common.{◌≡◌, ◌+◌, length, ap, ◌∙◌, arith, rules}
+use Rattle.std.proofs.Common.{◌+◌, ap, ◌∙◌, arith, rules}
 use Rattle.std.specs.Prelude.{insert}
 use Rattle.space.specs.declared.node.Node.{Node}
 use Rattle.maptree.proofs.AtSeat.{depth_as_read}
