@@ -39,7 +39,7 @@ const FRONT: usize = 8;
 const SPLITS: usize = 16;
 
 /// For how many blocks one more may be split until then.
-const GROUPED: usize = 64;
+const GROUPED: usize = 512;
 
 /// A seat in a list of blocks: a block, and how many of its nodes stand before the seat.
 #[derive(Clone, Copy)]
