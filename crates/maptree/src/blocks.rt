@@ -88,7 +88,7 @@ impl Model for Blocks {
 }
 
 impl Blocks {
-    ghost use Rattle.std.specs.Prelude.{◌≡◌, ◌+◌, ◌<◌, ◌≤◌, ◌^◌, true, [], ◌++◌, length, take, drop, get_or, set, insert, position, IfOk, OnOk, OnErr, vec_capacity};
+    ghost use Rattle.std.specs.Prelude.{◌≡◌, ◌+◌, ◌<◌, ◌≤◌, ◌^◌, true, [], ◌++◌, length, take, drop, get_or, set, insert, position, Some, IfOk, OnOk, OnErr, vec_capacity};
     ghost use Rattle.std.specs.List.{slice_range};
     ghost use Rattle.space.specs.Place.{same_place};
     ghost use Rattle.space.specs.declared.node.Node.{Node};
@@ -178,17 +178,47 @@ impl Blocks {
         requires { are_distinct (nodes_in self.now.blocks) ≡ true }
         ensures { result ≡ position (λ n. same_place place n.place) (nodes_in self.now.blocks) }
     {
+        if let Some(hint) = self.hints.first(place) {
+            if self.is_up_to_date(hint) {
+                if let Some(i) = self.find_in(hint.block, place, hint) {
+                    return Some(i);
+                }
+            }
+        }
+        self.find_elsewhere(place)
+    }
+
+    /// Whether the block of a hint stands where that was last told.
+    fn is_up_to_date(&self, hint: Hint) -> bool {
+        match self.blocks.get(hint.block) {
+            Some(block) => block.number() == hint.number,
+            None => false,
+        }
+    }
+
+    /// The position of a place, if it stands in this block, which need not be there.
+    #[inline(always)]
+    fn find_in(&self, block: usize, place: Place, hint: Hint) -> Option<usize>
+        requires { are_distinct (nodes_in self.now.blocks) ≡ true }
+        ensures { IfSome result (λ i. position (λ n. same_place place n.place) (nodes_in self.now.blocks) ≡ Some i) }
+    {
+        if block >= self.blocks.len() {
+            return None;
+        }
+        let offset = self.blocks[block].find_from(place, hint.before, hint.from)?;
+        Some(self.starts.get(block) + offset)
+    }
+
+    /// The position of a place, by all that hints tell of it, or in a pass.
+    #[inline(never)]
+    fn find_elsewhere(&self, place: Place) -> Option<usize>
+        requires { are_distinct (nodes_in self.now.blocks) ≡ true }
+        ensures { result ≡ position (λ n. same_place place n.place) (nodes_in self.now.blocks) }
+    {
         for turn in 0..self.hints.turns() {
             if let Some(hint) = self.hints.get(place, turn) {
-                let block = self.block_of(hint);
-                if block < self.blocks.len() {
-                    if let Some(offset) = self.blocks[block].find_from(
-                        place,
-                        hint.before,
-                        hint.from,
-                    ) {
-                        return Some(self.starts.get(block) + offset);
-                    }
+                if let Some(i) = self.find_in(self.block_of(hint), place, hint) {
+                    return Some(i);
                 }
             }
         }
@@ -197,15 +227,6 @@ impl Blocks {
 
     /// Where the block of a hint stands: there, or further back by no more blocks than were split since.
     fn block_of(&self, hint: Hint) -> usize {
-        match self.blocks.get(hint.block) {
-            Some(block) if block.number() == hint.number => hint.block,
-            _ => self.block_behind(hint),
-        }
-    }
-
-    /// The same, where it does not stand there.
-    #[inline(never)]
-    fn block_behind(&self, hint: Hint) -> usize {
         let most = self.splits.saturating_add(1);
         let end = hint.block.saturating_add(most).min(self.blocks.len());
         for k in hint.block..end {
@@ -216,7 +237,7 @@ impl Blocks {
         hint.block
     }
 
-    /// The same, in a pass over the blocks.
+    /// The same of a place, in a pass over the blocks.
     fn search(&self, place: Place) -> Option<usize>
         ensures { result ≡ position (λ n. same_place place n.place) (nodes_in self.now.blocks) }
     {

@@ -139,9 +139,21 @@ impl Hints {
         self.blocks.len() / NUMBERS as usize + 1
     }
 
-    /// One of the places where the place may stand.
+    /// The first of them, of a place that found a free slot.
+    pub fn first(&self, place: Place) -> Option<Hint> {
+        let at = self.slot_of(key_of(place))?;
+        let slot = self.slots.get(at)?;
+        self.hint_of(*slot, 0)
+    }
+
+    /// One of them.
     pub fn get(&self, place: Place, turn: usize) -> Option<Hint> {
         let slot = self.noted(key_of(place))?;
+        self.hint_of(slot, turn)
+    }
+
+    /// What a slot tells in its turn.
+    fn hint_of(&self, slot: Slot, turn: usize) -> Option<Hint> {
         let number = turn.checked_mul(NUMBERS as usize)?;
         let number = number.checked_add(slot.number as usize)?;
         let block = *self.blocks.get(number)?;
@@ -157,15 +169,8 @@ impl Hints {
     fn noted(&self, key: u32) -> Option<Slot> {
         match self.slot_of(key) {
             Some(at) => self.slots.get(at).copied(),
-            None => self.noted_crowded(key),
+            None => self.crowded.get(&key).copied(),
         }
-    }
-
-    /// The same of a place that found no free slot.
-    // (The calls of the map are not compiled into those that rarely need them, which would have larger frames for it.)
-    #[inline(never)]
-    fn noted_crowded(&self, key: u32) -> Option<Slot> {
-        self.crowded.get(&key).copied()
     }
 
     /// The place stands in the block with this number, at this position of so many. Without memory there is no hint.
@@ -198,6 +203,7 @@ impl Hints {
     }
 
     /// Puts a place into the map.
+    // (The calls of the map are not compiled into those that rarely need them, which would have larger frames for it.)
     #[inline(never)]
     fn note_crowded(&mut self, slot: Slot) {
         let _ = self.crowded.insert(slot.key, slot);
