@@ -219,7 +219,7 @@ TRAPS = [
     Trap("comb at the front of a block", comb, BLOCKED),
     Trap("walk in the middle of a list", walk, BLOCKED),
     Trap("end of a list, again and again", end_again, [16_000, 32_000, 64_000, 128_000]),
-    Trap("two of three siblings go", thinned, BLOCKED),
+    Trap("two of three siblings go", thinned, [64_000, 128_000, 256_000, 512_000]),
     Trap("two of three spaces give all up", thinned_at_once, BLOCKED, 1, True),
     Trap("crowded places", crowded, [40_000, 80_000, 160_000, 320_000]),
     Trap("pages of one frame mapped at once", mapped_whole, WIDE, PAGES, True),
