@@ -97,7 +97,7 @@ pub struct Shards {
 }
 
 impl Shards {
-    ghost use Rattle.std.specs.Prelude.{◌≡◌, ℕ, ◌↔◌, ◌+◌, ◌*◌, ◌/◌, ◌<◌, ◌≤◌, IsTrue, IsFalse, IfOk, OnOk, IfSome, IfNone, None, length, option_map, is_some, slice_index};
+    ghost use Rattle.std.specs.Prelude.{◌≡◌, ℕ, ◌↔◌, ◌+◌, ◌*◌, ◌/◌, ◌<◌, ◌≤◌, IsTrue, IsFalse, IfOk, OnOk, IfSome, IfNone, None, Some, length, option_map, is_some, slice_index};
     ghost use Rattle.std.specs.List.{All, AllPass, list_any};
     ghost use Rattle.std.specs.Option.{option_and_then};
     ghost use Rattle.space.specs.declared.place.Place.{Place};
@@ -564,6 +564,23 @@ impl Shards {
             self.revive(place, index);
             self.write(index, entry);
         }
+    }
+
+    /// Puts an entry at a page of a shard that is there, whose words begin at `start`: so no shard is looked for.
+    #[inline]
+    pub fn set_in_shard(&mut self, start: usize, place: Place, entry: Entry)
+        requires place { IsPlace self.old place }
+        requires start { start + offset_of place ≡ index_of self.old place }
+        requires present { IsFalse (is_taken self.old) }
+        requires frame { FrameFits (Some entry) }
+        requires has { HasWord self.old place }
+        ensures set { IsSetAt self.old self.new place (Some entry) }
+        ensures present { IsFalse (is_taken self.new) }
+        ensures layout { IsLaidOutAs self.old self.new }
+    {
+        let index = start + offset(place);
+        self.revive(place, index);
+        self.write(index, Some(entry));
     }
 
     /// Has the shard of a page live, whose word has this index.
