@@ -23,6 +23,7 @@ import statistics
 import subprocess
 import sys
 import tempfile
+import time
 from typing import Iterable, NamedTuple
 
 HERE = os.path.dirname(os.path.abspath(__file__))
@@ -31,6 +32,7 @@ from bench import (  # noqa: E402
     ALL_PAGES, FIRST_PAGE, HEADER, PAGES, TOP, accesses, aliases, audit, chain, flush, grants, pager, relay, send, send_fpage, single,
     spread, unmap,
 )  # fmt: skip
+from workers import ran  # noqa: E402
 
 RUNS = 3
 PAIRS = 25
@@ -351,6 +353,15 @@ def thinly_held(count):
     return [send(0, chance.randrange(1, 512), 0, chance.randrange(LARGE_PAGES)) for _ in range(count)]
 
 
+def to_first_reply(bench):
+    """Seconds from the start of a run with the largest limits to its first reply, the least of some runs."""
+    trace, taken = bench.trace(["access,0,0,r"], LARGEST), []
+    for _ in range(2 * RUNS):
+        begun = time.perf_counter()
+        taken.append(ran(bench.ours, trace, 1).came[0] - begun)
+    return min(taken)
+
+
 def large_spaces(bench):
     """The fourth table: what spaces of 2^32 bytes cost of which little is held, and one that is held whole."""
 
@@ -363,6 +374,7 @@ def large_spaces(bench):
     (small, small_peak), (large, large_peak) = taken(SMALLEST, []), taken("l4map,1,512,32,1", [])
     row("start of 512 spaces, times that of two spaces of 64 pages", f"{large / small:.2f}", "1.5")
     row("and MiB more", mib(large_peak - small_peak), "1")
+    row("start with 1,048,576 frames, to the first reply, by the clock", f"{1e3 * to_first_reply(bench):,.1f} ms", "30 ms")
     start = taken(FEW_PAGES, few_held())[0]
     for name, record in (("31 items", "send,1,2,10" + 31 * ",8,17"), ("64 words", "unmap,1,3f" + 64 * ",10")):
         whole = taken(FEW_PAGES, [*few_held(), *1_000 * [record]])[0]
