@@ -818,3 +818,67 @@ fn an_access_is_answered_by_a_line(rt: HostRuntime) -> Result<(), NoMemory> {
     );
     Ok(())
 }
+
+/// The counts of a send, in the order of its line.
+fn sent([absent, norights, origin, lost, extended, linked]: [u128; 6]) -> SendReply {
+    SendReply {
+        absent,
+        norights,
+        origin,
+        lost,
+        extended,
+        linked,
+    }
+}
+
+/// Numbers of sends, their counts of one digit each, and their lines.
+static SENT_LINES: [(u64, [u128; 6], &str); 3] = [
+    (
+        0,
+        [0, 1, 2, 3, 4, 5],
+        "0 send absent=0 norights=1 origin=2 lost=3 extended=4 linked=5\n",
+    ),
+    (
+        4294967296,
+        [9, 8, 7, 6, 5, 4],
+        "4294967296 send absent=9 norights=8 origin=7 lost=6 extended=5 linked=4\n",
+    ),
+    (
+        u64::MAX,
+        [9, 9, 9, 9, 9, 9],
+        "18446744073709551615 send absent=9 norights=9 origin=9 lost=9 extended=9 linked=9\n",
+    ),
+];
+
+/// Counts of sends of which one has two digits or more.
+static LARGER_COUNTS: [[u128; 6]; 7] = [
+    [10, 0, 0, 0, 0, 0],
+    [0, 10, 0, 0, 0, 0],
+    [0, 0, 10, 0, 0, 0],
+    [0, 0, 0, 10, 0, 0],
+    [0, 0, 0, 0, 10, 0],
+    [0, 0, 0, 0, 0, 10],
+    [0, 0, 0, 0, 0, 18446744073709551616],
+];
+
+#[test]
+fn a_send_with_counts_of_one_digit_is_answered_by_a_line(rt: HostRuntime) -> Result<(), NoMemory> {
+    let mut written = Vec::new(rt.alloc());
+    let mut expected = String::new(rt.alloc());
+    for (number, counts, line) in &SENT_LINES {
+        let pushed = trace::push_sent(&mut written, *number, &sent(*counts))?;
+        assert_holds(&rt, pushed, line);
+        expected.push_str(line)?;
+    }
+    for counts in &LARGER_COUNTS {
+        let pushed = trace::push_sent(&mut written, 1, &sent(*counts))?;
+        assert_holds(&rt, !pushed, "a count of two digits");
+    }
+    assert_equal(
+        &rt,
+        written.as_slice(),
+        expected.as_bytes(),
+        "the lines of sends",
+    );
+    Ok(())
+}

@@ -9,7 +9,7 @@ ghost use Rattle.replay.specs.Steps.{PassesOn};
 use space::NoMemory;
 use std::alloc::Global;
 use std::marker::Model;
-use trace::{Failed, Reply, Sink, push_access, push_reply};
+use trace::{Failed, Reply, Sink, push_access, push_reply, push_sent};
 
 /// Reply lines that the sink was not given yet. A contract sees their bytes.
 #[derive(Drop)]
@@ -17,7 +17,7 @@ pub struct Lines {
     block: Vec<u8>,
     /// How many bytes are passed on at once.
     least: usize,
-    /// A line before it is put behind the others. That of an access is put there at once.
+    /// A line before it is put behind the others. That of an access, or of a send with small counts, is put there at once.
     line: String,
 }
 
@@ -46,8 +46,14 @@ impl Lines {
         ensures ok { OnOk result (self.new ≡ self.old ++ reply_line number (reply_of reply.now)) }
         ensures err { OnErr result (self.new ≡ self.old) }
     {
-        if let Reply::Accessed(made) = reply {
-            return push_access(&mut self.block, number, *made);
+        match reply {
+            Reply::Accessed(made) => return push_access(&mut self.block, number, *made),
+            Reply::Sent(counts) => {
+                if push_sent(&mut self.block, number, counts)? {
+                    return Ok(());
+                }
+            }
+            _ => {}
         }
         self.line.clear();
         push_reply(&mut self.line, number, reply)?;

@@ -16,5 +16,5 @@ pub use mapdb::{Call, Refusal, Reply};
 pub use read::{Trace, TraceError, read_all};
 pub use reader::TraceReader;
 pub use records::{Fields, Record};
-pub use reply::{push_access, push_reply, reply_text};
+pub use reply::{push_access, push_reply, push_sent, reply_text};
 pub use stream::{Failed, ReadError, Sink, Source, Std, read_to_end};
