@@ -1,7 +1,8 @@
 -- What records, calls, refusals and replies stand for in the definitions.
-use Rattle.std.specs.Prelude.{ℕ, List, map, Result, Ok, Err}
+use Rattle.std.specs.Prelude.{ℕ, Bool, nat_lt, ◌&&◌, List, map, Result, Ok, Err}
 use Rattle.std.specs.Borrow.{Bor}
 use Rattle.model.specs.Definitions.Calls.{Request}
+use Rattle.model.specs.Definitions.Items.{Counts}
 use Rattle.model.specs.Definitions.Records.{Fields, Version}
 pub use Rattle.mapdb.specs.Calls.{call_of, refusal_of, reply_of, IsWithinLimits}
 use Rattle.mapdb.specs.declared.call.Call.{Call as TheCall}
@@ -20,3 +21,7 @@ pub record TraceRecord : Type 0 where
 abbrev pub request_of : Result TheCall TheRefusal → Request
 request_of (Ok call) = Ok (call_of call)
 request_of (Err e) = Err (refusal_of e)
+
+-- each count has one digit
+abbrev pub have_one_digit : Counts → Bool
+have_one_digit c = nat_lt c.absent 10 && nat_lt c.norights 10 && nat_lt c.origin 10 && nat_lt c.lost 10 && nat_lt c.extended 10 && nat_lt c.linked 10

@@ -1,11 +1,11 @@
 //! Replies to records.
 
-ghost use Rattle.std.specs.Prelude.{◌≡◌, ◌<◌, ◌≤◌, ◌++◌, ◌∷◌, [], true, false, codes, drop, length, IfOk, IfSome, OnErr, OnOk, string_bytes};
+ghost use Rattle.std.specs.Prelude.{◌≡◌, ◌<◌, ◌≤◌, ◌++◌, ◌∷◌, [], true, false, codes, drop, is_some, nat_lt, length, IfOk, IfSome, OnErr, OnOk, string_bytes};
 ghost use Rattle.std.specs.Fmt.{decimal};
 ghost use Rattle.model.specs.Definitions.Calls.{accessed, sent};
 ghost use Rattle.model.specs.Definitions.Text.{reply_line, reply_text, refusal_name, counts_text, words_text, clear_word, hex_digits, hex_code, line_feed};
 ghost use Rattle.mapdb.specs.Meaning.{counts_of};
-ghost use Rattle.trace.specs.Meaning.{reply_of, refusal_of};
+ghost use Rattle.trace.specs.Meaning.{have_one_digit, reply_of, refusal_of};
 
 use fpage::{Rights, with_status};
 use itoa::{Buffer, write_digits};
@@ -181,7 +181,8 @@ pub fn push_access(text: &mut Vec<u8>, number: u64, made: bool) -> Result<(), No
 
 /// The digit of a count below ten.
 fn digit(count: u128) -> Option<u8>
-    ensures { IfSome result (λ code. decimal count ≡ code ∷ []) }
+    ensures digit { IfSome result (λ code. decimal count ≡ code ∷ []) }
+    ensures small { is_some result ≡ nat_lt count 10 }
 {
     if count < 10 {
         Some(b'0' + count as u8)
@@ -192,7 +193,8 @@ fn digit(count: u128) -> Option<u8>
 
 /// The line of the reply to a send, if each of its counts has one digit. In place of its number stand 20 bytes.
 fn sent_line(counts: &SendReply) -> Option<[u8; 82]>
-    ensures { IfSome result (λ line. drop 20 line ≡ codes " " ++ reply_text (sent (counts_of counts.now)) ++ line_feed) }
+    ensures small { is_some result ≡ have_one_digit (counts_of counts.now) }
+    ensures line { IfSome result (λ line. drop 20 line ≡ codes " " ++ reply_text (sent (counts_of counts.now)) ++ line_feed) }
 {
     let mut line =
         *b"00000000000000000000 send absent=0 norights=0 origin=0 lost=0 extended=0 linked=0\n";
@@ -209,7 +211,8 @@ fn sent_line(counts: &SendReply) -> Option<[u8; 82]>
 /// that is so. If it is not, or memory runs out, the text stays as it was.
 pub fn push_sent(text: &mut Vec<u8>, number: u64, counts: &SendReply) -> Result<bool, NoMemory>
     ensures ok { IfOk result (λ pushed. pushed ≡ true → text.new.items ≡ text.old.items ++ reply_line number (sent (counts_of counts.now))) }
-    ensures more { IfOk result (λ pushed. pushed ≡ false → text.new.items ≡ text.old.items) }
+    ensures small { IfOk result (λ pushed. pushed ≡ have_one_digit (counts_of counts.now)) }
+    ensures none { IfOk result (λ pushed. pushed ≡ false → text.new.items ≡ text.old.items) }
     ensures err { OnErr result (text.new.items ≡ text.old.items) }
 {
     let Some(mut line) = sent_line(counts) else {
