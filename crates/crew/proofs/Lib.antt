@@ -5,3 +5,4 @@ pub mod Yields
 pub mod Wholes
 pub mod Crosses
 pub mod Dealings
+pub mod Changed

@@ -1,3 +1,4 @@
 pub mod Worked
 pub mod Hands
 pub mod Crews
+pub mod Changes

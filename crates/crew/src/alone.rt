@@ -9,9 +9,11 @@ ghost use Rattle.crew.specs.Hands.{IsFresh};
 ghost use Rattle.crew.specs.Worked.{IsWorked};
 ghost use Rattle.crew.specs.declared.error.CrewError.TheVariants.{NoWorker};
 
+use crate::change::change_alone;
 use crate::error::CrewError;
 use crate::plan::plan_in_turn;
-use crate::workers::{Alone, Planned, Workers};
+use crate::workers::{Alone, Changed, Planned, Workers};
+use maptree::Tree;
 use pieces::{Done, Piece};
 use std::alloc::{AllocError, Global};
 use turns::{Open, Turn};
@@ -81,6 +83,15 @@ impl Workers for Alone {
         plan: &(dyn Fn(usize) -> Planned + Sync),
     ) -> Result<Vec<Planned>, AllocError> {
         plan_in_turn(alloc, parts, plan)
+    }
+
+    fn change(
+        &self,
+        trees: &mut [Tree],
+        _parts: usize,
+        change: &(dyn Fn(usize, &mut [Tree]) -> Changed + Sync),
+    ) -> Changed {
+        change_alone(trees, change)
     }
 
     fn work(

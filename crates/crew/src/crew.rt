@@ -1,10 +1,13 @@
-ghost use Rattle.std.specs.Prelude.{◌≡◌, ℕ, ◌<◌, ◌≤◌, min, length, slice_index_or, IfOk};
+ghost use Rattle.std.specs.Prelude.{◌≡◌, ℕ, ◌<◌, ◌≤◌, min, length, slice_index_or, IfOk, OnOk};
+ghost use Rattle.crew.specs.Changes.{MayChange, IsChanged};
 
+use crate::change::change_together;
 use crate::error::CrewError;
 use crate::gate::{Gate, NoGate};
 use crate::plan::plan_together;
 use crate::shared::work;
-use crate::workers::{Planned, Workers};
+use crate::workers::{Changed, Planned, Workers};
+use maptree::Tree;
 use pieces::{Done, Piece};
 use std::alloc::{AllocError, Global};
 use std::sync::Wait;
@@ -106,6 +109,22 @@ impl<'a, R: Threads + Wait, G: Gate> Crew<'a, R, G> {
     {
         plan_together(self.rt, alloc, parts, plan)
     }
+
+    /// Gives a function so many parts of a list of trees, each but the first on a thread of its own, and with where it begins.
+    /// Where a thread is refused the calling thread changes the part.
+    ///
+    /// Refused, where memory is for one of them: `NoMemory`. Then nothing is known of the trees.
+    pub fn change(
+        &self,
+        trees: &mut [Tree],
+        parts: usize,
+        change: &(dyn Fn(usize, &mut [Tree]) -> Changed + Sync),
+    ) -> Changed
+        requires may { MayChange (pre change.now) 0 trees.old }
+        ensures { OnOk result (IsChanged (post change.now) 0 trees.old trees.new) }
+    {
+        change_together(self.rt, trees, parts, change)
+    }
 }
 
 /// A crew whose gate listens does the work for a type of its user's: an impl for every gate is refused (docs/DECISIONS.md).
@@ -137,6 +156,15 @@ impl<'a, R: Threads + Wait> Workers for Crew<'a, R, NoGate> {
         plan: &(dyn Fn(usize) -> Planned + Sync),
     ) -> Result<Vec<Planned>, AllocError> {
         self.plan(alloc, parts, plan)
+    }
+
+    fn change(
+        &self,
+        trees: &mut [Tree],
+        parts: usize,
+        change: &(dyn Fn(usize, &mut [Tree]) -> Changed + Sync),
+    ) -> Changed {
+        self.change(trees, parts, change)
     }
 
     fn work(

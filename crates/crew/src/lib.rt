@@ -2,6 +2,7 @@
 #![tactic(auto)]
 
 mod alone;
+mod change;
 mod crew;
 mod dealing;
 mod error;
@@ -24,4 +25,4 @@ pub use gate::{Gate, NoGate};
 pub use observe::Observe;
 pub use shared::work;
 pub use watched::work_watched;
-pub use workers::{Alone, Planned, Workers};
+pub use workers::{Alone, Changed, Planned, Workers};

@@ -1,6 +1,7 @@
 ghost use Rattle.std.specs.Prelude.{◌≡◌};
 
 use crate::error::CrewError;
+use maptree::Tree;
 use pieces::{Done, Piece, StripPlan};
 use space::NoMemory;
 use std::alloc::{AllocError, Global};
@@ -8,10 +9,14 @@ use std::alloc::{AllocError, Global};
 /// What comes of planning a part of a phase: its plan, or that memory was refused.
 pub type Planned = Result<StripPlan, NoMemory>;
 
+/// What comes of changing a part of a list of trees: it is changed, or memory was refused.
+pub type Changed = Result<(), NoMemory>;
+
 /// Who works the pieces of a phase: a `Crew`, or the calling thread, `Alone`.
 pub trait Workers {
-    ghost use Rattle.std.specs.Prelude.{◌≡◌, ℕ, ◌<◌, ◌≤◌, length, slice_index_or, IfOk, IsErrOf};
+    ghost use Rattle.std.specs.Prelude.{◌≡◌, ℕ, ◌<◌, ◌≤◌, length, slice_index_or, IfOk, OnOk, IsErrOf};
     ghost use Rattle.pieces.specs.Phases.{CanBeWorked};
+    ghost use Rattle.crew.specs.Changes.{MayChange, IsChanged};
     ghost use Rattle.crew.specs.Worked.{IsWorked};
     ghost use Rattle.crew.specs.declared.error.CrewError.TheVariants.{NoWorker};
 
@@ -51,6 +56,19 @@ pub trait Workers {
         requires each { (part : ℕ) → part < parts → pre plan.now part }
         ensures count { IfOk result (λ planned. length planned.items ≡ parts) }
         ensures each { IfOk result (λ planned. (part : ℕ) (d : _) → part < parts → post plan.now part (slice_index_or planned.items part d)) };
+
+    /// Gives a function so many parts of a list of trees, side by side, each with where it begins. Where a thread is refused the
+    /// calling thread changes the part.
+    ///
+    /// Refused, where memory is for one of them: `NoMemory`. Then nothing is known of the trees.
+    fn change(
+        &self,
+        trees: &mut [Tree],
+        parts: usize,
+        change: &(dyn Fn(usize, &mut [Tree]) -> Changed + Sync),
+    ) -> Changed
+        requires may { MayChange (pre change.now) 0 trees.old }
+        ensures { OnOk result (IsChanged (post change.now) 0 trees.old trees.new) };
 
     /// Works all pieces of a phase, and returns the words as they leave them and what each piece found out. The pieces are
     /// numbered from 0, in the order in which they are given.

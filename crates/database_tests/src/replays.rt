@@ -8,8 +8,9 @@ mod worked;
 
 use crate::assertions::{assert_equal, assert_holds};
 use audit::{AuditError, check, lines};
-use crew::{Crew, CrewError, Gate, NoGate, Planned, Workers, work};
+use crew::{Changed, Crew, CrewError, Gate, NoGate, Planned, Workers, work};
 use mapdb::{Database, DbError};
+use maptree::Tree;
 use pieces::{Done, Piece};
 use replay::{Buffers, NoWatch, Options, RunError, Summary, Watch, answer_first, run, run_by};
 use space::NoMemory;
@@ -342,6 +343,15 @@ impl<'a, R: Threads + Wait> Workers for Counted<'a, R> {
         plan: &(dyn Fn(usize) -> Planned + Sync),
     ) -> Result<Vec<Planned>, AllocError> {
         self.crew.plan(alloc, parts, plan)
+    }
+
+    fn change(
+        &self,
+        trees: &mut [Tree],
+        parts: usize,
+        change: &(dyn Fn(usize, &mut [Tree]) -> Changed + Sync),
+    ) -> Changed {
+        self.crew.change(trees, parts, change)
     }
 
     fn work(

@@ -6,8 +6,9 @@ ghost use Rattle.pieces.specs.Phases.{CanBeWorked};
 
 use crate::assertions::assert_equal;
 use crate::by_turns::one_piece;
-use crew::{Alone, Crew, CrewError, Gate, NoGate, Planned, Workers, work};
+use crew::{Alone, Changed, Crew, CrewError, Gate, NoGate, Planned, Workers, work};
 use fpage::{Access, Rights};
+use maptree::Tree;
 use pieces::{
     Done, FrameRuns, Gathered, Pair, Piece, Runs, Store, Strip, StripPlan, WordAccess, gather,
     links, moves, touches,
@@ -471,6 +472,15 @@ impl<'a, R: Threads + Wait> Workers for Held<'a, R> {
         plan: &(dyn Fn(usize) -> Planned + Sync),
     ) -> Result<Vec<Planned>, AllocError> {
         self.crew.plan(alloc, parts, plan)
+    }
+
+    fn change(
+        &self,
+        trees: &mut [Tree],
+        parts: usize,
+        change: &(dyn Fn(usize, &mut [Tree]) -> Changed + Sync),
+    ) -> Changed {
+        self.crew.change(trees, parts, change)
     }
 
     fn work(

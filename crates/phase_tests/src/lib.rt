@@ -8,6 +8,8 @@ mod by_turns;
 #[cfg(test)]
 mod by_workers;
 #[cfg(test)]
+mod changes;
+#[cfg(test)]
 mod gates;
 #[cfg(test)]
 mod observers;

@@ -3,9 +3,10 @@
 use super::calls::{At, Step, index_of, page, work, work_all};
 use super::unmaps::CHAIN;
 use crate::assertions::assert_equal;
-use crew::{Alone, CrewError, Planned, Workers};
+use crew::{Alone, Changed, CrewError, Planned, Workers};
 use fpage::Rights;
 use mapdb::{Database, DbError};
+use maptree::Tree;
 use pieces::{Done, Piece, Strip};
 use space::Place;
 use std::alloc::{AllocError, Global};
@@ -86,6 +87,15 @@ impl<'a, T: Abort> Workers for Looking<'a, T> {
         plan: &(dyn Fn(usize) -> Planned + Sync),
     ) -> Result<Vec<Planned>, AllocError> {
         Alone.plan(alloc, parts, plan)
+    }
+
+    fn change(
+        &self,
+        trees: &mut [Tree],
+        parts: usize,
+        change: &(dyn Fn(usize, &mut [Tree]) -> Changed + Sync),
+    ) -> Changed {
+        Alone.change(trees, parts, change)
     }
 
     fn work(

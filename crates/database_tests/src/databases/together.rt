@@ -3,9 +3,10 @@
 use super::calls::{At, GRANT, MAP, NO_PAIRS, Step, work, work_all};
 use super::unmaps::CHAIN;
 use crate::assertions::{assert_equal, assert_holds};
-use crew::{Crew, CrewError, Gate, NoGate, Planned, Workers};
+use crew::{Changed, Crew, CrewError, Gate, NoGate, Planned, Workers};
 use fpage::Access;
 use mapdb::{Database, DbError, SendReply};
+use maptree::Tree;
 use pieces::{Done, Piece};
 use std::alloc::{AllocError, Global};
 use std::process::Abort;
@@ -112,6 +113,15 @@ impl<'a, R: Threads + Wait> Workers for Held<'a, R> {
         plan: &(dyn Fn(usize) -> Planned + Sync),
     ) -> Result<Vec<Planned>, AllocError> {
         self.crew.plan(alloc, parts, plan)
+    }
+
+    fn change(
+        &self,
+        trees: &mut [Tree],
+        parts: usize,
+        change: &(dyn Fn(usize, &mut [Tree]) -> Changed + Sync),
+    ) -> Changed {
+        self.crew.change(trees, parts, change)
     }
 
     fn work(
