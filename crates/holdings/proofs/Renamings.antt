@@ -2,4 +2,5 @@
 pub mod MovedPages
 pub mod MovingWords
 pub mod MovingTrees
+pub mod Parts
 pub mod OneLink

@@ -1,16 +1,18 @@
 //! Pages that are mapped or moved to targets, and the new mappings in the trees.
 
-ghost use Rattle.std.specs.Prelude.{◌≡◌, ◌∷◌, [], IfOk, OnOk, IsFalse};
+ghost use Rattle.std.specs.Prelude.{◌≡◌, ◌∷◌, [], length, IfOk, OnOk, IsFalse};
 ghost use Rattle.std.specs.Option.{option_to_list};
 ghost use Rattle.std.specs.List.{All};
 ghost use Rattle.space.specs.Shards.{IsPlace, is_taken};
-ghost use Rattle.holdings.specs.Inner.Links.{links_of, AreLinkable, AreLinked};
+ghost use Rattle.holdings.specs.Inner.Links.{links_of, links_between, AreLinkable, AreLinked, ArePut, CanBePut};
 ghost use Rattle.holdings.specs.Inner.Planning.{counts_in};
 ghost use Rattle.holdings.specs.Meaning.{counts_of};
 
+use crate::batches::planners_for;
 use crate::transfer::Transfer;
 use crate::transfer_counts::TransferCounts;
 use crate::tree::derive;
+use crew::{Changed, Workers};
 use maptree::Tree;
 use space::{NoMemory, Place, Shards};
 use std::alloc::{AllocError, Global};
@@ -38,15 +40,58 @@ pub fn link_all(
     ensures linked { OnOk result (AreLinked (links_of shards.now transfers.now) trees.old trees.new) }
     ensures counts { IfOk result (λ counts. counts_of counts ≡ counts_in shards.now transfers.now) }
 {
-    let mut counts = TransferCounts::none();
+    link_part(shards, 0, trees, transfers)?;
+    Ok(TransferCounts::of_all(shards, transfers))
+}
+
+/// The same as `link_all`. Where the transfers are many, the workers put the new mappings into parts of the trees side by
+/// side.
+///
+/// Refused, where memory is: `NoMemory`.
+pub fn link_together<W: Workers>(
+    shards: &Shards,
+    trees: &mut [Tree],
+    transfers: &[Transfer],
+    workers: &W,
+) -> Result<TransferCounts, NoMemory>
+    requires present { IsFalse (is_taken shards.now) }
+    requires places { All (λ t. IsPlace shards.now t.source) transfers.now }
+    requires linkable { AreLinkable trees.old (links_of shards.now transfers.now) }
+    ensures linked { OnOk result (AreLinked (links_of shards.now transfers.now) trees.old trees.new) }
+    ensures counts { IfOk result (λ counts. counts_of counts ≡ counts_in shards.now transfers.now) }
+{
+    let parts = planners_for(transfers.len() / workers.piece_length(), workers);
+    let put = move |start: usize, part: &mut [Tree]| -> Changed
+        requires { CanBePut shards.now transfers.now start part.now }
+        ensures { OnOk result (ArePut shards.entry.now transfers.entry.now start part.entry.now part.exit.now) }
+    { link_part(shards, start, part, transfers) };
+    workers.change(trees, parts, &put)?;
+    Ok(TransferCounts::of_all(shards, transfers))
+}
+
+/// Puts those of the new mappings into their trees whose trees are a part of all, which begins at the tree of this number.
+///
+/// Refused, where memory is: `NoMemory`.
+fn link_part(
+    shards: &Shards,
+    start: usize,
+    part: &mut [Tree],
+    transfers: &[Transfer],
+) -> Result<(), NoMemory>
+    requires present { IsFalse (is_taken shards.now) }
+    requires places { All (λ t. IsPlace shards.now t.source) transfers.now }
+    requires linkable { AreLinkable part.old (links_between start (length part.old) (links_of shards.now transfers.now)) }
+    ensures { OnOk result (AreLinked (links_between start (length part.old) (links_of shards.now transfers.now)) part.old part.new) }
+{
     for transfer in transfers {
-        let one = TransferCounts::of_one(shards, *transfer);
-        counts = counts.plus(one);
         if let Some(link) = new_link(shards, *transfer) {
-            derive(&mut trees[link.frame as usize], link.source, link.target)?;
+            let frame = link.frame as usize;
+            if frame >= start && frame - start < part.len() {
+                derive(&mut part[frame - start], link.source, link.target)?;
+            }
         }
     }
-    Ok(counts)
+    Ok(())
 }
 
 /// The link of a transfer, if it goes and its source is held, as the words stand.

@@ -12,7 +12,7 @@ ghost use Rattle.holdings.specs.Inner.Planning.{stores_of};
 
 use crate::holdings::Holdings;
 use crate::item_batches::{Passing, item_pieces};
-use crate::link::link_all;
+use crate::link::link_together;
 use crate::making::make_targets;
 use crate::transfer::Transfer;
 use crate::transfer_counts::TransferCounts;
@@ -52,7 +52,7 @@ impl Holdings {
         make_targets(&mut shards, transfers)?;
         let passing = Passing::Mapped(rights);
         let pieces = item_pieces(alloc, &shards, transfers, passing, workers)?;
-        let counts = link_all(&shards, &mut trees, transfers)?;
+        let counts = link_together(&shards, &mut trees, transfers, workers)?;
         write_phase(alloc, &mut shards, pieces, workers)?;
         Ok((Holdings { shards, trees }, counts))
     }

@@ -13,7 +13,7 @@ use crate::phase::is_small;
 use crate::renaming::rename_all;
 use crate::transfer::Transfer;
 use crate::transfer_counts::TransferCounts;
-use crew::{CrewError, Workers};
+use crew::{Alone, CrewError, Workers};
 use fpage::{ItemKind, Rights};
 use maptree::Tree;
 use space::{Place, Shards};
@@ -54,7 +54,7 @@ impl Holdings {
             mut trees,
         } = self;
         make_targets(&mut shards, transfers)?;
-        let counts = rename_all(alloc, &shards, &mut trees, transfers)?;
+        let counts = rename_all(alloc, &shards, &mut trees, transfers, &Alone)?;
         for transfer in transfers {
             move_page(&mut shards, transfer.source, transfer.target);
         }

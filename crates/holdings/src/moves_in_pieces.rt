@@ -50,7 +50,7 @@ impl Holdings {
         } = self;
         make_targets(&mut shards, transfers)?;
         let pieces = item_pieces(alloc, &shards, transfers, Passing::Moved, workers)?;
-        let counts = rename_all(alloc, &shards, &mut trees, transfers)?;
+        let counts = rename_all(alloc, &shards, &mut trees, transfers, workers)?;
         write_phase(alloc, &mut shards, pieces, workers)?;
         Ok((Holdings { shards, trees }, counts))
     }

@@ -1,30 +1,35 @@
-//! Pages that move, in the trees: those of one frame in one pass.
+//! Pages that move, in the trees: those of one frame in one pass, and the trees in parts side by side where they are many.
 
-ghost use Rattle.std.specs.Prelude.{◌∷◌, [], None, OnOk, IsFalse, ◌≡◌, ◌≤◌, IfOk};
+ghost use Rattle.std.specs.Prelude.{◌∷◌, [], None, OnOk, IsFalse, ◌≡◌, ◌<◌, ◌≤◌, length, IfOk};
 ghost use Rattle.std.specs.List.{All};
 ghost use Rattle.space.specs.Shards.{IsPlace, is_taken};
-ghost use Rattle.holdings.specs.Inner.Links.{last_target, links_of, AreTargets};
+ghost use Rattle.holdings.specs.Inner.Links.{last_target, links_between, links_of, AreTargets};
 ghost use Rattle.holdings.specs.Inner.Planning.{counts_in};
-ghost use Rattle.holdings.specs.Inner.Renamings.{AreMovable, AreRenamed};
+ghost use Rattle.holdings.specs.Inner.Renamings.{AreMovable, AreRenamed, CanBeRenamed};
 ghost use Rattle.holdings.specs.Meaning.{counts_of};
 ghost use Rattle.maptree.specs.PlaceMaps.{place_for};
 
+use crate::batches::planners_for;
 use crate::link::{Link, new_link, new_links};
 use crate::transfer::Transfer;
 use crate::transfer_counts::TransferCounts;
 use crate::tree::replace;
+use crew::{Changed, Workers};
 use maptree::{PlaceMap, Tree};
-use space::Shards;
+use space::{NoMemory, Shards};
 use std::alloc::{AllocError, Global};
 
 /// Replaces the source of each transfer that goes, and whose source is held, by its target in the trees, as a place and as an
-/// origin. Counts what becomes of the transfers.
-pub fn rename_all(
+/// origin. Counts what becomes of the transfers. Where they are many, the workers rename parts of the trees side by side.
+///
+/// Refused, where memory is: `NoMemory`.
+pub fn rename_all<W: Workers>(
     alloc: Global,
     shards: &Shards,
     trees: &mut [Tree],
     transfers: &[Transfer],
-) -> Result<TransferCounts, AllocError>
+    workers: &W,
+) -> Result<TransferCounts, NoMemory>
     requires present { IsFalse (is_taken shards.now) }
     requires places { All (λ t. IsPlace shards.now t.source) transfers.now }
     requires movable { AreMovable trees.old (links_of shards.now transfers.now) }
@@ -39,7 +44,7 @@ pub fn rename_all(
         return Ok(TransferCounts::of_one(shards, *transfer));
     }
     let (links, counts) = new_links(alloc, shards, transfers)?;
-    rename_links(alloc, trees, links)?;
+    rename_links(alloc, trees, links, workers)?;
     Ok(counts)
 }
 
@@ -52,8 +57,15 @@ fn rename_link(trees: &mut [Tree], link: Link)
     replace(tree, link.source, link.target);
 }
 
-/// Replaces each source by its target in the trees. A tree is passed over once, however many of its places move.
-fn rename_links(alloc: Global, trees: &mut [Tree], mut links: Vec<Link>) -> Result<(), AllocError>
+/// Replaces each source by its target in the trees.
+///
+/// Refused, where memory is: `NoMemory`.
+fn rename_links<W: Workers>(
+    alloc: Global,
+    trees: &mut [Tree],
+    mut links: Vec<Link>,
+    workers: &W,
+) -> Result<(), NoMemory>
     requires { AreMovable trees.old links.items }
     ensures { OnOk result (AreRenamed (λ p. last_target links.items p None) links.items trees.old trees.new) }
 {
@@ -62,14 +74,46 @@ fn rename_links(alloc: Global, trees: &mut [Tree], mut links: Vec<Link>) -> Resu
     };
     let targets = targets_of(alloc, first.source.space, &links)?;
     links.sort_unstable_by_key(|link| link.frame);
+    let parts = planners_for(links.len() / workers.piece_length(), workers);
+    rename_parts(trees, &links, &targets, parts, workers)
+}
+
+/// Replaces places by their targets in the trees of these links, in so many parts of the trees side by side.
+fn rename_parts<W: Workers>(
+    trees: &mut [Tree],
+    links: &[Link],
+    targets: &PlaceMap,
+    parts: usize,
+    workers: &W,
+) -> Changed
+    requires can { CanBeRenamed (place_for targets.now) trees.old }
+    requires frames { All (λ l. l.frame < length trees.old) links.now }
+    ensures { OnOk result (AreRenamed (place_for targets.now) links.now trees.old trees.new) }
+{
+    let rename = move |start: usize, part: &mut [Tree]| -> Changed
+        requires { CanBeRenamed (place_for targets.now) part.now }
+        ensures { OnOk result (AreRenamed (place_for targets.entry.now) (links_between start (length part.entry.now) links.entry.now) part.entry.now part.exit.now) }
+    {
+        rename_part(start, part, links, targets);
+        Ok(())
+    };
+    workers.change(trees, parts, &rename)
+}
+
+/// The same in a part of the trees, which begins at the tree of this number. A tree is passed over once, however many of its
+/// places move, where the links of its frame stand together.
+fn rename_part(start: usize, part: &mut [Tree], links: &[Link], targets: &PlaceMap)
+    requires { CanBeRenamed (place_for targets.now) part.old }
+    ensures { AreRenamed (place_for targets.now) (links_between start (length part.old) links.now) part.old part.new }
+{
     let mut passed = None;
-    for link in &links {
-        if passed != Some(link.frame) {
-            trees[link.frame as usize].rename_all(&targets);
+    for link in links {
+        let frame = link.frame as usize;
+        if frame >= start && frame - start < part.len() && passed != Some(link.frame) {
+            part[frame - start].rename_all(targets);
             passed = Some(link.frame);
         }
     }
-    Ok(())
 }
 
 /// The targets, each for its source.

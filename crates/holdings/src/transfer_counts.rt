@@ -75,6 +75,20 @@ impl TransferCounts {
         }
     }
 
+    /// All of these transfers.
+    pub(crate) fn of_all(shards: &Shards, transfers: &[Transfer]) -> Self
+        requires present { IsFalse (is_taken shards.now) }
+        requires places { All (λ t. IsPlace shards.now t.source) transfers.now }
+        ensures { counts_of result ≡ counts_in shards.now transfers.now }
+    {
+        let mut counts = TransferCounts::none();
+        for transfer in transfers {
+            let one = TransferCounts::of_one(shards, *transfer);
+            counts = counts.plus(one);
+        }
+        counts
+    }
+
     /// The transfers of both.
     pub(crate) fn plus(self, more: TransferCounts) -> Self
         requires { total (counts_of self) + total (counts_of more) < 2 ^ 64 }

@@ -1,13 +1,10 @@
 -- The trees of pages that move: in the tree of each frame that one of them has, sources are replaced by targets.
-use Rattle.std.proofs.Common.{◌≡◌, ℕ, ◌+◌, ◌<◌, ◌≤◌, ◌==◌, true, false, Bool, ◌||◌, List, [], ◌∷◌, length, take, get_or, Option, Some, None, option_map, unwrap_or, refl, sym, ap, ◌∙◌, subst, ◌⊎◌, inl, inr, if◌then◌else◌}
-use Rattle.std.specs.Prelude.{slice_set}
+use Rattle.std.proofs.Common.{◌≡◌, ℕ, ◌<◌, ◌==◌, true, false, Bool, ◌||◌, List, [], ◌∷◌, length, get_or, Option, Some, None, refl, sym, ap, ◌∙◌, subst, ◌⊎◌, inl, inr, if◌then◌else◌}
 use Rattle.std.specs.List.{All}
 use Rattle.std.specs.List.Sorted.{IsPermutation}
 use Rattle.std.specs.Option.{is_some}
-use Rattle.std.proofs.lemmas.Bool.{or_parts, eq-eqb, eqb-true, cases_eq, false_from_ne_true}
+use Rattle.std.proofs.lemmas.Bool.{eq-eqb}
 use Rattle.std.proofs.lemmas.Option.{same_Some}
-use Rattle.std.proofs.lemmas.List.{take_all}
-use Rattle.std.proofs.lemmas.List.Folds.{list_any_more}
 use Rattle.std.proofs.lemmas.List.Sorted.{All-permutation, list_any-IsPermutation}
 use Rattle.std.proofs.lemmas.List.Elements.{All-nil, All-cons, All-head, All-tail, All-get_or}
 use Rattle.space.specs.declared.place.Place.{Place}
@@ -16,8 +13,9 @@ use Rattle.space.specs.declared.shards.Shards.{Shards}
 use Rattle.space.specs.Place.{same_place}
 use Rattle.space.specs.Shards.{entry_at}
 use Rattle.space.proofs.Places.{same_self, same_or_apart, apart_back}
-use Rattle.maptree.specs.Origins.{Shape, Origins}
-use Rattle.maptree.specs.Renamings.{replaced_by, all_renamed, StayApart}
+use Rattle.maptree.specs.Origins.{Shape}
+use Rattle.maptree.specs.PlaceMaps.{IsApart}
+use Rattle.maptree.specs.Renamings.{all_renamed, StayApart}
 use Rattle.model.specs.Definitions.Holdings.{Holdings, at, is_held}
 use Rattle.model.specs.Definitions.Calls.{Limits}
 use Rattle.model.specs.Definitions.Items.{Pair, sources_of}
@@ -30,61 +28,21 @@ use Rattle.holdings.specs.declared.transfer.Transfer.{Transfer}
 use Rattle.holdings.specs.Places.{IsWithin}
 use Rattle.holdings.specs.Inner.Held.{links_in, is_listed, holdings_of, limits_in, holdings_in}
 use Rattle.holdings.specs.Inner.Sound.{IsSound, AreSound}
-use Rattle.holdings.specs.Inner.Links.{IsTreeSet, link_of, links_of, last_target, AreTargets}
+use Rattle.holdings.specs.Inner.Links.{link_of, links_of, last_target, AreTargets}
 use Rattle.holdings.specs.Sending.{IsTransferWithin, ArePaired, ArePlanned, AllGo, moving_of, pair_of}
-use Rattle.holdings.specs.Inner.Renamings.{is_of_frame, AreMovable, AreRenamed}
-use Rattle.holdings.proofs.Contents.Holders.{present_within, absent_within, links_read}
-use Rattle.holdings.proofs.Links.NewMappings.{tree_set}
+use Rattle.holdings.specs.Inner.Renamings.{is_of_frame, AreMovable, AreRenamed, CanBeRenamed}
+use Rattle.holdings.proofs.Contents.Holders.{present_within, absent_within}
 use Rattle.holdings.proofs.Links.LinkedTrees.{no_link, some_or, IsAt, last_some, told_none}
-use Rattle.holdings.proofs.Renamings.MovedPages.{IsFrameMoved, are_replaced, are_kept, AreWordsMoved, stood_replaced, stay_apart, held_listed, moved_holdings, moved_sound}
+use Rattle.holdings.proofs.Renamings.MovedPages.{IsFrameMoved, are_replaced, are_kept, AreWordsMoved, stay_apart, held_listed, moved_holdings, moved_sound}
 use Rattle.holdings.proofs.Renamings.MovingWords.{in_moving, paired_moving}
 
--- ---- places that are replaced again
+-- ---- the targets that are told
 
--- what stands for a place is replaced by nothing
-abbrev AreLast : (Place → Option Place) → Type 0
-AreLast new = (p q : Place) → new p ≡ Some q → new q ≡ None
-
-module _ (new : Place → Option Place) (last : AreLast new) where
-  replaced_twice : (p : Place) → replaced_by new (replaced_by new p) ≡ replaced_by new p
-  replaced_twice p = by (new p) refl
-    where
-      by : (o : Option Place) → new p ≡ o → replaced_by new (unwrap_or o p) ≡ unwrap_or o p
-      by None is = ap (λ o. unwrap_or o p) is
-      by (Some q) is = ap (λ o. unwrap_or o q) (last p q is)
-
-  renamed_twice : (os : Origins) → all_renamed new (all_renamed new os) ≡ all_renamed new os
-  renamed_twice [] = refl
-  renamed_twice (o ∷ os) = λ i. (replaced_twice o.0 i, by o.1 i) ∷ renamed_twice os i
-    where
-      by : (o : Option Place) → option_map (replaced_by new) (option_map (replaced_by new) o) ≡ option_map (replaced_by new) o
-      by None = refl
-      by (Some p) = ap Some (replaced_twice p)
-
-  apart_again : (os : Origins) → StayApart new (all_renamed new os)
-  apart_again os p q there_p there_q one =
-      let a = stood_replaced new os p there_p in
-      let b = stood_replaced new os q there_q in
-      sym (stays a.0 p a.2) ∙ one ∙ stays b.0 q b.2
-    where
-      stays : (x p : Place) → replaced_by new x ≡ p → replaced_by new p ≡ p
-      stays x p is = ap (replaced_by new) (sym is) ∙ replaced_twice x ∙ is
-
--- ---- tree by tree
-
--- places were replaced in the trees of the first of these, and this was the last frame
-pub record AreRenaming (new : Place → Option Place) (first : List Shape) (ls : List Link) (i : ℕ) (trees : List Shape) (last : Option ℕ) : Type 0 where
-  pub are : AreRenamed new (take i ls) first trees
-  pub passed : (f : ℕ) → last ≡ Some f → is_of_frame (take i ls) f ≡ true
-
-pub none_renamed : (new : Place → Option Place) (first : List Shape) (ls : List Link) → AreRenaming new first ls 0 first None
-none_renamed new first ls = record { are = record { count = refl; there = λ f is. absurd (cc is); elsewhere = λ f none. refl }; passed = λ f is. absurd (cc is) }
-
-module _ (new : Place → Option Place) (first : List Shape) (ls sorted : List Link) (order : IsPermutation ls sorted) (movable : AreMovable first ls) (targets : AreTargets ls new) where
+module _ (new : Place → Option Place) (first : List Shape) (ls : List Link) (movable : AreMovable first ls) (targets : AreTargets ls new) where
   told : new ≡ (λ p. last_target ls p None)
   told = λ i p. targets p i
 
-  are_last : AreLast new
+  are_last : IsApart new
   are_last p q is = by (new q) refl
     where
       space_of : (k : ℕ) → k < length ls → (get_or ls k no_link).source.space ≡ movable.space
@@ -99,99 +57,23 @@ module _ (new : Place → Option Place) (first : List Shape) (ls sorted : List L
           choose (inr none) _ = absurd (cc none)
           choose _ (inr none) = absurd (cc none)
 
-  apart_first : (f : ℕ) → StayApart new (links_in first f)
-  apart_first f = subst (λ n. StayApart n (links_in first f)) (sym told) (movable.apart f)
+  -- they can stand for their sources
+  pub can_be_renamed : CanBeRenamed new first
+  can_be_renamed = record { apart = λ f. subst (λ n. StayApart n (links_in first f)) (sym told) (movable.apart f); last = are_last }
 
-  module _ (i : ℕ) (d : Link) (within : i < length sorted) (trees : List Shape) (last : Option ℕ) (so_far : AreRenaming new first sorted i trees last) where
-    abbrev l : Link
-    l = get_or sorted i d
+  module _ (sorted : List Link) (order : IsPermutation ls sorted) where
+    pub frames_within : All (λ l. l.frame < length first) sorted
+    frames_within = All-permutation (λ m. m.frame < length first) ls sorted order movable.frames
 
-    of_more : (f : ℕ) → is_of_frame (take (i + 1) sorted) f ≡ (is_of_frame (take i sorted) f || (l.frame == f))
-    of_more f = list_any_more (λ (m : Link). m.frame == f) sorted i d within
-
-    pub frame_within : l.frame < length trees
-    frame_within = subst (λ n. l.frame < n) (sym so_far.are.count) (All-get_or (λ (m : Link). m.frame < length first) sorted i d within (All-permutation (λ m. m.frame < length first) ls sorted order movable.frames))
-
-    -- the tree of a frame is as it was, or its places are replaced
-    either : (f : ℕ) → (links_in trees f ≡ all_renamed new (links_in first f)) ⊎ ((is_of_frame (take i sorted) f ≡ false) × (links_in trees f ≡ links_in first f))
-    either f = by (is_of_frame (take i sorted) f) refl
-      where
-        by : (b : Bool) → is_of_frame (take i sorted) f ≡ b → (links_in trees f ≡ all_renamed new (links_in first f)) ⊎ ((is_of_frame (take i sorted) f ≡ false) × (links_in trees f ≡ links_in first f))
-        by true is = inl (so_far.are.there f is)
-        by false is = inr (is, so_far.are.elsewhere f is)
-
-    -- replacing them gives the same
-    replaced_there : (f : ℕ) → all_renamed new (links_in trees f) ≡ all_renamed new (links_in first f)
-    replaced_there f = by (either f)
-      where
-        by : (links_in trees f ≡ all_renamed new (links_in first f)) ⊎ ((is_of_frame (take i sorted) f ≡ false) × (links_in trees f ≡ links_in first f)) → all_renamed new (links_in trees f) ≡ all_renamed new (links_in first f)
-        by (inl is) = ap (all_renamed new) is ∙ renamed_twice new are_last (links_in first f)
-        by (inr (_, is)) = ap (all_renamed new) is
-
-    apart_now : (f : ℕ) → StayApart new (links_in trees f)
-    apart_now f = by (either f)
-      where
-        by : (links_in trees f ≡ all_renamed new (links_in first f)) ⊎ ((is_of_frame (take i sorted) f ≡ false) × (links_in trees f ≡ links_in first f)) → StayApart new (links_in trees f)
-        by (inl is) = subst (StayApart new) (sym is) (apart_again new are_last (links_in first f))
-        by (inr (_, is)) = subst (StayApart new) (sym is) (apart_first f)
-
-    -- the next has the frame that was passed
-    pub step_passed : last ≡ Some l.frame → AreRenaming new first sorted (i + 1) trees last
-    step_passed is = record {
-      are = record {
-        count = so_far.are.count;
-        there = λ f some. so_far.are.there f (was f some);
-        elsewhere = λ f none. so_far.are.elsewhere f (or_parts (is_of_frame (take i sorted) f) (l.frame == f) (sym (of_more f) ∙ none)).0;
-      };
-      passed = λ f is_f. of_more f ∙ ap (λ b. b || (l.frame == f)) (so_far.passed f is_f);
-    }
-      where
-        was : (f : ℕ) → is_of_frame (take (i + 1) sorted) f ≡ true → is_of_frame (take i sorted) f ≡ true
-        was f some = by (is_of_frame (take i sorted) f) refl (sym (of_more f) ∙ some)
-          where
-            by : (b : Bool) → is_of_frame (take i sorted) f ≡ b → (b || (l.frame == f)) ≡ true → is_of_frame (take i sorted) f ≡ true
-            by true there _ = there
-            by false none same = absurd (cc (none, ap (is_of_frame (take i sorted)) (sym (eqb-true l.frame f same)), so_far.passed l.frame is))
-
-    module _ (t : Shape) (read : t ≡ get_or trees l.frame t) where
-      links_now : links_in trees l.frame ≡ (get_or trees l.frame t).links
-      links_now = links_read trees l.frame t frame_within read ∙ ap (λ (x : Shape). x.links) read
-
-      pub apart_there : StayApart new (get_or trees l.frame t).links
-      apart_there = subst (StayApart new) links_now (apart_now l.frame)
-
-      -- places are replaced in the tree of its frame
-      pub step_renamed : (next : Shape) → next.links ≡ all_renamed new (get_or trees l.frame t).links → (now : Option ℕ) → now ≡ Some l.frame → AreRenaming new first sorted (i + 1) (slice_set trees l.frame next) now
-      step_renamed next renamed now now_is =
-          let set = tree_set trees l.frame next frame_within in
-          record {
-            are = record { count = set.count ∙ so_far.are.count; there = λ f some. there f some set (cases_eq f l.frame); elsewhere = λ f none. elsewhere f set (or_parts (is_of_frame (take i sorted) f) (l.frame == f) (sym (of_more f) ∙ none)) };
-            passed = λ f is_f. of_more f ∙ (let same : l.frame ≡ f = same_Some l.frame f (sym now_is ∙ is_f) in some_or (is_of_frame (take i sorted) f) (l.frame == f) (eq-eqb l.frame f same));
-          }
-        where
-          there : (f : ℕ) → is_of_frame (take (i + 1) sorted) f ≡ true → IsTreeSet trees (slice_set trees l.frame next) l.frame next.links → (f ≡ l.frame) ⊎ (f ≡ l.frame → ⊥) → links_in (slice_set trees l.frame next) f ≡ all_renamed new (links_in first f)
-          there f some set (inl same) =
-              subst (λ g. links_in (slice_set trees l.frame next) g ≡ all_renamed new (links_in first g)) (sym same) (set.there ∙ renamed ∙ ap (all_renamed new) (sym links_now) ∙ replaced_there l.frame)
-          there f some set (inr differ) =
-              let other : (l.frame == f) ≡ false = false_from_ne_true _ (λ is. differ (sym (eqb-true l.frame f is))) in
-              set.elsewhere f differ ∙ so_far.are.there f (by (is_of_frame (take i sorted) f) (ap (λ b. is_of_frame (take i sorted) f || b) (sym other) ∙ sym (of_more f) ∙ some))
-            where
-              by : (b : Bool) → (b || false) ≡ true → b ≡ true
-              by true is = refl
-              by false is = is
-
-          elsewhere : (f : ℕ) → IsTreeSet trees (slice_set trees l.frame next) l.frame next.links → (is_of_frame (take i sorted) f ≡ false) × ((l.frame == f) ≡ false) → links_in (slice_set trees l.frame next) f ≡ links_in first f
-          elsewhere f set parts = set.elsewhere f (λ same. cc (parts.1, eq-eqb l.frame f (sym same))) ∙ so_far.are.elsewhere f parts.0
-
-  -- all trees
-  pub all_trees : (i : ℕ) (trees : List Shape) (last : Option ℕ) → length sorted ≤ i → AreRenaming new first sorted i trees last → AreRenamed (λ p. last_target ls p None) ls first trees
-  all_trees i trees last past so_far =
-      let same : (f : ℕ) → is_of_frame ls f ≡ is_of_frame (take i sorted) f = λ f. list_any-IsPermutation (λ (l : Link). l.frame == f) ls sorted order ∙ ap (λ ls. is_of_frame ls f) (sym (take_all i sorted past)) in
-      subst (λ n. AreRenamed n ls first trees) told (record {
-        count = so_far.are.count;
-        there = λ f some. so_far.are.there f (sym (same f) ∙ some);
-        elsewhere = λ f none. so_far.are.elsewhere f (sym (same f) ∙ none);
-      })
+    -- the order of the links is nothing to the trees
+    pub in_any_order : (trees : List Shape) → AreRenamed new sorted first trees → AreRenamed (λ p. last_target ls p None) ls first trees
+    in_any_order trees are =
+        let same : (f : ℕ) → is_of_frame ls f ≡ is_of_frame sorted f = λ f. list_any-IsPermutation (λ (l : Link). l.frame == f) ls sorted order in
+        subst (λ n. AreRenamed n ls first trees) told (record {
+          count = are.count;
+          there = λ f some. are.there f (sym (same f) ∙ some);
+          elsewhere = λ f none. are.elsewhere f (sym (same f) ∙ none);
+        })
 
 -- ---- the pages that move
 

@@ -1,10 +1,10 @@
 -- The new mappings of an item, put into the trees before the words say so.
 use Rattle.std.specs.List.{list_any, All}
-use Rattle.std.specs.Prelude.{◌≡◌, ℕ, ◌<◌, ◌≤◌, true, List, length, Option, Some, None, ◌==◌, ◌&&◌, Bool, false, [], ◌∷◌, option_map, ◌||◌, IsFalse, if◌then◌else◌, count_by}
+use Rattle.std.specs.Prelude.{◌≡◌, ℕ, ◌+◌, ◌-◌, ◌<◌, ◌≤◌, nat_lt, not, true, List, length, Option, Some, None, ◌==◌, ◌&&◌, Bool, false, [], ◌∷◌, option_map, ◌||◌, IsFalse, if◌then◌else◌, count_by}
 use Rattle.fpage.specs.Rights.{no_rights, meet}
 use Rattle.fpage.specs.declared.rights.Rights.{Rights}
 use Rattle.space.specs.Place.{same_place}
-use Rattle.space.specs.Shards.{entry_at, is_taken, IsSetAt, IsLaidOutAs}
+use Rattle.space.specs.Shards.{IsPlace, entry_at, is_taken, IsSetAt, IsLaidOutAs}
 use Rattle.space.specs.declared.place.Entry.{Entry}
 use Rattle.space.specs.declared.place.Place.{Place}
 use Rattle.space.specs.declared.shards.Shards.{Shards}
@@ -39,6 +39,19 @@ pub record AreLinked (ls : List Link) (old new : List Shape) : Type 0 where
   pub stands : (f : ℕ) (p : Place) → is_listed new f p ≡ (is_new_of ls f p || is_listed old f p)
   pub elsewhere : (f : ℕ) (p : Place) → is_new_of ls f p ≡ false → origin_in (links_in new f) p ≡ origin_in (links_in old f) p
   pub there : All (λ l. origin_in (links_in new l.frame) l.target ≡ Some l.source) ls
+
+-- its tree is one of so many from one on
+abbrev pub is_between : ℕ → ℕ → Link → Bool
+is_between start count l = not (nat_lt l.frame start) && nat_lt l.frame (start + count)
+
+-- the same, where trees are counted from that one on
+abbrev pub counted_from : ℕ → Link → Link
+counted_from start l = record { frame = l.frame - start; source = l.source; target = l.target }
+
+-- those whose trees are so many from one on, where trees are counted from that one on
+abbrev pub links_between : ℕ → ℕ → List Link → List Link
+links_between start count [] = []
+links_between start count (l ∷ ls) = if is_between start count l then counted_from start l ∷ links_between start count ls else links_between start count ls
 
 -- each can be put into the tree of its frame: its source stands there, its target in no tree, and no two have one target
 pub record AreLinkable (trees : List Shape) (ls : List Link) : Type 0 where
@@ -80,3 +93,13 @@ last_target (l ∷ ls) p last = last_target ls p (if same_place p l.source then 
 -- each source has its target
 abbrev pub AreTargets : List Link → (Place → Option Place) → Type 0
 AreTargets ls new = (p : Place) → new p ≡ last_target ls p None
+
+-- those new mappings of transfers can be put into a part of the trees, which begins at the tree of this number, whose trees are there
+pub record CanBePut (s : Shards) (ts : List Transfer) (start : ℕ) (part : List Shape) : Type 0 where
+  pub present : IsFalse (is_taken s)
+  pub places : All (λ t. IsPlace s t.source) ts
+  pub linkable : AreLinkable part (links_between start (length part) (links_of s ts))
+
+-- they were put there
+abbrev pub ArePut : Shards → List Transfer → ℕ → List Shape → List Shape → Type 0
+ArePut s ts start old new = AreLinked (links_between start (length old) (links_of s ts)) old new

@@ -8,6 +8,7 @@ use Rattle.space.specs.declared.place.Entry.{Entry}
 use Rattle.space.specs.declared.place.Place.{Place}
 use Rattle.space.specs.declared.shards.Shards.{Shards}
 use Rattle.maptree.specs.Origins.{Shape}
+use Rattle.maptree.specs.PlaceMaps.{IsApart}
 use Rattle.maptree.specs.Renamings.{all_renamed, StayApart}
 use Rattle.holdings.specs.Inner.Held.{links_in, is_listed}
 use Rattle.holdings.specs.Inner.Links.{last_target}
@@ -25,6 +26,11 @@ pub record AreMovable (trees : List Shape) (ls : List Link) : Type 0 where
   pub frames : All (λ l. l.frame < length trees) ls
   pub there : All (λ l. is_listed trees l.frame l.source ≡ true) ls
   pub apart : (f : ℕ) → StayApart (λ p. last_target ls p None) (links_in trees f)
+
+-- places can be replaced in trees by others: no two places of a tree become one, and what stands for a place is replaced by nothing
+pub record CanBeRenamed (new : Place → Option Place) (trees : List Shape) : Type 0 where
+  pub apart : (f : ℕ) → StayApart new (links_in trees f)
+  pub last : IsApart new
 
 -- places were replaced in the trees of these frames
 pub record AreRenamed (new : Place → Option Place) (ls : List Link) (old now : List Shape) : Type 0 where

@@ -1,68 +1,43 @@
--- One more tree.
-use Rattle.std.proofs.Common.{◌≡◌, ℕ, ◌+◌, ◌==◌, true, false, Bool, not, List, Option, Some, None, sym, ap, subst, refl}
-use Rattle.std.specs.Option.{option_eq}
+-- The targets are told, the links are sorted, and the trees are renamed by parts.
+use Rattle.std.proofs.Common.{◌≡◌, List, sym, subst, Result, Ok, Err}
+use Rattle.std.specs.Result.{OnOk}
 use Rattle.std.specs.List.Sorted.{IsPermutation}
-use Rattle.std.proofs.lemmas.Bool.{eqb-true}
 use Rattle.maptree.specs.PlaceMaps.{place_for}
 use Rattle.holdings.specs.declared.link.Link.{Link}
 use Rattle.holdings.specs.Inner.Links.{AreTargets}
-use Rattle.holdings.proofs.Links.LinkedTrees.{no_link}
-use Rattle.holdings.proofs.Renamings.MovingTrees.{AreRenaming, frame_within, apart_there, step_passed, step_renamed, all_trees}
-use Rattle.holdings.proofs.renaming.rename_links.Goals.{then-ne, else-ne}
+use Rattle.holdings.proofs.Renamings.MovingTrees.{can_be_renamed, frames_within, in_any_order}
 use Rattle.holdings.proofs.renaming.rename_links.Goals as goal
 
--- in another order, as the loop reads them
+-- in another order, as the trees read them
 in_order : (ls sorted read : List Link) → IsPermutation ls sorted → read ≡ sorted → IsPermutation ls read
 in_order ls sorted read order is = subst (IsPermutation ls) (sym is) order
 
 told_of : (ls read : List Link) (new : _) → read ≡ ls → AreTargets read new → AreTargets ls new
 told_of ls read new is are = subst (λ xs. AreTargets xs new) is are
 
--- the last frame is this one
-is_last : (o : Option ℕ) (f : ℕ) → false ≡ not (option_eq (λ a b. a == b) o (Some f)) → o ≡ Some f
-is_last None f is = absurd (cc is)
-is_last (Some g) f is = ap Some (eqb-true g f (by (g == f) is))
-  where
-    by : (b : Bool) → false ≡ not b → b ≡ true
-    by true is = refl
-    by false is = absurd (cc is)
+-- what is so of the trees where the call succeeds
+on_ok : {E : Type 0} (P Q : Type 0) → (P → Q) → (r : Result (Unit {0}) E) → OnOk r P → OnOk r Q
+on_ok P Q so (Ok tt) p = so p
+on_ok P Q so (Err e) p = tt
 
-pub bounds-trees-link : goal.bounds-trees-link
-bounds-trees-link c =
-    frame_within (place_for c.in_ok-targets.targets) c.args.trees.now c.args.links.items c.deref-link-items.result.now
-    (in_order c.args.links.items c.sort_unstable_by_key.new.self.items c.deref-link-items.result.now c.sort_unstable_by_key.ensures.permutation c.deref-link-items.ensures.value)
-    c.requires (told_of c.args.links.items c.deref-2.result.now (place_for c.in_ok-targets.targets) c.deref-2.ensures.value c.in_ok-targets.ensures)
-    c.loop-link.link-index no_link c.loop-link-test.true c.loop-link.trees c.loop-link.passed c.loop-link.invariant
+pub rename_parts-requires-clause-can : goal.rename_parts-requires-clause-can
+rename_parts-requires-clause-can g c =
+    let ls = c.args.links.items in
+    let new = place_for c.in_ok-targets.targets in
+    can_be_renamed new c.args.trees.now ls c.requires (told_of ls c.deref-2.result.now new c.deref-2.ensures.value c.in_ok-targets.ensures)
 
-pub rename_all-requires : goal.rename_all-requires
-rename_all-requires c = record {
-  apart = apart_there (place_for c.in_ok-targets.targets) c.args.trees.now c.args.links.items c.deref-link-items.result.now
-      (in_order c.args.links.items c.sort_unstable_by_key.new.self.items c.deref-link-items.result.now c.sort_unstable_by_key.ensures.permutation c.deref-link-items.ensures.value)
-      c.requires (told_of c.args.links.items c.deref-2.result.now (place_for c.in_ok-targets.targets) c.deref-2.ensures.value c.in_ok-targets.ensures)
-      c.loop-link.link-index no_link c.loop-link-test.true c.loop-link.trees c.loop-link.passed c.loop-link.invariant c.index-trees-link.result c.index-trees-link.is;
-}
-
-pub loop-link-preserved : goal.loop-link-preserved
-loop-link-preserved c =
-    elim c.if-ne.branch [
-      | then-ne w ↦
-          subst (λ trees. AreRenaming (place_for c.in_ok-targets.targets) c.args.trees.now c.deref-link-items.result.now (c.loop-link.link-index + 1) trees c.if-ne.passed) (sym w.trees-is)
-          (step_renamed (place_for c.in_ok-targets.targets) c.args.trees.now c.args.links.items c.deref-link-items.result.now
-          (in_order c.args.links.items c.sort_unstable_by_key.new.self.items c.deref-link-items.result.now c.sort_unstable_by_key.ensures.permutation c.deref-link-items.ensures.value)
-          c.requires (told_of c.args.links.items c.deref-2.result.now (place_for c.in_ok-targets.targets) c.deref-2.ensures.value c.in_ok-targets.ensures)
-          c.loop-link.link-index no_link c.loop-link-test.true c.loop-link.trees c.loop-link.passed c.loop-link.invariant w.index-trees-link.result w.index-trees-link.is w.rename_all.new.self w.rename_all.ensures.links c.if-ne.passed w.passed-is)
-      | else-ne w ↦
-          subst (λ trees. AreRenaming (place_for c.in_ok-targets.targets) c.args.trees.now c.deref-link-items.result.now (c.loop-link.link-index + 1) trees c.if-ne.passed) (sym w.trees-is)
-          (subst (AreRenaming (place_for c.in_ok-targets.targets) c.args.trees.now c.deref-link-items.result.now (c.loop-link.link-index + 1) c.loop-link.trees) (sym w.passed-is)
-          (step_passed (place_for c.in_ok-targets.targets) c.args.trees.now c.args.links.items c.deref-link-items.result.now
-          (in_order c.args.links.items c.sort_unstable_by_key.new.self.items c.deref-link-items.result.now c.sort_unstable_by_key.ensures.permutation c.deref-link-items.ensures.value)
-          c.requires (told_of c.args.links.items c.deref-2.result.now (place_for c.in_ok-targets.targets) c.deref-2.ensures.value c.in_ok-targets.ensures)
-          c.loop-link.link-index no_link c.loop-link-test.true c.loop-link.trees c.loop-link.passed c.loop-link.invariant (is_last c.loop-link.passed _ w.if-ne.ensures)))
-    ]
+pub rename_parts-requires-clause-frames : goal.rename_parts-requires-clause-frames
+rename_parts-requires-clause-frames g c =
+    let ls = c.args.links.items in
+    let new = place_for c.in_ok-targets.targets in
+    frames_within new c.args.trees.now ls c.requires (told_of ls c.deref-2.result.now new c.deref-2.ensures.value c.in_ok-targets.ensures) c.deref-3.result.now
+    (in_order ls c.sort_unstable_by_key.new.self.items c.deref-3.result.now c.sort_unstable_by_key.ensures.permutation c.deref-3.ensures.value)
 
 pub returns : goal.returns
-returns c =
-    all_trees (place_for c.in_ok-targets.targets) c.args.trees.now c.args.links.items c.deref-link-items.result.now
-    (in_order c.args.links.items c.sort_unstable_by_key.new.self.items c.deref-link-items.result.now c.sort_unstable_by_key.ensures.permutation c.deref-link-items.ensures.value)
-    c.requires (told_of c.args.links.items c.deref-2.result.now (place_for c.in_ok-targets.targets) c.deref-2.ensures.value c.in_ok-targets.ensures)
-    c.loop-link.link-index c.loop-link.trees c.loop-link.passed c.loop-link-test.false c.loop-link.invariant
+returns g c =
+    let ls = c.args.links.items in
+    let new = place_for c.in_ok-targets.targets in
+    on_ok _ _
+    (in_any_order new c.args.trees.now ls c.requires (told_of ls c.deref-2.result.now new c.deref-2.ensures.value c.in_ok-targets.ensures) c.deref-3.result.now
+    (in_order ls c.sort_unstable_by_key.new.self.items c.deref-3.result.now c.sort_unstable_by_key.ensures.permutation c.deref-3.ensures.value) c.rename_parts.new.trees)
+    c.rename_parts.result c.rename_parts.ensures

@@ -18,8 +18,8 @@ pub item_pieces-requires-clause-apart : goal.item_pieces-requires-clause-apart
 item_pieces-requires-clause-apart g c =
     stores_distinct c.make_targets.new.shards c.self.inside.trees.items (sound_stays c.self.inside.shards c.make_targets.new.shards c.self.inside.trees.items (made_says c.self.inside.shards c.make_targets.new.shards c.in_ok-make_targets.ensures.made c.in_ok-make_targets.ensures.present) c.self.invariant) c.args.self (made_from c.self.inside.shards c.make_targets.new.shards c.self.inside.trees.items c.in_ok-make_targets.ensures.made c.in_ok-make_targets.ensures.present c.args.self c.self.view_is) c.args.rights c.args.transfers.now c.requires.planned c.requires.ready c.in_ok-make_targets.ensures.there
 
-pub link_all-requires-clause-linkable : goal.link_all-requires-clause-linkable
-link_all-requires-clause-linkable g c =
+pub link_together-requires-clause-linkable : goal.link_together-requires-clause-linkable
+link_together-requires-clause-linkable g c =
     new_linkable c.make_targets.new.shards c.self.inside.trees.items (sound_stays c.self.inside.shards c.make_targets.new.shards c.self.inside.trees.items (made_says c.self.inside.shards c.make_targets.new.shards c.in_ok-make_targets.ensures.made c.in_ok-make_targets.ensures.present) c.self.invariant) c.args.self (made_from c.self.inside.shards c.make_targets.new.shards c.self.inside.trees.items c.in_ok-make_targets.ensures.made c.in_ok-make_targets.ensures.present c.args.self c.self.view_is) c.args.rights c.args.transfers.now c.requires.planned c.requires.ready c.in_ok-make_targets.ensures.there
     c.deref_mut.result.now c.deref_mut.ensures.value (links_of c.make_targets.new.shards c.args.transfers.now) refl
 
@@ -30,18 +30,18 @@ write_phase-requires-clause-can g c =
 
 pub invariant_of-result : goal.invariant_of-result
 invariant_of-result g c =
-    let count : length c.link_all.new.trees ≡ c.self.inside.trees.len = omega (arith, c.link_all.auto.trees, ap length c.deref_mut.ensures.value, c.self.inside.trees.ok.0) in
-    subst (AreSound c.write_phase.new.shards) (sym (with_items_is c.self.inside.trees c.link_all.new.trees count))
+    let count : length c.link_together.new.trees ≡ c.self.inside.trees.len = omega (arith, c.link_together.auto.trees, ap length c.deref_mut.ensures.value, c.self.inside.trees.ok.0) in
+    subst (AreSound c.write_phase.new.shards) (sym (with_items_is c.self.inside.trees c.link_together.new.trees count))
     (mapped_sound c.make_targets.new.shards c.self.inside.trees.items (sound_stays c.self.inside.shards c.make_targets.new.shards c.self.inside.trees.items (made_says c.self.inside.shards c.make_targets.new.shards c.in_ok-make_targets.ensures.made c.in_ok-make_targets.ensures.present) c.self.invariant) c.args.self (made_from c.self.inside.shards c.make_targets.new.shards c.self.inside.trees.items c.in_ok-make_targets.ensures.made c.in_ok-make_targets.ensures.present c.args.self c.self.view_is) c.args.rights c.args.transfers.now c.requires.planned c.requires.ready c.in_ok-make_targets.ensures.there
     c.in_ok-pieces.pieces.items c.in_ok-pieces.ensures
-    (links_of c.make_targets.new.shards c.args.transfers.now) refl c.deref_mut.result.now c.deref_mut.ensures.value c.link_all.new.trees c.in_ok-counts.ensures.linked
+    (links_of c.make_targets.new.shards c.args.transfers.now) refl c.deref_mut.result.now c.deref_mut.ensures.value c.link_together.new.trees c.in_ok-counts.ensures.linked
     c.write_phase.new.shards c.in_ok-write_phase.ensures.written)
 
 pub returns-clause-mapped : goal.returns-clause-mapped
 returns-clause-mapped g c =
-    let count : length c.link_all.new.trees ≡ c.self.inside.trees.len = omega (arith, c.link_all.auto.trees, ap length c.deref_mut.ensures.value, c.self.inside.trees.ok.0) in
-    subst (λ (now : List Shape). AreMapped c.args.self c.args.transfers.now c.args.rights (contents_of c.write_phase.new.shards now, c.in_ok-counts.counts)) (sym (with_items_is c.self.inside.trees c.link_all.new.trees count))
+    let count : length c.link_together.new.trees ≡ c.self.inside.trees.len = omega (arith, c.link_together.auto.trees, ap length c.deref_mut.ensures.value, c.self.inside.trees.ok.0) in
+    subst (λ (now : List Shape). AreMapped c.args.self c.args.transfers.now c.args.rights (contents_of c.write_phase.new.shards now, c.in_ok-counts.counts)) (sym (with_items_is c.self.inside.trees c.link_together.new.trees count))
     (are_mapped c.make_targets.new.shards c.self.inside.trees.items (sound_stays c.self.inside.shards c.make_targets.new.shards c.self.inside.trees.items (made_says c.self.inside.shards c.make_targets.new.shards c.in_ok-make_targets.ensures.made c.in_ok-make_targets.ensures.present) c.self.invariant) c.args.self (made_from c.self.inside.shards c.make_targets.new.shards c.self.inside.trees.items c.in_ok-make_targets.ensures.made c.in_ok-make_targets.ensures.present c.args.self c.self.view_is) c.args.rights c.args.transfers.now c.requires.planned c.requires.ready c.in_ok-make_targets.ensures.there
     c.in_ok-pieces.pieces.items c.in_ok-pieces.ensures
-    (links_of c.make_targets.new.shards c.args.transfers.now) refl c.deref_mut.result.now c.deref_mut.ensures.value c.link_all.new.trees c.in_ok-counts.ensures.linked
+    (links_of c.make_targets.new.shards c.args.transfers.now) refl c.deref_mut.result.now c.deref_mut.ensures.value c.link_together.new.trees c.in_ok-counts.ensures.linked
     c.write_phase.new.shards c.in_ok-write_phase.ensures.written c.in_ok-counts.counts c.in_ok-counts.ensures.counts)

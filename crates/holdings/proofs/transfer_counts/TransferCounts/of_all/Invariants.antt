@@ -1,15 +1,13 @@
--- Those of the transfers so far are in the trees; the transfers so far, with those to come, are all, and each counts once.
-use Rattle.std.proofs.Common.{◌≡◌, take, drop}
+-- The transfers so far, with those to come, are all, and each counts once.
+use Rattle.std.proofs.Common.{◌≡◌, drop}
 use Rattle.model.specs.Definitions.Items.{add_counts}
 use Rattle.model.specs.Laws.SendLaws.{total}
-use Rattle.holdings.specs.Inner.Links.{AreLinked, links_of}
 use Rattle.holdings.specs.Inner.Planning.{counts_in}
 use Rattle.holdings.specs.Meaning.{counts_of}
-use Rattle.holdings.proofs.link.link_all.Given as goal
+use Rattle.holdings.proofs.transfer_counts.TransferCounts.of_all.Given as goal
 
 abbrev pub invariant-loop-transfer : goal.invariant-loop-transfer
 invariant-loop-transfer l = record {
-  linked : AreLinked (links_of l.shards (take l.transfer-index l.transfers)) l.fn.trees l.trees;
   counted : add_counts (counts_of l.counts) (counts_in l.shards (drop l.transfer-index l.transfers)) ≡ counts_in l.shards l.transfers;
   upto : total (counts_of l.counts) ≡ l.transfer-index;
 }
