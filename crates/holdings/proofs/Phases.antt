@@ -11,6 +11,7 @@ pub mod KeptNodes
 pub mod Beside
 pub mod InParts
 pub mod ItemParts
+pub mod Batches
 pub mod Whole
 pub mod WorkedPhase
 pub mod FaultsAmong

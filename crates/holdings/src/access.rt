@@ -1,16 +1,16 @@
 //! Accesses of pages, one phase for all of them.
 
-ghost use Rattle.std.specs.Prelude.{◌≡◌, false, filter, get_or, map, IfOk};
+ghost use Rattle.std.specs.Prelude.{◌≡◌, false, filter, get_or, length, map, IfOk};
 ghost use Rattle.std.specs.List.{All};
 ghost use Rattle.space.specs.Shards.{IsPlace};
-ghost use Rattle.holdings.specs.Inner.Faults.{is_there, with_faults};
-ghost use Rattle.holdings.specs.Inner.Planning.{word_access};
+ghost use Rattle.holdings.specs.Inner.Faults.{is_there, with_faults, word_accesses};
 
+use crate::access_batches::access_pieces;
 use crate::holdings::Holdings;
 use crate::phase::{is_small, work_phase};
 use crew::{CrewError, Workers};
 use fpage::Access;
-use pieces::{WordAccess, touches};
+use pieces::WordAccess;
 use space::{Place, Shards};
 use std::alloc::{AllocError, Global};
 
@@ -39,14 +39,13 @@ impl Holdings {
             return Ok(made);
         }
         let Holdings { mut shards, trees } = self;
-        let list = word_accesses(alloc, &shards, accesses)?;
-        let pieces = touches(alloc, list, workers.piece_length())?;
+        let pieces = access_pieces(alloc, &shards, accesses, workers)?;
         if pieces.is_empty() {
-            let answers = with_faults(alloc, &shards, accesses, &[])?;
+            let answers = with_faults(alloc, &shards, accesses, Vec::new(alloc))?;
             return Ok((Holdings { shards, trees }, answers));
         }
         let found = work_phase(alloc, &mut shards, pieces, workers)?;
-        let answers = with_faults(alloc, &shards, accesses, &found.answers)?;
+        let answers = with_faults(alloc, &shards, accesses, found.answers)?;
         Ok((Holdings { shards, trees }, answers))
     }
 
@@ -69,13 +68,13 @@ impl Holdings {
 }
 
 /// Accesses by the words of their pages, of those pages whose shards are there.
-fn word_accesses(
+pub fn word_accesses(
     alloc: Global,
     shards: &Shards,
     accesses: &[(Place, Access)],
 ) -> Result<Vec<WordAccess>, AllocError>
     requires { All (λ access. IsPlace shards.now access.0) accesses.now }
-    ensures { IfOk result (λ list. list.items ≡ map (word_access shards.now) (filter (is_there shards.now) accesses.now)) }
+    ensures { IfOk result (λ list. list.items ≡ word_accesses shards.now accesses.now) }
 {
     let mut list = Vec::with_capacity(alloc, accesses.len())?;
     for (place, access) in accesses {
@@ -94,16 +93,21 @@ fn with_faults(
     alloc: Global,
     shards: &Shards,
     accesses: &[(Place, Access)],
-    made: &[bool],
+    made: Vec<bool>,
 ) -> Result<Vec<bool>, AllocError>
-    requires { All (λ access. IsPlace shards.now access.0) accesses.now }
-    ensures { IfOk result (λ answers. answers.items ≡ with_faults (map (is_there shards.now) accesses.now) made.now) }
+    requires places { All (λ access. IsPlace shards.now access.0) accesses.now }
+    requires each { length made.items ≡ length (filter (is_there shards.now) accesses.now) }
+    ensures { IfOk result (λ answers. answers.items ≡ with_faults (map (is_there shards.now) accesses.now) made.items) }
 {
+    if made.len() == accesses.len() {
+        // No shard is wanting.
+        return Ok(made);
+    }
     let mut answers = Vec::with_capacity(alloc, accesses.len())?;
     let mut next = 0;
     for (place, _) in accesses {
         if shards.has(*place) {
-            answers.push(answer_at(made, next))?;
+            answers.push(answer_at(&made, next))?;
             next += 1;
         } else {
             answers.push(false)?;

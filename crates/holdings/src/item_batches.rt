@@ -1,6 +1,6 @@
 //! The pieces of the pages of an item, planned in batches of pages, side by side.
 
-ghost use Rattle.std.specs.Prelude.{◌≡◌, ℕ, ◌*◌, ◌<◌, ◌≤◌, length, slice_index_or, IfOk, IsFalse};
+ghost use Rattle.std.specs.Prelude.{IfOk, IsFalse};
 ghost use Rattle.std.specs.List.{All};
 ghost use Rattle.space.specs.Shards.{IsPlace, is_taken};
 ghost use Rattle.holdings.specs.Inner.Words.{IsThere};
@@ -9,6 +9,7 @@ ghost use Rattle.holdings.specs.Inner.Phases.{AreItemPieces, AreItemsApart, CanB
 use crate::batches::planners_for;
 use crate::map_in_pieces::link_pieces;
 use crate::moves_in_pieces::move_pieces;
+use crate::plans::{all_pieces, batch_of};
 use crate::transfer::Transfer;
 use crew::{Planned, Workers};
 use fpage::Rights;
@@ -58,7 +59,7 @@ pub fn item_pieces<W: Workers>(
         ensures { IfOk result (λ plan. AreItemPieces batches.entry.passing batches.entry.shards.now (batch_of batches.entry.size batches.entry.transfers.now batch) plan.pieces.items) }
     { batches.plan(batch) };
     let planned = workers.plan(alloc, count, &plan)?;
-    joined(&batches, planned)
+    all_pieces(alloc, planned)
 }
 
 /// Transfers of an item, in batches.
@@ -85,7 +86,7 @@ impl<'a> ItemBatches<'a> {
         requires { CanBeBatched self.now.passing self.now.shards.now self.now.transfers.now self.now.most }
         ensures { IfOk result (λ plan. AreItemPieces self.now.passing self.now.shards.now (batch_of self.now.size self.now.transfers.now batch) plan.pieces.items) }
     {
-        let transfers = self.batch(batch);
+        let transfers = batch_of(self.transfers, self.size, batch);
         let pieces = match self.passing {
             Passing::Mapped(rights) => {
                 link_pieces(self.alloc, self.shards, transfers, rights, self.most)?
@@ -95,34 +96,4 @@ impl<'a> ItemBatches<'a> {
         let frames = Vec::new(self.alloc);
         Ok(StripPlan { frames, pieces })
     }
-
-    /// The transfers of a batch.
-    fn batch(&self, batch: usize) -> &'a [Transfer]
-        ensures { result.now ≡ batch_of self.now.size self.now.transfers.now batch }
-    {
-        let from = self.size.saturating_mul(batch);
-        let (_, rest) = self.transfers.split_at(from.min(self.transfers.len()));
-        let (its, _) = rest.split_at(self.size.min(rest.len()));
-        its
-    }
-}
-
-/// The pieces of all batches, one after another.
-///
-/// Refused, where memory was, or is: `NoMemory`.
-fn joined(batches: &ItemBatches<'_>, planned: Vec<Planned>) -> Result<Vec<Piece>, NoMemory>
-    requires all { length batches.now.transfers.now ≤ batches.now.size * length planned.items }
-    requires each { (k : ℕ) (d : _) → k < length planned.items → IfOk (slice_index_or planned.items k d) (λ plan. AreItemPieces batches.now.passing batches.now.shards.now (batch_of batches.now.size batches.now.transfers.now k) plan.pieces.items) }
-    ensures { IfOk result (λ pieces. AreItemPieces batches.now.passing batches.now.shards.now batches.now.transfers.now pieces.items) }
-{
-    let mut pieces = Vec::new(batches.alloc);
-    for part in planned {
-        let plan = part?;
-        let StripPlan {
-            frames: _,
-            pieces: mut its_pieces,
-        } = plan;
-        pieces.append(&mut its_pieces)?;
-    }
-    Ok(pieces)
 }

@@ -3,6 +3,7 @@
 #![tactic(auto)]
 
 mod access;
+mod access_batches;
 mod batches;
 mod below;
 mod extent;
@@ -31,6 +32,7 @@ mod outcome;
 mod pages;
 mod phase;
 mod planning;
+mod plans;
 mod prune;
 mod recursion;
 mod renaming;

@@ -6,6 +6,7 @@ use Rattle.std.proofs.lemmas.List.{map-append}
 use Rattle.space.specs.Word.{is_pack}
 use Rattle.space.specs.Slices.{pieces}
 use Rattle.pieces.specs.Distinct.{is_none_of, are_distinct}
+use Rattle.pieces.specs.Laws.{joined}
 use Rattle.pieces.specs.Phases.{CanBeWorked, changes, folds, held, named, is_touch, are_alike}
 use Rattle.pieces.specs.Steps.{entry_in}
 use Rattle.pieces.specs.declared.touch.WordAccess.{WordAccess}
@@ -45,16 +46,19 @@ none_held [] = refl
 none_held (x ∷ xs) = none_held xs
 
 -- touches of words that are there can be worked beside one another
+pub touches_can : (w : List ℕ) → 0 < length w → AllPass is_pack w → (xs : List WordAccess) → list_all (λ i. nat_lt i (length w)) (map (λ x. x.index) xs) ≡ true → (parts : List (List WordAccess)) → joined parts ≡ xs
+    → CanBeWorked w (map piece.Touch parts)
+touches_can w some packs xs within parts all = record {
+  some = some;
+  packs = packs;
+  within = ap (list_all (λ i. nat_lt i (length w))) (flat_of_map piece.Touch named parts ∙ flat_parts (map (λ x. x.index)) refl (map-append (λ x. x.index)) parts ∙ ap (map (λ x. x.index)) all) ∙ within;
+  entries = ap (list_all (λ i. is_some (entry_in w i))) (none_held parts);
+  distinct = ap are_distinct (none_changed parts);
+  apart = ap (list_all (is_none_of (flat_map changes (map piece.Touch parts)))) (none_folded piece.Touch (λ x. refl) parts);
+  alike = only_touches (map piece.Touch parts) (all_touch parts);
+}
+
+-- and so can they in pieces
 pub accesses_can : (w : List ℕ) → 0 < length w → AllPass is_pack w → (xs : List WordAccess) → list_all (λ i. nat_lt i (length w)) (map (λ x. x.index) xs) ≡ true → (most : ℕ) → 1 ≤ most
     → CanBeWorked w (map piece.Touch (pieces (length xs) most xs))
-accesses_can w some packs xs within most at_least =
-    let parts = pieces (length xs) most xs in
-    record {
-      some = some;
-      packs = packs;
-      within = ap (list_all (λ i. nat_lt i (length w))) (flat_of_map piece.Touch named parts ∙ flat_parts (map (λ x. x.index)) refl (map-append (λ x. x.index)) parts ∙ ap (map (λ x. x.index)) (joined_pieces (length xs) most xs at_least (omega arith))) ∙ within;
-      entries = ap (list_all (λ i. is_some (entry_in w i))) (none_held parts);
-      distinct = ap are_distinct (none_changed parts);
-      apart = ap (list_all (is_none_of (flat_map changes (map piece.Touch parts)))) (none_folded piece.Touch (λ x. refl) parts);
-      alike = only_touches (map piece.Touch parts) (all_touch parts);
-    }
+accesses_can w some packs xs within most at_least = touches_can w some packs xs within (pieces (length xs) most xs) (joined_pieces (length xs) most xs at_least (omega arith))

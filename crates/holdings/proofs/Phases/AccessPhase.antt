@@ -1,28 +1,29 @@
 -- The phase of some accesses.
-use Rattle.std.proofs.Common.{◌≡◌, ℕ, ◌≤◌, List, [], ◌∷◌, length, map, filter, get_or, nat_lt, refl, sym, ap, ◌∙◌, subst, arith}
-use Rattle.std.specs.List.{All, flat_map}
+use Rattle.std.proofs.Common.{◌≡◌, suc, List, [], ◌∷◌, length, map, filter, get_or, nat_lt, refl, sym, ap, ◌∙◌, arith}
+use Rattle.std.specs.List.{All}
 use Rattle.fpage.specs.declared.rights.Access.{Access}
 use Rattle.space.specs.declared.place.Place.{Place}
 use Rattle.space.specs.declared.shards.Shards.{Shards}
 use Rattle.space.specs.Shards.{IsPlace}
 use Rattle.std.proofs.lemmas.List.Elements.{All-filter}
-use Rattle.space.specs.Slices.{pieces}
 use Rattle.maptree.specs.Origins.{Shape}
-use Rattle.pieces.specs.Phases.{CanBeWorked}
+use Rattle.pieces.specs.Laws.{joined}
 use Rattle.pieces.specs.Values.{value}
 use Rattle.pieces.specs.declared.gathering.Gathered.{Gathered}
 use Rattle.pieces.specs.declared.piece.Piece.{Piece}
 use Rattle.pieces.specs.declared.piece.Piece.TheVariants as piece
+use Rattle.pieces.specs.declared.touch.WordAccess.{WordAccess}
+use Rattle.model.specs.Definitions.Holdings.{Holdings}
+use Rattle.model.specs.Definitions.Touch.{touch}
 use Rattle.pieces.proofs.InPieces.{flat_of_map}
 use Rattle.holdings.specs.Contents.{left_with, touched_all, access_answers}
 use Rattle.holdings.specs.Places.{IsWithin}
 use Rattle.holdings.specs.Inner.Held.{contents_of, holdings_in, layout_in, limits_in}
-use Rattle.holdings.specs.Inner.Faults.{is_there, with_faults}
+use Rattle.holdings.specs.Inner.Faults.{is_there, with_faults, word_accesses}
 use Rattle.holdings.specs.Inner.Planning.{word_access}
 use Rattle.holdings.specs.Inner.Sound.{AreSound}
-use Rattle.holdings.specs.Inner.Words.{CanBeWorkedIn, IsPhaseWorked, IsWith}
-use Rattle.holdings.specs.Inner.Phases.{IsPhaseLeft}
-use Rattle.pieces.specs.Applied.{worked}
+use Rattle.holdings.specs.Inner.Words.{CanBeWorkedIn, IsPhaseWorked}
+use Rattle.holdings.specs.Inner.Phases.{ArePieces, IsPhaseLeft}
 use Rattle.holdings.proofs.Contents.Holders.{place_within}
 use Rattle.holdings.proofs.Contents.Layouts.{same_layout}
 use Rattle.holdings.proofs.Contents.WordChanges.{place_kept}
@@ -30,12 +31,20 @@ use Rattle.holdings.proofs.Phases.FaultsAmong.{kept_there, some_touched, some_an
 use Rattle.holdings.proofs.Phases.Whole.{touches_are_accesses}
 
 -- accesses that give no piece are none
-pub no_access : (s : Shards) (ts : List (Place × Access)) (most : ℕ) → length (map piece.Touch (pieces (length (map (word_access s) ts)) most (map (word_access s) ts))) ≡ 0 → ts ≡ []
-no_access s [] most none = refl
-no_access s (t ∷ ts) most none = absurd (omega (arith, none))
+no_access : (s : Shards) (ts : List (Place × Access)) (ps : List Piece) → ArePieces piece.Touch (map (word_access s) ts) ps → length ps ≡ 0 → ts ≡ []
+no_access s ts ps cut none = by cut.parts (ap length (sym cut.are) ∙ none) cut.joined ts refl
+  where
+    by : (parts : List (List WordAccess)) → length (map piece.Touch parts) ≡ 0 → joined parts ≡ map (word_access s) ts → (us : List (Place × Access)) → us ≡ ts → ts ≡ []
+    by [] empty all [] is = sym is
+    by [] empty all (u ∷ us) is = absurd (cc (all, ap (map (word_access s)) is))
+    by (part ∷ parts) empty all us is = absurd (omega (arith, empty))
 
-module _ (s : Shards) (trees : List Shape) (sound : AreSound s trees) (ts : List (Place × Access)) (within : All (λ t. IsWithin (limits_in s trees) t.0) ts) (most : ℕ) (some : 1 ≤ most) (ps : List Piece)
-    (are : ps ≡ map piece.Touch (pieces (length (map (word_access s) (filter (is_there s) ts))) most (map (word_access s) (filter (is_there s) ts)))) where
+-- each access has an answer
+answers_of_each : (ts : List (Place × Access)) (h : Holdings) → length (access_answers h ts) ≡ length ts
+answers_of_each [] h = refl
+answers_of_each (t ∷ ts) h = ap suc (answers_of_each ts (touch h t.0 t.1))
+
+module _ (s : Shards) (trees : List Shape) (sound : AreSound s trees) (ts : List (Place × Access)) (within : All (λ t. IsWithin (limits_in s trees) t.0) ts) (ps : List Piece) (cut : ArePieces piece.Touch (word_accesses s ts) ps) where
   -- those whose shards are there
   abbrev those : List (Place × Access)
   those = filter (is_there s) ts
@@ -44,12 +53,15 @@ module _ (s : Shards) (trees : List Shape) (sound : AreSound s trees) (ts : List
   those_within = All-filter (is_there s) (λ t. IsWithin (limits_in s trees) t.0) ts within
 
   pub accesses_can : CanBeWorkedIn s ps
-  accesses_can w words = subst (CanBeWorked w) (sym are) (touches_are_accesses s trees sound w words those those_within (kept_there s ts) most some).0
+  accesses_can w words = (touches_are_accesses s trees sound w words those those_within (kept_there s ts) ps cut).0
 
   -- where there is no piece, no access is made
   module _ (none : length ps ≡ 0) where
     none_there : those ≡ []
-    none_there = no_access s those most (ap length (sym are) ∙ none)
+    none_there = no_access s those ps cut none
+
+    pub no_answers : length (filter (is_there s) ts) ≡ 0
+    no_answers = ap length none_there
 
     pub nothing_touched : contents_of s trees ≡ left_with (contents_of s trees) (touched_all (holdings_in s trees) ts)
     nothing_touched =
@@ -61,7 +73,7 @@ module _ (s : Shards) (trees : List Shape) (sound : AreSound s trees) (ts : List
 
   module _ (n : Shards) (g : Gathered) (done : IsPhaseWorked s n ps g) where
     law_left : IsPhaseLeft (limits_in s trees) (touched_all (holdings_in s trees) those) n trees
-    law_left = (touches_are_accesses s trees sound done.words done.are those those_within (kept_there s ts) most some).2 n (subst (λ qs. IsWith s (worked done.words qs) n) are done.with)
+    law_left = (touches_are_accesses s trees sound done.words done.are those those_within (kept_there s ts) ps cut).2 n done.with
 
     pub accesses_left : contents_of n trees ≡ left_with (contents_of s trees) (touched_all (holdings_in s trees) ts)
     accesses_left =
@@ -78,11 +90,14 @@ module _ (s : Shards) (trees : List Shape) (sound : AreSound s trees) (ts : List
 
     answered : g.answers.items ≡ access_answers (holdings_in s trees) those
     answered =
-        done.found.answers ∙ flat_of_map (value done.words) (λ v. v.answers) ps ∙ ap (flat_map (λ p. (value done.words p).answers)) are
-        ∙ (touches_are_accesses s trees sound done.words done.are those those_within (kept_there s ts) most some).1
+        done.found.answers ∙ flat_of_map (value done.words) (λ v. v.answers) ps ∙ (touches_are_accesses s trees sound done.words done.are those those_within (kept_there s ts) ps cut).1
 
     same_there : is_there n ≡ is_there s
     same_there = λ i t. nat_lt (done.with.layout.index t.0 i) (done.with.layout.count i)
+
+    -- as many as there are accesses whose shards are there
+    pub each_answered : length g.answers.items ≡ length (filter (is_there n) ts)
+    each_answered = ap length answered ∙ answers_of_each those (holdings_in s trees) ∙ ap (λ there. length (filter there ts)) (sym same_there)
 
     pub accesses_answered : with_faults (map (is_there n) ts) g.answers.items ≡ access_answers (holdings_in s trees) ts
     accesses_answered = (λ i. with_faults (map (same_there i) ts) (answered i)) ∙ some_answered s trees sound ts within

@@ -13,7 +13,6 @@ use Rattle.space.specs.Place.{same_place}
 use Rattle.space.specs.Shards.{IsPlace, index_of, word_count}
 use Rattle.space.proofs.Places.{same_self, apart_back}
 use Rattle.space.proofs.ShardWords.{words_are_their_own}
-use Rattle.space.specs.Slices.{pieces}
 use Rattle.pieces.specs.Contents.{puts_of, ends_of}
 use Rattle.pieces.specs.Distinct.{is_none_of, are_distinct}
 use Rattle.pieces.specs.Phases.{CanBeWorked, changes, held, named}
@@ -21,7 +20,8 @@ use Rattle.pieces.specs.Steps.{entry_in}
 use Rattle.pieces.specs.declared.piece.Piece.{Piece}
 use Rattle.pieces.specs.declared.piece.Piece.TheVariants as piece
 use Rattle.pieces.proofs.InPieces.{flat_parts, flat_of_map, links_change, moves_change}
-use Rattle.pieces.proofs.OfOneKind.{none_folded, none_touch, not_touches, accesses_can}
+use Rattle.pieces.proofs.OfOneKind as of_one_kind
+use Rattle.pieces.proofs.OfOneKind.{none_folded, none_touch, not_touches}
 use Rattle.holdings.specs.declared.transfer.Transfer.{Transfer}
 use Rattle.holdings.specs.Sending.{ArePaired}
 use Rattle.holdings.specs.Inner.Held.{has_entry}
@@ -63,8 +63,8 @@ module _ (s : Shards) (w : List ℕ) (are : AreWordsOf s w) (some_there : 0 < wo
   accesses_within [] places = refl
   accesses_within (t ∷ ts) places = and_from _ _ (index_within t.0 (places 0 t (omega arith))) (accesses_within ts (λ k d less. places (suc k) d (omega (arith, less))))
 
-  pub touches_can : (ts : List (Place × Access)) → All (λ t. IsThere s t.0) ts → (most : ℕ) → 1 ≤ most → CanBeWorked w (map piece.Touch (pieces (length (map (word_access s) ts)) most (map (word_access s) ts)))
-  touches_can ts places most some = accesses_can w some_words are.packs (map (word_access s) ts) (accesses_within ts places) most some
+  pub touches_can : (ts : List (Place × Access)) → All (λ t. IsThere s t.0) ts → (ps : List Piece) → ArePieces piece.Touch (map (word_access s) ts) ps → CanBeWorked w ps
+  touches_can ts places ps cut = subst (CanBeWorked w) (sym cut.are) (of_one_kind.touches_can w some_words are.packs (map (word_access s) ts) (accesses_within ts places) cut.parts cut.joined)
 
   -- ---- links
 

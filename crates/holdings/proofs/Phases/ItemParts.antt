@@ -40,11 +40,11 @@ both_pairs s (t ∷ ts) us = by (has_entry s t.source) (both_pairs s ts us)
     by true rest = ap (λ xs. word_pair s t ∷ xs) rest
 
 module _ {A : Type 0} (make : List A → Piece) where
-  no_pieces : ArePieces make [] []
+  pub no_pieces : ArePieces make [] []
   no_pieces = record { parts = []; are = refl; joined = refl }
 
   -- the pieces of a list, and those of another behind them
-  both_pieces : (xs ys : List A) (ps qs : List Piece) → ArePieces make xs ps → ArePieces make ys qs → ArePieces make (xs ++ ys) (ps ++ qs)
+  pub both_pieces : (xs ys : List A) (ps qs : List Piece) → ArePieces make xs ps → ArePieces make ys qs → ArePieces make (xs ++ ys) (ps ++ qs)
   both_pieces xs ys ps qs p q = record {
     parts = p.parts ++ q.parts;
     are = ap (λ rs. rs ++ qs) p.are ∙ ap (λ rs. map make p.parts ++ rs) q.are ∙ sym (map-append make p.parts q.parts);

@@ -1,10 +1,9 @@
 -- Whole phases: the lemmas of accesses, strips, links and moves, as the laws say them.
-use Rattle.std.proofs.Common.{◌≡◌, ℕ, List, [], ◌∷◌, length, map, get_or, refl, sym, ap, ◌∙◌, subst, arith}
-use Rattle.std.specs.List.{All}
+use Rattle.std.proofs.Common.{◌≡◌, ℕ, List, [], ◌∷◌, length, map, get_or, refl, sym, ap, ◌∙◌, subst}
+use Rattle.std.specs.List.{All, flat_map}
 use Rattle.space.specs.declared.shards.Shards.{Shards}
 use Rattle.space.specs.Shards.{HasWord, IsLaidOutAs}
 use Rattle.maptree.specs.Origins.{Shape}
-use Rattle.space.specs.Slices.{pieces}
 use Rattle.pieces.specs.Applied.{worked}
 use Rattle.pieces.specs.Contents.{StripContent}
 use Rattle.pieces.specs.Steps.{may_access}
@@ -15,7 +14,7 @@ use Rattle.pieces.specs.declared.moving.Pair.{Pair}
 use Rattle.pieces.specs.declared.piece.Piece.{Piece}
 use Rattle.pieces.specs.declared.piece.Piece.TheVariants as piece
 use Rattle.pieces.proofs.InOrder.{words_in_order, answers_one_by_one}
-use Rattle.pieces.proofs.InPieces.{joined_pieces, touches_in_pieces, answers_in_pieces, links_in_pieces, moves_in_pieces}
+use Rattle.pieces.proofs.InPieces.{touches_in_pieces, answers_in_pieces, links_in_pieces, moves_in_pieces}
 use Rattle.holdings.specs.Sending.{IsTransferWithin}
 use Rattle.holdings.specs.declared.transfer.Transfer.{Transfer}
 use Rattle.holdings.specs.Inner.Held.{holdings_of, limits_in}
@@ -45,14 +44,12 @@ both_ends s trees sound ts within targets k d less =
 -- ---- accesses
 
 pub touches_are_accesses : TouchesAreAccesses
-touches_are_accesses s trees sound w are ts within there most some =
+touches_are_accesses s trees sound w are ts within there ps cut =
     let limits = limits_in s trees in
     let xs = map (word_access s) ts in
-    let parts = pieces (length xs) most xs in
-    let all = joined_pieces (length xs) most xs some (omega arith) in
-    let whole = touches_in_pieces w parts ∙ ap (λ ys. worked w (piece.Touch ys ∷ [])) all ∙ words_in_order w are.packs xs in (
-      touches_can s w are sound.kept.fits.some ts (λ k d less. record { place = place_within limits s trees sound.kept.fits (get_or ts k d).0 (within k d less); word = there k d less }) most some,
-      answers_in_pieces w parts ∙ ap (map (may_access w)) all ∙ answers_one_by_one w are.packs xs ∙ all_answered limits trees ts within s there sound w are,
+    let whole = ap (worked w) cut.are ∙ touches_in_pieces w cut.parts ∙ ap (λ ys. worked w (piece.Touch ys ∷ [])) cut.joined ∙ words_in_order w are.packs xs in (
+      touches_can s w are sound.kept.fits.some ts (λ k d less. record { place = place_within limits s trees sound.kept.fits (get_or ts k d).0 (within k d less); word = there k d less }) ps cut,
+      ap (flat_map (λ p. (value w p).answers)) cut.are ∙ answers_in_pieces w cut.parts ∙ ap (map (may_access w)) cut.joined ∙ answers_one_by_one w are.packs xs ∙ all_answered limits trees ts within s there sound w are,
       λ new with.
           let left = all_accessed limits trees ts within s there sound w are new (subst (λ v. IsWith s v new) whole with) in
           let same = same_limits s new trees with.layout in

@@ -1,5 +1,5 @@
 -- Whole phases worked in pieces, whatever works them: what the words and trees say afterwards.
-use Rattle.std.specs.Prelude.{◌≡◌, ℕ, ◌*◌, ◌≤◌, Bool, true, IsFalse, List, [], length, map, filter, take, drop, None}
+use Rattle.std.specs.Prelude.{◌≡◌, ℕ, ◌*◌, ◌≤◌, ◌++◌, ◌∷◌, Bool, true, IsFalse, List, [], length, map, filter, take, drop, None, Result, Ok, Err}
 use Rattle.std.specs.List.{All, flat_map}
 use Rattle.fpage.specs.declared.item.ItemKind.TheVariants.{Map}
 use Rattle.fpage.specs.declared.rights.Access.{Access}
@@ -7,7 +7,6 @@ use Rattle.fpage.specs.declared.rights.Rights.{Rights}
 use Rattle.space.specs.declared.place.Place.{Place}
 use Rattle.space.specs.declared.shards.Shards.{Shards}
 use Rattle.space.specs.Shards.{HasWord, IsPlace, is_taken}
-use Rattle.space.specs.Slices.{pieces}
 use Rattle.maptree.specs.Origins.{Shape}
 use Rattle.model.specs.Definitions.Calls.{Limits}
 use Rattle.model.specs.Definitions.Grant.{renamed}
@@ -21,6 +20,7 @@ use Rattle.pieces.specs.Laws.{joined}
 use Rattle.pieces.specs.Phases.{CanBeWorked, IsPiece}
 use Rattle.pieces.specs.Values.{value}
 use Rattle.pieces.specs.declared.piece.Piece.{Piece}
+use Rattle.pieces.specs.declared.runs.StripPlan.{StripPlan}
 use Rattle.pieces.specs.declared.piece.Piece.TheVariants as piece
 use Rattle.holdings.specs.Contents.{touched_all, access_answers}
 use Rattle.holdings.specs.Places.{IsWithin}
@@ -67,15 +67,20 @@ pub record CanBeBatched (passing : Passing) (s : Shards) (ts : List Transfer) (m
   pub some : 1 ≤ most
 
 -- a batch of so many; the last may have fewer
-abbrev pub batch_of : ℕ → List Transfer → ℕ → List Transfer
-batch_of size ts batch = take size (drop (size * batch) ts)
+abbrev pub batch_of : {A : Type 0} → ℕ → List A → ℕ → List A
+batch_of size xs batch = take size (drop (size * batch) xs)
+
+-- the pieces of plans that were made, one plan after another
+abbrev pub all_pieces : {E : Type 0} → List (Result StripPlan E) → List Piece
+all_pieces [] = []
+all_pieces (Ok plan ∷ rs) = plan.pieces.items ++ all_pieces rs
+all_pieces (Err e ∷ rs) = all_pieces rs
 
 -- accesses in pieces are those accesses in list order
 abbrev pub TouchesAreAccesses : Type 0
 TouchesAreAccesses =
-    (s : Shards) (trees : List Shape) → AreSound s trees → (w : List ℕ) → AreWordsOf s w → (ts : List (Place × Access)) → All (λ t. IsWithin (limits_in s trees) t.0) ts → All (λ t. HasWord s t.0) ts → (most : ℕ) → 1 ≤ most
-    → let ps = map piece.Touch (pieces (length (map (word_access s) ts)) most (map (word_access s) ts)) in
-    CanBeWorked w ps × (flat_map (λ p. (value w p).answers) ps ≡ access_answers (holdings_in s trees) ts)
+    (s : Shards) (trees : List Shape) → AreSound s trees → (w : List ℕ) → AreWordsOf s w → (ts : List (Place × Access)) → All (λ t. IsWithin (limits_in s trees) t.0) ts → All (λ t. HasWord s t.0) ts
+    → (ps : List Piece) → ArePieces piece.Touch (map (word_access s) ts) ps → CanBeWorked w ps × (flat_map (λ p. (value w p).answers) ps ≡ access_answers (holdings_in s trees) ts)
     × ((new : Shards) → IsWith s (worked w ps) new → IsPhaseLeft (limits_in s trees) (touched_all (holdings_in s trees) ts) new trees)
 
 -- a planned strip, worked: what derives from the pages lost rights, their status was found, and what each piece keeps is held;

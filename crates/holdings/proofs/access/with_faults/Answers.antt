@@ -6,6 +6,7 @@ use Rattle.fpage.specs.declared.rights.Access.{Access}
 use Rattle.space.specs.declared.place.Place.{Place}
 use Rattle.space.specs.declared.shards.Shards.{Shards}
 use Rattle.holdings.specs.Inner.Faults.{is_there, with_faults}
+use Rattle.holdings.proofs.Phases.Batches.{no_faults}
 use Rattle.holdings.proofs.access.with_faults.Goals.{then-has+in_ok-push, else-has+in_ok-push-2}
 use Rattle.holdings.proofs.access.with_faults.Goals as goal
 
@@ -34,7 +35,7 @@ module _ (s : Shards) (accesses : List (Place × Access)) (made : List Bool) (i 
 pub loop-place-preserved : goal.loop-place-preserved
 loop-place-preserved c =
     let s = c.args.shards.now in
-    let made = c.args.made.now in
+    let made = c.args.made.items in
     let i = c.loop-place.place-index in
     let next = c.loop-place.next in
     let so_far = c.loop-place.answers.items in
@@ -45,7 +46,7 @@ loop-place-preserved c =
           record {
             all =
                 (λ j. (w.answers-is j).items ++ with_faults flags (drop (w.next-is j) made))
-                ∙ ap (λ l. l ++ with_faults flags (drop (next + 1) made)) (w.in_ok-push.ensures.items ∙ ap (λ b. so_far ++ b ∷ []) w.answer_at.ensures)
+                ∙ ap (λ l. l ++ with_faults flags (drop (next + 1) made)) (w.in_ok-push.ensures.items ∙ ap (λ b. so_far ++ b ∷ []) (w.answer_at.ensures ∙ ap (λ bs. get_or bs next false) w.deref.ensures.value))
                 ∙ answered s c.args.accesses.now made i next _ c.loop-place-test.true so_far _ c.loop-place.invariant.all (there ∙ w.if-has.true);
             few = omega (arith, w.next-is, c.loop-place.invariant.few);
           }
@@ -58,3 +59,6 @@ loop-place-preserved c =
             few = omega (arith, w.next-is, c.loop-place.invariant.few);
           }
     ]
+
+pub returns-then-len-accesses : goal.returns-then-len-accesses
+returns-then-len-accesses c = no_faults c.args.shards.now c.args.accesses.now c.args.made.items (sym c.args.made.ok.0 ∙ sym c.len.ensures ∙ c.if-len-accesses.true) c.requires.each

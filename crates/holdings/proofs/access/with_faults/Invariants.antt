@@ -5,6 +5,6 @@ use Rattle.holdings.proofs.access.with_faults.Given as goal
 
 abbrev pub invariant-loop-place : goal.invariant-loop-place
 invariant-loop-place l = record {
-  all : l.answers.items ++ with_faults (map (is_there l.shards) (drop l.place-index l.accesses)) (drop l.next l.made) ≡ with_faults (map (is_there l.shards) l.accesses) l.made;
+  all : l.answers.items ++ with_faults (map (is_there l.shards) (drop l.place-index l.accesses)) (drop l.next l.made.items) ≡ with_faults (map (is_there l.shards) l.accesses) l.made.items;
   few : l.next ≤ l.place-index;
 }

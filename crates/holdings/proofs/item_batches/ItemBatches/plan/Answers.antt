@@ -9,10 +9,10 @@ pub link_pieces-requires-clause-distinct : goal.link_pieces-requires-clause-dist
 link_pieces-requires-clause-distinct c =
     let b = c.args.self.now in
     let apart = batch_apart b.passing b.shards.now b.transfers.now b.size c.args.batch c.requires.apart in
-    subst (AreItemsApart (Mapped c.in-Mapped.rights) b.shards.now) (sym c.batch-transfers.ensures) (subst (λ p. AreItemsApart p b.shards.now (batch_of b.size b.transfers.now c.args.batch)) c.in-Mapped.is apart)
+    subst (AreItemsApart (Mapped c.in-Mapped.rights) b.shards.now) (sym c.batch_of-transfers.ensures) (subst (λ p. AreItemsApart p b.shards.now (batch_of b.size b.transfers.now c.args.batch)) c.in-Mapped.is apart)
 
 pub move_pieces-requires-clause-distinct : goal.move_pieces-requires-clause-distinct
 move_pieces-requires-clause-distinct c =
     let b = c.args.self.now in
     let apart = batch_apart b.passing b.shards.now b.transfers.now b.size c.args.batch c.requires.apart in
-    subst (AreItemsApart Moved b.shards.now) (sym c.batch-transfers.ensures) (subst (λ p. AreItemsApart p b.shards.now (batch_of b.size b.transfers.now c.args.batch)) c.in-Moved.is apart)
+    subst (AreItemsApart Moved b.shards.now) (sym c.batch_of-transfers.ensures) (subst (λ p. AreItemsApart p b.shards.now (batch_of b.size b.transfers.now c.args.batch)) c.in-Moved.is apart)
