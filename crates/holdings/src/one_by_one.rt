@@ -182,7 +182,7 @@ fn strip_run(
     while from < run.end {
         let to = from + FOUND_AT_ONCE.min(run.end - from);
         if !is_short {
-            found = find_words(shards, &mut nodes, from, to);
+            find_words(shards, &mut nodes, from, to, &mut found);
         }
         for i in from..to {
             let index = if is_short {
@@ -238,24 +238,23 @@ fn strip_run_by_recursion(
     Ok(Stripped { status, left })
 }
 
-/// The indexes of the words of the nodes from a position up to another, which are 16 at most.
+/// Finds the indexes of the words of the nodes from a position up to another, which are 16 at most.
 #[inline(never)]
 fn find_words(
     shards: &Shards,
     nodes: &mut Nodes<'_>,
     from: usize,
     to: usize,
-) -> [usize; FOUND_AT_ONCE]
+    found: &mut [usize; FOUND_AT_ONCE],
+)
     requires order { from ≤ to }
     requires few { to ≤ from + 16 }
     requires within { to ≤ length nodes.old }
     requires words { (j : ℕ) (d : Place) → j < length nodes.old → IsThere shards.now (place_at nodes.old j d) }
-    ensures found { (j : ℕ) (d : Place) → from ≤ j → j < to → slice_index result (j - from) ≡ index_of shards.now (place_at nodes.old j d) }
+    ensures found { (j : ℕ) (d : Place) → from ≤ j → j < to → slice_index found.new (j - from) ≡ index_of shards.now (place_at nodes.old j d) }
     ensures same { nodes.new ≡ nodes.old }
 {
-    let mut found = [0; FOUND_AT_ONCE];
     for j in from..to {
         found[j - from] = shards.index(nodes.at(j).place);
     }
-    found
 }

@@ -81,8 +81,8 @@ loop-from-init c =
       };
     }
 
-pub find_words-found-requires-clause-within : goal.find_words-found-requires-clause-within
-find_words-found-requires-clause-within c =
+pub find_words-requires-clause-within : goal.find_words-requires-clause-within
+find_words-requires-clause-within c =
     let upto = c.loop-from.invariant.upto in
     let within : c.loop-from.from + c.min.result ≤ length (links_in c.args.trees.now c.args.frame) = omega (arith, c.min.ensures, upto, c.requires.within) in
     subst (λ os. c.loop-from.from + c.min.result ≤ length os) (sym c.loop-from.invariant.nodes) within
@@ -94,8 +94,8 @@ word_there s trees loose frame now layout i d within =
     let there = standing_there s trees frame loose p (listed_at (links_in trees frame) i d within) in
     record { place = place_kept s now layout p there.place; word = word_kept s now layout p there.word }
 
-pub find_words-found-requires-clause-words : goal.find_words-found-requires-clause-words
-find_words-found-requires-clause-words c j d within =
+pub find_words-requires-clause-words : goal.find_words-requires-clause-words
+find_words-requires-clause-words c j d within =
     let trees = c.args.trees.now in
     let frame = c.args.frame in
     let nodes = c.loop-from.invariant.nodes in
@@ -178,7 +178,7 @@ loop-i-preserved c =
             | else-not-is_short v ↦ absurd (omega (arith, v.if-not-is_short.false, w.if-is_short.false))
             | then-not-is_short v ↦
                 c.loop-i.invariant.walked.layout.index q ∙ sym (c.loop-from.invariant.walked.layout.index q)
-                ∙ sym (v.find_words-found.ensures.found i d least c.loop-i-test.true ∙ ap (λ os. index_of c.loop-from.shards (place_at os i d)) c.loop-from.invariant.nodes)
+                ∙ sym (v.find_words.ensures.found i d least c.loop-i-test.true ∙ ap (λ os. index_of c.loop-from.shards (place_at os i d)) c.loop-from.invariant.nodes)
                 ∙ ap (λ xs. slice_index xs (i - from)) (sym v.found-is) ∙ sym w.index-is
           ]
     ] in
