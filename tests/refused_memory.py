@@ -6,10 +6,10 @@ a thread.
 
 A run in which something was refused must end as the undisturbed one, or with status 3 and `NoMemory` or `NoWorker` at
 some record, having written exactly the reply lines of the records before it: no line of the audit where memory is
-refused to it. Where a thread is refused to the audit, or to the plan of a call, that is made with fewer; where it is
-refused to the work of a call, that is `NoWorker`. No run may hang. Of each trace some run must end before its first
-record, some at one of its records, and some at the audit. Allocations and starts of threads are refused by the
-preloaded library of support/fail_alloc.c.
+refused to it. Where a thread is refused to the audit, to the plan of a call, or to the change of its trees, that is
+made with fewer; where it is refused to the work of a call, that is `NoWorker`. No run may hang. Of each trace some
+run must end before its first record, some at one of its records, and some at the audit. Allocations and starts of
+threads are refused by the preloaded library of support/fail_alloc.c.
 """
 
 import os
