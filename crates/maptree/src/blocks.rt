@@ -630,8 +630,24 @@ impl Blocks {
         }
     }
 
-    /// Takes ranges out.
+    /// Takes ranges out. Where most nodes go, all hints go at once, and those of the others are noted anew.
     pub fn remove_all(&mut self, ranges: &[Range<usize>])
+        requires { AreRising 0 ranges.now (length (nodes_in self.old.blocks)) }
+        ensures nodes { nodes_in self.new.blocks ≡ outside 0 ranges.now (nodes_in self.old.blocks) }
+        ensures room { self.new.room ≡ self.old.room }
+    {
+        let most_go = self.len - self.len / 4 < nodes_of_ranges(ranges);
+        if most_go {
+            self.hints.forget();
+        }
+        self.remove_ranges(ranges);
+        if most_go {
+            note_all(&mut self.hints, &self.blocks);
+        }
+    }
+
+    /// Takes ranges out.
+    fn remove_ranges(&mut self, ranges: &[Range<usize>])
         requires { AreRising 0 ranges.now (length (nodes_in self.old.blocks)) }
         ensures nodes { nodes_in self.new.blocks ≡ outside 0 ranges.now (nodes_in self.old.blocks) }
         ensures room { self.new.room ≡ self.old.room }
@@ -851,6 +867,22 @@ fn free_empty(hints: &mut Hints, blocks: &[Block]) {
 fn forget_nodes(hints: &mut Hints, nodes: &[Node]) {
     for node in nodes {
         hints.remove(node.place);
+    }
+}
+
+/// How many nodes ranges have.
+fn nodes_of_ranges(ranges: &[Range<usize>]) -> usize {
+    let mut nodes: usize = 0;
+    for range in ranges {
+        nodes = nodes.saturating_add(range.end.saturating_sub(range.start));
+    }
+    nodes
+}
+
+/// The places of all blocks stand there.
+fn note_all(hints: &mut Hints, blocks: &[Block]) {
+    for block in blocks {
+        hint_nodes(hints, block);
     }
 }
 

@@ -209,8 +209,22 @@ impl Hints {
         let _ = self.crowded.insert(slot.key, slot);
     }
 
+    /// No place stands anywhere.
+    pub fn forget(&mut self) {
+        for slot in &mut self.slots {
+            *slot = FREE;
+        }
+        self.taken = 0;
+        self.used = 0;
+        let alloc = *self.slots.allocator();
+        self.crowded = BTreeMap::new(alloc);
+    }
+
     /// The place stands nowhere.
     pub fn remove(&mut self, place: Place) {
+        if self.taken == 0 && self.crowded.is_empty() {
+            return;
+        }
         let key = key_of(place);
         if !self.crowded.is_empty() {
             self.remove_crowded(key);

@@ -2,7 +2,7 @@
 use Rattle.std.proofs.Common.{get_or, rules}
 use Rattle.maptree.specs.Blocks.{nodes_in}
 use Rattle.maptree.proofs.Parts.{none_out, next_out, range_read}
-use Rattle.maptree.proofs.blocks.Blocks.remove_all.Goals as goal
+use Rattle.maptree.proofs.blocks.Blocks.remove_ranges.Goals as goal
 
 pub loop-range-init : goal.loop-range-init
 loop-range-init c = record { out = none_out (nodes_in c.args.self.now.blocks) c.args.ranges.now c.requires; room = search rules }

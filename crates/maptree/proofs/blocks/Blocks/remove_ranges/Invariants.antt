@@ -2,7 +2,7 @@
 use Rattle.std.proofs.Common.{◌≡◌}
 use Rattle.maptree.specs.Blocks.{nodes_in}
 use Rattle.maptree.proofs.Parts.{IsOutSoFar}
-use Rattle.maptree.proofs.blocks.Blocks.remove_all.Given as goal
+use Rattle.maptree.proofs.blocks.Blocks.remove_ranges.Given as goal
 
 abbrev pub invariant-loop-range : goal.invariant-loop-range
 invariant-loop-range l = record {
