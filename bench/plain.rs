@@ -2,8 +2,9 @@
 //! compares `l4map` with. It shares nothing with it.
 //!
 //! Mappings stand in one vector, as a tree with pointers: each knows its origin, the first one below it, and its
-//! neighbours below the same origin. A hash map leads from a place to its mapping. Records are read one by one from a
-//! buffer, and what is written is gathered in another, but for a terminal, which gets each line at once.
+//! neighbours below the same origin. A hash map leads from a place to its mapping. The input is read to its end before a
+//! line is written, since of one that cannot be read there is to be none. Records come one by one through a buffer, and
+//! what is written is gathered in another, but for a terminal, which gets each line at once.
 
 use std::collections::HashMap;
 use std::hash::{BuildHasherDefault, Hasher};
@@ -46,8 +47,10 @@ fn main() -> ExitCode {
 }
 
 /// Answers a trace; the fault of its header, if it has one.
-fn run(source: impl Read, output: Output<impl Write>) -> io::Result<Option<Name>> {
-    let mut records = Records::new(source);
+fn run(mut source: impl Read, output: Output<impl Write>) -> io::Result<Option<Name>> {
+    let mut input = Vec::new();
+    source.read_to_end(&mut input)?;
+    let mut records = Records::new(input.as_slice());
     let header = if records.next()? { limits(&records) } else { Err("BadHeader") };
     let limits = match header {
         Ok(limits) => limits,
