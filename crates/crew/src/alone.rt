@@ -88,7 +88,7 @@ impl Workers for Alone {
     fn change(
         &self,
         trees: &mut [Tree],
-        _parts: usize,
+        _cuts: &[usize],
         change: &(dyn Fn(usize, &mut [Tree]) -> Changed + Sync),
     ) -> Changed {
         change_alone(trees, change)

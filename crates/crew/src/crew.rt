@@ -110,20 +110,21 @@ impl<'a, R: Threads + Wait, G: Gate> Crew<'a, R, G> {
         plan_together(self.rt, alloc, parts, plan)
     }
 
-    /// Gives a function so many parts of a list of trees, each but the first on a thread of its own, and with where it begins.
-    /// Where a thread is refused the calling thread changes the part.
+    /// Gives a function the parts of a list of trees, each but the first on a thread of its own, and with where it begins. The
+    /// list is cut at the trees of these numbers, which should ascend: a part that would end before it begins is empty. Where a
+    /// thread is refused the calling thread changes the part.
     ///
     /// Refused, where memory is for one of them: `NoMemory`. Then nothing is known of the trees.
     pub fn change(
         &self,
         trees: &mut [Tree],
-        parts: usize,
+        cuts: &[usize],
         change: &(dyn Fn(usize, &mut [Tree]) -> Changed + Sync),
     ) -> Changed
         requires may { MayChange (pre change.now) 0 trees.old }
         ensures { OnOk result (IsChanged (post change.now) 0 trees.old trees.new) }
     {
-        change_together(self.rt, trees, parts, change)
+        change_together(self.rt, trees, cuts, change)
     }
 }
 
@@ -161,10 +162,10 @@ impl<'a, R: Threads + Wait> Workers for Crew<'a, R, NoGate> {
     fn change(
         &self,
         trees: &mut [Tree],
-        parts: usize,
+        cuts: &[usize],
         change: &(dyn Fn(usize, &mut [Tree]) -> Changed + Sync),
     ) -> Changed {
-        self.change(trees, parts, change)
+        self.change(trees, cuts, change)
     }
 
     fn work(

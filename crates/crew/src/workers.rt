@@ -57,14 +57,15 @@ pub trait Workers {
         ensures count { IfOk result (λ planned. length planned.items ≡ parts) }
         ensures each { IfOk result (λ planned. (part : ℕ) (d : _) → part < parts → post plan.now part (slice_index_or planned.items part d)) };
 
-    /// Gives a function so many parts of a list of trees, side by side, each with where it begins. Where a thread is refused the
-    /// calling thread changes the part.
+    /// Gives a function the parts of a list of trees, side by side, each with where it begins. The list is cut at the trees of
+    /// these numbers, which should ascend: a part that would end before it begins is empty. Where the list is cut decides no
+    /// more than who changes which tree. Where a thread is refused the calling thread changes the part.
     ///
     /// Refused, where memory is for one of them: `NoMemory`. Then nothing is known of the trees.
     fn change(
         &self,
         trees: &mut [Tree],
-        parts: usize,
+        cuts: &[usize],
         change: &(dyn Fn(usize, &mut [Tree]) -> Changed + Sync),
     ) -> Changed
         requires may { MayChange (pre change.now) 0 trees.old }

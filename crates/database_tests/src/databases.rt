@@ -4,6 +4,7 @@ mod accesses;
 mod calls;
 mod chains;
 mod clears;
+mod cut_trees;
 mod frames;
 mod layouts;
 mod looks;

@@ -348,10 +348,10 @@ impl<'a, R: Threads + Wait> Workers for Counted<'a, R> {
     fn change(
         &self,
         trees: &mut [Tree],
-        parts: usize,
+        cuts: &[usize],
         change: &(dyn Fn(usize, &mut [Tree]) -> Changed + Sync),
     ) -> Changed {
-        self.crew.change(trees, parts, change)
+        self.crew.change(trees, cuts, change)
     }
 
     fn work(

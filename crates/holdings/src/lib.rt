@@ -43,6 +43,7 @@ mod strip;
 mod transfer;
 mod transfer_counts;
 mod tree;
+mod tree_cuts;
 mod watched;
 mod writes;
 

@@ -8,10 +8,10 @@ ghost use Rattle.holdings.specs.Inner.Links.{links_of, links_between, AreLinkabl
 ghost use Rattle.holdings.specs.Inner.Planning.{counts_in};
 ghost use Rattle.holdings.specs.Meaning.{counts_of};
 
-use crate::batches::planners_for;
 use crate::transfer::Transfer;
 use crate::transfer_counts::TransferCounts;
 use crate::tree::derive;
+use crate::tree_cuts::cuts_for;
 use crew::{Changed, Workers};
 use maptree::Tree;
 use space::{NoMemory, Place, Shards};
@@ -49,6 +49,7 @@ pub fn link_all(
 ///
 /// Refused, where memory is: `NoMemory`.
 pub fn link_together<W: Workers>(
+    alloc: Global,
     shards: &Shards,
     trees: &mut [Tree],
     transfers: &[Transfer],
@@ -60,16 +61,16 @@ pub fn link_together<W: Workers>(
     ensures linked { OnOk result (AreLinked (links_of shards.now transfers.now) trees.old trees.new) }
     ensures counts { IfOk result (λ counts. counts_of counts ≡ counts_in shards.now transfers.now) }
 {
-    let parts = planners_for(transfers.len() / workers.piece_length(), workers);
+    let cuts = cuts_for(alloc, shards, transfers, workers)?;
     let put = move |start: usize, part: &mut [Tree]| -> Changed
         requires { CanBePut shards.now transfers.now start part.now }
         ensures { OnOk result (ArePut shards.entry.now transfers.entry.now start part.entry.now part.exit.now) }
     { link_part(shards, start, part, transfers) };
-    workers.change(trees, parts, &put)?;
+    workers.change(trees, &cuts, &put)?;
     Ok(TransferCounts::of_all(shards, transfers))
 }
 
-/// Puts those of the new mappings into their trees whose trees are a part of all, which begins at the tree of this number.
+/// Puts new mappings into a part of all trees, which begins at the tree of this number: those whose frame has its tree there.
 ///
 /// Refused, where memory is: `NoMemory`.
 fn link_part(

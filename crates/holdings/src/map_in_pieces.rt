@@ -52,7 +52,7 @@ impl Holdings {
         make_targets(&mut shards, transfers)?;
         let passing = Passing::Mapped(rights);
         let pieces = item_pieces(alloc, &shards, transfers, passing, workers)?;
-        let counts = link_together(&shards, &mut trees, transfers, workers)?;
+        let counts = link_together(alloc, &shards, &mut trees, transfers, workers)?;
         write_phase(alloc, &mut shards, pieces, workers)?;
         Ok((Holdings { shards, trees }, counts))
     }

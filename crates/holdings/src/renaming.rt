@@ -14,6 +14,7 @@ use crate::link::{Link, new_link, new_links};
 use crate::transfer::Transfer;
 use crate::transfer_counts::TransferCounts;
 use crate::tree::replace;
+use crate::tree_cuts::cuts_between;
 use crew::{Changed, Workers};
 use maptree::{PlaceMap, Tree};
 use space::{NoMemory, Shards};
@@ -75,15 +76,16 @@ fn rename_links<W: Workers>(
     let targets = targets_of(alloc, first.source.space, &links)?;
     links.sort_unstable_by_key(|link| link.frame);
     let parts = planners_for(links.len() / workers.piece_length(), workers);
-    rename_parts(trees, &links, &targets, parts, workers)
+    let cuts = cuts_between(alloc, &links, parts)?;
+    rename_parts(trees, &links, &targets, &cuts, workers)
 }
 
-/// Replaces places by their targets in the trees of these links, in so many parts of the trees side by side.
+/// Replaces places by their targets in the trees of these links, side by side in the parts into which these numbers cut all trees.
 fn rename_parts<W: Workers>(
     trees: &mut [Tree],
     links: &[Link],
     targets: &PlaceMap,
-    parts: usize,
+    cuts: &[usize],
     workers: &W,
 ) -> Changed
     requires can { CanBeRenamed (place_for targets.now) trees.old }
@@ -97,7 +99,7 @@ fn rename_parts<W: Workers>(
         rename_part(start, part, links, targets);
         Ok(())
     };
-    workers.change(trees, parts, &rename)
+    workers.change(trees, cuts, &rename)
 }
 
 /// The same in a part of the trees, which begins at the tree of this number. A tree is passed over once, however many of its

@@ -27,13 +27,13 @@ fn roots(alloc: Global, count: usize) -> Result<Vec<Tree>, AllocError> {
     Ok(trees)
 }
 
-/// Workers give so many parts of five trees, each tree with its number.
+/// Workers give so many parts of five trees, which are cut at these, each tree with its number.
 fn gives_each(
     rt: &impl Abort,
     alloc: Global,
     workers: &impl Workers,
-    parts: usize,
-    begun: u64,
+    cuts: &[usize],
+    parts: u64,
 ) -> Result<(), NoMemory> {
     let given = AtomicU64::new(0);
     let found = AtomicU64::new(0);
@@ -47,9 +47,9 @@ fn gives_each(
         Ok(())
     };
     let mut trees = roots(alloc, 5)?;
-    workers.change(&mut trees, parts, &change)?;
+    workers.change(&mut trees, cuts, &change)?;
     assert_equal(rt, found.load(Ordering::SeqCst), 5, "trees found");
-    assert_equal(rt, given.load(Ordering::SeqCst), begun, "parts");
+    assert_equal(rt, given.load(Ordering::SeqCst), parts, "parts");
     Ok(())
 }
 
@@ -57,10 +57,24 @@ fn gives_each(
 fn each_tree_is_in_one_part_which_is_told_where_it_begins(rt: HostRuntime) -> Result<(), Fail> {
     let alloc = rt.alloc();
     let crew = Crew::new(&rt, 4, 1, &NoGate);
-    for (parts, begun) in [(0, 1), (1, 1), (2, 2), (3, 3), (5, 5), (7, 7)] {
-        gives_each(&rt, alloc, &crew, parts, begun)?;
-        gives_each(&rt, alloc, &Alone, parts, 1)?;
+    let cuts = [1, 2, 4];
+    for count in 0..4 {
+        let (first, _) = cuts.split_at(count);
+        gives_each(&rt, alloc, &crew, first, count as u64 + 1)?;
+        gives_each(&rt, alloc, &Alone, first, 1)?;
     }
+    Ok(())
+}
+
+/// A part that would end before it begins, or lies behind the list, is empty.
+#[test]
+fn cuts_in_any_order_leave_no_tree_out(rt: HostRuntime) -> Result<(), Fail> {
+    let alloc = rt.alloc();
+    let crew = Crew::new(&rt, 4, 1, &NoGate);
+    gives_each(&rt, alloc, &crew, &[0, 5], 3)?;
+    gives_each(&rt, alloc, &crew, &[4, 2], 3)?;
+    gives_each(&rt, alloc, &crew, &[3, 3, 3], 4)?;
+    gives_each(&rt, alloc, &crew, &[9, usize::MAX], 3)?;
     Ok(())
 }
 
@@ -81,7 +95,7 @@ fn two_parts_are_changed_side_by_side(rt: HostRuntime) -> Result<(), Fail> {
     };
     let crew = Crew::new(&rt, 2, 1, &NoGate);
     let mut trees = roots(alloc, 2)?;
-    crew.change(&mut trees, 2, &change)?;
+    crew.change(&mut trees, &[1], &change)?;
     assert_equal(&rt, met.load(Ordering::SeqCst), 1, "parts begun");
     Ok(())
 }
@@ -98,7 +112,7 @@ fn a_part_that_is_refused_memory_refuses_the_change(rt: HostRuntime) -> Result<(
             Ok(())
         };
         let mut trees = roots(alloc, 3)?;
-        let changed = crew.change(&mut trees, 3, &change);
+        let changed = crew.change(&mut trees, &[1, 2], &change);
         assert_equal(&rt, changed.is_err(), true, "the refusal");
     }
     Ok(())

@@ -92,10 +92,10 @@ impl<'a, T: Abort> Workers for Looking<'a, T> {
     fn change(
         &self,
         trees: &mut [Tree],
-        parts: usize,
+        cuts: &[usize],
         change: &(dyn Fn(usize, &mut [Tree]) -> Changed + Sync),
     ) -> Changed {
-        Alone.change(trees, parts, change)
+        Alone.change(trees, cuts, change)
     }
 
     fn work(

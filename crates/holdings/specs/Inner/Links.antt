@@ -94,7 +94,7 @@ last_target (l ∷ ls) p last = last_target ls p (if same_place p l.source then 
 abbrev pub AreTargets : List Link → (Place → Option Place) → Type 0
 AreTargets ls new = (p : Place) → new p ≡ last_target ls p None
 
--- those new mappings of transfers can be put into a part of the trees, which begins at the tree of this number, whose trees are there
+-- new mappings can be put into a part of the trees, which begins at the tree of this number: those whose frame has its tree there
 pub record CanBePut (s : Shards) (ts : List Transfer) (start : ℕ) (part : List Shape) : Type 0 where
   pub present : IsFalse (is_taken s)
   pub places : All (λ t. IsPlace s t.source) ts

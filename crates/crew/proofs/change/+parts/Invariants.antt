@@ -1,12 +1,12 @@
--- Each time there is a part less.
-use Rattle.std.proofs.Common.{◌+◌, ◌*◌}
+-- Each time there is a cut less.
+use Rattle.std.proofs.Common.{◌+◌, ◌*◌, length}
 use Rattle.crew.proofs.change.+parts.Given as goal
 
 abbrev pub decreases-change_both : goal.decreases-change_both
-decreases-change_both g l = l.parts * 3 + 2
+decreases-change_both g l = length l.cuts.now * 3 + 2
 
 abbrev pub decreases-change_parts : goal.decreases-change_parts
-decreases-change_parts g l = l.parts * 3
+decreases-change_parts g l = length l.cuts.now * 3
 
 abbrev pub decreases-change_both-ours : goal.decreases-change_both-ours
-decreases-change_both-ours g l = l.parts * 3 + 1
+decreases-change_both-ours g l = length l.cuts.now * 3 + 1
