@@ -16,5 +16,5 @@ returns g c =
     let few : many ≤ length rs * size = subst (λ n. many ≤ n * size) (sym (c.in_ok-planned.ensures.count ∙ c.div_ceil-count.ensures)) (div_ceil_times many size (omega (arith, c.max-size.ensures))).0 in
     pieces_of_batches size (λ xs ps. ArePieces piece.Touch (word_accesses c.args.shards.now xs) ps) (no_touches c.args.shards.now) (touches_joined c.args.shards.now) (λ ps. ps.items) c.args.accesses.now rs c.all_pieces.result c.all_pieces.ensures.made c.all_pieces.ensures.pieces few
     (λ k d less.
-        let planned = c.in_ok-planned.ensures.each k d (subst (λ n. k < n) c.in_ok-planned.ensures.count less) in
-        search (reads-post-1-1, planned))
+    let planned = c.in_ok-planned.ensures.each k d (subst (λ n. k < n) c.in_ok-planned.ensures.count less) in
+    search (reads-post-1-1, planned))

@@ -15,5 +15,5 @@ returns g c =
     let few : many ≤ length rs * size = subst (λ n. many ≤ n * size) (sym (c.in_ok-planned.ensures.count ∙ c.div_ceil-count.ensures)) (div_ceil_times many size (omega (arith, c.max-size.ensures))).0 in
     pieces_of_batches size (AreItemPieces c.args.passing c.args.shards.now) (no_items c.args.passing c.args.shards.now) (items_joined c.args.passing c.args.shards.now) (λ ps. ps.items) c.args.transfers.now rs c.all_pieces.result c.all_pieces.ensures.made c.all_pieces.ensures.pieces few
     (λ k d less.
-        let planned = c.in_ok-planned.ensures.each k d (subst (λ n. k < n) c.in_ok-planned.ensures.count less) in
-        search (reads-post-1-1, planned))
+    let planned = c.in_ok-planned.ensures.each k d (subst (λ n. k < n) c.in_ok-planned.ensures.count less) in
+    search (reads-post-1-1, planned))

@@ -30,14 +30,14 @@ pub rename_parts-requires-clause-frames : goal.rename_parts-requires-clause-fram
 rename_parts-requires-clause-frames g c =
     let ls = c.args.links.items in
     let new = place_for c.in_ok-targets.targets in
-    frames_within new c.args.trees.now ls c.requires (told_of ls c.deref-2.result.now new c.deref-2.ensures.value c.in_ok-targets.ensures) c.deref-3.result.now
-    (in_order ls c.sort_unstable_by_key.new.self.items c.deref-3.result.now c.sort_unstable_by_key.ensures.permutation c.deref-3.ensures.value)
+    frames_within new c.args.trees.now ls c.requires (told_of ls c.deref-2.result.now new c.deref-2.ensures.value c.in_ok-targets.ensures) c.deref-4.result.now
+    (in_order ls c.sort_unstable_by_key.new.self.items c.deref-4.result.now c.sort_unstable_by_key.ensures.permutation c.deref-4.ensures.value)
 
 pub returns : goal.returns
 returns g c =
     let ls = c.args.links.items in
     let new = place_for c.in_ok-targets.targets in
     on_ok _ _
-    (in_any_order new c.args.trees.now ls c.requires (told_of ls c.deref-2.result.now new c.deref-2.ensures.value c.in_ok-targets.ensures) c.deref-3.result.now
-    (in_order ls c.sort_unstable_by_key.new.self.items c.deref-3.result.now c.sort_unstable_by_key.ensures.permutation c.deref-3.ensures.value) c.rename_parts.new.trees)
+    (in_any_order new c.args.trees.now ls c.requires (told_of ls c.deref-2.result.now new c.deref-2.ensures.value c.in_ok-targets.ensures) c.deref-4.result.now
+    (in_order ls c.sort_unstable_by_key.new.self.items c.deref-4.result.now c.sort_unstable_by_key.ensures.permutation c.deref-4.ensures.value) c.rename_parts.new.trees)
     c.rename_parts.result c.rename_parts.ensures
