@@ -3,7 +3,8 @@ ghost use Rattle.turns.specs.Turns.{steps_to_do};
 
 use turns::{Open, Turn};
 
-/// Hears when work on a piece begins and ends.
+/// Hears when work on a piece begins and ends, on the stack of the worker: 256 KiB, but for the first worker, who has the
+/// caller's.
 pub trait Gate: Sync {
     /// A worker, of so many, begins a turn of this phase: no step of its piece was made. Workers are numbered from 0, and
     /// there are at most as many as pieces.

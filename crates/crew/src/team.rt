@@ -10,10 +10,15 @@ use crate::hand::Which;
 use crate::own_deque::Crewed;
 use crate::shared_state::SharedState;
 use crate::worker::{Emptied, Worker};
+use core::thread::Stack;
 use std::alloc::{AllocError, Global};
 use std::sync::Wait;
 use std::thread;
 use std::thread::{Promise, PromisedHandle, Scope, Threads};
+
+/// The bytes of a worker's stack. The C library keeps 40 MiB of stacks whose threads have ended: so those of 64 workers are
+/// there again for the next phase, and none is unmapped, for which each processor would have to wait.
+const STACK: usize = 256 * 1024;
 
 /// The number of a worker. Its own deque stays where it is.
 #[derive(Clone, Copy)]
@@ -38,7 +43,8 @@ fn start<'s, 'e, N: Which + Send + Sync + 'e, M: Crewed + Send + Sync + 'e, G: G
     ensures refused { IfErr result (λ e. e ≡ NoWorker) }
 {
     let promise = OfNumber(worker.number());
-    match scope.spawn_with(promise, move || worker.work_all(state)) {
+    let stack = Stack::new().stack_size(STACK);
+    match stack.spawn_scoped_with(scope, promise, move || worker.work_all(state)) {
         Ok(handle) => Ok(handle),
         Err(_) => Err(CrewError::NoWorker),
     }

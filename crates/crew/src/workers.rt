@@ -20,7 +20,7 @@ pub trait Workers {
     ghost use Rattle.crew.specs.Worked.{IsWorked};
     ghost use Rattle.crew.specs.declared.error.CrewError.TheVariants.{NoWorker};
 
-    /// That they start no thread.
+    /// That they start no thread to work pieces.
     ghost starts_none: { Self → Type 0 };
 
     /// The most nodes, stores, pairs or accesses that a piece of theirs is to have.
