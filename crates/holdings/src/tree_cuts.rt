@@ -15,6 +15,10 @@ use std::alloc::{AllocError, Global};
 /// How many transfers of all are looked at, at equal distances, to learn where their frames lie.
 const SAMPLE: usize = 256;
 
+/// How many threads at most put new mappings into trees. Each passes over all transfers, which is most of what it does: more
+/// would gain little, and lose much where they are more than the processors.
+const MOST_LINKERS: usize = 4;
+
 /// The trees at which all are cut, as many as pay, to put the new mappings of transfers into them.
 pub fn cuts_for<W: Workers>(
     alloc: Global,
@@ -25,7 +29,7 @@ pub fn cuts_for<W: Workers>(
     requires present { IsFalse (is_taken shards.now) }
     requires places { All (λ t. IsPlace shards.now t.source) transfers.now }
 {
-    let parts = planners_for(transfers.len() / workers.piece_length(), workers);
+    let parts = planners_for(transfers.len() / workers.piece_length(), workers).min(MOST_LINKERS);
     if parts < 2 {
         return Ok(Vec::new(alloc));
     }
